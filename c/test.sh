@@ -178,10 +178,18 @@ if ! command -v python3 >/dev/null; then
     echo "Python: skipped, there is no python3"
     exit
 fi
+header=$(python3 -c 'import sysconfig; print(sysconfig.get_path("include"))')/Python.h
+if [ ! -f "$header" ]; then
+    echo "Python: skipped, there is no $header"
+    exit
+fi
+make -s -C ../python
 export PYTHONDONTWRITEBYTECODE=1
 python=(env BESTORE_LIBRARY="$PWD/libbestore.so" PYTHONPATH=../python python3 -W error)
 run Python "${python[@]}" -m unittest discover -q -s ../python
 "${python[@]}" ../examples/python/first.py | cmp - <(echo "1 ann")
+"${python[@]}" ../bench/python.py --rounds 1 --nodes 100 --seconds 0.001 >"$work/said" 2>&1 ||
+    { cat "$work/said" >&2; echo "bench/python.py: failed" >&2; exit 1; }
 if [ -x $program ]; then
     run "the library and the program" "${python[@]}" ../python/alike.py $program
 else

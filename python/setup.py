@@ -1,16 +1,17 @@
-"""Puts the shared object into the wheel, and names the platform that it needs.
+"""Compiles the extension, puts the shared object of the library into the wheel, and names the platform that both need.
 
 BESTORE_LIBRARY names the shared object. Without it, in the repository, it is the one that `make -C c` leaves. If the variable is
 empty, or in an unpacked source distribution, the wheel has none inside: the package then loads the system's libbestore.so.0.
 """
 
+import glob
 import os
 import re
 import shutil
 import sysconfig
-from typing import Optional, Tuple
+from typing import List, Optional, Tuple
 
-from setuptools import Distribution, setup
+from setuptools import Extension, setup
 from setuptools.command.build_py import build_py
 
 try:
@@ -21,6 +22,7 @@ except ImportError:  # setuptools before 70.1
 SONAME = "libbestore.so.0"
 HERE = os.path.dirname(os.path.abspath(__file__))
 REPOSITORY = os.path.join(HERE, "..", "c")
+OLDEST = "cp310"  # the Python whose limited API native/native.h asks for
 
 
 def library() -> Optional[str]:
@@ -36,15 +38,28 @@ def library() -> Optional[str]:
     return path
 
 
-def platform_tag(path: str) -> str:
-    """The tag of the oldest GNU libc that has every symbol version that the shared object asks for."""
-    with open(path, "rb") as file:
-        asked = re.findall(rb"\0GLIBC_(\d+)\.(\d+)(?:\.\d+)?(?=\0)", file.read())
+def platform_tag(paths: List[str]) -> str:
+    """The tag of the oldest GNU libc that has every symbol version that these shared objects ask for."""
+    asked: List[Tuple[int, int]] = []
+    for path in paths:
+        with open(path, "rb") as file:
+            found = re.findall(rb"\0GLIBC_(\d+)\.(\d+)(?:\.\d+)?(?=\0)", file.read())
+        asked += [(int(major), int(minor)) for major, minor in found]
     machine = re.sub("[-.]", "_", sysconfig.get_platform().split("-", 1)[1])
     if not asked:
         return f"linux_{machine}"
-    major, minor = max([(2, 5), *((int(major), int(minor)) for major, minor in asked)])
+    major, minor = max([(2, 5), *asked])
     return f"manylinux_{major}_{minor}_{machine}"
+
+
+def extension() -> Extension:
+    """The part that is written in C. It calls the library by the addresses of what was loaded, and is linked with nothing. Without
+    names of folders in it two builds are the same."""
+    folders = [folder for folder in ("include", os.path.join("..", "include")) if os.path.isdir(os.path.join(HERE, folder))]
+    sources = sorted(os.path.relpath(path, HERE) for path in glob.glob(os.path.join(HERE, "native", "*.c")))
+    return Extension(
+        "bestore._native", sources, include_dirs=folders, define_macros=[("_POSIX_C_SOURCE", "200809L")],
+        extra_compile_args=["-std=c11", "-O2", "-g0", "-fvisibility=hidden"], py_limited_api=True)
 
 
 class BuildWithLibrary(build_py):
@@ -58,18 +73,18 @@ class BuildWithLibrary(build_py):
 
 
 class PlatformWheel(bdist_wheel):
-    """A wheel of one platform if the shared object is inside; of any Python 3, since no module is compiled."""
+    """A wheel of one platform, for the Python whose limited API the extension uses and those after it."""
+
+    def finalize_options(self) -> None:
+        self.py_limited_api = OLDEST
+        super().finalize_options()
 
     def get_tag(self) -> Tuple[str, str, str]:
         path = library()
-        return ("py3", "none", "any" if path is None else platform_tag(path))
+        if path is None:
+            return (OLDEST, "abi3", super().get_tag()[2])
+        built = self.get_finalized_command("build_ext").get_outputs()
+        return (OLDEST, "abi3", platform_tag([path, *built]))
 
 
-class WithLibrary(Distribution):
-    """Says whether what is packed is the same on every platform."""
-
-    def has_ext_modules(self) -> bool:
-        return library() is not None
-
-
-setup(distclass=WithLibrary, cmdclass={"build_py": BuildWithLibrary, "bdist_wheel": PlatformWheel})
+setup(ext_modules=[extension()], cmdclass={"build_py": BuildWithLibrary, "bdist_wheel": PlatformWheel})

@@ -21,6 +21,7 @@ from bestore import saved
 from bestore._library import _path
 from bestore._saved_errors import of_sqlite
 from bestore._saved_file import File
+from bestore._saved_line import Line, Turn
 
 HERE = os.path.dirname(os.path.abspath(__file__))
 MEMORY = "/dev/shm" if os.access("/dev/shm", os.W_OK) else None  # where a commit waits for no disk
@@ -186,6 +187,34 @@ class Kept(Files):
         with saved.open(self.path, 64) as store:
             self.assertEqual(store.new_node(), 67)
 
+    def test_rows(self):
+        """The rows that writers hand in are the journal's entries, in their order, also if the last one hands in first."""
+        batches = [
+            bestore.Batch().new_node().new_node(), bestore.Batch().make_index("i", bestore.INT32).make_index("k", bestore.STRING),
+            bestore.Batch().set(1, "i", bestore.Int32(-5)).set(2, "u", bestore.UInt64(2**64 - 1)).set(2, "k", "é"),
+            bestore.Batch([bestore.NewNode(77)]).set(1, "r", b"\0\xff").set(1, "t", "").set(1, "e", b""),
+            bestore.Batch().unset(1, "r").remove_node(2).remove_index("k"), bestore.Batch().set(1, "i", 2**63 - 1)]
+        batches += [bestore.Batch().new_node().set(1, "n", count) for count in range(100)]
+        expected = []
+        with saved.open(self.path, 64) as store:
+            with store._saver._line.turn():
+                keep, written = store._saver.keep, []
+                with mock.patch.object(saved._Saver, "keep", lambda saver, *entry: written.append(entry)):
+                    for batch in batches:
+                        store.apply(batch)
+                waiting = [threading.Thread(target=keep, args=entry) for entry in reversed(written)]
+                for count, thread in enumerate(waiting):
+                    thread.start()
+                    while len(store._saver._line._writers) <= count:
+                        time.sleep(0.001)
+            for thread in waiting:
+                thread.join()
+            for entry in store.journal_from():
+                expected.append((entry.number, entry.pass_number, bestore.Batch(entry.operations).to_bytes()))
+        self.assertEqual(sql(self.path, "SELECT number, pass, batch FROM entry ORDER BY number"), expected)
+        with saved.open(self.path, 64) as store, store.pin() as version:
+            self.assertEqual(version.get(1, "n"), 99)
+
     def test_writers_share(self):
         with saved.open(self.path, 24) as store:
             store.new_node()
@@ -235,12 +264,12 @@ class Kept(Files):
             running = [threading.Thread(target=other.new_node), threading.Thread(target=store.compact, name="compact")]
             with mock.patch.object(File, "append", recorded(append)), \
                     mock.patch.object(File, "write_state", recorded(write_state)):
-                with store._saver._turn():
+                with store._saver._line.turn():
                     running[0].start()
                     while store.status().entries == 0:
                         time.sleep(0.001)
                     running[1].start()
-                    while store._saver._asked < 2:
+                    while store._saver._line.askers < 1:
                         time.sleep(0.001)
                 for thread in running:
                     thread.join()
@@ -305,10 +334,10 @@ class Timed(Files):
                 store.new_node()
                 time.sleep(0.001)
             for _ in range(2000):
-                if store._saver._saved == 10:
+                if store._saver._line.saved == 10:
                     break
                 time.sleep(0.005)
-            self.assertEqual(store._saver._saved, 10)
+            self.assertEqual(store._saver._line.saved, 10)
         self.assertEqual(self.count(), 10)
 
     def test_write_beside_close(self):
@@ -336,7 +365,7 @@ class Timed(Files):
 
     def test_saving_that_ends(self):
         """After an error the thread that saves is gone, and writes are refused."""
-        with self.assertRaises(saved.Stopped), saved.open(self.path, 64, every=0) as store:
+        with self.assertRaises(saved.Stopped), saved.open(self.path, every=0) as store:
             with mock.patch.object(saved._Saver, "_save_all", side_effect=bestore.NoMemory()):
                 with self.assertRaises(saved.Stopped) as stopped:
                     while True:
@@ -510,7 +539,7 @@ class Failures(Files):
             with self.assertRaises(saved.Stopped):
                 store.flush()
             self.assertEqual(store.status().entries, made)
-        self.assertEqual(len(sql(self.path, "SELECT number FROM entry")), store._saver._saved)
+        self.assertEqual(len(sql(self.path, "SELECT number FROM entry")), store._saver._line.saved)
 
     def test_interrupted(self):
         """A write whose wait is interrupted is saved by the next one, also if it was in the file already."""
@@ -536,6 +565,62 @@ class Failures(Files):
             store.new_node()
         with saved.open(self.path, 64) as store, store.pin() as version:
             self.assertEqual(version.nodes(), [1])
+
+    def test_each_of_one_commit(self):
+        """When a commit of several rows fails, each of its writers is refused, and nobody hangs."""
+        with self.assertRaises(saved.Stopped), saved.open(self.path, 64) as store:
+            refused, passes = [], [store.another() for _ in range(4)]
+
+            def write(user):
+                try:
+                    user.new_node()
+                except saved.NotSaved as error:
+                    refused.append((error.number, type(error.__cause__)))
+            running = [threading.Thread(target=write, args=(user,)) for user in passes]
+            with self.broken(saved.DiskFull(self.path)):
+                with store._saver._line.turn():
+                    for thread in running:
+                        thread.start()
+                    while len(store._saver._handed_in) < 4:
+                        time.sleep(0.001)
+                for thread in running:
+                    thread.join()
+            self.assertEqual(sorted(refused), [(number, saved.DiskFull) for number in range(1, 5)])
+        self.assertEqual(sql(self.path, "SELECT count(*) FROM entry"), [(0,)])
+
+    def test_interrupted_before_it_is_handed_in(self):
+        """An interrupt between a write and its row leaves no gap: the next commit reads it from the journal."""
+        with saved.open(self.path, 64) as store:
+            store.new_node()
+            with mock.patch.object(saved._Saver, "keep", side_effect=KeyboardInterrupt), self.assertRaises(KeyboardInterrupt):
+                store.apply(bestore.Batch().new_node().set(1, "k", "é"))
+            with store.another() as other:
+                other.new_node()
+                numbers = store.number, other.number
+            self.assertEqual(store._saver._handed_in, {})
+        self.assertEqual(
+            sql(self.path, "SELECT number, pass FROM entry"), [(1, numbers[0]), (2, numbers[0]), (3, numbers[1])])
+        with saved.open(self.path, 64) as store, store.pin() as version:
+            self.assertEqual((version.nodes(), version.attributes(1)), ([1, 2, 3], {"k": "é"}))
+
+    def test_interrupted_wait(self):
+        """A writer that leaves the line by an interrupt leaves it whole, also one that was given the file meanwhile."""
+        for has_file in (False, True):
+            line = Line(0)
+            owner, gone, last = Turn(1), Turn(2), Turn(3)
+            line.take(owner)
+            for turn in (gone, last):
+                waiting = threading.Thread(target=line.take, args=(turn,), daemon=True)
+                waiting.start()
+                while turn not in line._writers:
+                    time.sleep(0.001)
+            line.saved = 1
+            for turn in (owner, gone) if has_file else (gone, owner):
+                line.leave(turn)
+            waiting.join()
+            self.assertIs(line._owner, last)
+            line.leave(last)
+            self.assertEqual((line._owner, line._writers), (None, []))
 
     def test_compact(self):
         """A state that can't be written leaves the file as it was."""

@@ -73,6 +73,24 @@ else
 fi
 RUSTDOCFLAGS="-D warnings" run "Rust, documentation" doc --workspace --no-deps --features saved
 
+# The client for Python, by the server that was built above.
+if ! command -v python3 >/dev/null; then
+    echo "Python, over the server: skipped, there is no python3"
+elif [ ! -f "$(python3 -c 'import sysconfig; print(sysconfig.get_path("include"))')/Python.h" ]; then
+    echo "Python, over the server: skipped, there is no Python.h"
+else
+    make -s -C ../python
+    BESTORED=$(realpath "$CARGO_TARGET_DIR/debug/bestored")
+    export BESTORED
+    if ! (cd ../python && timeout -k 10 600 env BESTORE_LIBRARY="$BESTORE_LIB_DIR/libbestore.so" PYTHONDONTWRITEBYTECODE=1 \
+        python3 -W error -m unittest test_connect) >"$work/said" 2>&1; then
+        cat "$work/said" >&2
+        echo "Python, over the server: failed, or not at its end after 600 seconds" >&2
+        exit 1
+    fi
+    echo "Python, over the server: ok, $(sed -n 's/^Ran \([0-9]* tests\) in .*/\1/p' "$work/said")"
+fi
+
 # How the library is found: by pkg-config, in an archive, and not at all.
 found="$CARGO_TARGET_DIR/found"
 if command -v pkg-config >/dev/null; then

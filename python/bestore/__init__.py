@@ -15,6 +15,9 @@ A `Pass` is a session: one thread's handle on the store. Each thread has one of 
 wait for one another: the thread that opened the store makes it by `another`, before that thread starts. What goes wrong
 is raised as an `Error`; each error number of the library has a class of its own, as `Busy` or `QuerySyntax`.
 
+`connect` takes the place of `open` for a store of the server bestored, which programs share: `help(bestore.connected)`. A
+function that takes a `Pass` or a `Version` takes that of either store. The module `bestore.saved` keeps a store in a file.
+
 A store belongs to the process that opened it. In a forked child its passes, versions and prepared queries are dead:
 their calls raise `Forked`, closing them does nothing, and the parent's stay as they were. The child may open stores of
 its own.
@@ -23,7 +26,12 @@ The package has its shared object inside. In the repository it is the one in c/,
 """
 
 from ._library import VERSION as __version__
+from ._connected_errors import (
+    BrokenConnection, Disconnected, Expired, LineTooLong, NoServer, NotAllowed, NotKept, NoWatch, ProtocolError, ServerError,
+    ServerRefusal, TimedOut, TooManyWatches, Unavailable,
+)
 from .changes import Change, ChangedAttributes
+from .connected import connect
 from .errors import (
     BadBytes, BadCount, BadItems, BadLimits, BadPart, BadPattern, Busy, Closed, CommitsSpent, Conflict, DataLength,
     Error, ErrorNumber, Forked, Full, HasNul, IndexExists, NameLength, Nested, NoAttribute, NoIndex, NoItem, NoKind,
@@ -32,11 +40,12 @@ from .errors import (
     TooManyIndices, WrongKind,
 )
 from .language import Comparison, Hint, any_case, escape
+from .local import open
 from .operations import (
     MOST_OPERATIONS, Batch, MakeIndex, NewNode, Operation, RemoveIndex, RemoveNode, SetAttribute, UnsetAttribute,
 )
 from .queries import Item, Name, Operator, Prepared, prepare, prepare_items
-from .store import Entry, Held, Pass, Status, open
+from .store import Entry, Held, Pass, Status
 from .values import Int32, Int64, Integer, Kind, Typed, UInt32, UInt64, Value
 from .versions import Attributes, Version
 
@@ -44,14 +53,16 @@ STRING, INT32, INT64, MIME, RAW, UINT32, UINT64 = (
     Kind.STRING, Kind.INT32, Kind.INT64, Kind.MIME, Kind.RAW, Kind.UINT32, Kind.UINT64)
 
 __all__ = [
-    "Attributes", "BadBytes", "BadCount", "BadItems", "BadLimits", "BadPart", "BadPattern", "Batch", "Busy", "Change",
-    "ChangedAttributes", "Closed", "CommitsSpent", "Comparison", "Conflict", "DataLength", "Entry", "Error",
-    "ErrorNumber", "Forked", "Full", "HasNul", "Held", "Hint", "INT32", "INT64", "IndexExists", "Int32", "Int64",
-    "Integer", "Item", "Kind", "MIME", "MOST_OPERATIONS", "MakeIndex", "Name", "NameLength", "Nested", "NewNode",
-    "NoAttribute", "NoIndex", "NoItem", "NoKind", "NoMemory", "NoNode", "NoOperation", "NoPass", "NoValue",
-    "NotCovered", "NotIndexable", "NotPinned", "NotUTF8", "Opened", "Operation", "Operator", "Pass", "Pinned",
-    "Prepared", "QueryError", "QueryNotUTF8", "QuerySyntax", "RAW", "Refusal", "RemoveIndex", "RemoveNode", "STRING",
-    "SetAttribute", "Status", "TooDeep", "TooLong", "TooMany", "TooManyAttempts", "TooManyAttributes", "TooManyIndices",
-    "Typed", "UINT32", "UINT64", "UInt32", "UInt64", "UnsetAttribute", "Value", "Version", "WrongKind", "any_case",
-    "escape", "open", "prepare", "prepare_items",
+    "Attributes", "BadBytes", "BadCount", "BadItems", "BadLimits", "BadPart", "BadPattern", "Batch", "BrokenConnection",
+    "Busy", "Change", "ChangedAttributes", "Closed", "CommitsSpent", "Comparison", "Conflict", "DataLength",
+    "Disconnected", "Entry", "Error", "ErrorNumber", "Expired", "Forked", "Full", "HasNul", "Held", "Hint", "INT32",
+    "INT64", "IndexExists", "Int32", "Int64", "Integer", "Item", "Kind", "LineTooLong", "MIME", "MOST_OPERATIONS",
+    "MakeIndex", "Name", "NameLength", "Nested", "NewNode", "NoAttribute", "NoIndex", "NoItem", "NoKind", "NoMemory",
+    "NoNode", "NoOperation", "NoPass", "NoServer", "NoValue", "NoWatch", "NotAllowed", "NotCovered", "NotIndexable",
+    "NotKept", "NotPinned", "NotUTF8", "Opened", "Operation", "Operator", "Pass", "Pinned", "Prepared", "ProtocolError",
+    "QueryError", "QueryNotUTF8", "QuerySyntax", "RAW", "Refusal", "RemoveIndex", "RemoveNode", "STRING", "ServerError",
+    "ServerRefusal", "SetAttribute", "Status", "TimedOut", "TooDeep", "TooLong", "TooMany", "TooManyAttempts",
+    "TooManyAttributes", "TooManyIndices", "TooManyWatches", "Typed", "UINT32", "UINT64", "UInt32", "UInt64",
+    "Unavailable", "UnsetAttribute", "Value", "Version", "WrongKind", "any_case", "connect", "escape", "open",
+    "prepare", "prepare_items",
 ]

@@ -6,7 +6,16 @@ import ctypes
 import os
 from typing import Any, List, Optional
 
-from .errors import refusal
+from .errors import Forked, encoded_query, refusal
+
+try:
+    from . import _native
+except ImportError as error:
+    if error.name == f"{__package__}._native":
+        raise
+    raise ImportError(
+        "bestore has no compiled part here, bestore._native. Run `make -C python` at the top of the repository, which needs a C "
+        "compiler and Python.h; or install bestore's wheel (`make -C c wheel`).", name=error.name) from None
 
 SONAME = "libbestore.so.0"
 VERSION = "0.2.0"
@@ -32,10 +41,6 @@ class Operation(ctypes.Structure):
         ("name_at", ctypes.c_uint32), ("name_length", ctypes.c_uint32),
         ("value_at", ctypes.c_uint32), ("value_length", ctypes.c_uint32),
     ]
-
-
-class Item(ctypes.Structure):
-    _fields_ = [("kind", ctypes.c_uint32), ("at", ctypes.c_uint32), ("length", ctypes.c_uint32), ("number", ctypes.c_uint64)]
 
 
 class Attribute(ctypes.Structure):
@@ -77,7 +82,7 @@ def _arguments() -> dict[str, List[Any]]:
     handle, word, size, text = ctypes.POINTER(Handle), ctypes.c_uint64, ctypes.c_size_t, ctypes.c_char_p
     words = ctypes.POINTER(ctypes.c_uint64)
     write = [handle, ctypes.POINTER(Operation), size, text, size]
-    items = [ctypes.POINTER(Item), size, text, size]
+    items = [text, size, text, size]
     put_out = [words, size, words]
     listed = [ctypes.POINTER(Counts), ctypes.POINTER(Operation), size, text, size]
     return {
@@ -160,13 +165,17 @@ def _load() -> ctypes.CDLL:
 calls = _load()
 
 
+def addresses() -> dict[str, int]:
+    """Where the calls of the library are."""
+    return {name: ctypes.cast(getattr(calls, name), ctypes.c_void_p).value or 0 for name in _arguments()}
+
+
+_native.use(addresses())
+_native.know(refusal=refusal, forked=Forked, encoded_query=encoded_query)
+
+
 def check(answer: int, carried: Optional[int] = None, query: Optional[str] = None, listed: Optional[str] = None) -> None:
     """Raises the error that a call returned, if it returned one: with the number that goes with it, the text of the
     query that was asked, and what the call takes a list of."""
     if answer != 0:
         raise refusal(answer, carried, query, listed)
-
-
-def words(count: int) -> "ctypes.Array[ctypes.c_uint64]":
-    """Room for so many numbers, and for one at least: the library wants a pointer also to nothing."""
-    return (ctypes.c_uint64 * max(count, 1))()

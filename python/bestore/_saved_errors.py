@@ -2,10 +2,12 @@
 
 from __future__ import annotations
 
-import sqlite3
-from typing import Optional
+from typing import TYPE_CHECKING, Optional
 
 from .errors import CommitsSpent, Error, Full, NoMemory
+
+if TYPE_CHECKING:
+    import sqlite3
 
 # The codes of SQLite, and its messages, which Python before 3.11 has alone.
 _BUSY, _LOCKED, _FULL, _NO_DATABASE = 5, 6, 13, 26
@@ -21,7 +23,7 @@ class SavedError(Error):
     def __init__(self, path: str, *others: object) -> None:
         super().__init__(path, *others)
         self.path = path
-        """The file."""
+        """The file, or the socket of a server that keeps one."""
 
     @property
     def summary(self) -> str:
@@ -113,14 +115,15 @@ class TooLarge(_AtPlace):
 class NotSaved(SavedError):
     """The write is in memory, and may be in the file or not. The error of the commit is the `__cause__`."""
 
-    def __init__(self, path: str, number: int) -> None:
+    def __init__(self, path: str, number: Optional[int]) -> None:
         super().__init__(path, number)
         self.number = number
-        """The commit number of the write."""
+        """The commit number of the write, or None if a server did not say it."""
 
     @property
     def summary(self) -> str:
-        return f"write {self.number} is not saved: {_said(self.__cause__)}"
+        what = "the write" if self.number is None else f"write {self.number}"
+        return f"{what} is not saved: {_said(self.__cause__)}"
 
 
 class Stopped(SavedError):
@@ -134,7 +137,8 @@ class Stopped(SavedError):
 
 def _said(error: Optional[BaseException]) -> str:
     """What went wrong, without the file."""
-    return error.summary if isinstance(error, SavedError) else str(error)
+    summary = getattr(error, "summary", None)
+    return str(error) if summary is None else str(summary)
 
 
 def of_sqlite(path: str, error: sqlite3.Error) -> SavedError:

@@ -7,7 +7,8 @@ import os
 import sqlite3
 import weakref
 from contextlib import contextmanager
-from typing import Any, ClassVar, Iterable, Iterator, List, NamedTuple, Optional, Tuple
+from itertools import chain
+from typing import Any, ClassVar, Iterable, Iterator, List, NamedTuple, Optional, Sequence, Tuple
 
 from ._saved_errors import Differs, Foreign, Newer, of_sqlite
 
@@ -16,9 +17,10 @@ APPLICATION = 0x62657374
 FORMAT = 1
 """The version of the format."""
 
-# The last two take the lock.
+# The WAL is written from its start again after 1,000 pages, 4.1 MB, so the limit cuts off only what a large commit has left. The
+# last two take the lock.
 _SETTINGS = (
-    "PRAGMA journal_mode = WAL", "PRAGMA synchronous = FULL", "PRAGMA journal_size_limit = 1048576", "BEGIN IMMEDIATE", "COMMIT")
+    "PRAGMA journal_mode = WAL", "PRAGMA synchronous = FULL", "PRAGMA journal_size_limit = 8388608", "BEGIN IMMEDIATE", "COMMIT")
 _TABLES = (
     f"PRAGMA application_id = {APPLICATION}", f"PRAGMA user_version = {FORMAT}",
     "CREATE TABLE about (what TEXT PRIMARY KEY, number INTEGER NOT NULL) WITHOUT ROWID",
@@ -26,6 +28,9 @@ _TABLES = (
     "CREATE TABLE state (place INTEGER PRIMARY KEY, batch BLOB NOT NULL)",
     "CREATE TABLE entry (number INTEGER PRIMARY KEY, pass INTEGER NOT NULL, batch BLOB NOT NULL)",
 )
+
+# The statements that add so many entries. All of them fit in the cache of the connection.
+_INSERTS = ["INSERT OR IGNORE INTO entry VALUES " + ", ".join(["(?, ?, ?)"] * count) for count in range(65)]
 
 Row = Tuple[int, int, bytes]
 """An entry: its number in the file, the pass that wrote it, and its batch."""
@@ -153,11 +158,25 @@ class File:
                 return
             yield row[0], row[1] if isinstance(row[1], bytes) else b""
 
-    def append(self, rows: Iterable[Row]) -> None:
+    def append(self, rows: Sequence[Row]) -> None:
         """Adds the entries, all in one commit. One that is there already is the same, and stays."""
+        if len(rows) < len(_INSERTS):
+            self._append_by_one_statement(rows)
+            return
         with self._transaction():
             assert self._connection is not None
-            self._connection.executemany("INSERT OR IGNORE INTO entry VALUES (?, ?, ?)", rows)
+            self._connection.executemany(_INSERTS[1], rows)
+
+    def _append_by_one_statement(self, rows: Sequence[Row]) -> None:
+        """Adds a few entries. The statement is a transaction of its own, so Python gives other threads the interpreter once."""
+        assert self._connection is not None
+        if self._connection.in_transaction:  # left open by an exception
+            self._roll_back()
+        try:
+            self._connection.execute(_INSERTS[len(rows)], rows[0] if len(rows) == 1 else list(chain.from_iterable(rows)))
+        except sqlite3.Error as error:
+            self._roll_back()
+            raise of_sqlite(self.path, error) from error
 
     def write_state(self, number: int, next_node: int, batches: Iterable[bytes]) -> None:
         """Puts this state, which contains the entries up to `number`, in the place of the old one and of these entries.

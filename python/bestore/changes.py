@@ -2,12 +2,13 @@
 
 from __future__ import annotations
 
-from typing import TYPE_CHECKING, Dict, MutableMapping, Optional, Set
+from typing import TYPE_CHECKING, ClassVar, Dict, Iterator, List, MutableMapping, Optional, Set, Tuple
 
-from .errors import BadCount, NoAttribute, NoNode, NotPinned, WrongKind
+from .errors import BadCount, NoAttribute, NoNode, NotPinned, WrongKind, encoded
 from .operations import MOST_OPERATIONS, SET, Batch
+from .queries import Prepared
 from .values import KIND_OF, RANGES, Encoded, Kind, Typed, Value, encode_value, typed_value
-from .versions import Attributes, Version
+from .versions import Attributes, Query, Version
 
 if TYPE_CHECKING:
     from .store import Pass
@@ -22,8 +23,10 @@ class Change(Version):
     alone. A live query is refreshed outside of a change, since the function may run again. The 65th operation is a
     `BadCount`."""
 
+    _shown: ClassVar[str] = "change"
+
     def __init__(self, user: Pass, check_kinds: bool = True) -> None:
-        super().__init__(user)
+        self._snapshot = user.pin()
         self._batch, self._check_kinds = Batch(), check_kinds
         self._next: Optional[int] = None
         self._kinds: Optional[Dict[str, int]] = None
@@ -38,7 +41,7 @@ class Change(Version):
 
     def _collecting(self) -> Batch:
         """The batch, which takes one more operation."""
-        if not self._is_pinned:
+        if not self._snapshot._is_pinned:
             raise NotPinned()
         if len(self._batch) >= MOST_OPERATIONS:
             raise BadCount()
@@ -67,7 +70,7 @@ class Change(Version):
         code, number, taken = encode_value(value, kind)
         batch = self._collecting()
         self._check_kind(name, code)
-        batch._add(SET, node, name, code, number, taken)
+        batch._add_encoded(SET, node, encoded(name), code, number, taken)
         self._set.setdefault(node, {})[name] = code, number, taken
 
     def _check_kind(self, name: str, kind: Kind) -> None:
@@ -110,12 +113,12 @@ class Change(Version):
             return typed_value(*encoded)
         if node in self._made or node in self._removed:
             raise NoAttribute()
-        return super()._read(node, name)
+        return self._snapshot._read(node, name)
 
     def _listed(self, node: int) -> Dict[str, Typed]:
         if node in self._removed:
             raise NoNode()
-        listed = {} if node in self._made else super()._listed(node)
+        listed = {} if node in self._made else self._snapshot._listed(node)
         for name, encoded in self._set.get(node, {}).items():
             listed.pop(name, None)
             if encoded is not None:
@@ -123,11 +126,49 @@ class Change(Version):
         return dict(sorted(listed.items()))
 
     def __contains__(self, node: int) -> bool:
-        return node in self._made or node not in self._removed and super().__contains__(node)
+        return node in self._made or node not in self._removed and node in self._snapshot
 
     def __getitem__(self, node: int) -> ChangedAttributes:
         """A node's attributes, which can be set and deleted as those of a dict."""
         return ChangedAttributes(self, node)
+
+    # What reads the snapshot alone.
+
+    @property
+    def number(self) -> int:
+        return self._snapshot.number
+
+    @property
+    def _is_pinned(self) -> bool:
+        return self._snapshot._is_pinned
+
+    def unpin(self) -> None:
+        self._snapshot.unpin()
+
+    @property
+    def next_node(self) -> int:
+        return self._snapshot.next_node
+
+    def _nodes_of(self, asked: Query) -> List[int]:
+        return self._snapshot._nodes_of(asked)
+
+    def _count_of(self, asked: Query) -> int:
+        return self._snapshot._count_of(asked)
+
+    def _nodes_from(self, first: int, room: int) -> List[int]:
+        return self._snapshot._nodes_from(first, room)
+
+    def refresh(self, prepared: Prepared) -> Tuple[List[int], List[int]]:
+        return self._snapshot.refresh(prepared)
+
+    def explain(self, text: str) -> str:
+        return self._snapshot.explain(text)
+
+    def indices(self) -> Dict[str, Kind]:
+        return self._snapshot.indices()
+
+    def state(self) -> Iterator[Batch]:
+        return self._snapshot.state()
 
 
 class ChangedAttributes(Attributes, MutableMapping[str, Value]):

@@ -5,11 +5,12 @@ from __future__ import annotations
 import ctypes
 import struct
 from dataclasses import dataclass
-from typing import Iterable, Iterator, List, Optional, Tuple, Union
+from typing import Callable, Iterator, List, Optional, Sequence, Tuple, Type, Union
 
+from . import _native
 from ._library import Counts, Operation as RawOperation
-from .errors import BadBytes, BadCount, DataLength, NameLength, NoKind, decoded, encoded
-from .values import KIND_OF, RANGES, Kind, Value, decode_value, encode_value, kind_code, node_number
+from .errors import BadBytes, BadCount, DataLength, NameLength, NoKind, decoded
+from .values import KIND_OF, RANGES, Kind, Value, decode_value
 
 NEW, REMOVE, SET, UNSET, MAKE_INDEX, REMOVE_INDEX = range(6)
 MOST_OPERATIONS = 64
@@ -69,72 +70,32 @@ class RemoveIndex:
 Operation = Union[NewNode, RemoveNode, SetAttribute, UnsetAttribute, MakeIndex, RemoveIndex]
 
 
-class Batch:
+class Batch(_native.Batch):
     """Up to 64 operations, which `Pass.apply` applies all or none. Its calls return the batch, so they can be chained.
 
     `for operation in batch` goes over them, `len(batch)` is how many there are, and `Batch(operations)` has these."""
 
-    def __init__(self, operations: Iterable[Operation] = ()) -> None:
-        self._operations: List[RawOperation] = []
-        self._bytes = b""
-        for operation in operations:
-            self.add(operation)
-
-    def __len__(self) -> int:
-        return len(self._operations)
+    __slots__ = ()
 
     def __iter__(self) -> Iterator[Operation]:
-        for raw, name, value in self._parts():
-            yield _read_back(raw, decoded(name), value)
+        for parts in self._parts():
+            yield _read_back(*parts)
 
     def __repr__(self) -> str:
         return f"<batch of {len(self)} operations>"
 
-    def _add(self, kind: int, node: int = 0, name: str = "", code: int = 0, number: int = 0, value: bytes = b"") -> Batch:
-        return self._add_encoded(kind, node_number(node), encoded(name), code, number, value)
+    def __reduce__(self) -> Tuple[Callable[..., Batch], Tuple[Type[Batch], bytes, bytes]]:
+        return _copied, (type(self), self._raw, self._bytes)
 
-    def _add_encoded(self, kind: int, node: int, name: bytes, code: int, number: int, value: bytes) -> Batch:
-        at = len(self._bytes)
-        self._operations.append(RawOperation(kind, code, node, number, at, len(name), at + len(name), len(value)))
-        self._bytes += name + value
-        return self
-
-    def _parts(self) -> Iterator[Tuple[RawOperation, bytes, bytes]]:
-        """Each operation with the bytes of its name and of its value."""
-        for raw in self._operations:
-            yield (raw, self._bytes[raw.name_at:raw.name_at + raw.name_length],
-                   self._bytes[raw.value_at:raw.value_at + raw.value_length])
-
-    def new_node(self) -> Batch:
-        """Makes a node."""
-        return self._add(NEW)
-
-    def remove_node(self, node: int) -> Batch:
-        """Removes a node and all its attributes."""
-        return self._add(REMOVE, node)
-
-    def set(self, node: int, name: str, value: Value, kind: Optional[int] = None) -> Batch:
-        """Sets an attribute. Without a kind a str is STRING, bytes are RAW, an `Int32` and its like are what they
-        say, and another int is INT64."""
-        code, number, taken = encode_value(value, kind)
-        return self._add(SET, node, name, code, number, taken)
-
-    def unset(self, node: int, name: str) -> Batch:
-        """Removes an attribute."""
-        return self._add(UNSET, node, name)
-
-    def make_index(self, name: str, kind: int) -> Batch:
-        """Makes an index of this name, for values of this kind. It takes the attributes that are set from then on."""
-        return self._add(MAKE_INDEX, 0, name, kind_code(kind))
-
-    def remove_index(self, name: str) -> Batch:
-        """Removes the index of this name."""
-        return self._add(REMOVE_INDEX, 0, name)
+    @property
+    def _operations(self) -> List[RawOperation]:
+        """The operations, as the library takes them."""
+        return list((RawOperation * len(self)).from_buffer_copy(self._raw))
 
     def add(self, operation: Operation) -> Batch:
         """Adds an operation, as `for operation in batch` gives it."""
         if isinstance(operation, NewNode):
-            return self._add(NEW, operation.node)
+            return self._add_encoded(NEW, operation.node, b"", 0, 0, b"")
         if isinstance(operation, RemoveNode):
             return self.remove_node(operation.node)
         if isinstance(operation, SetAttribute):
@@ -148,10 +109,38 @@ class Batch:
     def to_bytes(self) -> bytes:
         """The batch as bytes, which `from_bytes` and the libraries for C, C++ and Rust read. `BadCount` if it has
         not 1 to 64 operations, `NameLength`, `DataLength` and `NoKind` for what no write takes."""
+        return self._packed()
+
+    def _packed(self, nodes: Optional[Sequence[int]] = None) -> bytes:
+        """The batch as bytes. If the nodes are given that each operation made, they are what the operations that make nodes
+        have, as in the journal."""
         if not 1 <= len(self) <= MOST_OPERATIONS:
             raise BadCount()
-        packed = [_packed(place, *parts) for place, parts in enumerate(self._parts())]
-        return b"".join([BEGINNING, bytes([len(self)]), *packed])
+        texts, parts = self._bytes, [BEGINNING, _BYTES[len(self)]]
+        for place, raw in enumerate(_RAW.iter_unpack(self._raw)):
+            kind, code, node, number, name_at, name_length, value_at, value_length = raw
+            if kind == NEW:
+                parts.append(_KIND_NODE.pack(NEW, node if nodes is None else nodes[place]))
+                continue
+            parts.append(_KIND_NODE.pack(kind, node) if kind in _WITH_NODE else _BYTES[kind])
+            if kind == REMOVE:
+                continue
+            if name_length > 63:
+                raise NameLength(place, listed="operation")
+            parts += _BYTES[name_length], texts[name_at:name_at + name_length]
+            if kind not in _WITH_CODE:
+                continue
+            if code not in KIND_OF:
+                raise NoKind(place, listed="operation")
+            if kind == MAKE_INDEX:
+                parts.append(_CODE.pack(code))
+            elif value_length > 255:
+                raise DataLength(place, listed="operation")
+            elif code in RANGES:
+                parts.append(_CODE_NUMBER.pack(code, number))
+            else:
+                parts += _CODE.pack(code), _BYTES[value_length], texts[value_at:value_at + value_length]
+        return b"".join(parts)
 
     @classmethod
     def from_bytes(cls, data: bytes) -> Batch:
@@ -164,28 +153,37 @@ class Batch:
         return batch
 
 
-def batch_of(counts: Counts, operations: "ctypes.Array[RawOperation]", texts: "ctypes.Array[ctypes.c_char]") -> Batch:
-    """The batch that a call of the library wrote."""
-    batch = Batch()
-    batch._operations, batch._bytes = operations[:counts.operations], texts.raw[:counts.bytes]
+_native.know(batch=Batch)
+
+
+def _copied(kind: Type[Batch], operations: bytes, texts: bytes) -> Batch:
+    """A batch of this class with these operations, as the library takes them."""
+    batch = kind()
+    batch._put(operations, texts)
     return batch
 
 
-def _read_back(raw: RawOperation, name: str, value: bytes) -> Operation:
-    """The operation of a batch that has this name and these bytes of a value."""
-    if raw.kind == NEW:
-        return NewNode(raw.node)
-    if raw.kind == REMOVE:
-        return RemoveNode(raw.node)
-    if raw.kind == UNSET:
-        return UnsetAttribute(raw.node, name)
-    if raw.kind == REMOVE_INDEX:
-        return RemoveIndex(name)
-    if raw.code not in KIND_OF:
+def batch_of(counts: Counts, operations: "ctypes.Array[RawOperation]", texts: "ctypes.Array[ctypes.c_char]") -> Batch:
+    """The batch that a call of the library wrote."""
+    size = counts.operations * ctypes.sizeof(RawOperation)
+    return _copied(Batch, ctypes.string_at(operations, size), texts.raw[:counts.bytes])
+
+
+def _read_back(kind: int, code: int, node: int, number: int, name: bytes, value: bytes) -> Operation:
+    """The operation of a batch that has these parts."""
+    if kind == NEW:
+        return NewNode(node)
+    if kind == REMOVE:
+        return RemoveNode(node)
+    if kind == UNSET:
+        return UnsetAttribute(node, decoded(name))
+    if kind == REMOVE_INDEX:
+        return RemoveIndex(decoded(name))
+    if code not in KIND_OF:
         raise NoKind()
-    if raw.kind == SET:
-        return SetAttribute(raw.node, name, decode_value(raw.code, raw.number, value), KIND_OF[raw.code])
-    return MakeIndex(name, KIND_OF[raw.code])
+    if kind == SET:
+        return SetAttribute(node, decoded(name), decode_value(code, number, value), KIND_OF[code])
+    return MakeIndex(decoded(name), KIND_OF[code])
 
 
 # A batch as bytes, little-endian: the beginning, whose last byte is the format's version; the number of operations in one
@@ -193,26 +191,9 @@ def _read_back(raw: RawOperation, name: str, value: bytes) -> Operation:
 # the name in one, and the name; the type code in 4; and the value, a number in 8 bytes, or a length in one and the bytes.
 BEGINNING = b"BEB\x01"
 _WITH_NODE, _WITH_NAME, _WITH_CODE = (NEW, REMOVE, SET, UNSET), (SET, UNSET, MAKE_INDEX, REMOVE_INDEX), (SET, MAKE_INDEX)
-
-
-def _packed(place: int, raw: RawOperation, name: bytes, value: bytes) -> bytes:
-    """The bytes of an operation."""
-    parts = [bytes([raw.kind])]
-    if raw.kind in _WITH_NODE:
-        parts.append(struct.pack("<Q", raw.node))
-    if raw.kind in _WITH_NAME:
-        if len(name) > 63:
-            raise NameLength(place, listed="operation")
-        parts += [bytes([len(name)]), name]
-    if raw.kind in _WITH_CODE:
-        if raw.code not in KIND_OF:
-            raise NoKind(place, listed="operation")
-        parts.append(struct.pack("<I", raw.code))
-    if raw.kind == SET:
-        if len(value) > 255:
-            raise DataLength(place, listed="operation")
-        parts.append(struct.pack("<Q", raw.number) if raw.code in RANGES else bytes([len(value)]) + value)
-    return b"".join(parts)
+_KIND_NODE, _CODE, _CODE_NUMBER = struct.Struct("<BQ"), struct.Struct("<I"), struct.Struct("<IQ")
+_BYTES = [bytes([byte]) for byte in range(256)]
+_RAW = struct.Struct("=2I2Q4I")  # an operation as the library has it
 
 
 class _Reader:

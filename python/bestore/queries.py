@@ -4,11 +4,13 @@ from __future__ import annotations
 
 import ctypes
 import enum
-from typing import List, Optional, Sequence, Tuple, Union
+import struct
+import threading
+from typing import List, Optional, Sequence, Set, Tuple, Union
 
-from ._library import Item as RawItem, calls, check
-from .errors import encoded, encoded_query
-from .handles import Owner
+from ._library import calls, check
+from .errors import Closed, encoded, encoded_query
+from .handles import PREPARED, HandleOwner
 from .language import Comparison, comparisons
 from .values import Kind, encode_value
 
@@ -26,7 +28,7 @@ class Operator(enum.IntEnum):
 Item = Union[Name, Operator, str, int]
 """An item of a query in reverse Polish order: a name, an operator, a text or a number."""
 
-EncodedItems = Tuple["ctypes.Array[RawItem]", int, bytes, int]
+_RAW = struct.Struct("@IIIQ")  # a bes_item: its kind, where its bytes are and how many they are, and its number
 
 
 def _item(item: Item) -> Tuple[int, int, bytes]:
@@ -42,28 +44,32 @@ def _item(item: Item) -> Tuple[int, int, bytes]:
     return 3, encode_value(item, Kind.UINT64)[1], b""
 
 
-def encode_items(items: Sequence[Item]) -> EncodedItems:
-    """The items as the library takes them, with their bytes."""
-    taken, texts = (RawItem * max(len(items), 1))(), b""
-    for place, item in enumerate(items):
+def encode_items(items: Sequence[Item]) -> Tuple[bytes, bytes]:
+    """The items as the library takes them, and their bytes."""
+    taken, texts = [], b""
+    for item in items:
         kind, number, text = _item(item)
-        taken[place] = RawItem(kind, len(texts), len(text), number)
+        taken.append(_RAW.pack(kind, len(texts), len(text), number))
         texts += text
-    return taken, len(items), texts, len(texts)
+    return b"".join(taken), texts
 
 
-class Prepared(Owner):
+class Prepared(HandleOwner):
     """A query that is parsed once and kept, by `prepare` or `prepare_items`. It belongs to no store.
     `Version.query_prepared` asks it, and `Version.refresh` returns what changed since it was refreshed last."""
 
     def __init__(self, source: Optional[str] = None) -> None:
-        super().__init__()
+        super().__init__(PREPARED)
         self.source = source
         """The text that it was prepared from, or None if it was prepared from items."""
+        self._refreshing = threading.RLock()  # who has it refreshes the query, and it guards what follows
+        self._is_in_library = False  # whether the library has the nodes of the last refresh
+        self._seen: Optional[Set[int]] = None  # these nodes, if the last refresh was in a version of a server
 
     def close(self) -> None:
         """Gives the query up, if it is still there."""
         self._give_up(calls.bes_release)
+        self._seen = None
 
     @property
     def text(self) -> str:
@@ -75,6 +81,15 @@ class Prepared(Owner):
             if count.value <= room:
                 return written.raw[:count.value].decode()
             room = count.value
+
+    def _asked_text(self) -> str:
+        """The text by which a server is asked. `Closed` if the query is closed."""
+        if self.source is None:
+            return self.text
+        self._check_process()
+        if not self._is_live:
+            raise Closed()
+        return self.source
 
     @property
     def comparisons(self) -> List[Comparison]:
@@ -93,6 +108,7 @@ def prepare(text: str) -> Prepared:
     prepared, taken, place = Prepared(text), encoded_query(text), ctypes.c_uint64()
     answer = calls.bes_prepare(taken, len(taken), prepared._pointer, ctypes.byref(place))
     check(answer, place.value, text)
+    prepared._expect(text)
     return prepared
 
 
@@ -100,6 +116,7 @@ def prepare_items(*items: Item) -> Prepared:
     """The query that items in reverse Polish order build, as `Version.query_items` takes them. `BadItems` or
     `BadPattern` if they build none. Takes memory until it is closed."""
     prepared, place = Prepared(), ctypes.c_uint64()
-    answer = calls.bes_prepare_items(*encode_items(items), prepared._pointer, ctypes.byref(place))
+    taken, texts = encode_items(items)
+    answer = calls.bes_prepare_items(taken, len(items), texts, len(texts), prepared._pointer, ctypes.byref(place))
     check(answer, place.value, listed="item")
     return prepared

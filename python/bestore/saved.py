@@ -22,21 +22,22 @@ thinks there that the parent's handle is its own.
 from __future__ import annotations
 
 import atexit
-import ctypes
 import operator
 import os
 import threading
-from contextlib import ExitStack, contextmanager, suppress
+from contextlib import ExitStack, suppress
 from types import TracebackType
-from typing import Any, Callable, Iterator, List, Optional, Tuple, Type, Union
+from typing import Any, Dict, List, Optional, Tuple, Type, Union
 
-from . import store as _store
-from ._library import Counts, Operation as RawOperation, calls, check
+from . import local as _local
+from ._library import calls, check
 from ._saved_errors import (
     Differs, DiskFull, Foreign, Held, Newer, NotSaved, SavedError, SqliteError, Stopped, TooLarge, refused)
-from ._saved_file import File
+from ._saved_file import File, Row
+from ._saved_line import Line, Turn
+from ._saved_rows import Repeater
 from .errors import BadLimits, Error
-from .operations import BYTES_OF_A_BATCH, MOST_OPERATIONS, NEW, Batch, batch_of
+from .operations import Batch
 
 __all__ = [
     "Differs", "DiskFull", "Foreign", "Held", "Newer", "NotSaved", "Saved", "SavedError", "SavedPass", "SqliteError",
@@ -50,39 +51,32 @@ _TRIES = 2**63 - 1  # for as long as other passes write: an entry that can't be 
 class _Reader:
     """Reads entries of the journal as bytes, by a pass that nobody else uses."""
 
-    def __init__(self, user: _store.Pass) -> None:
-        self._user, self._operations = user, (RawOperation * MOST_OPERATIONS)()
-        self._texts = ctypes.create_string_buffer(BYTES_OF_A_BATCH)
-        self._by, self._length, self._counts = ctypes.c_uint64(), ctypes.c_uint64(), Counts()
-        self._arguments = (
-            ctypes.byref(self._by), ctypes.byref(self._counts), self._operations, MOST_OPERATIONS, self._texts,
-            BYTES_OF_A_BATCH, ctypes.byref(self._length))
+    def __init__(self, user: _local.LocalPass) -> None:
+        self._user = user
 
-    def read(self, after: int) -> Iterator[Tuple[int, int, bytes]]:
-        """The entries after this commit number, up to `_MOST_ROWS` of them: their numbers, passes and batches."""
-        for number in range(after, after + _MOST_ROWS):
-            check(self._user._tried(_TRIES, calls.bes_journal_from, number, *self._arguments), self._length.value)
-            yield number + 1, self._by.value, batch_of(self._counts, self._operations, self._texts).to_bytes()
-            if number + 1 >= self._length.value:
-                return
+    def read(self, number: int) -> Tuple[int, bytes]:
+        """The pass and the batch of the entry with this commit number."""
+        answer, carried, by, batch = self._user._repeated(_TRIES, self._user._journal_entry, number - 1)
+        check(answer, carried)
+        assert batch is not None
+        return by, batch.to_bytes()
 
 
 class _Saver:
-    """Saves the entries of the journal. A writer waits for its turn, and then saves all entries that are there. The writers
-    whose entries it has saved go on."""
+    """Saves the entries of the journal. A writer hands its entry in, and waits for its turn. Then it saves all entries that are
+    there. The writers whose entries it has saved go on."""
 
-    def __init__(self, file: File, own: _store.Pass, last: int, every: Optional[float]) -> None:
+    def __init__(self, file: File, own: _local.LocalPass, last: int, every: Optional[float]) -> None:
         self.own = own
-        """A pass that nobody else uses. It reads what is saved, and makes the other passes."""
+        """A pass that nobody else uses. It reads what nobody has handed in, and makes the other passes."""
         self.path, self._reader = file.path, _Reader(own)
         self._file: Optional[File] = file
-        self._line, self._is_taken = threading.Condition(), False  # those who wait, and whether one has its turn
-        self._asked = 0  # how many turns without a number are waited for, or taken
         self._failed: Optional[Exception] = None
         self._is_closing = False
         with own.pin() as version:
-            self._saved = version.number
-        self._shift = last - self._saved
+            self._line = Line(version.number)
+        self._shift = last - self._line.saved
+        self._handed_in: Dict[int, Row] = {}  # by commit number; an entry that is missing is in the journal
         self._work, self._ending = threading.Event(), threading.Event()
         self.is_timed = every is not None
         if every is not None:
@@ -98,61 +92,66 @@ class _Saver:
         if self._failed is not None or self._file is None:
             raise Stopped(self.path) from self._failed
 
-    def keep(self, number: int) -> None:
+    def keep(self, number: int, by: int, batch: Batch, made: List[int]) -> None:
         """Saves the write with this commit number, or says to the thread that saves that there is one."""
         if self.is_timed and not self._is_closing:
-            self._work.set()
+            self._hand_in_for_later(number, by, batch, made)
             return
+        line, turn = self._line, Turn(number)
+        self._handed_in[number] = number + self._shift, by, batch._packed(made)
         try:
-            with self._turn(number) as has_turn:
-                if has_turn:
-                    self._save_up_to(number)
+            if line.take(turn):
+                self._save_up_to(number)
         except Stopped as error:
             raise NotSaved(self.path, number) from error.__cause__ or error
-
-    @contextmanager
-    def _turn(self, number: Optional[int] = None) -> Iterator[bool]:
-        """Waits until nobody else uses the file, and is alone then. With a number: False as soon as that entry is saved.
-        Without one it comes before those who have one."""
-        has_turn, asked = False, 0
-        try:
-            with self._line:
-                asked = int(number is None)
-                self._asked += asked
-                while self._waits(number):
-                    self._line.wait()
-                if number is None or self._saved < number:
-                    has_turn = self._is_taken = True
-            yield has_turn
         finally:
-            with self._line:
-                self._asked -= asked
-                if has_turn:
-                    self._is_taken = False
-                self._line.notify_all()
+            line.leave(turn)
+            if number in self._handed_in and line.saved >= number:
+                self._handed_in.pop(number, None)
 
-    def _waits(self, number: Optional[int]) -> bool:
-        """Whether somebody else comes first."""
-        if number is None:
-            return self._is_taken
-        return self._saved < number and (self._is_taken or self._asked > 0)
+    def _hand_in_for_later(self, number: int, by: int, batch: Batch, made: List[int]) -> None:
+        """For the thread that saves, which reads the journal if there are too many."""
+        if len(self._handed_in) < _MOST_ROWS:
+            self._handed_in[number] = number + self._shift, by, batch._packed(made)
+            if self._line.saved >= number:
+                self._handed_in.pop(number, None)
+        if not self._work.is_set():
+            self._work.set()
 
     def _save_up_to(self, number: int) -> None:
-        """In a turn: saves the entries up to this commit number, and those after it that are there too."""
-        while self._saved < number:
+        """In a turn: saves the entries up to this commit number, and those after it that are handed in."""
+        line, handed_in = self._line, self._handed_in
+        while line.saved < number:
             self.check()
             assert self._file is not None
+            first = line.saved + 1
             try:
-                rows = [(self.number_in_file(entry), by, batch) for entry, by, batch in self._reader.read(self._saved)]
+                rows = self._next_rows(first, number)
                 self._file.append(rows)
             except Exception as error:
                 self._failed = error
                 self.check()
-            self._saved += len(rows)
+            line.saved += len(rows)
+            for saved in range(first, first + len(rows)):
+                handed_in.pop(saved, None)
+
+    def _next_rows(self, number: int, least: int) -> List[Row]:
+        """The entries from this commit number on to be saved next, up to `_MOST_ROWS` of them: those up to the commit number
+        `least`, which are read from the journal if nobody has handed them in yet, and those after it."""
+        rows: List[Row] = []
+        while len(rows) < _MOST_ROWS:
+            row = self._handed_in.get(number)
+            if row is None:
+                if number > least:
+                    break
+                row = (number + self._shift, *self._reader.read(number))
+            rows.append(row)
+            number += 1
+        return rows
 
     def flush(self) -> None:
         """Saves what was written before the call."""
-        with self._turn():
+        with self._line.turn():
             self._save_all()
 
     def _save_all(self) -> None:
@@ -163,7 +162,7 @@ class _Saver:
 
     def compact(self) -> None:
         """Puts the current snapshot into the file, in the place of the state and the entries that it contains."""
-        with self._turn():
+        with self._line.turn():
             self.check()
             with self.own.pin() as version:
                 self._save_up_to(version.number)
@@ -200,7 +199,7 @@ class _Saver:
         """Saves what was written, and closes the file, which a forked child leaves to its parent."""
         if self.own._is_dead:
             return
-        with self._turn():
+        with self._line.turn():
             file = self._file
             if file is None:
                 return
@@ -216,19 +215,24 @@ class _Saver:
         atexit.unregister(self.close)
 
 
-class SavedPass(_store.Pass):
+class SavedPass(_local.LocalPass):
     """A pass whose writes are saved. Each call that writes may also raise `Stopped`, if nothing is saved any more, and
     `NotSaved`, if the write couldn't be saved."""
 
     def __init__(self, saver: _Saver, first: Optional[Saved] = None) -> None:
         super().__init__()
         self._saver, self._first = saver, first  # which stays, so that the file isn't closed
+        self._own_number: Optional[int] = None
 
-    def _written(self, tries: int, call: Callable[..., int], batch: Batch, *before: int) -> Tuple[int, List[int]]:
+    def _write(self, batch: Batch, tries: int, expected: Optional[int]) -> Tuple[int, List[int]]:
         self._check_process()
-        self._saver.check()
-        written = super()._written(tries, call, batch, *before)
-        self._saver.keep(written[0])
+        saver = self._saver
+        saver.check()
+        if self._own_number is None:
+            self._own_number = self.number
+        written = super()._write(batch, tries, expected)
+        self._committed = written[0]
+        saver.keep(written[0], self._own_number, batch, written[1])
         return written
 
     def another(self) -> SavedPass:
@@ -306,7 +310,7 @@ def open(path: Union[str, bytes, "os.PathLike[Any]"], pages: int = 4096, passes:
     if every is not None and not every >= 0:
         raise ValueError(f"every {every} seconds")
     with ExitStack() as opened:
-        own = opened.enter_context(_store.open(pages, passes + 1, commits))
+        own = opened.enter_context(_local.open(pages, passes + 1, commits))
         file = File(os.fsdecode(path))
         opened.callback(file.close)
         last = _load(file, own)
@@ -321,11 +325,11 @@ def open(path: Union[str, bytes, "os.PathLike[Any]"], pages: int = 4096, passes:
     return store
 
 
-def _load(file: File, own: _store.Pass) -> int:
+def _load(file: File, own: _local.LocalPass) -> int:
     """Applies what the file has to an empty store. Returns the number of the last entry."""
-    about = file.about()
+    about, repeater = file.about(), Repeater(own)
     for place, data in file.state():
-        _repeat(file.path, own, data, batch=place)
+        _repeat(file.path, repeater, data, batch=place)
     with own.pin() as version:
         if version.next_node != about.next_node:
             raise Differs(file.path, "it has another next node than it says")
@@ -333,19 +337,17 @@ def _load(file: File, own: _store.Pass) -> int:
     for number, data in file.entries():
         if number != last + 1:
             raise Differs(file.path, "the entry is missing", entry=last + 1)
-        kept, made = _repeat(file.path, own, data, entry=number)
+        kept, made = _repeat(file.path, repeater, data, entry=number)
         if made != kept:
             raise Differs(file.path, "it makes other nodes now", entry=number)
         last = number
     return last
 
 
-def _repeat(path: str, own: _store.Pass, data: bytes, entry: Optional[int] = None,
+def _repeat(path: str, repeater: Repeater, data: bytes, entry: Optional[int] = None,
             batch: Optional[int] = None) -> Tuple[List[int], List[int]]:
     """Applies a batch of the file. Returns for each operation the node that it made, or 0: by the file, and now."""
     try:
-        repeated = Batch.from_bytes(data)
-        made = own.apply(repeated, tries=1)[1]
+        return repeater.repeat(data)
     except Error as error:
         raise refused(path, error, entry, batch) from error
-    return [raw.node if raw.kind == NEW else 0 for raw in repeated._operations], made

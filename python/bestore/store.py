@@ -1,21 +1,18 @@
-"""Passes of a store: how it is opened, written, and followed."""
+"""Passes of a store: how it is written, read and followed."""
 
 from __future__ import annotations
 
-import ctypes
-import operator
 import random
-import threading
 import time
+from abc import ABC, abstractmethod
 from functools import partial
-from typing import Any, Callable, Iterator, List, NamedTuple, Optional, Tuple, TypeVar
+from typing import Callable, Iterator, List, NamedTuple, Optional, Tuple, TypeVar
 
-from ._library import Attribute, Counts, Operation as RawOperation, Usage, calls, check, words
 from .changes import Change
-from .errors import BadLimits, Conflict, ErrorNumber, Nested, NoIndex, Refusal, TooManyAttempts, refusal
+from .errors import Conflict, Nested, NoIndex, TooManyAttempts
 from .handles import Owner
-from .operations import BYTES_OF_A_BATCH, MOST_OPERATIONS, Batch, Operation, batch_of
-from .values import RANGES, Kind, Value
+from .operations import MOST_OPERATIONS, Batch, Operation
+from .values import Kind, Value
 from .versions import Version
 
 _Result = TypeVar("_Result")
@@ -28,8 +25,6 @@ PAUSES = 100
 in all."""
 ATTEMPTS = 1_000
 """How often the function of a change is run at most, if nothing else is said."""
-_ROOM = 4096  # how many nodes a query may find before it is asked again with more room
-_BUSY, _FULL = int(ErrorNumber.BUSY), int(ErrorNumber.FULL)
 
 
 class Held(NamedTuple):
@@ -67,7 +62,7 @@ class Entry(NamedTuple):
     """Its operations. A `NewNode` has the number of the node that it made."""
 
 
-class _StandingBack:
+class StandingBack:
     """Lets other threads run, twice as often each time, up to 1,024 times: two passes that hand the store to and fro
     at each write would each wait for what the other has just written."""
 
@@ -84,112 +79,67 @@ class _StandingBack:
         self.wait(random.randint(1, self._turns))
 
 
-class Pass(Owner):
-    """A session: one thread's handle on the store. `open` makes the first, and `another` the others.
+class Pass(Owner, ABC):
+    """A session: one thread's handle on the store. `open` makes the first one of a store in this process, and `connect` one
+    of a server's store; `another` makes the others.
 
     Each thread has a pass of its own, since the calls on one pass wait for one another."""
 
-    def __init__(self) -> None:
-        super().__init__()
-        self._is_left = False
-        self._pinned: Optional[int] = None  # the commit number of the snapshot, while there is one
-        self._changing: Optional[int] = None  # the thread that runs the function of a change
-        self._nodes = words(_ROOM)  # what the reads of its versions are written into
-        self._attribute, self._value = Attribute(), bytearray(255)
-        self._attribute_pointer = ctypes.byref(self._attribute)
-        self._value_pointer = (ctypes.c_char * 255).from_buffer(self._value)
-        self.committed = 0
-        """The commit number of the last write that this pass made, or 0 before the first."""
-
-    def _call(self, call: Callable[..., int], *arguments: Any) -> int:
-        try:
-            return super()._call(call, *arguments)
-        finally:
-            if self._is_left:
-                self._unpin_left()
-
-    def _leave(self) -> None:
-        """Takes over the pin of a version that goes. Python may collect that one anywhere, also while this thread is
-        at another pass, so a thread that is at this one isn't waited for: it gives the pin up after its call."""
-        if not self._is_dead:
-            self._is_left = True
-            self._unpin_left()
-
-    def _unpin_left(self) -> None:
-        while self._is_left and self._lock.acquire(blocking=False):
-            try:
-                if self._is_left:
-                    self._is_left, self._pinned = False, None
-                    calls.bes_unpin(self._pointer)
-            finally:
-                self._lock.release()
-
-    def _tried(self, tries: int, call: Callable[..., int], *arguments: Any) -> int:
-        """Makes a call, up to so many times while another pass is writing, and once at least."""
-        answer = self._call(call, *arguments)
-        if answer == _BUSY:
-            back = _StandingBack()
-            while answer == _BUSY and tries > 1:
-                back.wait()
-                tries, answer = tries - 1, self._call(call, *arguments)
-        return answer
-
-    def _written(self, tries: int, call: Callable[..., int], batch: Batch, *before: int) -> Tuple[int, List[int]]:
-        """Makes a call that writes a batch: up to so many times while another pass is writing. With more than one
-        try it also waits, when no page is free, for other passes to give older snapshots up. Returns the commit
-        number, and the nodes that were made."""
-        if self._changing == threading.get_ident():
-            raise Nested()
-        count, made, number, pauses = len(batch), words(len(batch)), ctypes.c_uint64(), 0
-        operations = (RawOperation * max(count, 1))(*batch._operations)
-        arguments = (*before, operations, count, batch._bytes, len(batch._bytes), made, count, ctypes.byref(number))
-        answer = self._tried(tries, call, *arguments)
-        while answer == _FULL and tries > 1 and pauses < PAUSES and self._may_be_given_pages(number.value):
-            time.sleep(min(0.001 * 2**pauses, 0.05))
-            pauses, answer = pauses + 1, self._tried(tries, call, *arguments)
-        if answer != 0:
-            raise refusal(answer, number.value, listed="operation")
-        self.committed = number.value
-        return self.committed, made[:count]
-
-    def _may_be_given_pages(self, least: int) -> bool:
-        """Whether pages may come free that a write didn't find, as those of the commit number `least` and later were
-        kept: another pass is the oldest active reader, or was it."""
-        try:
-            status = self.status()
-        except Refusal:
-            return False
-        if least >= status.entries:
-            return False
-        oldest = status.oldest
-        return oldest is None or oldest.pass_number != self.number and (self._pinned is None or self._pinned > oldest.version)
+    _committed: int
+    _is_changing: bool  # whether this thread runs the function of a change
 
     @property
+    def committed(self) -> int:
+        """The commit number of the last write that this pass made, or 0 before the first."""
+        return self._committed
+
+    @property
+    @abstractmethod
     def number(self) -> int:
         """The pass's number, as `Busy`, `Status` and the journal have it."""
-        number = ctypes.c_uint64()
-        check(self._call(calls.bes_number, ctypes.byref(number)))
-        return number.value
 
+    @abstractmethod
     def another(self) -> Pass:
         """A pass of the same store for another thread. Those that nobody has used wait with the pass that `open`
         returned: its thread makes a pass for each thread before that starts. One that was closed is given by each
         pass of the store. `NoPass` if there is none."""
-        other = Pass()
-        check(self._call(calls.bes_another, other._pointer))
-        return other
 
+    @abstractmethod
     def close(self) -> None:
         """Closes the pass, if it is open, and gives it back: `another` may give it out again. The store goes with
         its last pass."""
-        self._give_up(calls.bes_close)
 
+    @abstractmethod
     def meet(self) -> int:
         """Meets a pass that was closed: both have then seen what either had. Returns how many entries of the journal
         that is. `NoPass` if none is there, or another thread is at it."""
-        seen = ctypes.c_uint64()
-        check(self._call(calls.bes_meet, ctypes.byref(seen)))
-        return seen.value
+
+    @abstractmethod
+    def pin(self) -> Version:
+        """Pins the current version: `with store.pin() as version:` reads it, and gives the pin up at the end.
+        `Pinned` if the pass is pinned. Takes constant time."""
+
+    @abstractmethod
+    def _write(self, batch: Batch, tries: int, expected: Optional[int]) -> Tuple[int, List[int]]:
+        """Writes a batch, with a number only if the journal has so many entries. Returns the commit number, and for each
+        operation the new node's number or 0."""
+
+    @abstractmethod
+    def journal(self, tries: int = TRIES) -> str:
+        """The journal up to now, with up to so many tries while another pass is writing: a line for each write, with
+        the pass that wrote it, its operations and their outcomes. Takes memory for all of it, and other writes are
+        `Busy` meanwhile."""
+
+    @abstractmethod
+    def journal_from(self, number: int = 0, tries: int = TRIES) -> Iterator[Entry]:
+        """The entries of the journal after the first `number`, until there are no more. So
+        `store.journal_from(version.number)` has what was written after a snapshot. Each entry is read by a call of
+        its own, which is tried up to so many times while another pass is writing, and then is `Busy`."""
+
+    @abstractmethod
+    def status(self, tries: int = TRIES) -> Status:
+        """How full the store is, and who is the oldest active reader, with up to so many tries while another pass is
+        writing."""
 
     def change(self, function: Callable[[Change], _Result], attempts: int = ATTEMPTS, *, check_kinds: bool = True,
                tries: int = TRIES) -> _Result:
@@ -210,7 +160,7 @@ class Pass(Owner):
         Raises `TooManyAttempts` if other writes came between each time; `Pinned` if this pass is pinned; `Nested` if
         the function writes by this pass; and the errors of `apply`. `Change.set` says what `check_kinds` does;
         `tries` is as in `apply`."""
-        back = _StandingBack()
+        back = StandingBack()
         conflict: Optional[Conflict] = None
         for _ in range(max(attempts, 1)):
             change = Change(self, check_kinds)
@@ -228,11 +178,11 @@ class Pass(Owner):
     def _run(self, function: Callable[[Change], _Result], change: Change) -> _Result:
         """Runs the function of a change, and gives the snapshot up."""
         with change:
-            self._changing = threading.get_ident()
+            self._is_changing = True
             try:
                 return function(change)
             finally:
-                self._changing = None
+                self._is_changing = False
 
     def apply(self, batch: Batch, tries: int = TRIES) -> Tuple[int, List[int]]:
         """Applies a batch, all or none, whatever other passes have written meanwhile. Returns the commit number, and
@@ -245,17 +195,23 @@ class Pass(Owner):
         Raises `Busy`, `BadCount`, `NoMemory`; `NameLength`, `DataLength`, `HasNul`, `NotUTF8`, `NoKind` and
         `NoValue` with the first operation that can't be read; `NoNode`, `NoAttribute`, `TooManyAttributes`,
         `IndexExists`, `NoIndex`, `TooManyIndices` and `NotIndexable`; `CommitsSpent`, `Full`."""
-        return self._written(tries, calls.bes_apply, batch)
+        return self._written(batch, tries)
 
     def apply_if(self, number: int, batch: Batch, tries: int = TRIES) -> Tuple[int, List[int]]:
         """Applies a batch as `apply` does, if the journal has exactly so many entries: no write came after the
         snapshot of this number. Otherwise raises `Conflict`, and nothing is written."""
-        expected = number if number in RANGES[Kind.UINT64] else 2**64 - 1  # which no journal has; ctypes would cut it down
         try:
-            return self._written(tries, calls.bes_apply_if, batch, expected)
+            return self._written(batch, tries, number)
         except Conflict as conflict:
             conflict.expected = number
             raise
+
+    def _written(self, batch: Batch, tries: int, expected: Optional[int] = None) -> Tuple[int, List[int]]:
+        if self._is_changing:
+            raise Nested()
+        written = self._write(batch, tries, expected)
+        self._committed = written[0]
+        return written
 
     def new_node(self) -> int:
         """Makes a node, and returns its number. Errors are those of `apply`, here and in the next calls."""
@@ -308,47 +264,6 @@ class Pass(Owner):
         parts = [lacking[first:first + MOST_OPERATIONS] for first in range(0, len(lacking), MOST_OPERATIONS)]
         return sum(self.change(partial(_set_again, name, kind, part)) for part in parts)
 
-    def journal(self, tries: int = TRIES) -> str:
-        """The journal up to now, with up to so many tries while another pass is writing: a line for each write, with
-        the pass that wrote it, its operations and their outcomes. Takes memory for all of it, and other writes are
-        `Busy` meanwhile."""
-        count, room = ctypes.c_uint64(), 65536
-        while True:
-            written = ctypes.create_string_buffer(room)
-            check(self._tried(tries, calls.bes_journal, written, room, ctypes.byref(count)), count.value)
-            if count.value <= room:
-                return written.raw[:count.value].decode()
-            room = 2 * count.value
-
-    def journal_from(self, number: int = 0, tries: int = TRIES) -> Iterator[Entry]:
-        """The entries of the journal after the first `number`, until there are no more. So
-        `store.journal_from(version.number)` has what was written after a snapshot. Each entry is read by a call of
-        its own, which is tried up to so many times while another pass is writing, and then is `Busy`."""
-        operations, texts = (RawOperation * MOST_OPERATIONS)(), ctypes.create_string_buffer(BYTES_OF_A_BATCH)
-        by, length, counts = ctypes.c_uint64(), ctypes.c_uint64(), Counts()
-        room = operations, MOST_OPERATIONS, texts, BYTES_OF_A_BATCH
-        arguments = (ctypes.byref(by), ctypes.byref(counts), *room, ctypes.byref(length))
-        number = max(operator.index(number), 0)
-        while number < 2**64:
-            check(self._tried(tries, calls.bes_journal_from, number, *arguments), length.value)
-            if counts.operations == 0:
-                return
-            number += 1
-            yield Entry(number, by.value, tuple(batch_of(counts, operations, texts)))
-
-    def status(self, tries: int = TRIES) -> Status:
-        """How full the store is, and who is the oldest active reader, with up to so many tries while another pass is
-        writing."""
-        usage, number = Usage(), ctypes.c_uint64()
-        check(self._tried(tries, calls.bes_status, ctypes.byref(usage), ctypes.byref(number)), number.value)
-        oldest = Held(usage.oldest, usage.holder) if usage.is_held else None
-        return Status(usage.pages, usage.free, usage.retired, usage.entries, usage.commits, oldest)
-
-    def pin(self) -> Version:
-        """Pins the current version: `with store.pin() as version:` reads it, and gives the pin up at the end.
-        `Pinned` if the pass is pinned. Takes constant time."""
-        return Version(self)
-
 
 def _set_again(name: str, kind: Kind, nodes: List[int], change: Change) -> int:
     """Sets a name's attributes of these nodes to what they are, if they are of this kind."""
@@ -357,14 +272,3 @@ def _set_again(name: str, kind: Kind, nodes: List[int], change: Change) -> int:
         if typed is not None and typed.kind == kind:
             change.set(node, name, *typed)
     return MOST_OPERATIONS - change.room
-
-
-def open(pages: int = 4096, passes: int = 8, commits: int = 2**32 - 1) -> Pass:
-    """A new store in memory, as its first pass: with so many pages of 4 KiB (8 to 16,384), which are taken at once,
-    so many passes (1 to 64), and room for so many writes (1 to 2^32 - 1) in its life. `BadLimits` if one of these is
-    out of its range, or `NoMemory`."""
-    if not all(0 <= operator.index(limit) < 2**64 for limit in (pages, passes, commits)):
-        raise BadLimits()
-    user = Pass()
-    check(calls.bes_open(pages, passes, commits, user._pointer))
-    return user

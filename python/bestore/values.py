@@ -6,7 +6,8 @@ import enum
 import operator
 from typing import ClassVar, NamedTuple, Optional, SupportsIndex, Tuple, Type, TypeVar, Union
 
-from .errors import NoKind, NoNode, NoValue, decoded, encoded
+from . import _native
+from .errors import NoKind, NoValue, decoded, encoded
 
 Value = Union[str, bytes, int]
 """A text, raw bytes, or a number."""
@@ -92,23 +93,6 @@ def plain(value: SupportsIndex) -> int:
     return int(operator.index(value))
 
 
-def node_number(node: int) -> int:
-    """A node's number, which 64 bits hold. ctypes would cut another one down to them, and so to the number of some
-    other node."""
-    number = plain(node)
-    if number not in RANGES[Kind.UINT64]:
-        raise NoNode()
-    return number
-
-
-def kind_code(kind: int) -> int:
-    """A kind's code, which 32 bits hold."""
-    code = plain(kind)
-    if code not in RANGES[Kind.UINT32]:
-        raise NoKind()
-    return code
-
-
 def encode_value(value: Value, kind: Optional[int] = None) -> Encoded:
     """A value as the library takes it. Without a kind a str is STRING, bytes are RAW, and an int is of the
     kind of its class, or INT64 if it is a plain one."""
@@ -152,3 +136,6 @@ def decode_value(code: int, number: int, value: bytes) -> Value:
 def typed_value(code: int, number: int, value: bytes) -> Typed:
     """The value that these encode, with its kind."""
     return Typed(decode_value(code, number, value), KIND_OF[code])
+
+
+_native.know(kinds=tuple(Kind), typed=Typed, encode_value=encode_value)

@@ -326,6 +326,15 @@ impl Client {
         self.call(Command::Watch(wire::Watch { query }))
     }
 
+    /// Asks a live query now, or in the pinned snapshot, and returns what changed since the last line of the watch. The pushes
+    /// that [`next_push`](Self::next_push) hasn't returned yet come before it. `more`: call it again for the rest.
+    ///
+    /// # Errors
+    /// As `call`.
+    pub fn refresh(&mut self, watch: u64) -> Result<Push> {
+        self.call(Command::Refresh(wire::Watching { watch }))
+    }
+
     /// Ends a live query. Pushes that have come before may still be waiting.
     ///
     /// # Errors

@@ -463,6 +463,33 @@ fn on_a_full_disk_acknowledged_writes_are_kept() {
     opens_on_a_full_disk(&mounted, node, acknowledged);
 }
 
+#[test]
+fn each_writer_learns_of_a_commit_that_failed() {
+    let mounted = match Mounted::new("full-for-all", "256k") {
+        Some(mounted) => mounted,
+        None => return println!("a full disk for all: skipped, no file system can be mounted"),
+    };
+    let saved = saved::open(mounted.0.file()).unwrap();
+    let node = saved.pass().unwrap().new_node().unwrap();
+    let ended: Vec<(u64, Error)> = thread::scope(|scope| {
+        let passes: Vec<Pass> = (0..4).map(|_| saved.pass().unwrap()).collect();
+        let running: Vec<_> = passes
+            .into_iter()
+            .map(|pass| scope.spawn(move || write_on(&pass, node)))
+            .collect();
+        running.into_iter().map(|writer| writer.join().unwrap()).collect()
+    });
+    assert!(ended
+        .iter()
+        .all(|(_, error)| matches!(error, Error::NotSaved(_) | Error::Stopped(_))));
+    assert!(ended.iter().any(|(_, error)| matches!(error, Error::NotSaved(_))));
+    let acknowledged: u64 = ended.iter().map(|(count, _)| count).sum();
+    assert!(saved.close().is_err());
+    let saved = saved::open(mounted.0.file()).unwrap();
+    let commit = saved.pass().unwrap().pin().unwrap().number();
+    assert!(saved.number_in_file(commit) > acknowledged);
+}
+
 /// Opens the file while the disk is full, and when there is room again.
 fn opens_on_a_full_disk(mounted: &Mounted, node: u64, acknowledged: u64) {
     let path = mounted.0.file();

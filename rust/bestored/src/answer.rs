@@ -140,6 +140,10 @@ impl<'a> Desk<'a> {
                 Ok((reply, watch)) => return self.begin(id, &reply, watch),
                 Err(failure) => Err(failure),
             },
+            Command::Refresh(watching) => match self.refresh(&watching, view) {
+                Ok((reply, watch)) => return self.begin(id, &reply, watch),
+                Err(failure) => Err(failure),
+            },
             Command::Unwatch(watching) => self.unwatch(id, &watching),
             Command::Hello(greeting) => self.hello(id, &greeting, view),
             Command::Status(_) => self.status(id, view),
@@ -280,8 +284,21 @@ impl<'a> Desk<'a> {
         Ok((reply, Watch::new(number, live, commit, found)))
     }
 
+    /// Asks a live query in what reads see. The watch is out of the list until the reply is sent.
+    fn refresh(&mut self, watching: &wire::Watching, view: &mut View<'_, '_>) -> Result<(wire::Push, Watch), Failure> {
+        let watches = self.watches.as_ref().ok_or_else(Failure::no_watch)?;
+        let mut watch = watches.take(watching.watch).ok_or_else(Failure::no_watch)?;
+        match view.read(|snapshot| watch.refresh(snapshot)) {
+            Ok(push) => Ok((push, watch)),
+            Err(failure) => {
+                self.shared.watcher.add(watches, watch);
+                Err(failure)
+            }
+        }
+    }
+
     /// Sends the reply before anything can be pushed.
-    fn begin(&mut self, id: u64, reply: &wire::Watched, watch: Watch) -> io::Result<()> {
+    fn begin(&mut self, id: u64, reply: &impl Serialize, watch: Watch) -> io::Result<()> {
         self.reply(id, reply);
         self.send()?;
         let outbox = &self.outbox;
@@ -298,7 +315,7 @@ impl<'a> Desk<'a> {
                 self.reply(id, &wire::Nothing {});
                 Ok(())
             }
-            _ => Err(Failure::new("NoWatch", "the connection has no such live query")),
+            _ => Err(Failure::no_watch()),
         }
     }
 }

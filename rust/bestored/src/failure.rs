@@ -49,6 +49,10 @@ impl Failure {
         Self::new("Expired", "the snapshot was kept too long, and the server took it back")
     }
 
+    pub fn no_watch() -> Self {
+        Self::new("NoWatch", "the connection has no such live query")
+    }
+
     fn of_query(error: &QueryError) -> Self {
         let name = match error.fault() {
             QueryFault::Syntax => "Syntax",

@@ -70,6 +70,27 @@ impl Watch {
         self.commit = snapshot.number();
     }
 
+    /// Asks the query in this snapshot, also if it is an older one, and returns what changed. What was found before and wasn't
+    /// pushed comes first, and then there is `more`. An error leaves the watch as it was.
+    pub fn refresh(&mut self, snapshot: &Snapshot<'_>) -> Result<Push, Failure> {
+        let is_left = !self.is_pushed;
+        if !is_left {
+            if let Some(live) = &mut self.live {
+                self.rest = live.refresh(snapshot)?;
+            }
+            self.is_pushed = self.rest == Updates::default();
+            self.commit = snapshot.number();
+            self.failed = None;
+        }
+        let mut push = self.next_push().unwrap_or_else(|| Push {
+            watch: self.number,
+            commit: self.commit,
+            ..Push::default()
+        });
+        push.more |= is_left;
+        Ok(push)
+    }
+
     /// The next line to push.
     fn next_push(&mut self) -> Option<Push> {
         let error = self.failed.take();
@@ -115,6 +136,13 @@ impl Watches {
 
     pub fn count(&self) -> usize {
         lock(&self.list).len()
+    }
+
+    /// Takes a watch out of the list, so that nothing of it is pushed until it is added again.
+    pub fn take(&self, number: u64) -> Option<Watch> {
+        let mut list = lock(&self.list);
+        let at = list.iter().position(|watch| watch.number == number)?;
+        Some(list.swap_remove(at))
     }
 
     /// Asks the queries, and pushes what changed. Returns whether something is left to be pushed.

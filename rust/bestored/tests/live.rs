@@ -86,6 +86,84 @@ fn a_watch_in_a_snapshot_goes_on_from_it() {
     assert!(watching.query("size>=5").unwrap().is_empty());
 }
 
+/// Takes a line of the watch into what was found.
+fn take_in(found: &mut BTreeSet<u64>, push: &Push) {
+    for node in &push.removed {
+        assert!(found.remove(node), "{push:?}");
+    }
+    for node in &push.created {
+        assert!(found.insert(*node), "{push:?}");
+    }
+}
+
+/// Sends a request, takes in what is pushed before the reply, and returns its `ok`.
+fn ask(talk: &mut Talk, request: &str, found: &mut BTreeSet<u64>) -> serde_json::Value {
+    talk.send(format!("{{\"id\":1,{request}}}\n").as_bytes());
+    loop {
+        let mut line: serde_json::Value = serde_json::from_str(&talk.line()).unwrap();
+        if line.get("id").is_some() {
+            return line["ok"].take();
+        }
+        take_in(found, &serde_json::from_value(line).unwrap());
+    }
+}
+
+/// What was pushed before, and the refresh, lead to the snapshot, also if newer changes were pushed already.
+#[test]
+fn a_refresh_leads_to_the_snapshot() {
+    let (_folder, server) = start();
+    let (mut talk, mut writing) = (server.talk(), server.client());
+    talk.check(
+        r#""refresh":{"watch":1}"#,
+        r#""error":{"name":"NoWatch","message":"the connection has no such live query"}"#,
+    );
+    talk.check(
+        r#""watch":{"query":"size>=5"}"#,
+        r#""ok":{"watch":1,"commit":1,"nodes":[]}"#,
+    );
+    let mut found = BTreeSet::new();
+    for round in 0..60 {
+        let node = sized(&mut writing, 5);
+        ask(&mut talk, r#""pin":{}"#, &mut found);
+        sized(&mut writing, 6);
+        if round % 3 == 0 {
+            writing.apply(Batch::new().remove_node(node)).unwrap();
+        }
+        std::thread::sleep(Duration::from_micros(200 * (round % 20)));
+        let answer = ask(&mut talk, r#""query":{"query":"size>=5"}"#, &mut found);
+        let refreshed = ask(&mut talk, r#""refresh":{"watch":1}"#, &mut found);
+        assert_eq!(refreshed["commit"], answer["commit"]);
+        assert_eq!(refreshed.get("more"), None);
+        take_in(&mut found, &serde_json::from_value(refreshed).unwrap());
+        let answer: BTreeSet<u64> = serde_json::from_value(answer["nodes"].clone()).unwrap();
+        assert_eq!(found, answer);
+        ask(&mut talk, r#""unpin":{}"#, &mut found);
+    }
+    // The watch goes on, up to what was written last.
+    wait_until("all is pushed", || {
+        ask(&mut talk, r#""status":{}"#, &mut found);
+        found.len() == 100
+    });
+}
+
+/// A refresh that fails leaves the watch as it was.
+#[test]
+fn a_refresh_may_fail() {
+    let (_folder, server) = start();
+    let mut client = server.client();
+    let node = sized(&mut client, 5);
+    let watch = client.watch(Some("size>=5")).unwrap().watch;
+    client.apply(Batch::new().remove_index("size")).unwrap();
+    client.pin().unwrap();
+    // The server may have ended the watch by then.
+    let error = client.refresh(watch).unwrap_err();
+    assert!(error.is("NotCovered") || error.is("NoWatch"), "{error}");
+    client.unpin().unwrap();
+    let commits = client.watch(None).unwrap();
+    client.apply(Batch::new().remove_node(node)).unwrap();
+    assert_eq!(client.refresh(commits.watch).unwrap().commit, commits.commit + 1);
+}
+
 #[test]
 fn a_query_that_cant_be_asked_any_more_ends() {
     let (_folder, server) = start();

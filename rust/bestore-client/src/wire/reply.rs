@@ -206,7 +206,7 @@ replies! {
         pub commit: u64,
     }
 
-    /// A line that the server pushes for a watch.
+    /// A line that the server pushes for a watch, and the reply of `refresh`.
     Push {
         /// The number of the watch.
         pub watch: u64,
@@ -218,7 +218,7 @@ replies! {
         /// The nodes that left it.
         #[serde(default)]
         pub removed: Vec<u64>,
-        /// Whether the next push of this watch belongs to the same snapshot.
+        /// Whether the next push of this watch belongs to the same snapshot. In a reply: whether `refresh` has more.
         #[serde(default, skip_serializing_if = "is_false")]
         pub more: bool,
         /// Why the watch has ended.

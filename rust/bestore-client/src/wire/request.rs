@@ -60,7 +60,7 @@ parameters! {
         pub limit: Option<u64>,
     }
 
-    /// Of `unwatch`.
+    /// Of `unwatch` and `refresh`.
     Watching {
         /// The number of the watch.
         pub watch: u64,
@@ -216,6 +216,8 @@ commands! {
     Explain(QueryText<'a>) = "explain";
     /// Begins a live query.
     Watch(Watch<'a>) = "watch";
+    /// Asks it now, and returns what changed.
+    Refresh(Watching) = "refresh";
     /// Ends it.
     Unwatch(Watching) = "unwatch";
     /// How full the store is.

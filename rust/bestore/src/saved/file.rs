@@ -2,7 +2,7 @@
 
 use super::{Error, Place, Result};
 use crate::Batch;
-use rusqlite::{Connection, OpenFlags, Transaction};
+use rusqlite::{Connection, OpenFlags};
 use std::path::{Path, PathBuf};
 use std::time::Duration;
 
@@ -12,11 +12,12 @@ const APPLICATION: i64 = 0x6265_7374;
 /// The version of the format.
 const FORMAT: i64 = 1;
 
+/// The WAL is written from its start again after 1,000 pages, 4.1 MB, so the limit cuts off only what a large commit has left.
 /// The last two statements take the lock.
 const SETTINGS: &str = "
     PRAGMA journal_mode = WAL;
     PRAGMA synchronous = FULL;
-    PRAGMA journal_size_limit = 1048576;
+    PRAGMA journal_size_limit = 8388608;
     BEGIN IMMEDIATE;
     COMMIT;
 ";
@@ -144,23 +145,32 @@ impl File {
         Ok(())
     }
 
-    fn transaction(&mut self, work: impl FnOnce(&Transaction<'_>) -> rusqlite::Result<()>) -> Result<()> {
-        let done = self.connection.transaction().and_then(|transaction| {
-            work(&transaction)?;
-            transaction.commit()
-        });
-        self.sqlite(done)
+    /// Adds the rows, all in one commit. One row alone is a transaction of its own, without statements that begin and end it.
+    pub(super) fn append(&mut self, rows: &[Row]) -> Result<()> {
+        let added = match rows {
+            [row] => self.insert(row),
+            rows => self.insert_all(rows),
+        };
+        self.sqlite(added)
     }
 
-    /// Adds the rows, all in one commit.
-    pub(super) fn append(&mut self, rows: &[Row]) -> Result<()> {
-        self.transaction(|transaction| {
-            let mut insert = transaction.prepare_cached("INSERT INTO entry VALUES (?, ?, ?)")?;
-            for row in rows {
-                insert.execute((row.number as i64, row.pass as i64, &row.batch))?;
-            }
-            Ok(())
-        })
+    fn insert(&self, row: &Row) -> rusqlite::Result<()> {
+        let mut insert = self.connection.prepare_cached("INSERT INTO entry VALUES (?, ?, ?)")?;
+        insert
+            .execute((row.number as i64, row.pass as i64, &row.batch))
+            .map(drop)
+    }
+
+    fn insert_all(&self, rows: &[Row]) -> rusqlite::Result<()> {
+        let run = |sql: &str| self.connection.prepare_cached(sql)?.execute([]).map(drop);
+        run("BEGIN IMMEDIATE")?;
+        let inserted = rows.iter().try_for_each(|row| self.insert(row));
+        let added = inserted.and_then(|()| run("COMMIT"));
+        if added.is_err() && !self.connection.is_autocommit() {
+            // What it returns is less than the error of the rows.
+            let _ = run("ROLLBACK");
+        }
+        added
     }
 
     /// Puts this state, which contains the entries up to `number`, in the place of the old one and of these entries.

@@ -1,4 +1,4 @@
-//! The order of the writes, and the thread that saves them.
+//! The order of the writes, and who saves them: one of the writers that wait, or with a time a thread.
 
 use super::file::{File, Row};
 use super::{Error, Result};
@@ -30,6 +30,8 @@ struct Line {
     due: Option<Instant>,
     written: u64,
     saved: u64,
+    /// Whether somebody makes a commit.
+    is_saving: bool,
     /// Whether somebody waits for what is waiting, so that it is saved at once.
     is_urgent: bool,
     is_closed: bool,
@@ -37,6 +39,15 @@ struct Line {
 }
 
 impl Line {
+    /// The rows that wait, which are to be saved now.
+    fn take_rows(&mut self) -> Vec<Row> {
+        self.due = None;
+        self.is_urgent = false;
+        self.is_saving = true;
+        self.waiting_bytes = 0;
+        mem::take(&mut self.waiting)
+    }
+
     fn check(&self) -> std::result::Result<(), Arc<Error>> {
         match &self.failed {
             Some(error) => Err(error.clone()),
@@ -66,20 +77,47 @@ impl Shared {
     }
 
     /// Waits until the entry with this number is saved.
-    fn wait_for(&self, mut line: MutexGuard<'_, Line>, number: u64) -> std::result::Result<(), Arc<Error>> {
+    fn wait_for<'a>(&'a self, mut line: MutexGuard<'a, Line>, number: u64) -> std::result::Result<(), Arc<Error>> {
         while line.saved < number {
             if let Some(error) = &line.failed {
                 return Err(error.clone());
             }
-            line.is_urgent = true;
-            self.work.notify_one();
-            line = wait(&self.done, line);
+            line = self.advance(line);
         }
         Ok(())
     }
 
-    /// The rows to save next: those that wait, when they are due. `None` at the end.
-    fn next_rows(&self) -> Option<Vec<Row>> {
+    /// Makes a commit of what waits, or waits until somebody else has made one.
+    fn advance<'a>(&'a self, mut line: MutexGuard<'a, Line>) -> MutexGuard<'a, Line> {
+        if self.every.is_none() && !line.is_saving {
+            return self.save_rows(line);
+        }
+        line.is_urgent = true;
+        if self.every.is_some() {
+            self.work.notify_one();
+        }
+        wait(&self.done, line)
+    }
+
+    /// Makes a commit of what waits. Meanwhile other writes come, and wait for the next one.
+    fn save_rows<'a>(&'a self, mut line: MutexGuard<'a, Line>) -> MutexGuard<'a, Line> {
+        let rows = line.take_rows();
+        drop(line);
+        let saving = Saving(self);
+        let answer = self.with_file(|file| file.append(&rows));
+        let mut line = lock(&self.line);
+        match answer {
+            Ok(()) => line.saved = rows.last().map_or(line.saved, |row| row.number),
+            Err(error) => line.failed = Some(Arc::new(error)),
+        }
+        line.is_saving = false;
+        self.done.notify_all();
+        mem::forget(saving);
+        line
+    }
+
+    /// Waits until something has to be saved. `None` at the end.
+    fn next_work(&self) -> Option<MutexGuard<'_, Line>> {
         let mut line = lock(&self.line);
         loop {
             let is_due = line.is_urgent || line.is_closed;
@@ -87,31 +125,19 @@ impl Shared {
             match left {
                 None if line.is_closed => return None,
                 None => line = wait(&self.work, line),
-                Some(left) if is_due || left.is_zero() => break,
+                Some(left) if is_due || left.is_zero() => return Some(line),
                 Some(left) => {
                     let waited = self.work.wait_timeout(line, left);
                     line = waited.unwrap_or_else(PoisonError::into_inner).0;
                 }
             }
         }
-        line.due = None;
-        line.is_urgent = false;
-        line.waiting_bytes = 0;
-        Some(mem::take(&mut line.waiting))
     }
 
     /// Saves what waits, again and again, until the end or until a commit fails.
     fn save(&self) {
-        let _end = End(self);
-        while let Some(rows) = self.next_rows() {
-            let answer = self.with_file(|file| file.append(&rows));
-            let mut line = lock(&self.line);
-            match answer {
-                Ok(()) => line.saved = rows.last().map_or(line.saved, |row| row.number),
-                Err(error) => line.failed = Some(Arc::new(error)),
-            }
-            self.done.notify_all();
-            if line.failed.is_some() {
+        while let Some(line) = self.next_work() {
+            if self.save_rows(line).failed.is_some() {
                 return;
             }
         }
@@ -125,12 +151,13 @@ impl Shared {
     }
 }
 
-/// The end of the thread that saves, also by a panic: nobody waits for it any more.
-struct End<'a>(&'a Shared);
+/// A commit that is being made. If a panic ends it, nobody waits for it any more.
+struct Saving<'a>(&'a Shared);
 
-impl Drop for End<'_> {
+impl Drop for Saving<'_> {
     fn drop(&mut self) {
         let mut line = lock(&self.0.line);
+        line.is_saving = false;
         line.failed.get_or_insert_with(|| Arc::new(Error::Closed));
         self.0.done.notify_all();
     }
@@ -145,9 +172,7 @@ impl Keeper for Shared {
     ) -> crate::Result<(Written, u64)> {
         let mut line = lock(&self.line);
         while line.waiting_bytes > WAITING && line.failed.is_none() {
-            line.is_urgent = true;
-            self.work.notify_one();
-            line = wait(&self.done, line);
+            line = self.advance(line);
         }
         line.check().map_err(crate::Error::Stopped)?;
         let written = write()?;
@@ -166,8 +191,8 @@ impl Keeper for Shared {
             pass,
             batch: bytes,
         });
-        if line.due.is_none() {
-            line.due = Some(Instant::now() + self.every.unwrap_or_default());
+        if let (Some(time), None) = (self.every, line.due) {
+            line.due = Some(Instant::now() + time);
             self.work.notify_one();
         }
         Ok((written, number))
@@ -181,16 +206,17 @@ impl Keeper for Shared {
     }
 }
 
-/// The queue of one file, and the thread that saves.
+/// The queue of one file, and with a time the thread that saves.
 #[derive(Debug)]
 pub(super) struct Queue {
     shared: Arc<Shared>,
     saving: Option<JoinHandle<()>>,
+    is_closed: bool,
     birthplace: Birthplace,
 }
 
 impl Queue {
-    /// Starts the thread, for a file whose last entry has this number and a store whose last entry has that one.
+    /// Starts the thread if it is needed, for a file whose last entry has this number and a store whose last entry has that one.
     pub(super) fn start(file: File, number: u64, in_memory: u64, every: Option<Duration>) -> Result<Self> {
         let shared = Arc::new(Shared {
             line: Mutex::new(Line {
@@ -199,6 +225,7 @@ impl Queue {
                 due: None,
                 written: number,
                 saved: number,
+                is_saving: false,
                 is_urgent: false,
                 is_closed: false,
                 failed: None,
@@ -209,16 +236,18 @@ impl Queue {
             every,
             shift: number.wrapping_sub(in_memory) as i64,
         });
-        let of_thread = shared.clone();
-        let saving = thread::Builder::new()
-            .name("bestore-saving".into())
-            .spawn(move || of_thread.save())
-            .map_err(Error::Thread)?;
         Ok(Self {
+            saving: every.map(|_| Self::start_thread(&shared)).transpose()?,
             shared,
-            saving: Some(saving),
+            is_closed: false,
             birthplace: Birthplace::here(),
         })
+    }
+
+    fn start_thread(shared: &Arc<Shared>) -> Result<JoinHandle<()>> {
+        let shared = shared.clone();
+        let thread = thread::Builder::new().name("bestore-saving".into());
+        thread.spawn(move || shared.save()).map_err(Error::Thread)
     }
 
     pub(super) fn keeper(&self) -> Arc<dyn Keeper> {
@@ -242,19 +271,21 @@ impl Queue {
 
     /// Saves what waits, and ends the thread.
     pub(super) fn close(&mut self) -> Result<()> {
-        let saving = match self.saving.take() {
-            Some(saving) => saving,
-            None => return Ok(()),
-        };
+        if mem::replace(&mut self.is_closed, true) {
+            return Ok(());
+        }
+        let saving = self.saving.take();
         if !self.birthplace.is_here() {
-            // A forked child has no such thread, and the file belongs to the parent.
-            mem::forget(saving);
+            // A forked child has no such thread, and the file belongs to the parent: it may not be closed here.
+            mem::forget((saving, self.shared.clone()));
             return Ok(());
         }
         lock(&self.shared.line).is_closed = true;
-        self.shared.work.notify_one();
-        // If the thread has panicked, what it hasn't saved is an error below.
-        let _ = saving.join();
+        if let Some(saving) = saving {
+            self.shared.work.notify_one();
+            // If the thread has panicked, what it hasn't saved is an error below.
+            let _ = saving.join();
+        }
         let flushed = self.flush(None);
         drop(lock(&self.shared.file).take());
         flushed

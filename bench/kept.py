@@ -1,0 +1,177 @@
+#!/usr/bin/env python3
+"""How fast a kept store of Python takes writes, beside `sqlite3`, and how fast it opens. bench/README.md says more."""
+
+from __future__ import annotations
+
+import argparse
+import os
+import sqlite3
+import statistics
+import sys
+import tempfile
+import threading
+import time
+from contextlib import closing
+from typing import Callable, Dict, List, NamedTuple
+
+sys.path.insert(0, os.path.join(os.path.dirname(os.path.abspath(__file__)), "..", "python"))
+
+import bestore  # noqa: E402
+from bestore import saved  # noqa: E402
+
+FILES = 15_000
+ROW = len(bestore.Batch().set(1, "size", 1).to_bytes())
+"""How many bytes an entry of the kept store has, and so the rows of sqlite3."""
+
+Write = Callable[[int], object]
+
+
+def rate(writes: List[Write], seconds: float) -> float:
+    """How many writes a second so many threads make. Each calls its function again and again for this time."""
+    counts, start = [0] * len(writes), threading.Barrier(len(writes) + 1)
+
+    def work(writer: int, write: Write) -> None:
+        write(0)
+        start.wait()
+        until, count = time.perf_counter() + seconds, 0
+        while time.perf_counter() < until:
+            count += 1
+            write(count)
+        counts[writer] = count
+    running = [threading.Thread(target=work, args=pair) for pair in enumerate(writes)]
+    for thread in running:
+        thread.start()
+    start.wait()
+    before = time.perf_counter()
+    for thread in running:
+        thread.join()
+    return sum(counts) / (time.perf_counter() - before)
+
+
+def kept(path: str, writers: int, seconds: float) -> float:
+    """A kept store, with a pass for each thread."""
+    with saved.open(path) as store:
+        store.new_node()
+        passes = [store] + [store.another() for _ in range(writers - 1)]
+
+        def writes(user: bestore.Pass) -> Write:
+            return lambda count: user.set(1, "size", count)
+        return rate([writes(user) for user in passes], seconds)
+
+
+def connected(path: str, is_exclusive: bool = False) -> sqlite3.Connection:
+    """A connection in WAL mode, each commit of which waits for fsync."""
+    connection = sqlite3.connect(path, timeout=600, isolation_level=None, check_same_thread=False)
+    if is_exclusive:
+        connection.execute("PRAGMA locking_mode = EXCLUSIVE")
+    connection.execute("PRAGMA journal_mode = WAL").fetchall()
+    connection.execute("PRAGMA synchronous = FULL")
+    connection.execute("CREATE TABLE IF NOT EXISTS entry (number INTEGER PRIMARY KEY, pass INTEGER NOT NULL, batch BLOB NOT NULL)")
+    return connection
+
+
+def inserts(connection: sqlite3.Connection) -> Write:
+    row = bytes(ROW)
+    return lambda count: connection.execute("INSERT INTO entry (pass, batch) VALUES (?, ?)", (1, row))
+
+
+def shared(path: str, writers: int, seconds: float, is_exclusive: bool = False) -> float:
+    """sqlite3 with one connection, before which the threads wait for a lock."""
+    with closing(connected(path, is_exclusive)) as connection:
+        insert, lock = inserts(connection), threading.Lock()
+
+        def insert_alone(count: int) -> None:
+            with lock:
+                insert(count)
+        return rate([insert] if writers == 1 else [insert_alone] * writers, seconds)
+
+
+def exclusive(path: str, writers: int, seconds: float) -> float:
+    """The same, with a lock of the file for as long as it is open, as a kept store has it."""
+    return shared(path, writers, seconds, True)
+
+
+def each(path: str, writers: int, seconds: float) -> float:
+    """sqlite3 with a connection for each thread, which waits while another one writes."""
+    connections = [connected(path) for _ in range(writers)]
+    try:
+        return rate([inserts(connection) for connection in connections], seconds)
+    finally:
+        for connection in connections:
+            connection.close()
+
+
+class Case(NamedTuple):
+    name: str
+    run: Callable[[str, int, float], float]
+    writers: int
+
+
+CASES = [
+    Case("kept store", kept, 1), Case("`sqlite3`", shared, 1), Case("`sqlite3`, `EXCLUSIVE`", exclusive, 1),
+    Case("kept store", kept, 8), Case("`sqlite3`, a connection a thread", each, 8),
+    Case("`sqlite3`, one connection and a lock", shared, 8), Case("the same, `EXCLUSIVE`", exclusive, 8),
+]
+
+
+def measure(folder: str, rounds: int, seconds: float) -> None:
+    """Runs all cases in turn, and prints the table."""
+    found: Dict[Case, List[float]] = {case: [] for case in CASES}
+    for number in range(rounds):
+        for place, case in enumerate(CASES):
+            path = os.path.join(folder, f"{number}-{place}")
+            found[case].append(case.run(path, case.writers, seconds))
+            os.unlink(path)
+    print("| from Python | writers | writes a second | lowest to highest | kept store: times as fast |")
+    print("|---|---|---|---|---|")
+    own = 0.0
+    for case, rates in found.items():
+        middle = statistics.median(rates)
+        own = middle if case.run is kept else own
+        beside = "" if case.run is kept else f"{own / middle:.2f}"
+        print(f"| {case.name} | {case.writers} | {middle:,.0f} | {min(rates):,.0f} to {max(rates):,.0f} | {beside} |")
+
+
+def file_batch(first: int, count: int) -> bestore.Batch:
+    """Files of five attributes, each a node."""
+    batch = bestore.Batch()
+    for node in range(first, first + count):
+        batch.new_node().set(node, "name", f"file{node:05d}.txt").set(node, "size", node * 7)
+        batch.set(node, "when", 1_700_000_000 + node).set(node, "kind", "text/plain").set(node, "path", f"/home/x/{node}")
+    return batch
+
+
+def measure_opening(folder: str, rounds: int) -> None:
+    """Prints how long a store with many files takes to open: first with its entries, and then with its state alone."""
+    path, times = os.path.join(folder, "files"), []
+    with saved.open(path, pages=16384, every=3600) as store:
+        for name, kind in (("name", bestore.STRING), ("size", bestore.INT64), ("when", bestore.INT64)):
+            store.make_index(name, kind)
+        for first in range(1, FILES, 10):
+            store.apply(file_batch(first, 10))
+    for _ in range(rounds + 1):
+        wall, processor = time.perf_counter(), time.process_time()
+        with saved.open(path, pages=16384):
+            times.append((time.perf_counter() - wall, time.process_time() - processor))
+    entries, state = times[0], [statistics.median(column) for column in zip(*times[1:])]
+    print(f"\n| opening {FILES:,} files of 5 attributes, 3 indexed, from Python | seconds | of a processor |")
+    print("|---|---|---|")
+    print(f"| from {FILES // 10:,} entries, whose state is written then | {entries[0]:.2f} | {entries[1]:.2f} |")
+    print(f"| from the state | {state[0]:.2f} | {state[1]:.2f} |")
+
+
+def main() -> None:
+    parser = argparse.ArgumentParser(description=__doc__)
+    parser.add_argument("--folder", help="where the files are made: on a disk, since in memory no commit waits for one")
+    parser.add_argument("--rounds", type=int, default=7, help="how often each case is measured")
+    parser.add_argument("--seconds", type=float, default=0.5, help="how long a case runs in a round")
+    chosen = parser.parse_args()
+    with tempfile.TemporaryDirectory(dir=chosen.folder, prefix="bestore-kept-") as folder:
+        measure(folder, chosen.rounds, chosen.seconds)
+        measure_opening(folder, chosen.rounds)
+    print(f"\nMedian of {chosen.rounds} rounds in turn, of {chosen.seconds} seconds each; SQLite {sqlite3.sqlite_version}; "
+          f"load of the machine {os.getloadavg()[0]:.1f}.")
+
+
+if __name__ == "__main__":
+    main()

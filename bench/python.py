@@ -1,0 +1,435 @@
+#!/usr/bin/env python3
+"""How fast the package for Python is, beside sqlite3 in memory and lmdb: one table in Markdown.
+
+    /usr/bin/python3 bench/python.py                    measures in five rounds, one peer after the other in each
+    /usr/bin/python3 bench/python.py --rounds 1 --nodes 1000 --seconds 0.05     a trial
+    /usr/bin/python3 bench/python.py --processor        the processor's time: on a machine on which something else runs
+    /usr/bin/python3 bench/python.py --instructions     instructions a call instead of times, by perf or valgrind
+
+It needs the package (PYTHONPATH=python, or BESTORE_LIBRARY too), and for LMDB Debian's python3-lmdb. A peer that isn't there is skipped,
+with a line. Each peer does what a program would write: it makes its keys of a node's number and a name, and gives texts as str and
+numbers as int. Each asking has a new text or number, in a random order that is the same for all. The peers' answers are compared.
+"""
+
+from __future__ import annotations
+
+import argparse
+import importlib
+import os
+import random
+import shutil
+import sqlite3
+import struct
+import subprocess
+import sys
+import tempfile
+import time
+from typing import Any, Callable, Dict, Iterator, List, Optional, Sequence, Tuple
+
+sys.path.insert(0, os.path.join(os.path.dirname(os.path.abspath(__file__)), "..", "python"))
+
+TEXTS = ("kind", "from", "to", "subject", "status")
+"""The names of five attributes that have no index."""
+SIZES = 100
+"""How many nodes have the same size."""
+
+
+def name_of(node: int) -> str:
+    return f"file{node:06}"
+
+
+class Peer:
+    """A store with a node for each number from 1 on: a name and a size, which are indexed, and five texts."""
+
+    title = ""
+
+    def get(self, node: int) -> Optional[str]:
+        """A node's kind."""
+        raise NotImplementedError
+
+    def set_plain(self, node: int, number: int) -> None:
+        """Sets a number that has no index."""
+        raise NotImplementedError
+
+    def set_size(self, node: int, size: int) -> None:
+        """Sets a number that has an index, in a transaction of its own."""
+        raise NotImplementedError
+
+    def by_name(self, asked: Any) -> List[int]:
+        """The nodes of this name."""
+        raise NotImplementedError
+
+    def by_size(self, asked: Any) -> List[int]:
+        """The nodes of this size."""
+        raise NotImplementedError
+
+    def kinds(self, asked: Any) -> List[str]:
+        """The kinds of the nodes of this size."""
+        raise NotImplementedError
+
+    def five(self, asked: Any) -> List[List[str]]:
+        """Five attributes of the nodes of this size, name by name."""
+        raise NotImplementedError
+
+    def containing(self, asked: Any) -> List[int]:
+        """The nodes whose names contain a text."""
+        raise NotImplementedError
+
+    def begin(self) -> None:
+        """Begins to read."""
+
+    def end(self) -> None:
+        """Ends to read."""
+
+    def close(self) -> None:
+        raise NotImplementedError
+
+    # What is asked, made before the time is taken.
+
+    def name(self, node: int) -> Any:
+        return name_of(node)
+
+    def size(self, size: int) -> Any:
+        return size
+
+    def part(self, node: int) -> Any:
+        return name_of(node)[-5:]
+
+
+class Bestore(Peer):
+    title = "bestore"
+
+    def __init__(self, nodes: int) -> None:
+        self._bestore: Any = importlib.import_module("bestore")
+        self._store = self._bestore.open(16384, 2)
+        self._store.make_index("name", self._bestore.STRING)
+        self._store.make_index("size", self._bestore.INT64)
+        for node in range(1, nodes + 1):
+            batch = self._bestore.Batch().new_node().set(node, "name", name_of(node)).set(node, "size", node % (nodes // SIZES))
+            for text in TEXTS:
+                batch.set(node, text, f"{text} {node % 7}")
+            self._store.apply(batch)
+
+    def begin(self) -> None:
+        self._version = self._store.pin()
+
+    def end(self) -> None:
+        self._version.unpin()
+
+    def get(self, node: int) -> Optional[str]:
+        return self._version.get(node, "kind")  # type: ignore[no-any-return]
+
+    def set_plain(self, node: int, number: int) -> None:
+        self._store.set(node, "number", number)
+
+    def set_size(self, node: int, size: int) -> None:
+        self._store.set(node, "size", size)
+
+    def by_name(self, asked: Any) -> List[int]:
+        return self._version.query_prepared(asked)  # type: ignore[no-any-return]
+
+    by_size = containing = by_name
+
+    def kinds(self, asked: Any) -> List[str]:
+        version = self._version
+        return version.column(version.query_prepared(asked), "kind")  # type: ignore[no-any-return]
+
+    def five(self, asked: Any) -> List[List[str]]:
+        version = self._version
+        return version.columns(version.query_prepared(asked), TEXTS)  # type: ignore[no-any-return]
+
+    def name(self, node: int) -> Any:
+        return self._bestore.prepare(f"name=={name_of(node)}")
+
+    def size(self, size: int) -> Any:
+        return self._bestore.prepare(f"size=={size}")
+
+    def part(self, node: int) -> Any:
+        return self._bestore.prepare(f"name==*{name_of(node)[-5:]}*")
+
+    def close(self) -> None:
+        self._store.close()
+
+
+class Lmdb(Peer):
+    title = "lmdb"
+
+    def __init__(self, nodes: int) -> None:
+        lmdb: Any = importlib.import_module("lmdb")
+        self._folder = tempfile.mkdtemp(dir="/dev/shm" if os.path.isdir("/dev/shm") else None)
+        self._environment = lmdb.open(self._folder, map_size=1 << 30, max_dbs=3, sync=False, writemap=True)
+        self._nodes = self._environment.open_db(b"nodes")
+        self._names, self._sizes = (self._environment.open_db(key, dupsort=True) for key in (b"names", b"sizes"))
+        with self._environment.begin(write=True) as writing:
+            for node in range(1, nodes + 1):
+                key, size = struct.pack(">Q", node), struct.pack(">q", node % (nodes // SIZES))
+                writing.put(key + b"name", name_of(node).encode(), db=self._nodes)
+                writing.put(name_of(node).encode(), key, db=self._names)
+                writing.put(key + b"size", size, db=self._nodes)
+                writing.put(size, key, db=self._sizes)
+                for text in TEXTS:
+                    writing.put(key + text.encode(), f"{text} {node % 7}".encode(), db=self._nodes)
+
+    def begin(self) -> None:
+        self._reading = self._environment.begin(db=self._nodes)
+        self._size_cursor, self._name_cursor = (self._reading.cursor(db) for db in (self._sizes, self._names))
+
+    def end(self) -> None:
+        self._reading.abort()
+
+    def get(self, node: int) -> Optional[str]:
+        value = self._reading.get(struct.pack(">Q", node) + b"kind")
+        return None if value is None else value.decode()
+
+    def set_plain(self, node: int, number: int) -> None:
+        with self._environment.begin(write=True, db=self._nodes) as writing:
+            writing.put(struct.pack(">Q", node) + b"number", struct.pack("<q", number))
+
+    def set_size(self, node: int, size: int) -> None:
+        key, value = struct.pack(">Q", node), struct.pack(">q", size)
+        with self._environment.begin(write=True, db=self._nodes) as writing:
+            before = writing.get(key + b"size")
+            if before is not None:
+                writing.delete(before, key, db=self._sizes)
+            writing.put(key + b"size", value)
+            writing.put(value, key, db=self._sizes)
+
+    def by_name(self, asked: Any) -> List[int]:
+        key = self._reading.get(asked.encode(), db=self._names)
+        return [] if key is None else [int.from_bytes(key, "big")]
+
+    def _keys(self, size: int) -> Iterator[bytes]:
+        if self._size_cursor.set_key(struct.pack(">q", size)):
+            yield from self._size_cursor.iternext_dup()
+
+    def by_size(self, asked: Any) -> List[int]:
+        return [int.from_bytes(key, "big") for key in self._keys(asked)]
+
+    def kinds(self, asked: Any) -> List[str]:
+        get = self._reading.get
+        return [get(key + b"kind").decode() for key in self._keys(asked)]
+
+    def five(self, asked: Any) -> List[List[str]]:
+        get, keys = self._reading.get, list(self._keys(asked))
+        return [[get(key + name).decode() for key in keys] for name in (text.encode() for text in TEXTS)]
+
+    def containing(self, asked: Any) -> List[int]:
+        part, cursor = asked.encode(), self._name_cursor
+        cursor.first()
+        return [int.from_bytes(key, "big") for name, key in cursor if part in name]
+
+    def close(self) -> None:
+        self._environment.close()
+        shutil.rmtree(self._folder)
+
+
+class Sqlite(Peer):
+    title = "sqlite3"
+
+    def __init__(self, nodes: int) -> None:
+        self._connection = sqlite3.connect(":memory:", isolation_level=None)
+        for line in (
+            "CREATE TABLE value (node INTEGER, name TEXT, value, PRIMARY KEY (node, name)) WITHOUT ROWID",
+            "CREATE INDEX names ON value (value, node) WHERE name = 'name'",
+            "CREATE INDEX sizes ON value (value, node) WHERE name = 'size'",
+        ):
+            self._connection.execute(line)
+        rows: List[Sequence[Any]] = []
+        for node in range(1, nodes + 1):
+            rows += [(node, "name", name_of(node)), (node, "size", node % (nodes // SIZES))]
+            rows += [(node, text, f"{text} {node % 7}") for text in TEXTS]
+        self._connection.execute("BEGIN")
+        self._connection.executemany("INSERT INTO value VALUES (?, ?, ?)", rows)
+        self._connection.execute("COMMIT")
+
+    def _column(self, line: str, *values: Any) -> List[Any]:
+        return [row[0] for row in self._connection.execute(line, values)]
+
+    def get(self, node: int) -> Optional[str]:
+        row = self._connection.execute("SELECT value FROM value WHERE node = ? AND name = 'kind'", (node,)).fetchone()
+        return None if row is None else row[0]
+
+    def _set(self, node: int, name: str, number: int) -> None:
+        self._connection.execute("INSERT OR REPLACE INTO value VALUES (?, ?, ?)", (node, name, number))
+
+    def set_plain(self, node: int, number: int) -> None:
+        self._set(node, "number", number)
+
+    def set_size(self, node: int, size: int) -> None:
+        self._set(node, "size", size)
+
+    def by_name(self, asked: Any) -> List[int]:
+        return self._column("SELECT node FROM value WHERE name = 'name' AND value = ?", asked)
+
+    def by_size(self, asked: Any) -> List[int]:
+        return self._column("SELECT node FROM value WHERE name = 'size' AND value = ?", asked)
+
+    def kinds(self, asked: Any) -> List[str]:
+        return self._column(
+            "SELECT other.value FROM value JOIN value AS other USING (node) "
+            "WHERE value.name = 'size' AND value.value = ? AND other.name = 'kind'", asked)
+
+    def five(self, asked: Any) -> List[List[str]]:
+        columns = ", ".join(f"(SELECT value FROM value WHERE node = found.node AND name = '{text}')" for text in TEXTS)
+        line = f"SELECT {columns} FROM value AS found WHERE name = 'size' AND value = ?"
+        return [list(column) for column in zip(*self._connection.execute(line, (asked,)))]
+
+    def containing(self, asked: Any) -> List[int]:
+        return self._column("SELECT node FROM value WHERE name = 'name' AND instr(value, ?) > 0", asked)
+
+    def close(self) -> None:
+        self._connection.close()
+
+
+PEERS: Dict[str, Callable[[int], Peer]] = {"bestore": Bestore, "lmdb": Lmdb, "sqlite3": Sqlite}
+CASES: Dict[str, str] = {
+    "get": "get", "set_plain": "set, not indexed", "set_size": "set, indexed", "by_name": "prepared query of 1 hit",
+    "by_size": f"prepared query of {SIZES} hits", "kinds": f"{SIZES} hits with an attribute each",
+    "five": f"5 attributes of {SIZES} hits", "containing": "contains, over all names",
+}
+FEW, MANY = 100, 600
+"""How many calls are made where instructions are counted."""
+MOST_ASKED = {"get": 200_000, "set_plain": 200_000, "set_size": 200_000, "by_name": 20_000, "containing": 2_000}
+
+
+def asked_of(peer: Peer, case: str, nodes: int, count: int, chance: random.Random) -> List[Tuple[Any, ...]]:
+    """The arguments of so many calls of a case."""
+    numbers = [chance.randrange(1, nodes + 1) for _ in range(count)]
+    sizes = nodes // SIZES
+    if case == "get":
+        return [(number,) for number in numbers]
+    if case in ("set_plain", "set_size"):
+        most = sizes if case == "set_size" else 2**40
+        return [(number, chance.randrange(most)) for number in numbers]
+    if case in ("by_name", "containing"):
+        make = peer.name if case == "by_name" else peer.part
+        return [(make(number),) for number in numbers]
+    return [(peer.size(number % sizes),) for number in numbers]
+
+
+def timed(peer: Peer, case: str, asked: List[Tuple[Any, ...]], now: Callable[[], float] = time.perf_counter) -> Any:
+    """The seconds that these calls take, and what the last found."""
+    call, found = getattr(peer, case), None
+    if not case.startswith("set"):
+        peer.begin()
+    begun = now()
+    for arguments in asked:
+        found = call(*arguments)
+    taken = now() - begun
+    if not case.startswith("set"):
+        peer.end()
+    return taken, found
+
+
+def measured(peers: List[Peer], options: argparse.Namespace) -> Dict[str, Dict[str, List[float]]]:
+    """For each case and peer the seconds a call takes in each round."""
+    now = time.process_time if options.processor else time.perf_counter
+    taken: Dict[str, Dict[str, List[float]]] = {case: {peer.title: [] for peer in peers} for case in CASES}
+    counts: Dict[str, Dict[str, int]] = {case: {} for case in CASES}
+    for number in range(-1, options.rounds):  # the first one finds how many calls take so long
+        for case in CASES:
+            for peer in peers:
+                count = counts[case].get(peer.title, 20)
+                asked = asked_of(peer, case, options.nodes, count, random.Random(number))
+                seconds = timed(peer, case, asked, now)[0]
+                if number >= 0:
+                    taken[case][peer.title].append(seconds / count)
+                else:
+                    fitting = max(20, int(count * options.seconds / max(seconds, 1e-9)))
+                    counts[case][peer.title] = min(fitting, MOST_ASKED.get(case, 5_000))
+    return taken
+
+
+def compare(peers: List[Peer], nodes: int) -> None:
+    """Looks that all peers answer alike."""
+    for case in CASES:
+        for seed in range(5):
+            answers = [timed(peer, case, asked_of(peer, case, nodes, 1, random.Random(seed)))[1] for peer in peers]
+            if any(answer != answers[0] for answer in answers):
+                sys.exit(f"{CASES[case]}: the peers answer otherwise than one another: {answers}")
+
+
+def rate(seconds: float) -> str:
+    return f"{1 / seconds:,.0f}"
+
+
+def print_times(taken: Dict[str, Dict[str, List[float]]], peers: List[Peer]) -> None:
+    """The table: calls a second, the best of the rounds; how many times as fast bestore is; and its worst by its best."""
+    others = [peer.title for peer in peers if peer.title != "bestore"]
+    print("| case | " + " | ".join(others) + " | bestore | spread |\n|---" + "|---" * (len(others) + 2) + "|")
+    for case, title in CASES.items():
+        own = taken[case]["bestore"]
+        cells = [f"{rate(min(taken[case][it]))} ({min(taken[case][it]) / min(own):.2f})" for it in others]
+        spread = max(max(it) / min(it) for it in taken[case].values())
+        print(f"| {title} | {' | '.join(cells)} | {rate(min(own))} | {spread:.2f} |")
+
+
+def counted(title: str, case: str, nodes: int, count: int) -> Optional[int]:
+    """The instructions of a process that makes so many calls, by perf or by valgrind."""
+    own = [sys.executable, os.path.abspath(__file__), "--nodes", str(nodes), "--one", title, case, str(count)]
+    environment = dict(os.environ, PYTHONHASHSEED="0")
+    for tool in (["perf", "stat", "-x,", "-e", "instructions:u"], ["valgrind", "--tool=callgrind", "--callgrind-out-file=/dev/null"]):
+        if shutil.which(tool[0]) is None:
+            continue
+        said = subprocess.run([*tool, *own], env=environment, stderr=subprocess.PIPE, text=True, check=False).stderr
+        for line in said.splitlines():
+            if tool[0] == "perf" and ",instructions:u," in line and line.split(",")[0].isdigit():
+                return int(line.split(",")[0])
+            if tool[0] == "valgrind" and "Collected : " in line:
+                return int(line.split("Collected : ")[1])
+    return None
+
+
+def print_instructions(titles: List[str], nodes: int) -> None:
+    """A table of instructions a call: the difference of a process that makes many calls and one that makes a few."""
+    print("| case | " + " | ".join(titles) + " |\n|---" + "|---" * len(titles) + "|")
+    for case, title in CASES.items():
+        cells = []
+        for it in titles:
+            few, many = counted(it, case, nodes, FEW), counted(it, case, nodes, MANY)
+            cells.append("not counted" if few is None or many is None else f"{(many - few) // (MANY - FEW):,}")
+        print(f"| {title} | {' | '.join(cells)} |", flush=True)
+
+
+def made(nodes: int) -> List[Peer]:
+    """The peers that are there."""
+    peers: List[Peer] = []
+    for title, peer in PEERS.items():
+        try:
+            peers.append(peer(nodes))
+        except ImportError as error:
+            if title == "bestore":
+                raise
+            print(f"{title}: skipped, {error}", file=sys.stderr)
+    return peers
+
+
+def main() -> None:
+    parser = argparse.ArgumentParser(description=__doc__, formatter_class=argparse.RawDescriptionHelpFormatter)
+    parser.add_argument("--rounds", type=int, default=5, help="how many rounds (5)")
+    parser.add_argument("--nodes", type=int, default=10_000, help="how many nodes (10,000), at least 100")
+    parser.add_argument("--seconds", type=float, default=0.2, help="how long a case takes in a round (0.2)")
+    parser.add_argument("--processor", action="store_true", help="take the processor's time instead of the clock's")
+    parser.add_argument("--instructions", action="store_true", help="count instructions instead")
+    parser.add_argument("--one", nargs=3, metavar=("PEER", "CASE", "COUNT"), help=argparse.SUPPRESS)
+    options = parser.parse_args()
+    if options.nodes < SIZES or options.rounds < 1:
+        parser.error("it takes 100 nodes and a round at least")
+    if options.one:
+        title, case, count = options.one
+        asked = asked_of(peer := PEERS[title](options.nodes), case, options.nodes, MANY, random.Random(1))
+        timed(peer, case, asked[:int(count)])
+        peer.close()
+        return
+    peers = made(options.nodes)
+    compare(peers, options.nodes)
+    if options.instructions:
+        print_instructions([peer.title for peer in peers], min(options.nodes, 1_000))
+    else:
+        print_times(measured(peers, options), peers)
+    for peer in peers:
+        peer.close()
+
+
+if __name__ == "__main__":
+    main()

@@ -1,0 +1,19 @@
+"""Prints which letters of a server's store come to be unread or are no longer, as other programs write them.
+
+    PYTHONPATH=python python3 examples/python/unread.py SOCKET
+"""
+
+import sys
+
+import bestore
+
+
+def main(path):
+    with bestore.connect(path) as store:
+        with store.watch("MAIL:status==New") as unread:
+            for came, went in unread:
+                print("came", came, "went", went, flush=True)
+
+
+if __name__ == "__main__":
+    main(sys.argv[1])

@@ -1,0 +1,156 @@
+"""The errors of connections to a server."""
+
+from __future__ import annotations
+
+from typing import Dict, Optional, Tuple
+
+from . import _saved_errors
+from .errors import Error, ErrorNumber, Refusal, refusal
+
+
+class ServerError(Error):
+    """Every error of a connection is one of these, except for those that the library has too."""
+
+    def __init__(self, path: str, *others: object) -> None:
+        Exception.__init__(self, path, *others)  # and not OSError's, which takes the parameters for its own
+        self.path = path
+        """The server's socket."""
+
+    @property
+    def summary(self) -> str:
+        """What went wrong, without the socket."""
+        return "the server can't be used"
+
+    def __str__(self) -> str:
+        return f"{self.path}: {self.summary}"
+
+
+class NoServer(ServerError, ConnectionError):
+    """No server can be reached at the socket. The error of the system is the `__cause__`."""
+
+    def __init__(self, path: str, reason: str) -> None:
+        super().__init__(path, reason)
+        self.reason = reason
+
+    @property
+    def summary(self) -> str:
+        return f"no server: {self.reason}"
+
+
+class BrokenConnection(ServerError):
+    """The connection failed, and is closed. Each later call on its pass is `Disconnected`."""
+
+    def __init__(self, path: str, reason: str, may_be_done: bool = False) -> None:
+        super().__init__(path, reason, may_be_done)
+        self.reason = reason
+        self.may_be_done = may_be_done
+        """Whether the call was a write that the server may have made. Otherwise nothing was written."""
+
+    @property
+    def summary(self) -> str:
+        return f"{self.reason}; the write may have been made or not" if self.may_be_done else self.reason
+
+
+class Disconnected(BrokenConnection, ConnectionError):
+    """The server closed the connection, or has ended, or an earlier call broke the connection."""
+
+
+class TimedOut(BrokenConnection, TimeoutError):
+    """The server did not reply in time."""
+
+
+class ProtocolError(BrokenConnection):
+    """The server sent what is no line of the protocol, or speaks another version of it."""
+
+
+class LineTooLong(ServerError):
+    """The request has more than 1 MiB. It was not sent."""
+
+    def __init__(self, path: str, length: int) -> None:
+        super().__init__(path, length)
+        self.length = length
+        """The bytes of the request."""
+
+    @property
+    def summary(self) -> str:
+        return f"a request of {self.length} bytes is too long"
+
+
+class Unavailable(ServerError):
+    """The call can't be made through a server."""
+
+    def __init__(self, path: str, call: str) -> None:
+        super().__init__(path, call)
+        self.call = call
+        """The name of the call."""
+
+    @property
+    def summary(self) -> str:
+        return f"`{self.call}` can't be called through a server"
+
+
+class ServerRefusal(ServerError):
+    """The server refused a request for a reason of its own, and did nothing."""
+
+    def __init__(self, path: str, name: str, message: str) -> None:
+        super().__init__(path, name, message)
+        self.name = name
+        """The error's name in the protocol."""
+        self.message = message
+
+    @property
+    def summary(self) -> str:
+        return self.message
+
+
+class Expired(ServerRefusal):
+    """The snapshot was kept too long, and the server took it back. Pin again."""
+
+
+class NoWatch(ServerRefusal):
+    """The watch has ended."""
+
+
+class TooManyWatches(ServerRefusal):
+    """The connection has as many watches as it may have."""
+
+
+class NotKept(ServerRefusal):
+    """The server keeps no file."""
+
+
+class NotAllowed(ServerRefusal):
+    """The server is another user's."""
+
+
+_REFUSALS = {kind.__name__: kind for kind in (Expired, NoWatch, TooManyWatches, NotKept, NotAllowed)}
+
+# What goes with an error of the library, by its number, and what the call takes a list of.
+_CARRIED: Dict[int, Tuple[str, Optional[str]]] = {
+    ErrorNumber.BUSY: ("pass", None), ErrorNumber.FULL: ("oldest", None), ErrorNumber.CONFLICT: ("found", None),
+    ErrorNumber.SYNTAX: ("offset", None), ErrorNumber.BAD_PATTERN: ("offset", None),
+    ErrorNumber.NAME_LENGTH: ("operation", "operation"), ErrorNumber.DATA_LENGTH: ("operation", "operation"),
+    ErrorNumber.HAS_NUL: ("operation", "operation"),
+}
+
+
+def _of_library(number: int, details: Dict[str, object], query: Optional[str]) -> Refusal:
+    """The error of the library with this number."""
+    key, listed = _CARRIED.get(number, ("", None))
+    carried = details.get(key)
+    return refusal(number, carried if isinstance(carried, int) else None, query, listed)
+
+
+def error_of(path: str, details: Dict[str, object], query: Optional[str] = None) -> Error:
+    """The exception for an error as the protocol has it. `query` is the text that was asked."""
+    number, name, message = details.get("number"), str(details.get("name")), str(details.get("message"))
+    if isinstance(number, int):
+        return _of_library(number, details, query)
+    if name == "Protocol":
+        return ProtocolError(path, f"{message}; it knows {details.get('known')}")
+    refused = _REFUSALS.get(name, ServerRefusal)(path, name, message)
+    if name not in ("NotSaved", "Stopped"):
+        return refused
+    error = _saved_errors.NotSaved(path, None) if name == "NotSaved" else _saved_errors.Stopped(path)
+    error.__cause__ = refused
+    return error

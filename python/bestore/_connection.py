@@ -1,0 +1,214 @@
+"""A connection to a server: requests and replies, each a line, and the lines that are pushed between them."""
+
+from __future__ import annotations
+
+import os
+import select
+import socket
+import time
+from contextlib import suppress
+from typing import Callable, NoReturn, Optional, Type, TypeVar
+from weakref import WeakSet
+
+from ._connected_errors import BrokenConnection, Disconnected, LineTooLong, NoServer, ProtocolError, TimedOut, error_of
+from ._wire import JSON, MOST_BYTES, MOST_BYTES_OF_A_REPLY, decode_line, encode_request
+from .errors import Error
+
+_Result = TypeVar("_Result")
+
+_ROOM = 1 << 16  # how many bytes are received at a time
+_LONGEST = 2_000_000.0  # seconds; the system's clocks end after some more, and a longer time is without an end
+_CLOSED = "the server closed the connection"
+_CLOSING = ("LineTooLong", "Timeout")  # errors after which the server closes the connection
+
+
+def _limited(timeout: Optional[float]) -> Optional[float]:
+    """A time that the system's calls take."""
+    return None if timeout is None or timeout > _LONGEST else timeout
+
+
+def _socket_to(path: str, timeout: Optional[float]) -> socket.socket:
+    """A socket that is connected. Each of its calls waits up to so many seconds."""
+    connected = socket.socket(socket.AF_UNIX, socket.SOCK_STREAM)
+    try:
+        connected.settimeout(timeout)
+        connected.connect(path)
+    except OSError as error:
+        connected.close()
+        raise NoServer(path, error.strerror or str(error)) from error
+    return connected
+
+
+def _can_receive(connected: socket.socket, until: Optional[float]) -> bool:
+    """Whether something can be received before this time, or at all."""
+    polled = select.poll()
+    polled.register(connected, select.POLLIN)
+    return bool(polled.poll(None if until is None else max(until - time.monotonic(), 0) * 1000))
+
+
+class Connection:
+    """A connection. Whoever uses it makes one call at a time.
+
+    Once a call was interrupted, or a line can't be read, nobody knows which reply comes next: the connection is closed."""
+
+    def __init__(self, path: str, timeout: Optional[float], take_push: Callable[[JSON], None]) -> None:
+        self.path, self._timeout, self._take_push = path, _limited(timeout), take_push
+        self._socket: Optional[socket.socket] = _socket_to(path, self._timeout)
+        self._reason = "the connection is closed"  # why there is no socket
+        self._last = 0  # the number of the last request
+        self._received, self._searched = bytearray(), 0  # bytes that were received, and how many of them have no end of a line
+        _open.add(self)
+
+    @property
+    def is_open(self) -> bool:
+        """Whether calls can be made."""
+        return self._socket is not None
+
+    def fileno(self) -> int:
+        """The descriptor of the socket."""
+        return self._live_socket().fileno()
+
+    def _live_socket(self) -> socket.socket:
+        if self._socket is None:
+            raise Disconnected(self.path, self._reason)
+        return self._socket
+
+    def close(self) -> None:
+        """Ends the connection, also if a forked child has a copy of the socket."""
+        if self._socket is not None:
+            with suppress(OSError):
+                self._socket.shutdown(socket.SHUT_RDWR)
+            self.drop("the connection is closed")
+
+    def drop(self, reason: str) -> None:
+        """Closes the socket of this process alone."""
+        dropped, self._socket, self._reason = self._socket, None, reason
+        if dropped is not None:
+            dropped.close()
+
+    def _fail(self, error: Exception, may_be_done: bool = False) -> NoReturn:
+        """Closes the connection, and raises why."""
+        failed: Type[BrokenConnection] = Disconnected
+        if isinstance(error, socket.timeout):
+            failed, reason = TimedOut, f"no reply within {self._timeout:g} seconds"
+        elif isinstance(error, EOFError):
+            reason = str(error)
+        elif isinstance(error, (BrokenPipeError, ConnectionResetError)):
+            reason = _CLOSED
+        elif isinstance(error, OSError):
+            reason = f"the connection failed: {error}"
+        else:
+            failed, reason = ProtocolError, f"the server sent what is no line of the protocol: {error}"
+        self.drop(reason)
+        raise failed(self.path, reason, may_be_done) from (None if reason == _CLOSED or failed is TimedOut else error)
+
+    def ask(self, command: str, parameters: JSON, read: Callable[[JSON], _Result], is_write: bool = False,
+            query: Optional[str] = None) -> _Result:
+        """Sends a request, and returns what `read` finds in its reply. `query` is the text that errors show."""
+        connected = self._live_socket()
+        self._last += 1
+        line = encode_request(self._last, command, parameters)
+        if len(line) > MOST_BYTES:
+            raise LineTooLong(self.path, len(line))
+        is_sent = False
+        try:
+            with suppress(BrokenPipeError, ConnectionResetError):  # the server may have said why it closed the connection
+                connected.sendall(line)
+                is_sent = True
+            reply = self._reply(connected, query)
+            if "ok" in reply:
+                return read(reply["ok"])
+        except Error as error:  # which the server sends before it closes the connection
+            self.drop(str(error))
+            raise
+        except (OSError, EOFError, ArithmeticError, LookupError, TypeError, ValueError) as error:
+            self._fail(error, is_write and is_sent)
+        except BaseException:
+            self.drop("an earlier call was interrupted")
+            raise
+        raise error_of(self.path, reply["error"], query)
+
+    def _reply(self, connected: socket.socket, query: Optional[str]) -> JSON:
+        """The reply to the last request. What is pushed before it is taken."""
+        until, is_late = None if self._timeout is None else time.monotonic() + self._timeout, False
+        while True:
+            line = self._take_line()
+            while line is None:
+                if is_late and not _can_receive(connected, until):  # the first call waits by itself
+                    raise socket.timeout
+                line, is_late = self._receive(connected.recv(_ROOM)), True
+            reply = decode_line(line)
+            if reply.get("id") == self._last and ("ok" in reply or isinstance(reply.get("error"), dict)):
+                return reply
+            self._take_other(reply, query)
+
+    def _receive(self, received: bytes) -> Optional[bytes]:
+        """Keeps what was received, and returns a line if there is one."""
+        if not received:
+            raise EOFError(f"{_CLOSED} within a line" if self._received else _CLOSED)
+        if not self._received and received.find(b"\n") == len(received) - 1:
+            return received
+        self._received += received
+        return self._take_line()
+
+    def _take_line(self) -> Optional[bytes]:
+        """The next line, if it was received."""
+        if not self._received:
+            return None
+        end = self._received.find(b"\n", self._searched) + 1
+        if end == 0:
+            self._searched = len(self._received)
+            if self._searched > MOST_BYTES_OF_A_REPLY:
+                raise ValueError("it is too long")
+            return None
+        line = bytes(memoryview(self._received)[:end])
+        del self._received[:end]
+        self._searched = 0
+        return line
+
+    def _take_other(self, line: JSON, query: Optional[str]) -> None:
+        """Takes a line that is no reply to the last request: one that was pushed, or an error after which the server closes
+        the connection."""
+        if "id" not in line and isinstance(line.get("watch"), int):
+            self._take_push(line)
+            return
+        error = line.get("error")
+        if line.get("id", 0) is not None or not isinstance(error, dict):
+            raise ValueError("it is no reply to this request")
+        if error.get("name") in _CLOSING:
+            raise EOFError(f"{_CLOSED}: {error.get('message')}")
+        raise error_of(self.path, error, query)
+
+    def receive_pushes(self, timeout: Optional[float]) -> bool:
+        """Takes what was pushed. If there is nothing, waits up to so many seconds, or without an end. Returns whether a line
+        came."""
+        connected = self._live_socket()
+        timeout = _limited(timeout)
+        until = None if timeout is None else time.monotonic() + timeout
+        try:
+            line = self._take_line()
+            while line is None:
+                if not _can_receive(connected, until):
+                    return False
+                line = self._receive(connected.recv(_ROOM))
+            while line is not None:
+                self._take_other(decode_line(line), None)
+                line = self._take_line()
+        except Error as error:
+            self.drop(str(error))
+            raise
+        except (OSError, EOFError, ArithmeticError, LookupError, TypeError, ValueError) as error:
+            self._fail(error)
+        return True
+
+
+_open: "WeakSet[Connection]" = WeakSet()
+
+
+def _drop_in_child() -> None:
+    """A forked child gives its copies of the sockets up, so that the server sees when the parent closes them."""
+    for connection in list(_open):
+        connection.drop("the connection belongs to the process that this one was forked from")
+
+
+os.register_at_fork(after_in_child=_drop_in_child)

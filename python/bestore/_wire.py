@@ -1,0 +1,142 @@
+"""The protocol of a server as JSON: values, operations, and the fields of replies. docs/SERVER.md describes it."""
+
+from __future__ import annotations
+
+import base64
+import json
+from typing import Any, Dict, List
+
+from .errors import NoKind, NotUTF8, NoValue, decoded
+from .operations import (
+    MAKE_INDEX, NEW, REMOVE, SET, UNSET, Batch, MakeIndex, NewNode, Operation, RemoveIndex, RemoveNode, SetAttribute,
+    UnsetAttribute)
+from .store import Entry
+from .values import KIND_OF, RANGES, Kind, Typed, decode_value
+
+PROTOCOL = 1
+"""The version of the protocol."""
+MOST_BYTES = 1 << 20
+"""The bytes of a request, with the end of its line."""
+MOST_BYTES_OF_A_REPLY = 2 << 20
+
+JSON = Dict[str, Any]  # an object of JSON
+
+_NAMES = {
+    Kind.STRING: "text", Kind.INT32: "int32", Kind.INT64: "int64", Kind.MIME: "mime", Kind.RAW: "raw", Kind.UINT32: "uint32",
+    Kind.UINT64: "uint64",
+}
+_KINDS = {name: kind for kind, name in _NAMES.items()}
+_encode = json.JSONEncoder(ensure_ascii=False, separators=(",", ":")).encode
+_decode = json.JSONDecoder().decode
+
+
+def encode_request(number: int, command: str, parameters: JSON) -> bytes:
+    """A request as a line."""
+    return _encode({"id": number, command: parameters}).encode() + b"\n"
+
+
+def decode_line(line: bytes) -> JSON:
+    """The object of a line. A ValueError if it has none."""
+    try:
+        found = _decode(line.decode())
+    except RecursionError:
+        raise ValueError("it is too deep") from None
+    if not isinstance(found, dict):
+        raise ValueError("it is no object")
+    return found
+
+
+def _value(code: int, number: int, value: bytes) -> object:
+    """The value of an operation. `NoValue` if its kind doesn't hold it."""
+    kind, decoded_value = _kind(code), decode_value(code, number, value)
+    if kind in RANGES and decoded_value not in RANGES[kind]:
+        raise NoValue()
+    if kind in (Kind.STRING, Kind.INT64):
+        return decoded_value
+    if isinstance(decoded_value, bytes):
+        return {"raw": base64.b64encode(decoded_value).decode()}
+    return {_NAMES[kind]: decoded_value}
+
+
+def _kind(code: int) -> Kind:
+    if code not in KIND_OF:
+        raise NoKind()
+    return KIND_OF[code]
+
+
+def _operation(kind: int, code: int, node: int, number: int, name: bytes, value: bytes) -> List[object]:
+    if kind == NEW:
+        return ["new"]
+    if kind == REMOVE:
+        return ["remove", node]
+    if kind == SET:
+        return ["set", node, decoded(name), _value(code, number, value)]
+    if kind == UNSET:
+        return ["unset", node, decoded(name)]
+    if kind == MAKE_INDEX:
+        return ["index", decoded(name), _NAMES[_kind(code)]]
+    return ["unindex", decoded(name)]
+
+
+def operations_of(batch: Batch) -> List[List[object]]:
+    """The operations of a batch. `NotUTF8`, `NoKind` and `NoValue` with the first one that can't be written."""
+    written = []
+    for place, parts in enumerate(batch._parts()):
+        try:
+            written.append(_operation(*parts))
+        except (NotUTF8, NoKind, NoValue) as error:
+            raise type(error)(place, listed="operation") from None
+    return written
+
+
+# What reads a reply raises ValueError, KeyError, TypeError or an `Error` if the reply isn't as the protocol has it.
+
+
+def read_value(value: object) -> Typed:
+    """A value."""
+    if isinstance(value, str):
+        return Typed(value, Kind.STRING)
+    if isinstance(value, int) and not isinstance(value, bool):
+        return Typed(value, Kind.INT64)
+    if not isinstance(value, dict):
+        raise ValueError("no value")
+    (name, inner), = value.items()
+    kind = _KINDS[name]
+    if kind in RANGES:
+        return Typed(int(inner), kind)
+    return Typed(base64.b64decode(inner, validate=True) if kind == Kind.RAW else str(inner), kind)
+
+
+def read_kind(name: str) -> Kind:
+    """A kind by its name."""
+    return _KINDS[name]
+
+
+def read_operation(parts: List[Any]) -> Operation:
+    """An operation."""
+    what = parts[0]
+    if what == "new":
+        return NewNode(*parts[1:])
+    if what == "remove":
+        return RemoveNode(parts[1])
+    if what == "set":
+        return SetAttribute(parts[1], parts[2], *read_value(parts[3]))
+    if what == "unset":
+        return UnsetAttribute(parts[1], parts[2])
+    if what == "index":
+        return MakeIndex(parts[1], _KINDS[parts[2]])
+    if what == "unindex":
+        return RemoveIndex(parts[1])
+    raise ValueError("no operation")
+
+
+def read_entry(entry: JSON) -> Entry:
+    """An entry of the journal."""
+    return Entry(entry["commit"], entry["pass"], tuple(map(read_operation, entry["operations"])))
+
+
+def read_nodes(nodes: object) -> List[int]:
+    """A list of nodes."""
+    if not isinstance(nodes, list):
+        raise ValueError("no list of nodes")
+    return nodes

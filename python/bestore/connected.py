@@ -1,0 +1,620 @@
+"""A store of a server, by the classes of a store in this process.
+
+    with bestore.connect(path) as store:
+        ...
+
+The server is bestored, and docs/SERVER.md describes it. A pass is a connection. What a program does with the passes,
+versions, changes, batches and prepared queries of `bestore.open` it does with these.
+
+**What differs.** A call takes a round trip. The server tries again at `Busy` and at `Full`, so `tries` changes nothing. It
+takes back a snapshot that is kept too long, and reads of it then are `Expired`. `another` may be called in any thread.
+`column` and `columns` take a round trip for each attribute. `meet` is `Unavailable`. `flush` and `compact` are there, and
+`watch` waits for what others write.
+
+**Errors** are those of the library. Those of the connection are a `ServerError`. Once a connection is broken all later calls
+on its pass are `Disconnected`; the program connects again. If the broken call was a write, `may_be_done` says whether it may
+have been made.
+
+**A forked child** has no connection: the calls on its parent's passes raise `Forked`. It may connect by itself.
+"""
+
+from __future__ import annotations
+
+import operator
+import os
+import threading
+import time
+from contextlib import suppress
+from functools import partial
+from typing import Any, Callable, Dict, Iterator, List, NamedTuple, Optional, Set, Tuple, TypeVar, Union
+from weakref import WeakValueDictionary
+
+from ._connected_errors import (
+    BrokenConnection, Disconnected, Expired, LineTooLong, NoServer, NotAllowed, NotKept, NoWatch, ProtocolError, ServerError,
+    ServerRefusal, TimedOut, TooManyWatches, Unavailable, error_of)
+from ._connection import Connection
+from ._journal import line_of
+from ._wire import (
+    JSON, PROTOCOL, operations_of, read_entry, read_kind, read_nodes, read_operation, read_value)
+from .errors import (
+    BadCount, Closed, Error, Forked, NameLength, NoAttribute, NoNode, NotCovered, NotPinned, Pinned, TooLong, encoded,
+    encoded_query)
+from .handles import LockOwner
+from .local import seen_in_library
+from .operations import MOST_OPERATIONS, NEW, Batch
+from .queries import Prepared, prepare_items
+from .store import TRIES, Entry, Held, Pass, Status
+from .values import RANGES, Kind, Typed, plain
+from .versions import Query, Version, not_covered
+
+__all__ = [
+    "BrokenConnection", "Changes", "ConnectedPass", "ConnectedVersion", "Disconnected", "Expired", "LineTooLong",
+    "NoServer", "NoWatch", "NotAllowed", "NotKept", "ProtocolError", "Server", "ServerError", "ServerRefusal",
+    "TimedOut", "TooManyWatches", "Unavailable", "Watch", "connect", "default_path",
+]
+
+_Result = TypeVar("_Result")
+
+TIMEOUT = 60.0
+"""How many seconds a reply may take, if nothing else is said."""
+
+
+class Server(NamedTuple):
+    """What a server says of itself."""
+
+    version: str
+    """The version of bestored."""
+    library: str
+    """The version of its library."""
+    run: str
+    """Another text each time the server starts. Commit numbers begin anew then."""
+    kept: str
+    """When a write is in the server's file: at `each` write, `every` so often, or `no`."""
+    pages: int
+    passes: int
+    """How many clients there may be at the same time."""
+    commits: int
+    watches: int
+    """How many watches a pass may have."""
+
+
+def _read_server(hello: JSON) -> Tuple[Server, int]:
+    """What the server says, and the number of the pass."""
+    limits = hello["limits"]
+    server = Server(
+        hello["server"], hello["library"], hello["run"], hello["kept"], limits["pages"], limits["passes"], limits["commits"],
+        limits["watches"])
+    return server, hello["pass"]
+
+
+class ConnectedVersion(Version):
+    """A version of a server's store. Each read is a round trip, and more than one if the reply has several pages."""
+
+    _is_pinned = False
+
+    def __init__(self, user: ConnectedPass) -> None:
+        self._user = user
+        self._number, self._next = user._pin()
+        self._is_pinned = True
+
+    @property
+    def number(self) -> int:
+        return self._number
+
+    def __del__(self) -> None:
+        if self._is_pinned:
+            self._user._leave()
+
+    def unpin(self) -> None:
+        user = self._user
+        if not user._is_dead:
+            with user._lock:
+                if self._is_pinned:
+                    self._is_pinned = False
+                    user._unpin()
+
+    def _ask(self, command: str, parameters: JSON, read: Callable[[JSON], _Result], query: Optional[str] = None) -> _Result:
+        """Makes a call on the pass while it has this pin, and not a later one."""
+        user = self._user
+        user._check_process()
+        with user._lock:
+            if not self._is_pinned:
+                raise NotPinned()
+            return user._ask(command, parameters, read, query=query)
+
+    @property
+    def next_node(self) -> int:
+        if not self._is_pinned:
+            raise NotPinned()
+        self._user._check_process()
+        return self._next
+
+    def _ask_query(self, command: str, asked: Query, text: str, others: JSON, read: Callable[[JSON], _Result]) -> _Result:
+        """Asks something of a query. `text` is what is sent for it."""
+        try:
+            return self._ask(command, {"query": text, **others}, read, asked if isinstance(asked, str) else None)
+        except NotCovered:
+            raise self._not_covered(asked) from None
+        except LineTooLong:
+            raise TooLong(query=text) from None
+
+    def _nodes_of(self, asked: Query) -> List[int]:
+        text = _text_of(asked)
+        nodes, more = self._ask_query("query", asked, text, {}, _read_page)
+        while more is not None:
+            page, more = self._ask_query("query", asked, text, {"from": more}, _read_page)
+            nodes += page
+        return nodes
+
+    def _count_of(self, asked: Query) -> int:
+        return self._ask_query("query", asked, _text_of(asked), {"count": True}, lambda ok: int(ok["count"]))
+
+    def explain(self, text: str) -> str:
+        encoded_query(text)
+        return self._ask_query("explain", text, text, {}, lambda ok: str(ok["text"]))
+
+    def refresh(self, prepared: Prepared) -> Tuple[List[int], List[int]]:
+        """As in a version of a store in this process, up to this version. All nodes of the query come through the socket,
+        and the program's memory has them until the query is closed. By `ConnectedPass.watch` only the changes come."""
+        prepared._check_process()
+        with prepared._refreshing:
+            found = set(self._nodes_of(prepared))
+            seen = prepared._seen
+            if seen is None:
+                seen = seen_in_library(prepared) if prepared._is_in_library else set()
+            prepared._seen, prepared._is_in_library = found, False
+        return sorted(found - seen), sorted(seen - found)
+
+    def indices(self) -> Dict[str, Kind]:
+        return self._ask("indices", {}, _read_indices)
+
+    def state(self) -> Iterator[Batch]:
+        more: Optional[int] = 0
+        while more is not None:
+            batches, more = self._ask("state", {"from": more}, _read_state)
+            for batch in batches:
+                if not self._is_pinned:
+                    raise NotPinned()
+                yield batch
+
+    def _read(self, node: int, name: str) -> Typed:
+        if not isinstance(name, str):
+            raise TypeError(f"{name!r} is no name")
+        encoded(name)
+        try:
+            value = self._ask("get", {"node": _node_number(node), "name": name}, _read_attribute)
+        except LineTooLong:
+            raise NameLength() from None
+        if value is None:
+            raise NoAttribute()
+        return value
+
+    def _listed(self, node: int) -> Dict[str, Typed]:
+        return self._ask("attributes", {"node": _node_number(node)}, _read_attributes)
+
+    def _nodes_from(self, first: int, room: int) -> List[int]:
+        return self._ask("nodes", {"from": first, "limit": room}, lambda ok: read_nodes(ok["nodes"]))
+
+
+def _node_number(node: int) -> int:
+    """A node's number, which 64 bits hold."""
+    number = plain(node)
+    if number not in RANGES[Kind.UINT64]:
+        raise NoNode()
+    return number
+
+
+def _text_of(asked: Query) -> str:
+    """The text that asks a query. Items are asked by their canonical text."""
+    if isinstance(asked, str):
+        encoded_query(asked)
+        return asked
+    if isinstance(asked, Prepared):
+        return asked._asked_text()
+    with prepare_items(*asked) as prepared:
+        return prepared.text
+
+
+def _read_page(ok: JSON) -> Tuple[List[int], Optional[int]]:
+    return read_nodes(ok["nodes"]), ok.get("more")
+
+
+def _read_state(ok: JSON) -> Tuple[List[Batch], Optional[int]]:
+    return [Batch(map(read_operation, batch)) for batch in ok["batches"]], ok.get("more")
+
+
+def _read_indices(ok: JSON) -> Dict[str, Kind]:
+    return {name: read_kind(kind) for name, kind in ok["indices"].items()}
+
+
+def _read_attribute(ok: JSON) -> Optional[Typed]:
+    value = ok["value"]
+    return None if value is None else read_value(value)
+
+
+def _read_attributes(ok: JSON) -> Dict[str, Typed]:
+    return {name: read_value(value) for name, value in ok["attributes"].items()}
+
+
+def _read_status(ok: JSON) -> Status:
+    oldest = ok["oldest"]
+    held = None if oldest is None else Held(oldest["snapshot"], oldest["pass"])
+    return Status(ok["pages"], ok["free"], ok["retired"], ok["entries"], ok["commits"], held)
+
+
+def _read_journal(ok: JSON) -> Tuple[List[Entry], Optional[int]]:
+    return [read_entry(entry) for entry in ok["entries"]], ok.get("more")
+
+
+def _take_push(watches: "WeakValueDictionary[int, Watch]", push: JSON) -> None:
+    """Gives what was pushed to its watch, if that is there. The connection has no reference to the pass, so that a pass that
+    nothing names goes at once."""
+    watch = watches.get(push["watch"])
+    if watch is not None:
+        watch._take(push)
+
+
+class ConnectedPass(LockOwner, Pass):
+    """A pass of a server's store: a connection. The calls of several threads on it wait for one another, so each thread has a
+    pass of its own."""
+
+    def __init__(self, path: str, timeout: Optional[float], run: Optional[str] = None) -> None:
+        self._connection: Optional[Connection] = None
+        super().__init__()
+        self._changing: Optional[int] = None  # the thread that runs the function of a change
+        self._committed = 0
+        self._is_asking = self._has_pin = self._is_left = False
+        self._watches: "WeakValueDictionary[int, Watch]" = WeakValueDictionary()
+        self._ended: List[int] = []  # watches that went, and that the server still has
+        self.path = path
+        """The server's socket."""
+        self._timeout = timeout
+        self._connection = Connection(path, timeout, partial(_take_push, self._watches))
+        try:
+            self.server, self._number = self._ask("hello", {"protocol": PROTOCOL}, _read_server)
+        except BaseException:
+            self._connection.close()
+            raise
+        if run is not None and self.server.run != run:
+            self._connection.close()
+            raise Disconnected(path, "the server was started anew")
+
+    def __repr__(self) -> str:
+        return f"<pass {self._number} of the server at {self.path}>"
+
+    def _ask(self, command: str, parameters: JSON, read: Callable[[JSON], _Result], is_write: bool = False,
+             query: Optional[str] = None) -> _Result:
+        """Makes a call. `Closed` if the pass is."""
+        if self._is_dead:
+            raise Forked()
+        with self._lock:
+            connection = self._begin()
+            try:
+                return connection.ask(command, parameters, read, is_write, query)
+            finally:
+                self._end()
+
+    def _begin(self) -> Connection:
+        """The connection, for one call."""
+        if self._connection is None:
+            raise Closed()
+        if self._is_asking:
+            raise RuntimeError("a call on this pass is made within another one, as by the handler of a signal")
+        self._is_asking = True
+        return self._connection
+
+    def _end(self) -> None:
+        self._is_asking = False
+        if self._is_left:
+            self._unpin_left()
+
+    @property
+    def _is_changing(self) -> bool:
+        return self._changing == threading.get_ident()
+
+    @_is_changing.setter
+    def _is_changing(self, is_changing: bool) -> None:
+        self._changing = threading.get_ident() if is_changing else None
+
+    @property
+    def _is_open(self) -> bool:
+        """Whether calls can be made."""
+        return self._connection is not None and self._connection.is_open
+
+    def _pin(self) -> Tuple[int, int]:
+        """Pins. Returns the commit number, and the next node."""
+        self._check_process()
+        with self._lock:
+            self._unpin_left()
+            if self._has_pin and self._is_open:
+                raise Pinned()
+            pinned = self._ask("pin", {}, lambda ok: (int(ok["commit"]), int(ok["next"])))
+            self._has_pin = True
+            return pinned
+
+    def _unpin(self) -> None:
+        """Gives the pin up, as the end of the connection does too."""
+        self._has_pin = False
+        if self._is_open:
+            with suppress(BrokenConnection):
+                self._ask("unpin", {}, lambda ok: None)
+
+    def _leave(self) -> None:
+        """Takes over the pin of a version that goes. Python may collect that one anywhere, also within a call on this pass,
+        which gives the pin up at its end."""
+        if not self._is_dead:
+            self._is_left = True
+            self._unpin_left()
+
+    def _unpin_left(self) -> None:
+        while self._is_left and self._lock.acquire(blocking=False):
+            try:
+                if self._is_asking:
+                    return
+                if self._is_left:
+                    self._is_left = False
+                    self._unpin()
+            finally:
+                self._lock.release()
+
+    @property
+    def number(self) -> int:
+        self._check_process()
+        return self._number
+
+    def another(self) -> ConnectedPass:
+        """A pass of the same store for another thread: a new connection. It may be called in any thread. `NoPass` if there
+        are as many clients as the server takes; `NoServer`, or `Disconnected` if the server was started anew since."""
+        self._check_process()
+        return ConnectedPass(self.path, self._timeout, self.server.run)
+
+    def close(self) -> None:
+        """Closes the connection, if it is open, and so gives the pass back. The store stays with the server."""
+        if self._connection is not None and not self._is_dead:
+            with self._lock:
+                self._connection.close()
+                self._connection = None
+
+    def meet(self) -> int:
+        """`Unavailable`: a pass of a server has seen what its replies have."""
+        self._check_process()
+        raise Unavailable(self.path, "meet")
+
+    def pin(self) -> ConnectedVersion:
+        return ConnectedVersion(self)
+
+    def _write(self, batch: Batch, tries: int, expected: Optional[int]) -> Tuple[int, List[int]]:
+        if not 1 <= len(batch) <= MOST_OPERATIONS:
+            raise BadCount()
+        parameters: JSON = {"operations": operations_of(batch)}
+        if expected is not None:
+            parameters["expected"] = expected if expected in RANGES[Kind.UINT64] else 2**64 - 1  # which no journal has
+
+        def read(ok: JSON) -> Tuple[int, List[int]]:
+            nodes = read_nodes(ok["nodes"])[::-1]
+            return int(ok["commit"]), [nodes.pop() if raw.kind == NEW else 0 for raw in batch._operations]
+        try:
+            return self._ask("batch", parameters, read, is_write=True)
+        except LineTooLong:
+            batch.to_bytes()  # which raises what is wrong
+            raise
+
+    def journal(self, tries: int = TRIES) -> str:
+        return "".join(map(line_of, self.journal_from()))
+
+    def journal_from(self, number: int = 0, tries: int = TRIES) -> Iterator[Entry]:
+        """The entries of the journal after the first `number`, up to those that are there when the last page is read. So
+        `store.journal_from(version.number)` has what was written after a snapshot. A round trip reads a page of some
+        thousand entries."""
+        more: Optional[int] = max(operator.index(number), 0)
+        while more is not None and more < 2**64:
+            entries, more = self._ask("journal", {"from": more}, _read_journal)
+            yield from entries
+
+    def status(self, tries: int = TRIES) -> Status:
+        return self._ask("status", {}, _read_status)
+
+    def flush(self) -> None:
+        """Returns when all that was written before the call is in the server's file. `NotKept` if it keeps none;
+        `saved.Stopped` and `saved.NotSaved`."""
+        self._ask("flush", {}, lambda ok: None)
+
+    def compact(self) -> None:
+        """Puts the current snapshot into the server's file, in the place of the state and the entries that it contains. Errors
+        are those of `flush`."""
+        self._ask("compact", {}, lambda ok: None)
+
+    def watch(self, query: Optional[str] = None) -> Watch:
+        """Begins to watch what a query finds, or each commit if there is none. A `QueryError`; `TooManyWatches`."""
+        return Watch(self, query)
+
+    def fileno(self) -> int:
+        """The descriptor of the socket, for `select` and event loops: if it can be read, something was pushed for a watch.
+        Before the program waits for it, it calls `Watch.wait(0)` until that is None: what was received already can't be
+        read again."""
+        self._check_process()
+        with self._lock:
+            if self._connection is None:
+                raise Closed()
+            return self._connection.fileno()
+
+    def _receive(self, timeout: Optional[float]) -> bool:
+        """Waits for a push. Returns whether one came."""
+        connection = self._begin()
+        try:
+            return connection.receive_pushes(timeout)
+        finally:
+            self._end()
+
+    def _end_watches(self) -> None:
+        """Ends the watches that nothing names any more."""
+        while self._ended:
+            with suppress(NoWatch):
+                self._ask("unwatch", {"watch": self._ended.pop()}, lambda ok: None)
+
+
+class Changes(NamedTuple):
+    """What changed in what a query finds. It unpacks as what `Version.refresh` returns."""
+
+    created: List[int]
+    """The nodes that came, ascending."""
+    removed: List[int]
+    """The nodes that went, ascending."""
+
+
+class Watch:
+    """A live query whose changes the server pushes, by `ConnectedPass.watch`. At first all of its nodes come.
+
+        with store.watch("MAIL:status==New") as unread:
+            for came, went in unread:
+                print(came, went)
+
+    What the calls on it return, taken together, is what the query finds at `commit`. Changes of several commits come as one.
+    Any call on the pass receives what was pushed, and the watch keeps it until it is returned. A program that makes no call
+    for half a minute while more is pushed than the socket holds is disconnected by the server.
+
+    `Prepared` and `Version.refresh` do without pushes."""
+
+    def __init__(self, user: ConnectedPass, query: Optional[str]) -> None:
+        self._user, self.query = user, query
+        """The text of the query, or None if each commit is watched."""
+        self._created: Set[int] = set()
+        self._removed: Set[int] = set()
+        self._is_partial = self._is_new = False  # whether a push of the same commit is missing, and something is to be returned
+        self._last = 0  # the commit to which all that was received leads
+        self._error: Optional[Error] = None  # what has ended the watch
+        self._number: Optional[int] = None
+        parameters = {} if query is None else {"query": query}
+        if query is not None:
+            encoded_query(query)
+        user._check_process()
+        with user._lock:
+            user._end_watches()
+            try:
+                number = user._ask("watch", parameters, self._read_first, query=query)
+            except NotCovered:
+                raise self._not_covered() from None
+            except LineTooLong:
+                raise TooLong(query=query) from None
+            self._number, self.commit = number, self._last
+            """The commit number of the snapshot to which what was returned leads, and at first that of the first answer."""
+            user._watches[number] = self
+
+    def __repr__(self) -> str:
+        return f"<watch of {self.query or 'each commit'} at commit {self.commit}>"
+
+    def __enter__(self) -> Watch:
+        return self
+
+    def __exit__(self, *_: object) -> None:
+        self.close()
+
+    def __del__(self) -> None:
+        if self._number is not None:
+            self._user._ended.append(self._number)
+
+    def __iter__(self) -> Iterator[Changes]:
+        """The changes, each as soon as it comes, without an end."""
+        while True:
+            changes = self.wait()
+            assert changes is not None
+            yield changes
+
+    def _read_first(self, ok: JSON) -> int:
+        nodes = ok.get("nodes")
+        if nodes is not None:
+            self._created.update(read_nodes(nodes))
+        self._last, self._is_new, self._is_partial = int(ok["commit"]), bool(nodes), bool(ok.get("more"))
+        return int(ok["watch"])
+
+    def _take(self, push: JSON) -> bool:
+        """Takes changes in. Returns whether more belong to them."""
+        error = push.get("error")
+        if error is not None:
+            self._error, self._number = error_of(self._user.path, error, self.query), None
+        created, removed = set(read_nodes(push["created"])), set(read_nodes(push["removed"]))
+        self._created, self._removed = (
+            self._created - removed | created - self._removed, self._removed - created | removed - self._created)
+        self._last, self._is_new, self._is_partial = int(push["commit"]), True, bool(push.get("more"))
+        return self._is_partial
+
+    def _returned(self) -> Changes:
+        changes = Changes(sorted(self._created), sorted(self._removed))
+        self._created, self._removed, self._is_new, self.commit = set(), set(), False, self._last
+        return changes
+
+    def _not_covered(self) -> NotCovered:
+        """The error of a query that needs another index."""
+        return not_covered(self.query or "", self._user._ask("indices", {}, _read_indices))
+
+    def _check(self) -> int:
+        """The number of the watch. Raises the error that has ended it, or `Closed`."""
+        if isinstance(self._error, NotCovered):
+            raise self._not_covered()
+        if self._error is not None:
+            raise self._error
+        if self._number is None:
+            raise Closed()
+        return self._number
+
+    def refresh(self) -> Changes:
+        """What changed since a call on this watch returned something last, up to what reads of the pass see now: the current
+        snapshot, with all that this pass has written or seen, or the one that it is pinned to. A round trip."""
+        user = self._user
+        user._check_process()
+        with user._lock:
+            number = self._check()
+            try:
+                while user._ask("refresh", {"watch": number}, self._take, query=self.query):
+                    pass
+            except NotCovered:
+                raise self._not_covered() from None
+            except NoWatch:
+                self._check()
+                raise
+            return self._returned()
+
+    def wait(self, timeout: Optional[float] = None) -> Optional[Changes]:
+        """The changes that were pushed and not returned yet. If there are none, waits for some up to so many seconds, or
+        without an end, and returns None if none came. With 0 it only receives what is there. The error that has ended the watch
+        is raised then, as `NotCovered` after its index was removed. Other threads' calls on the pass wait meanwhile."""
+        user = self._user
+        user._check_process()
+        until = None if timeout is None else time.monotonic() + timeout
+        with user._lock:
+            while not self._is_new or self._is_partial:
+                self._check()
+                if not user._receive(None if until is None else max(until - time.monotonic(), 0)):
+                    return None
+            if self._error is not None and not self._created and not self._removed:
+                self._check()
+            return self._returned()
+
+    def close(self) -> None:
+        """Ends the watch, if it is there."""
+        user, number, self._number = self._user, self._number, None
+        if number is not None and not user._is_dead:
+            with suppress(BrokenConnection), user._lock:
+                user._ended.append(number)
+                if user._is_open:
+                    user._end_watches()
+
+
+def default_path() -> str:
+    """The socket at which a server listens if nothing else is said."""
+    folder = os.environ.get("XDG_RUNTIME_DIR")
+    return f"/tmp/bestore-{os.geteuid()}/socket" if folder is None else os.path.join(folder, "bestore", "socket")
+
+
+def connect(path: Union[str, bytes, "os.PathLike[Any]", None] = None, timeout: Optional[float] = TIMEOUT) -> ConnectedPass:
+    """Connects to a server at its socket, or at the one where a server is if nothing is said. The pass is used as the one that
+    `open` returns; `help(bestore.connected)` says what differs.
+
+    `timeout` is how many seconds a reply may take; None is without an end. After that the call raises `TimedOut`, and the
+    connection is closed.
+
+    Raises `NoServer`; `NoPass` if there are as many clients as the server takes; `NotAllowed` if the server is another user's;
+    `ProtocolError`, `TimedOut`; a ValueError if `timeout` isn't above 0."""
+    if timeout is not None and not timeout > 0:
+        raise ValueError(f"a timeout of {timeout} seconds")
+    return ConnectedPass(default_path() if path is None else os.fsdecode(path), timeout)

@@ -1,0 +1,250 @@
+"""A store in this process: its passes and versions, by calls of the library."""
+
+from __future__ import annotations
+
+import ctypes
+import operator
+import time
+from typing import Any, Callable, Dict, Iterator, List, Optional, Set, Tuple, TypeVar
+
+from . import _native
+from ._library import Usage, calls, check
+from .errors import BadLimits, ErrorNumber, NotCovered, Refusal, encoded_query, refusal
+from .handles import CURSOR, PASS, HandleOwner
+from .operations import Batch
+from .queries import Prepared, encode_items
+from .store import PAUSES, TRIES, Entry, Held, Pass, StandingBack, Status
+from .values import RANGES, Kind, Typed, Value
+from .versions import Query, Version
+
+_Answered = TypeVar("_Answered", bound=Tuple[Any, ...])
+
+_BUSY, _FULL = int(ErrorNumber.BUSY), int(ErrorNumber.FULL)
+
+
+class _Cursor(HandleOwner):
+    """How many of the operations that make a version again were returned."""
+
+    def __init__(self) -> None:
+        super().__init__(CURSOR)
+
+    def close(self) -> None:
+        """Gives the cursor up, if it was begun."""
+        self._give_up(calls.bes_leave)
+
+
+class LocalVersion(_native.Reader, Version):
+    """A version of a store in this process. Most of its calls are those of the extension."""
+
+    _user: LocalPass
+
+    @property
+    def next_node(self) -> int:
+        node = ctypes.c_uint64()
+        check(self._call(calls.bes_next, ctypes.byref(node)))
+        return node.value
+
+    def _nodes_of(self, asked: Query) -> List[int]:
+        if isinstance(asked, str):
+            return self.query(asked)
+        if isinstance(asked, Prepared):
+            return self.query_prepared(asked)
+        return self._query_items(asked, *encode_items(asked))
+
+    def _count_of(self, asked: Query) -> int:
+        if isinstance(asked, (str, Prepared)):
+            return self.count(asked)
+        return self._count_items(asked, *encode_items(asked))
+
+    def _query_error(self, answer: int, carried: int, asked: Query) -> Refusal:
+        """The error of a query, with what goes with it."""
+        if answer == ErrorNumber.NOT_COVERED:
+            return self._not_covered(asked)
+        if isinstance(asked, str):
+            return refusal(answer, carried, asked)
+        return refusal(answer, carried, listed="item")
+
+    def refresh(self, prepared: Prepared) -> Tuple[List[int], List[int]]:
+        if not isinstance(prepared, Prepared):
+            return super().refresh(prepared)  # which raises
+        prepared._check_process()
+        with prepared._refreshing:
+            changes = super().refresh(prepared)
+            prepared._is_in_library = True
+            if prepared._seen is not None:
+                return self._changes_since(prepared, prepared._seen)
+            return changes
+
+    def _changes_since(self, prepared: Prepared, seen: Set[int]) -> Tuple[List[int], List[int]]:
+        """What came and went since a refresh in a version of a server, which the library knows nothing of."""
+        found = self.query_prepared(prepared)
+        prepared._seen = None
+        return sorted(set(found) - seen), sorted(seen.difference(found))
+
+    def explain(self, text: str) -> str:
+        taken, count, room = encoded_query(text), ctypes.c_uint64(), 256
+        while True:
+            written = ctypes.create_string_buffer(room)
+            answer = self._call(calls.bes_explain, taken, len(taken), written, room, ctypes.byref(count))
+            if answer != 0:
+                raise self._query_error(answer, count.value, text)
+            if count.value <= room:
+                return written.raw[:count.value].decode()
+            room = count.value
+
+    def _listed(self, node: int) -> Dict[str, Typed]:
+        return self.attributes(node, True)
+
+    def state(self) -> Iterator[Batch]:
+        with _Cursor() as cursor:
+            while True:
+                batch = self._state(cursor)
+                if batch is None:
+                    return
+                yield batch
+
+
+def seen_in_library(prepared: Prepared) -> Set[int]:
+    """The nodes that the library has from the last refresh of a query, of which it then has none. In an empty store with the
+    indices that the query needs all of them are removed."""
+    with open(512, 1, 1024) as store:
+        while True:
+            with store.pin() as version:
+                try:
+                    return set(version.refresh(prepared)[1])
+                except NotCovered as error:
+                    if error.missing is None:
+                        raise
+                    missing = error.missing
+            store.make_index(missing, Kind.STRING)
+
+
+class LocalPass(HandleOwner, Pass):
+    """A pass of a store in this process."""
+
+    def __init__(self) -> None:
+        super().__init__(PASS)
+
+    def _tried(self, tries: int, call: Callable[..., int], *arguments: Any) -> int:
+        """Makes a call, up to so many times while another pass is writing, and once at least."""
+        answer = self._call(call, *arguments)
+        if answer == _BUSY:
+            back = StandingBack()
+            while answer == _BUSY and tries > 1:
+                back.wait()
+                tries, answer = tries - 1, self._call(call, *arguments)
+        return answer
+
+    def _repeated(self, tries: int, call: Callable[..., _Answered], *arguments: Any) -> _Answered:
+        """The same of a call of the extension, which also returns what goes with the library's number."""
+        answered = call(*arguments)
+        if answered[0] == _BUSY:
+            back = StandingBack()
+            while answered[0] == _BUSY and tries > 1:
+                back.wait()
+                tries, answered = tries - 1, call(*arguments)
+        return answered
+
+    def _write(self, batch: Batch, tries: int, expected: Optional[int]) -> Tuple[int, List[int]]:
+        """Writes a batch: up to so many times while another pass is writing. With more than one try it also waits, when no
+        page is free, for other passes to give older snapshots up."""
+        if expected is None:
+            before: Tuple[int, ...] = ()
+        else:
+            before = (expected if expected in RANGES[Kind.UINT64] else 2**64 - 1,)  # which no journal has
+        answer, number, made = self._apply(batch, *before)
+        if answer != 0:
+            return self._written_at_last(tries, answer, number, batch, *before)
+        return number, made
+
+    def _written_at_last(self, tries: int, answer: int, number: int, batch: Batch, *before: int) -> Tuple[int, List[int]]:
+        """The same, once the first try has failed by this."""
+        pauses = 0
+        made: List[int] = []
+        if answer == _BUSY and tries > 1:
+            StandingBack().wait()
+            answer, number, made = self._repeated(tries - 1, self._apply, batch, *before)
+        while answer == _FULL and tries > 1 and pauses < PAUSES and self._may_be_given_pages(number):
+            time.sleep(min(0.001 * 2**pauses, 0.05))
+            pauses += 1
+            answer, number, made = self._repeated(tries, self._apply, batch, *before)
+        if answer != 0:
+            raise refusal(answer, number, listed="operation")
+        return number, made
+
+    def _may_be_given_pages(self, least: int) -> bool:
+        """Whether pages may come free that a write didn't find, as those of the commit number `least` and later were
+        kept: another pass is the oldest active reader, or was it."""
+        try:
+            status = self.status()
+        except Refusal:
+            return False
+        if least >= status.entries:
+            return False
+        oldest = status.oldest
+        return oldest is None or oldest.pass_number != self.number and (self._pinned is None or self._pinned > oldest.version)
+
+    def set(self, node: int, name: str, value: Value, kind: Optional[int] = None) -> None:
+        if not self._set(node, name, value, kind):
+            super().set(node, name, value, kind)
+
+    @property
+    def number(self) -> int:
+        number = ctypes.c_uint64()
+        check(self._call(calls.bes_number, ctypes.byref(number)))
+        return number.value
+
+    def another(self) -> LocalPass:
+        other = LocalPass()
+        check(self._call(calls.bes_another, other._pointer))
+        return other
+
+    def close(self) -> None:
+        self._give_up(calls.bes_close)
+
+    def meet(self) -> int:
+        seen = ctypes.c_uint64()
+        check(self._call(calls.bes_meet, ctypes.byref(seen)))
+        return seen.value
+
+    def pin(self) -> LocalVersion:
+        return LocalVersion(self)
+
+    def journal(self, tries: int = TRIES) -> str:
+        count, room = ctypes.c_uint64(), 65536
+        while True:
+            written = ctypes.create_string_buffer(room)
+            check(self._tried(tries, calls.bes_journal, written, room, ctypes.byref(count)), count.value)
+            if count.value <= room:
+                return written.raw[:count.value].decode()
+            room = 2 * count.value
+
+    def journal_from(self, number: int = 0, tries: int = TRIES) -> Iterator[Entry]:
+        number = max(operator.index(number), 0)
+        while number < 2**64:
+            answer, carried, by, batch = self._repeated(tries, self._journal_entry, number)
+            check(answer, carried)
+            if batch is None:
+                return
+            number += 1
+            yield Entry(number, by, tuple(batch))
+
+    def status(self, tries: int = TRIES) -> Status:
+        usage, number = Usage(), ctypes.c_uint64()
+        check(self._tried(tries, calls.bes_status, ctypes.byref(usage), ctypes.byref(number)), number.value)
+        oldest = Held(usage.oldest, usage.holder) if usage.is_held else None
+        return Status(usage.pages, usage.free, usage.retired, usage.entries, usage.commits, oldest)
+
+
+_native.know(user=LocalPass)
+
+
+def open(pages: int = 4096, passes: int = 8, commits: int = 2**32 - 1) -> LocalPass:
+    """A new store in memory, as its first pass: with so many pages of 4 KiB (8 to 16,384), which are taken at once,
+    so many passes (1 to 64), and room for so many writes (1 to 2^32 - 1) in its life. `BadLimits` if one of these is
+    out of its range, or `NoMemory`."""
+    if not all(0 <= operator.index(limit) < 2**64 for limit in (pages, passes, commits)):
+        raise BadLimits()
+    user = LocalPass()
+    check(calls.bes_open(pages, passes, commits, user._pointer))
+    return user

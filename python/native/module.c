@@ -1,0 +1,117 @@
+/* The module bestore._native: the calls that programs make most, on the handles of the library that bestore._library has loaded. */
+#include "native.h"
+
+#include <string.h>
+
+Library library;
+Known known;
+
+/* A call by its name in the library, and where it goes. */
+typedef struct Named {
+    const char *name;
+    size_t offset;
+} Named;
+
+#define CALL(field) { "bes_" #field, offsetof(Library, field) }
+
+static const Named calls[] = {
+    CALL(pin), CALL(unpin), CALL(close), CALL(release), CALL(leave), CALL(next), CALL(apply), CALL(apply_if), CALL(query),
+    CALL(query_items), CALL(query_prepared), CALL(refresh), CALL(changes), CALL(nodes), CALL(get), CALL(attributes), CALL(indices),
+    CALL(state), CALL(journal_from),
+};
+
+/* Takes the calls of the library that was loaded: a dict of their names and addresses. */
+static PyObject *use(PyObject *module, PyObject *addresses)
+{
+    (void)module;
+    for (size_t at = 0; at < sizeof calls / sizeof *calls; at++) {
+        PyObject *address = PyMapping_GetItemString(addresses, calls[at].name);
+        void *call = address == NULL ? NULL : PyLong_AsVoidPtr(address);
+        Py_XDECREF(address);
+        if (PyErr_Occurred())
+            return NULL;
+        memcpy((char *)&library + calls[at].offset, &call, sizeof call);
+    }
+    Py_RETURN_NONE;
+}
+
+/* Keeps an object of the package, in the place of what was kept before. */
+static void keep(PyObject **place, PyObject *object)
+{
+    PyObject *before = *place;
+    *place = Py_XNewRef(object);
+    Py_XDECREF(before);
+}
+
+/* Takes what the module knows of the package: some of it at a time, as the package's modules are imported. */
+static PyObject *know(PyObject *module, PyObject *arguments, PyObject *names)
+{
+    static char *parameters[] = { "refusal", "forked", "encoded_query", "encode_value", "typed", "batch", "user", "kinds", NULL };
+    PyObject **places[] = {
+        &known.refusal, &known.forked, &known.encoded_query, &known.encode_value, &known.typed, &known.batch, &known.user,
+    };
+    PyObject *given[8] = { NULL };
+    (void)module;
+    if (!PyArg_ParseTupleAndKeywords(arguments, names, "|$OOOOOOOO:know", parameters, &given[0], &given[1], &given[2], &given[3],
+                                     &given[4], &given[5], &given[6], &given[7]))
+        return NULL;
+    for (size_t at = 0; at < sizeof places / sizeof *places; at++)
+        if (given[at] != NULL)
+            keep(places[at], given[at]);
+    for (Py_ssize_t at = 0; given[7] != NULL && at < 7; at++) {
+        PyObject *kind = PySequence_GetItem(given[7], at);
+        if (kind == NULL)
+            return NULL;
+        keep(&known.kinds[at], kind);
+        Py_DECREF(kind);
+    }
+    Py_RETURN_NONE;
+}
+
+static PyMethodDef functions[] = {
+    { "use", use, METH_O, "Takes the calls of the library that was loaded: a dict of their names and addresses." },
+    { "know", (PyCFunction)(void (*)(void))know, METH_VARARGS | METH_KEYWORDS,
+      "Takes what the module knows of the package. The kinds are in the order in which values.py has them." },
+    { "after_fork", after_fork, METH_NOARGS, "In a forked child: all handles are dead from now on." },
+    { NULL, NULL, 0, NULL },
+};
+
+/* Makes a type, and adds it to the module. */
+static PyTypeObject *add_type(PyObject *module, PyType_Spec *spec)
+{
+    PyObject *type = PyType_FromSpec(spec);
+    const char *name = strrchr(spec->name, '.') + 1;
+    if (type != NULL && PyModule_AddObjectRef(module, name, type) < 0)
+        Py_CLEAR(type);
+    return (PyTypeObject *)type;
+}
+
+static int fill(PyObject *module)
+{
+    static bool is_filled;
+    PyTypeObject *reader;
+    if (is_filled) {
+        PyErr_SetString(PyExc_ImportError, "bestore is imported by one interpreter of a process");
+        return -1;
+    }
+    handle_type = add_type(module, &handle_spec);
+    batch_type = add_type(module, &batch_spec);
+    reader = add_type(module, &reader_spec);
+    if (handle_type == NULL || batch_type == NULL || reader == NULL)
+        return -1;
+    Py_DECREF(reader);
+    is_filled = true;
+    return 0;
+}
+
+static PyModuleDef_Slot slots[] = { { Py_mod_exec, (void *)fill }, { 0, NULL } };
+
+static struct PyModuleDef definition = {
+    PyModuleDef_HEAD_INIT,
+    .m_name = "bestore._native",
+    .m_doc = "The calls that programs make most, on the handles of the library.",
+    .m_methods = functions,
+    .m_slots = slots,
+};
+
+PyMODINIT_FUNC PyInit__native(void) { return PyModuleDef_Init(&definition); }

@@ -1,0 +1,175 @@
+/* What the parts of bestore._native share. The module calls the library that bestore._library has loaded, by the calls of bestore.h.
+ *
+ * Its state is the process's, and what guards it is the GIL: a part that lets the GIL go touches no object meanwhile. */
+#ifndef BESTORE_NATIVE_H
+#define BESTORE_NATIVE_H
+
+#define PY_SSIZE_T_CLEAN
+#define Py_LIMITED_API 0x030a0000
+#include <Python.h>
+#include <stdbool.h>
+#include <stddef.h>
+#include <stdint.h>
+#include <stdlib.h>
+
+#include "bestore.h"
+
+enum {
+    MOST_OPERATIONS = 64,
+    BYTES_OF_A_BATCH = MOST_OPERATIONS * (63 + 255),
+    BYTES_OF_A_VALUE = 255,
+};
+
+/* The calls of the library, as the loaded one has them. */
+typedef struct Library {
+    uint32_t (*pin)(bes_pass *, uint64_t *);
+    uint32_t (*unpin)(bes_pass *);
+    uint32_t (*close)(bes_pass *);
+    uint32_t (*release)(bes_prepared *);
+    uint32_t (*leave)(bes_place *);
+    uint32_t (*next)(bes_pass *, uint64_t *);
+    uint32_t (*apply)(bes_pass *, const bes_operation *, size_t, const uint8_t *, size_t, uint64_t *, size_t, uint64_t *);
+    uint32_t (*apply_if)(
+        bes_pass *, uint64_t, const bes_operation *, size_t, const uint8_t *, size_t, uint64_t *, size_t, uint64_t *);
+    uint32_t (*query)(bes_pass *, const uint8_t *, size_t, uint64_t *, size_t, uint64_t *);
+    uint32_t (*query_items)(bes_pass *, const bes_item *, size_t, const uint8_t *, size_t, uint64_t *, size_t, uint64_t *);
+    uint32_t (*query_prepared)(bes_pass *, bes_prepared *, uint64_t *, size_t, uint64_t *);
+    uint32_t (*refresh)(bes_pass *, bes_prepared *, bes_updates *);
+    uint32_t (*changes)(bes_prepared *, uint64_t *, size_t, uint64_t *, size_t);
+    uint32_t (*nodes)(bes_pass *, uint64_t, uint64_t *, size_t, uint64_t *);
+    uint32_t (*get)(bes_pass *, uint64_t, const uint8_t *, size_t, bes_attribute *, uint8_t *, size_t);
+    uint32_t (*attributes)(bes_pass *, uint64_t, bes_counts *, bes_operation *, size_t, uint8_t *, size_t);
+    uint32_t (*indices)(bes_pass *, bes_counts *, bes_operation *, size_t, uint8_t *, size_t);
+    uint32_t (*state)(bes_pass *, bes_place *, bes_counts *, bes_operation *, size_t, uint8_t *, size_t);
+    uint32_t (*journal_from)(
+        bes_pass *, uint64_t, uint64_t *, bes_counts *, bes_operation *, size_t, uint8_t *, size_t, uint64_t *);
+} Library;
+
+extern Library library;
+
+/* What the module knows of the package: it is handed over once, by `know`. */
+typedef struct Known {
+    PyObject *refusal;       /* makes the error of a number */
+    PyObject *forked;        /* the class of the error */
+    PyObject *encoded_query; /* raises the error of a query's text that has no UTF-8 */
+    PyObject *encode_value;  /* encodes what isn't of a common type */
+    PyObject *typed;         /* a class of pairs */
+    PyObject *batch;         /* the class */
+    PyObject *user;          /* the class of passes whose writes need nothing besides */
+    PyObject *kinds[7];      /* by the order of kind_index */
+} Known;
+
+extern Known known;
+
+typedef struct Waiter Waiter;
+
+/* What a handle is of. */
+enum Sort { NO_SORT, OF_PASS, OF_PREPARED, OF_CURSOR };
+
+/* A handle of the library, with what guards it: one thread at a time is at it, which may come in again. */
+typedef struct Handle {
+    PyObject_HEAD
+    union {
+        bes_pass pass;
+        bes_prepared prepared;
+        bes_place place;
+    } held;
+    enum Sort sort;
+    unsigned long forks; /* how many forks there were when it was made */
+    unsigned long owner; /* the thread that is at it, if depth isn't 0 */
+    unsigned depth;
+    Waiter *first;     /* the first of the threads that wait */
+    bool is_given;     /* whether the turn was given to one that hasn't run since */
+    bool is_pinned;    /* of a pass: whether a version has it pinned */
+    bool is_left;      /* whether that version is gone, and the thread that is at the pass gives the pin up */
+    uint64_t snapshot; /* the commit number of the snapshot, if it is pinned */
+    uint64_t committed;     /* of a pass: the commit number of its last write, or 0 */
+    unsigned long changing; /* the thread that runs the function of a change, or 0 */
+    uint64_t *nodes;   /* of a pass: what queries are written into, or NULL */
+    size_t room;
+    bool is_long;   /* of a prepared query: whether the GIL is let go while it is asked */
+    unsigned asked; /* how often it was asked with the GIL */
+} Handle;
+
+extern PyTypeObject *handle_type;
+extern PyTypeObject *batch_type;
+
+/* Operations, and the bytes that their names and values are parts of. */
+typedef struct Batch {
+    PyObject_HEAD
+    bes_operation *operations;
+    size_t count, room;
+    uint8_t *bytes;
+    size_t length, bytes_room;
+} Batch;
+
+/* What bes_get found. */
+typedef struct Found {
+    uint32_t answer;
+    bes_attribute attribute;
+    uint8_t bytes[BYTES_OF_A_VALUE];
+} Found;
+
+/* A list of operations that a call writes. */
+typedef struct Listed {
+    bes_counts counts;
+    bes_operation operations[MOST_OPERATIONS];
+    uint8_t bytes[BYTES_OF_A_BATCH];
+} Listed;
+
+/* Guards: handle.c. `enter` waits until no other thread is at the handle; it raises, and returns false, if the handle is dead or the
+ * wait is interrupted. */
+bool enter(Handle *handle);
+void leave(Handle *handle);
+bool is_dead(const Handle *handle);
+bool is_changing(const Handle *handle);
+void unpin(Handle *handle);
+PyObject *call_guarded(Handle *handle, PyObject *const *arguments, Py_ssize_t count);
+Handle *handle_of(PyObject *object, enum Sort sort);
+
+/* Values: values.c. Each raises, and returns NULL or false, if it can't do it. */
+PyObject *refused(uint32_t answer);
+PyObject *refused_at(uint32_t answer, uint64_t carried, const char *listed);
+bool read_in_range(PyObject *object, uint64_t *number);
+bool read_number(PyObject *object, uint64_t *number);
+bool read_node(PyObject *object, uint64_t *node);
+bool read_text(PyObject *object, const uint8_t **bytes, size_t *length);
+bool is_number_kind(uint32_t code);
+PyObject *value_object(uint32_t code, uint64_t number, const uint8_t *bytes, size_t length);
+PyObject *kind_object(uint32_t code);
+PyObject *typed_object(uint32_t code, uint64_t number, const uint8_t *bytes, size_t length);
+PyObject *list_of(const uint64_t *numbers, size_t count);
+
+/* The parameters of a function: their names, how many there are, and how many have to be given. */
+typedef struct Signature {
+    const char *function;
+    const char *names[6];
+    int count, least;
+} Signature;
+
+bool read_arguments(const Signature *signature, PyObject *const *given, Py_ssize_t count, PyObject *names, PyObject **read);
+
+/* A value as the library takes it. Its bytes are those of `keeper`, if that isn't NULL, which is then to be given up. */
+typedef struct Encoded {
+    uint32_t code;
+    uint64_t number;
+    const uint8_t *bytes;
+    size_t length;
+    PyObject *keeper;
+} Encoded;
+
+/* Batches: batch.c. */
+bool encode(PyObject *value, PyObject *kind, Encoded *encoded);
+bool add_operation(Batch *batch, bes_operation operation, const uint8_t *name, size_t name_length, const uint8_t *value,
+                   size_t value_length);
+PyObject *batch_of(const Listed *listed);
+
+/* What the types have: handle.c, batch.c, reader.c, queries.c, writes.c. */
+extern PyType_Spec handle_spec, batch_spec, reader_spec;
+PyObject *after_fork(PyObject *module, PyObject *nothing);
+PyObject *handle_apply(PyObject *self, PyObject *const *given, Py_ssize_t count);
+PyObject *handle_journal_entry(PyObject *self, PyObject *number);
+PyObject *handle_expect(PyObject *self, PyObject *text);
+PyObject *handle_set(PyObject *self, PyObject *const *given, Py_ssize_t count);
+
+#endif

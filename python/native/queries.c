@@ -1,0 +1,369 @@
+/* Queries of readers, and lists of nodes. */
+#include "reader.h"
+
+#include <string.h>
+#include <time.h>
+
+enum {
+    LEAST_ROOM = 1024,
+    MANY_NODES = 256,       /* a list of more nodes is read without the GIL */
+    LONG_TIME = 50000,      /* a prepared query that took more nanoseconds is asked without the GIL the next time */
+    SHORT_TIME = 20000,     /* one that took less is asked with it */
+    TIMED = 8,              /* of so many askings with the GIL one is timed, and not the first */
+};
+static const uint64_t MOST_NODES = 8u << 20; /* no store has more nodes with attributes: its pages have 64 MiB */
+
+/* A query as it is asked: by a text, by items, or prepared. */
+typedef struct Asked {
+    Handle *prepared;
+    const bes_item *items;
+    const uint8_t *bytes;
+    size_t count, length;
+    PyObject *source; /* what the error is about */
+} Asked;
+
+/* What was found. */
+typedef struct Result {
+    uint64_t *nodes;
+    size_t room;
+    uint64_t count;
+} Result;
+
+static uint32_t ask_now(bes_pass *pass, const Asked *asked, Result *it)
+{
+    uint64_t none, *nodes = it->nodes == NULL ? &none : it->nodes;
+    if (asked->prepared != NULL)
+        return library.query_prepared(pass, &asked->prepared->held.prepared, nodes, it->room, &it->count);
+    if (asked->items != NULL)
+        return library.query_items(pass, asked->items, asked->count, asked->bytes, asked->length, nodes, it->room, &it->count);
+    return library.query(pass, asked->bytes, asked->length, nodes, it->room, &it->count);
+}
+
+static int64_t nanoseconds(void)
+{
+    struct timespec now;
+    clock_gettime(CLOCK_MONOTONIC, &now);
+    return (int64_t)now.tv_sec * 1000000000 + now.tv_nsec;
+}
+
+/* Whether a query may take long: one that has a wildcard, an inequality or a negation may read a whole index. */
+static bool may_take_long(const uint8_t *text, size_t length)
+{
+    for (size_t at = 0; at < length; at++)
+        if (text[at] < 128 && strchr("*?[<>!", text[at]) != NULL)
+            return true;
+    return false;
+}
+
+/* Keeps whether a prepared query may take long, by its text, until it is asked. */
+PyObject *handle_expect(PyObject *self, PyObject *text)
+{
+    const uint8_t *bytes;
+    size_t length;
+    if (!read_text(text, &bytes, &length))
+        return NULL;
+    ((Handle *)self)->is_long = may_take_long(bytes, length);
+    Py_RETURN_NONE;
+}
+
+/* Asks with the GIL, and takes the time now and then. */
+static uint32_t ask_short(bes_pass *pass, const Asked *asked, Result *it)
+{
+    Handle *prepared = asked->prepared;
+    int64_t begun;
+    uint32_t answer;
+    if (prepared == NULL || prepared->asked++ % TIMED != 1)
+        return ask_now(pass, asked, it);
+    begun = nanoseconds();
+    answer = ask_now(pass, asked, it);
+    prepared->is_long = nanoseconds() - begun > LONG_TIME;
+    return answer;
+}
+
+static uint32_t ask_long(bes_pass *pass, const Asked *asked, Result *it)
+{
+    int64_t begun, taken;
+    uint32_t answer;
+    Py_BEGIN_ALLOW_THREADS
+    begun = nanoseconds();
+    answer = ask_now(pass, asked, it);
+    taken = nanoseconds() - begun;
+    Py_END_ALLOW_THREADS
+    if (asked->prepared != NULL)
+        asked->prepared->is_long = taken > SHORT_TIME;
+    return answer;
+}
+
+/* Asks without the GIL what may take long, or did the last time. */
+static uint32_t ask_once(bes_pass *pass, const Asked *asked, Result *it)
+{
+    bool is_long = asked->prepared != NULL ? asked->prepared->is_long
+                                           : asked->items != NULL || may_take_long(asked->bytes, asked->length);
+    return is_long ? ask_long(pass, asked, it) : ask_short(pass, asked, it);
+}
+
+/* Takes what the pass has for the nodes that are found, or more: as many as there can be. So no query is asked twice. Memory that
+ * nothing was written into costs nothing, and if there isn't so much, a query that finds more than there is is asked again. */
+static bool take_room(Handle *user, uint64_t most, Result *it)
+{
+    size_t wanted = (size_t)(most < MOST_NODES ? most : MOST_NODES);
+    it->nodes = user->nodes;
+    it->room = user->room;
+    user->nodes = NULL;
+    user->room = 0;
+    if (it->room < wanted || it->room == 0) {
+        size_t room = wanted < 2 * it->room ? 2 * it->room : wanted < LEAST_ROOM ? LEAST_ROOM : wanted;
+        uint64_t *nodes = malloc(room * sizeof *nodes);
+        if (nodes == NULL && it->nodes == NULL) {
+            PyErr_NoMemory();
+            return false;
+        }
+        if (nodes != NULL) {
+            free(it->nodes);
+            *it = (Result){ .nodes = nodes, .room = room };
+        }
+    }
+    return true;
+}
+
+/* Makes more room for a query that found more than there was. */
+static bool grow_room(Result *it)
+{
+    uint64_t *nodes = realloc(it->nodes, it->count * sizeof *nodes);
+    if (nodes == NULL) {
+        PyErr_NoMemory();
+        return false;
+    }
+    it->nodes = nodes;
+    it->room = (size_t)it->count;
+    return true;
+}
+
+static void give_back(Handle *user, Result *it)
+{
+    if (user->nodes == NULL) {
+        user->nodes = it->nodes;
+        user->room = it->room;
+    } else {
+        free(it->nodes); /* a query that was asked meanwhile has made its own */
+    }
+    it->nodes = NULL;
+}
+
+/* Asks, and writes the nodes if they are wanted. */
+static bool ask(Handle *user, uint64_t most, const Asked *asked, bool wants_nodes, Result *it, uint32_t *answer)
+{
+    *it = (Result){ .nodes = NULL };
+    if (wants_nodes && !take_room(user, most, it))
+        return false;
+    *answer = ask_once(&user->held.pass, asked, it);
+    while (wants_nodes && *answer == BES_OK && it->count > it->room) {
+        if (!grow_room(it))
+            return false;
+        *answer = ask_once(&user->held.pass, asked, it);
+    }
+    return true;
+}
+
+/* Raises the error of a query, which the reader makes. */
+static PyObject *query_refused(Reader *reader, uint32_t answer, uint64_t carried, const Asked *asked)
+{
+    PyObject *error = PyObject_CallMethod(
+        (PyObject *)reader, "_query_error", "IKO", answer, (unsigned long long)carried, asked->source);
+    if (error != NULL) {
+        PyErr_SetObject((PyObject *)Py_TYPE(error), error);
+        Py_DECREF(error);
+    }
+    return NULL;
+}
+
+/* The nodes that a query finds, or how many they are. */
+static PyObject *answered(Reader *reader, const Asked *asked, bool wants_nodes)
+{
+    Handle *user;
+    Result it;
+    uint32_t answer = 0;
+    bool is_done;
+    PyObject *found;
+    if (asked->prepared != NULL && !enter(asked->prepared))
+        return NULL;
+    user = enter_pinned(reader);
+    is_done = user != NULL && ask(user, reader->most, asked, wants_nodes, &it, &answer);
+    if (user != NULL)
+        leave(user);
+    if (asked->prepared != NULL)
+        leave(asked->prepared);
+    if (user == NULL)
+        return NULL;
+    if (!is_done)
+        found = NULL;
+    else if (answer != BES_OK)
+        found = query_refused(reader, answer, it.count, asked);
+    else
+        found = wants_nodes ? list_of(it.nodes, (size_t)it.count) : PyLong_FromUnsignedLongLong(it.count);
+    if (it.nodes != NULL)
+        give_back(user, &it);
+    return found;
+}
+
+static bool read_query(PyObject *text, Asked *asked)
+{
+    Py_ssize_t length;
+    const char *bytes = PyUnicode_AsUTF8AndSize(text, &length);
+    if (bytes == NULL) {
+        if (PyErr_ExceptionMatches(PyExc_UnicodeEncodeError)) {
+            PyErr_Clear();
+            Py_XDECREF(PyObject_CallFunctionObjArgs(known.encoded_query, text, NULL));
+        }
+        return false;
+    }
+    *asked = (Asked){ .bytes = (const uint8_t *)bytes, .length = (size_t)length, .source = text };
+    return true;
+}
+
+static bool read_prepared(PyObject *prepared, Asked *asked)
+{
+    *asked = (Asked){ .prepared = handle_of(prepared, OF_PREPARED), .source = prepared };
+    return asked->prepared != NULL;
+}
+
+/* Reads items that were encoded: what they were encoded from, the items, and their bytes. */
+static bool read_items(PyObject *arguments, Asked *asked)
+{
+    PyObject *source;
+    const char *items, *bytes;
+    Py_ssize_t size, length;
+    if (!PyArg_ParseTuple(arguments, "Oy#y#", &source, &items, &size, &bytes, &length))
+        return false;
+    *asked = (Asked){ .items = (const bes_item *)(const void *)items, .count = (size_t)size / sizeof(bes_item),
+                      .bytes = (const uint8_t *)bytes, .length = (size_t)length, .source = source };
+    return true;
+}
+
+static const Signature of_text = { "query", { "text" }, 1, 1 };
+static const Signature of_prepared = { "query_prepared", { "prepared" }, 1, 1 };
+static const Signature of_count = { "count", { "query" }, 1, 1 };
+static const Signature of_refresh = { "refresh", { "prepared" }, 1, 1 };
+
+PyObject *reader_query(PyObject *self, PyObject *const *given, Py_ssize_t count, PyObject *names)
+{
+    PyObject *text;
+    Asked asked;
+    bool is_read = read_arguments(&of_text, given, count, names, &text) && read_query(text, &asked);
+    return is_read ? answered((Reader *)self, &asked, true) : NULL;
+}
+
+PyObject *reader_query_items(PyObject *self, PyObject *arguments)
+{
+    Asked asked;
+    return read_items(arguments, &asked) ? answered((Reader *)self, &asked, true) : NULL;
+}
+
+PyObject *reader_query_prepared(PyObject *self, PyObject *const *given, Py_ssize_t count, PyObject *names)
+{
+    PyObject *prepared;
+    Asked asked;
+    bool is_read = read_arguments(&of_prepared, given, count, names, &prepared) && read_prepared(prepared, &asked);
+    return is_read ? answered((Reader *)self, &asked, true) : NULL;
+}
+
+PyObject *reader_count(PyObject *self, PyObject *const *given, Py_ssize_t count, PyObject *names)
+{
+    PyObject *query;
+    Asked asked;
+    bool is_read = read_arguments(&of_count, given, count, names, &query) &&
+                   (PyObject_TypeCheck(query, handle_type) ? read_prepared(query, &asked) : read_query(query, &asked));
+    return is_read ? answered((Reader *)self, &asked, false) : NULL;
+}
+
+PyObject *reader_count_items(PyObject *self, PyObject *arguments)
+{
+    Asked asked;
+    return read_items(arguments, &asked) ? answered((Reader *)self, &asked, false) : NULL;
+}
+
+/* The changes that a refresh found: room for them, and how many they are. */
+typedef struct Changes {
+    bes_updates updates;
+    uint64_t *nodes; /* those that came, and after them those that went */
+} Changes;
+
+static uint32_t refresh_now(bes_pass *pass, bes_prepared *prepared, Changes *it)
+{
+    uint32_t answer = library.refresh(pass, prepared, &it->updates);
+    if (answer != BES_OK)
+        return answer;
+    it->nodes = malloc((it->updates.created + it->updates.removed + 1) * sizeof *it->nodes);
+    if (it->nodes == NULL)
+        return BES_OK;
+    return library.changes(prepared, it->nodes, it->updates.created, it->nodes + it->updates.created, it->updates.removed);
+}
+
+/* What a refresh found, as two lists. */
+static PyObject *changes_of(const Changes *it)
+{
+    PyObject *came = list_of(it->nodes, it->updates.created), *result = NULL;
+    PyObject *went = list_of(it->nodes + it->updates.created, it->updates.removed);
+    if (came != NULL && went != NULL)
+        result = PyTuple_Pack(2, came, went);
+    Py_XDECREF(came);
+    Py_XDECREF(went);
+    return result;
+}
+
+PyObject *reader_refresh(PyObject *self, PyObject *const *given, Py_ssize_t count, PyObject *names)
+{
+    PyObject *prepared, *result;
+    Asked asked;
+    Changes it = { { 0, 0 }, NULL };
+    uint32_t answer = 0;
+    Handle *user;
+    if (!read_arguments(&of_refresh, given, count, names, &prepared) || !read_prepared(prepared, &asked) || !enter(asked.prepared))
+        return NULL;
+    user = enter_pinned((Reader *)self);
+    if (user != NULL) {
+        Py_BEGIN_ALLOW_THREADS
+        answer = refresh_now(&user->held.pass, &asked.prepared->held.prepared, &it);
+        Py_END_ALLOW_THREADS
+        leave(user);
+    }
+    leave(asked.prepared);
+    if (user == NULL)
+        return NULL;
+    if (answer != BES_OK)
+        return query_refused((Reader *)self, answer, 0, &asked);
+    result = it.nodes == NULL ? PyErr_NoMemory() : changes_of(&it);
+    free(it.nodes);
+    return result;
+}
+
+PyObject *reader_nodes_from(PyObject *self, PyObject *arguments)
+{
+    unsigned long long first;
+    Py_ssize_t room;
+    uint64_t *nodes, count = 0;
+    uint32_t answer;
+    PyObject *list;
+    Handle *user;
+    if (!PyArg_ParseTuple(arguments, "Kn", &first, &room))
+        return NULL;
+    nodes = room < 0 || (size_t)room > PY_SSIZE_T_MAX / sizeof *nodes - 1 ? NULL : malloc(((size_t)room + 1) * sizeof *nodes);
+    if (nodes == NULL)
+        return PyErr_NoMemory();
+    user = enter_pinned((Reader *)self);
+    if (user == NULL) {
+        free(nodes);
+        return NULL;
+    }
+    if (room > MANY_NODES) {
+        Py_BEGIN_ALLOW_THREADS
+        answer = library.nodes(&user->held.pass, first, nodes, (size_t)room, &count);
+        Py_END_ALLOW_THREADS
+    } else {
+        answer = library.nodes(&user->held.pass, first, nodes, (size_t)room, &count);
+    }
+    leave(user);
+    list = answer == BES_OK ? list_of(nodes, (size_t)count) : refused(answer);
+    free(nodes);
+    return list;
+}

@@ -1,0 +1,374 @@
+/* Readers: how they pin a pass, and what one node has. */
+#include "reader.h"
+
+#include <pythread.h>
+
+Handle *enter_pinned(Reader *reader)
+{
+    Handle *user = reader->user;
+    if (user == NULL) {
+        refused(BES_NOT_PINNED);
+        return NULL;
+    }
+    if (!enter(user))
+        return NULL;
+    if (reader->is_pinned)
+        return user;
+    leave(user);
+    refused(BES_NOT_PINNED);
+    return NULL;
+}
+
+static const Signature of_get = { "get", { "node", "name" }, 2, 2 };
+static const Signature of_attributes = { "attributes", { "node", "kinds" }, 2, 1 };
+
+/* Reads a node's attribute. False, and an exception, for what can't be asked. */
+static bool find(PyObject *self, PyObject *const *given, Py_ssize_t count, PyObject *names, Found *found)
+{
+    PyObject *read[2];
+    const uint8_t *name;
+    size_t length;
+    uint64_t node;
+    Handle *user;
+    if (!read_arguments(&of_get, given, count, names, read))
+        return false;
+    if (!read_in_range(read[0], &node)) {
+        found->answer = BES_NO_NODE;
+        return !PyErr_Occurred();
+    }
+    if (!read_text(read[1], &name, &length))
+        return false;
+    user = enter_pinned((Reader *)self);
+    if (user == NULL)
+        return false;
+    found->answer = library.get(&user->held.pass, node, name, length, &found->attribute, found->bytes, BYTES_OF_A_VALUE);
+    leave(user);
+    if (found->answer == BES_OK || found->answer == BES_NO_ATTRIBUTE)
+        return true;
+    refused(found->answer);
+    return false;
+}
+
+static PyObject *found_value(const Found *found)
+{
+    return value_object(found->attribute.code, found->attribute.number, found->bytes, found->attribute.length);
+}
+
+static PyObject *found_typed(const Found *found)
+{
+    return typed_object(found->attribute.code, found->attribute.number, found->bytes, found->attribute.length);
+}
+
+static PyObject *found_kind(const Found *found) { return kind_object(found->attribute.code); }
+
+/* What a reading makes of an attribute, or None if it isn't there. */
+#define OR_NONE(function, made)                                                                                       \
+    static PyObject *function(PyObject *self, PyObject *const *given, Py_ssize_t count, PyObject *names)              \
+    {                                                                                                                 \
+        Found found;                                                                                                  \
+        if (!find(self, given, count, names, &found))                                                                 \
+            return NULL;                                                                                              \
+        return found.answer == BES_OK ? made(&found) : Py_NewRef(Py_None);                                            \
+    }
+
+/* The same, or an error. */
+#define OR_ERROR(function, made)                                                                                      \
+    static PyObject *function(PyObject *self, PyObject *const *given, Py_ssize_t count, PyObject *names)              \
+    {                                                                                                                 \
+        Found found;                                                                                                  \
+        if (!find(self, given, count, names, &found))                                                                 \
+            return NULL;                                                                                              \
+        return found.answer == BES_OK ? made(&found) : refused(found.answer);                                         \
+    }
+
+OR_NONE(reader_get, found_value)
+OR_NONE(reader_typed, found_typed)
+OR_NONE(reader_kind, found_kind)
+OR_ERROR(reader_read, found_typed)
+OR_ERROR(reader_value, found_value)
+
+/* What an operation that sets an attribute or makes an index has, as a dict has it. */
+typedef PyObject *Made(const bes_operation *operation, const uint8_t *bytes);
+
+static PyObject *made_value(const bes_operation *it, const uint8_t *bytes)
+{
+    return value_object(it->code, it->number, bytes + it->value_at, it->value_length);
+}
+
+static PyObject *made_typed(const bes_operation *it, const uint8_t *bytes)
+{
+    return typed_object(it->code, it->number, bytes + it->value_at, it->value_length);
+}
+
+static PyObject *made_kind(const bes_operation *it, const uint8_t *bytes)
+{
+    (void)bytes;
+    return kind_object(it->code);
+}
+
+/* Puts the name of an operation, and what is made of it, into a dict. */
+static bool put(PyObject *dict, const bes_operation *it, const uint8_t *bytes, Made *made)
+{
+    PyObject *name = PyUnicode_DecodeUTF8((const char *)bytes + it->name_at, it->name_length, NULL), *value = NULL;
+    bool is_put = name != NULL && (value = made(it, bytes)) != NULL && PyDict_SetItem(dict, name, value) == 0;
+    Py_XDECREF(name);
+    Py_XDECREF(value);
+    return is_put;
+}
+
+static PyObject *dict_of(const Listed *listed, Made *made)
+{
+    PyObject *dict = PyDict_New();
+    for (size_t at = 0; dict != NULL && at < listed->counts.operations; at++)
+        if (!put(dict, &listed->operations[at], listed->bytes, made))
+            Py_CLEAR(dict);
+    return dict;
+}
+
+static PyObject *reader_attributes(PyObject *self, PyObject *const *given, Py_ssize_t count, PyObject *names)
+{
+    PyObject *read[2];
+    uint64_t node;
+    Listed listed;
+    uint32_t answer;
+    int has_kinds;
+    Handle *user;
+    if (!read_arguments(&of_attributes, given, count, names, read) || !read_node(read[0], &node))
+        return NULL;
+    has_kinds = read[1] == NULL ? 0 : PyObject_IsTrue(read[1]);
+    if (has_kinds < 0 || (user = enter_pinned((Reader *)self)) == NULL)
+        return NULL;
+    answer = library.attributes(
+        &user->held.pass, node, &listed.counts, listed.operations, MOST_OPERATIONS, listed.bytes, BYTES_OF_A_BATCH);
+    leave(user);
+    return answer != BES_OK ? refused(answer) : dict_of(&listed, has_kinds ? made_typed : made_value);
+}
+
+static PyObject *reader_indices(PyObject *self, PyObject *nothing)
+{
+    Listed listed;
+    uint32_t answer;
+    Handle *user = enter_pinned((Reader *)self);
+    (void)nothing;
+    if (user == NULL)
+        return NULL;
+    answer = library.indices(&user->held.pass, &listed.counts, listed.operations, MOST_OPERATIONS, listed.bytes, BYTES_OF_A_BATCH);
+    leave(user);
+    return answer != BES_OK ? refused(answer) : dict_of(&listed, made_kind);
+}
+
+/* The next batch of those that make the snapshot again, or None at their end. */
+static PyObject *reader_state(PyObject *self, PyObject *given)
+{
+    Handle *cursor = handle_of(given, OF_CURSOR), *user;
+    Listed listed;
+    uint32_t answer;
+    if (cursor == NULL || !enter(cursor))
+        return NULL;
+    user = enter_pinned((Reader *)self);
+    if (user == NULL) {
+        leave(cursor);
+        return NULL;
+    }
+    Py_BEGIN_ALLOW_THREADS
+    answer = library.state(&user->held.pass, &cursor->held.place, &listed.counts, listed.operations, MOST_OPERATIONS, listed.bytes,
+                           BYTES_OF_A_BATCH);
+    Py_END_ALLOW_THREADS
+    leave(user);
+    leave(cursor);
+    if (answer != BES_OK)
+        return refused(answer);
+    return listed.counts.operations == 0 ? Py_NewRef(Py_None) : batch_of(&listed);
+}
+
+static PyObject *reader_call(PyObject *self, PyObject *const *arguments, Py_ssize_t count)
+{
+    Handle *user = enter_pinned((Reader *)self);
+    PyObject *result;
+    if (user == NULL)
+        return NULL;
+    result = call_guarded(user, arguments, count);
+    leave(user);
+    return result;
+}
+
+static PyObject *reader_unpin(PyObject *self, PyObject *nothing)
+{
+    Reader *reader = (Reader *)self;
+    (void)nothing;
+    if (reader->user == NULL || is_dead(reader->user))
+        Py_RETURN_NONE;
+    if (!enter(reader->user))
+        return NULL;
+    if (reader->is_pinned) {
+        reader->is_pinned = false;
+        unpin(reader->user);
+    }
+    leave(reader->user);
+    Py_RETURN_NONE;
+}
+
+/* Gives the pin up for a reader that goes. Python may collect it anywhere, also while this thread is at another pass. So a thread that
+ * is at this one isn't waited for: it gives the pin up after its call. */
+static void give_pin_up(Reader *reader)
+{
+    Handle *user = reader->user;
+    if (!reader->is_pinned || user == NULL || is_dead(user))
+        return;
+    reader->is_pinned = false;
+    if (user->depth == 0 || user->owner == PyThread_get_thread_ident())
+        unpin(user);
+    else
+        user->is_left = true;
+}
+
+static int reader_init(PyObject *self, PyObject *arguments, PyObject *names)
+{
+    static char *parameters[] = { "user", NULL };
+    Reader *reader = (Reader *)self;
+    PyObject *given;
+    Handle *user;
+    uint64_t next = 0;
+    uint32_t answer;
+    if (!PyArg_ParseTupleAndKeywords(arguments, names, "O:Version", parameters, &given) || (user = handle_of(given, OF_PASS)) == NULL)
+        return -1;
+    if (reader->user != NULL) {
+        PyErr_SetString(PyExc_TypeError, "a version pins its pass once");
+        return -1;
+    }
+    if (!enter(user))
+        return -1;
+    answer = library.pin(&user->held.pass, &reader->number);
+    if (answer == BES_OK) {
+        reader->user = (Handle *)Py_NewRef(given);
+        reader->is_pinned = user->is_pinned = true;
+        user->snapshot = reader->number;
+        library.next(&user->held.pass, &next);
+        reader->most = next == 0 ? 0 : next - 1;
+    }
+    leave(user);
+    if (answer == BES_OK)
+        return 0;
+    refused(answer);
+    return -1;
+}
+
+static int reader_clear(PyObject *self)
+{
+    give_pin_up((Reader *)self);
+    Py_CLEAR(((Reader *)self)->user);
+    return 0;
+}
+
+static int reader_traverse(PyObject *self, visitproc visit, void *arg)
+{
+    Py_VISIT(Py_TYPE(self));
+    Py_VISIT(((Reader *)self)->user);
+    return 0;
+}
+
+static void reader_dealloc(PyObject *self)
+{
+    PyTypeObject *type = Py_TYPE(self);
+    PyObject_GC_UnTrack(self);
+    reader_clear(self);
+    ((freefunc)PyType_GetSlot(type, Py_tp_free))(self);
+    Py_DECREF(type);
+}
+
+static PyObject *get_number(PyObject *self, void *nothing)
+{
+    (void)nothing;
+    return PyLong_FromUnsignedLongLong(((Reader *)self)->number);
+}
+
+static PyObject *get_user(PyObject *self, void *nothing)
+{
+    Reader *reader = (Reader *)self;
+    (void)nothing;
+    return reader->user == NULL ? refused(BES_NOT_PINNED) : Py_NewRef((PyObject *)reader->user);
+}
+
+static PyObject *get_is_pinned(PyObject *self, void *nothing)
+{
+    (void)nothing;
+    return PyBool_FromLong(((Reader *)self)->is_pinned);
+}
+
+#define FAST(function) (PyCFunction)(void (*)(void))function, METH_FASTCALL
+#define METHOD(function) (PyCFunction)(void (*)(void))function, METH_FASTCALL | METH_KEYWORDS
+
+static PyMethodDef methods[] = {
+    { "get", METHOD(reader_get),
+      "get($self, /, node, name)\n--\n\n"
+      "A node's attribute, or None if it isn't there: a str, bytes or an int. Takes one search in a tree." },
+    { "kind", METHOD(reader_kind),
+      "kind($self, /, node, name)\n--\n\n"
+      "The kind of a node's attribute, or None if it isn't there. Takes one search in a tree." },
+    { "typed", METHOD(reader_typed),
+      "typed($self, /, node, name)\n--\n\n"
+      "A node's attribute with its kind, or None if it isn't there. Takes one search in a tree." },
+    { "column", METHOD(reader_column),
+      "column($self, /, nodes, name)\n--\n\n"
+      "The attributes of this name of many nodes: a list with the value of each node, or None if it has none. Takes a\n"
+      "search in a tree for each node, and memory for the list." },
+    { "columns", METHOD(reader_columns),
+      "columns($self, /, nodes, names)\n--\n\n"
+      "The attributes of these names of many nodes: for each name a list, as `column` returns it. Takes less time than a\n"
+      "`column` for each name, since it reads node by node." },
+    { "attributes", METHOD(reader_attributes),
+      "attributes($self, /, node, kinds=False)\n--\n\n"
+      "A node's attributes: a dict of names and values, or with `kinds` of names and `Typed` values with their\n"
+      "kinds, by ascending names. `NoNode` if it isn't there." },
+    { "indices", reader_indices, METH_NOARGS,
+      "indices($self, /)\n--\n\nThe indices: a dict of names and kinds, by ascending names." },
+    { "query", METHOD(reader_query),
+      "query($self, /, text)\n--\n\n"
+      "The nodes that meet the query, ascending. A `QueryError` if the text is no query, or `NotCovered` if it\n"
+      "needs another index. Takes the time to parse the text, and to read the part of the indices that it needs." },
+    { "query_prepared", METHOD(reader_query_prepared),
+      "query_prepared($self, /, prepared)\n--\n\n"
+      "The nodes that meet a prepared query, ascending. What its last refresh returned stays." },
+    { "count", METHOD(reader_count),
+      "count($self, /, query)\n--\n\n"
+      "How many nodes meet the query, by its text or prepared. Takes what the query takes, but no list." },
+    { "refresh", METHOD(reader_refresh),
+      "refresh($self, /, prepared)\n--\n\n"
+      "Which nodes came and which went since the prepared query was refreshed last: two lists, ascending. At\n"
+      "first all of its nodes come. Refresh a query in versions of one store, or of another that its state was\n"
+      "carried on to: nodes are compared by their numbers. After an error the query is as it was." },
+    { "unpin", reader_unpin, METH_NOARGS, "unpin($self, /)\n--\n\nGives the pin up, if it is still there." },
+    { "_read", METHOD(reader_read), "A node's attribute with its kind. `NoAttribute` if it isn't there." },
+    { "_value", METHOD(reader_value), "A node's attribute. `NoAttribute` if it isn't there." },
+    { "_query_items", reader_query_items, METH_VARARGS, "The nodes that meet the query of items, which were encoded." },
+    { "_count_items", reader_count_items, METH_VARARGS, "How many nodes these are." },
+    { "_nodes_from", reader_nodes_from, METH_VARARGS, "So many nodes from a number on, by one call." },
+    { "_state", reader_state, METH_O, "The next batch of those that make the snapshot again, or None at their end." },
+    { "_call", FAST(reader_call), "Makes a call on the pass while it has this pin, and not a later one." },
+    { NULL, NULL, 0, NULL },
+};
+
+static PyGetSetDef fields[] = {
+    { "number", get_number, NULL, "The commit number of the last write that it has: how many writes it contains.", NULL },
+    { "_user", get_user, NULL, "The pass.", NULL },
+    { "_is_pinned", get_is_pinned, NULL, "Whether the pin is there.", NULL },
+    { NULL, NULL, NULL, NULL, NULL },
+};
+
+static PyType_Slot slots[] = {
+    { Py_tp_doc, "A snapshot of a pass, which is pinned." },
+    { Py_tp_init, (void *)reader_init },
+    { Py_tp_dealloc, (void *)reader_dealloc },
+    { Py_tp_traverse, (void *)reader_traverse },
+    { Py_tp_clear, (void *)reader_clear },
+    { Py_tp_methods, methods },
+    { Py_tp_getset, fields },
+    { 0, NULL },
+};
+
+PyType_Spec reader_spec = {
+    .name = "bestore._native.Reader",
+    .basicsize = sizeof(Reader),
+    .flags = Py_TPFLAGS_DEFAULT | Py_TPFLAGS_BASETYPE | Py_TPFLAGS_HAVE_GC,
+    .slots = slots,
+};

@@ -1,0 +1,196 @@
+/* Values, numbers, texts and errors, between Python and the library. */
+#include "native.h"
+
+/* Raises the error of this number, made by arguments that are taken over. */
+static PyObject *raise_refusal(PyObject *arguments)
+{
+    PyObject *error = arguments == NULL ? NULL : PyObject_CallObject(known.refusal, arguments);
+    Py_XDECREF(arguments);
+    if (error != NULL) {
+        PyErr_SetObject((PyObject *)Py_TYPE(error), error);
+        Py_DECREF(error);
+    }
+    return NULL;
+}
+
+PyObject *refused(uint32_t answer) { return raise_refusal(Py_BuildValue("(I)", answer)); }
+
+PyObject *refused_at(uint32_t answer, uint64_t carried, const char *listed)
+{
+    return raise_refusal(Py_BuildValue("(IKOz)", answer, (unsigned long long)carried, Py_None, listed));
+}
+
+/* Reads an integer that 64 bits hold. Without an exception it is out of their range. */
+bool read_in_range(PyObject *object, uint64_t *number)
+{
+    PyObject *index = PyLong_Check(object) ? Py_NewRef(object) : PyNumber_Index(object);
+    if (index == NULL)
+        return false;
+    *number = PyLong_AsUnsignedLongLong(index);
+    Py_DECREF(index);
+    if (*number != UINT64_MAX || !PyErr_Occurred())
+        return true;
+    if (PyErr_ExceptionMatches(PyExc_OverflowError))
+        PyErr_Clear();
+    return false;
+}
+
+bool read_number(PyObject *object, uint64_t *number)
+{
+    if (read_in_range(object, number))
+        return true;
+    if (!PyErr_Occurred())
+        PyErr_SetString(PyExc_OverflowError, "64 bits don't hold the number");
+    return false;
+}
+
+bool read_node(PyObject *object, uint64_t *node)
+{
+    if (read_in_range(object, node))
+        return true;
+    if (!PyErr_Occurred())
+        refused(BES_NO_NODE);
+    return false;
+}
+
+bool read_text(PyObject *object, const uint8_t **bytes, size_t *length)
+{
+    Py_ssize_t size;
+    const char *text = PyUnicode_AsUTF8AndSize(object, &size);
+    if (text == NULL) {
+        if (PyErr_ExceptionMatches(PyExc_UnicodeEncodeError)) {
+            PyErr_Clear();
+            refused(BES_NOT_UTF8);
+        } else if (!PyUnicode_Check(object)) {
+            PyErr_Clear();
+            PyErr_Format(PyExc_TypeError, "%R is no str", object);
+        }
+        return false;
+    }
+    *bytes = (const uint8_t *)text;
+    *length = (size_t)size;
+    return true;
+}
+
+static int kind_index(uint32_t code)
+{
+    switch (code) {
+    case BES_STRING_TYPE: return 0;
+    case BES_INT32_TYPE: return 1;
+    case BES_INT64_TYPE: return 2;
+    case BES_MIME_STRING_TYPE: return 3;
+    case BES_RAW_TYPE: return 4;
+    case BES_UINT32_TYPE: return 5;
+    case BES_UINT64_TYPE: return 6;
+    default: return -1;
+    }
+}
+
+bool is_number_kind(uint32_t code)
+{
+    return code == BES_INT32_TYPE || code == BES_INT64_TYPE || code == BES_UINT32_TYPE || code == BES_UINT64_TYPE;
+}
+
+PyObject *kind_object(uint32_t code)
+{
+    int index = kind_index(code);
+    return index < 0 ? refused(BES_NO_KIND) : Py_NewRef(known.kinds[index]);
+}
+
+static PyObject *text_object(const uint8_t *bytes, size_t length)
+{
+    PyObject *text = PyUnicode_DecodeUTF8((const char *)bytes, (Py_ssize_t)length, NULL);
+    if (text == NULL && PyErr_ExceptionMatches(PyExc_UnicodeDecodeError)) {
+        PyErr_Clear();
+        return refused(BES_NOT_UTF8);
+    }
+    return text;
+}
+
+PyObject *value_object(uint32_t code, uint64_t number, const uint8_t *bytes, size_t length)
+{
+    switch (code) {
+    case BES_STRING_TYPE:
+    case BES_MIME_STRING_TYPE: return text_object(bytes, length);
+    case BES_INT32_TYPE:
+    case BES_INT64_TYPE: return PyLong_FromLongLong((long long)number);
+    case BES_UINT32_TYPE:
+    case BES_UINT64_TYPE: return PyLong_FromUnsignedLongLong(number);
+    default: return PyBytes_FromStringAndSize((const char *)bytes, (Py_ssize_t)length);
+    }
+}
+
+/* Makes a pair of the class Typed by the constructor of tuples, which its own calls too. */
+PyObject *typed_object(uint32_t code, uint64_t number, const uint8_t *bytes, size_t length)
+{
+    newfunc new_tuple = (newfunc)PyType_GetSlot(&PyTuple_Type, Py_tp_new);
+    PyObject *kind = kind_object(code), *value, *arguments, *typed;
+    if (kind == NULL)
+        return NULL;
+    value = value_object(code, number, bytes, length);
+    arguments = value == NULL ? NULL : Py_BuildValue("((OO))", value, kind);
+    Py_DECREF(kind);
+    Py_XDECREF(value);
+    if (arguments == NULL)
+        return NULL;
+    typed = new_tuple((PyTypeObject *)known.typed, arguments, NULL);
+    Py_DECREF(arguments);
+    return typed;
+}
+
+PyObject *list_of(const uint64_t *numbers, size_t count)
+{
+    PyObject *list = PyList_New((Py_ssize_t)count);
+    for (size_t at = 0; list != NULL && at < count; at++) {
+        PyObject *number = PyLong_FromUnsignedLongLong(numbers[at]);
+        if (number == NULL)
+            Py_CLEAR(list);
+        else
+            PyList_SetItem(list, (Py_ssize_t)at, number);
+    }
+    return list;
+}
+
+/* The place of the parameter of this name, or -1. */
+static int parameter_of(const Signature *signature, PyObject *name)
+{
+    for (int at = 0; at < signature->count; at++)
+        if (PyUnicode_CompareWithASCIIString(name, signature->names[at]) == 0)
+            return at;
+    return -1;
+}
+
+static bool read_named(const Signature *signature, PyObject *const *given, PyObject *names, PyObject **read)
+{
+    Py_ssize_t count = PyTuple_Size(names);
+    for (Py_ssize_t at = 0; at < count; at++) {
+        PyObject *name = PyTuple_GetItem(names, at);
+        int place = parameter_of(signature, name);
+        if (place < 0 || read[place] != NULL) {
+            PyErr_Format(PyExc_TypeError, "%s() got %s '%U'", signature->function,
+                         place < 0 ? "an unexpected keyword argument" : "multiple values for argument", name);
+            return false;
+        }
+        read[place] = given[at];
+    }
+    return true;
+}
+
+/* Reads what a function was called with. An argument that may lack, and does, is NULL. */
+bool read_arguments(const Signature *signature, PyObject *const *given, Py_ssize_t count, PyObject *names, PyObject **read)
+{
+    if (count > signature->count) {
+        PyErr_Format(PyExc_TypeError, "%s() takes up to %d arguments, and %zd were given", signature->function, signature->count, count);
+        return false;
+    }
+    for (int at = 0; at < signature->count; at++)
+        read[at] = at < count ? given[at] : NULL;
+    if (names != NULL && !read_named(signature, given + count, names, read))
+        return false;
+    for (int at = 0; at < signature->least; at++)
+        if (read[at] == NULL) {
+            PyErr_Format(PyExc_TypeError, "%s() missing the argument '%s'", signature->function, signature->names[at]);
+            return false;
+        }
+    return true;
+}

@@ -1,0 +1,69 @@
+"""Servers of tests. BESTORED names the program bestored."""
+
+import os
+import shutil
+import subprocess
+import tempfile
+import time
+import unittest
+from unittest import mock
+
+import bestore
+
+BESTORED = os.environ.get("BESTORED")
+MEMORY = "/dev/shm" if os.access("/dev/shm", os.W_OK) else None  # where a server's file waits for no disk
+PATIENCE = 30  # seconds that anything may take on a busy machine
+
+
+class Server:
+    """A server in a folder of its own, which is killed at the end."""
+
+    def __init__(self, *options):
+        self.folder = tempfile.mkdtemp(prefix="bestored-", dir=MEMORY)
+        self.path = os.path.join(self.folder, "socket")
+        self.options = [str(option).replace("FOLDER", self.folder) for option in options]
+        self.start()
+
+    def start(self):
+        self.process = subprocess.Popen([BESTORED, "--socket", self.path, *self.options], stdin=subprocess.DEVNULL)
+
+    def connect(self, **options):
+        """A pass, once the server listens and has one."""
+        until = time.monotonic() + PATIENCE
+        while True:
+            try:
+                return bestore.connect(self.path, **options)
+            except (bestore.NoServer, bestore.NoPass, bestore.TimedOut):
+                if time.monotonic() > until or self.process.poll() is not None:
+                    raise
+                time.sleep(0.002)
+
+    def kill(self):
+        self.process.kill()
+        self.process.wait()
+
+    def close(self):
+        self.kill()
+        shutil.rmtree(self.folder)
+
+    def __enter__(self):
+        return self
+
+    def __exit__(self, *_):
+        self.close()
+
+
+@unittest.skipUnless(BESTORED, "BESTORED names no bestored")
+class OverServer(unittest.TestCase):
+    """What `bestore.open` opens is a new server's store."""
+
+    def setUp(self):
+        super().setUp()
+        patched = mock.patch.object(bestore, "open", self.open)
+        patched.start()
+        self.addCleanup(patched.stop)
+
+    def open(self, pages=4096, passes=8, commits=2**32 - 1):
+        server = Server("--pages", pages, "--passes", passes, "--commits", commits)
+        self.addCleanup(server.close)
+        return server.connect()
