@@ -695,6 +695,8 @@ class Processes(Files):
         """The test program of the crate for Rust opens a file that Python made, and Python opens it after that."""
         target = os.environ.get("CARGO_TARGET_DIR", os.path.join(HERE, "..", "rust", "target"))
         built = [it for it in glob.glob(os.path.join(target, "debug", "deps", "saved-*")) if os.access(it, os.X_OK)]
+        there = {**os.environ, "LD_LIBRARY_PATH": os.path.dirname(_path())}
+        built = [it for it in built if b"in_a_child" in subprocess.check_output([it, "--list"], env=there)]
         if not built:
             self.skip("the tests of the crate for Rust aren't built: see rust/test.sh")
         three(self.path)
@@ -705,7 +707,7 @@ class Processes(Files):
                 before = {node: version.attributes(node, kinds=True) for node in version}
         child = subprocess.Popen(
             [max(built, key=os.path.getmtime), "--exact", "in_a_child", "--nocapture", "--test-threads=1"],
-            env={**os.environ, "BESTORE_TEST_CHILD": f"flush 0 {self.path}", "LD_LIBRARY_PATH": os.path.dirname(_path())},
+            env={**there, "BESTORE_TEST_CHILD": f"flush 0 {self.path}"},
             stdout=subprocess.PIPE, universal_newlines=True)
         self.assertIn("flushed\n", iter(child.stdout.readline, ""))
         child.kill()

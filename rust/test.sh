@@ -73,7 +73,7 @@ else
 fi
 RUSTDOCFLAGS="-D warnings" run "Rust, documentation" doc --workspace --no-deps --features saved
 
-# The client for Python, by the server that was built above.
+# The client for Python, by the server that was built above; and a kept file that Rust and Python open in turn.
 if ! command -v python3 >/dev/null; then
     echo "Python, over the server: skipped, there is no python3"
 elif [ ! -f "$(python3 -c 'import sysconfig; print(sysconfig.get_path("include"))')/Python.h" ]; then
@@ -83,7 +83,7 @@ else
     BESTORED=$(realpath "$CARGO_TARGET_DIR/debug/bestored")
     export BESTORED
     if ! (cd ../python && timeout -k 10 600 env BESTORE_LIBRARY="$BESTORE_LIB_DIR/libbestore.so" PYTHONDONTWRITEBYTECODE=1 \
-        python3 -W error -m unittest test_connect) >"$work/said" 2>&1; then
+        python3 -W error -m unittest test_connect test_saved.Processes.test_rust) >"$work/said" 2>&1; then
         cat "$work/said" >&2
         echo "Python, over the server: failed, or not at its end after 600 seconds" >&2
         exit 1
