@@ -48,7 +48,8 @@ impl Socket {
             Some(folder) if !folder.as_os_str().is_empty() => folder,
             _ => Path::new("."),
         };
-        let _lock = lock(&safe_folder(folder)?).map_err(|error| wrong(folder, error))?;
+        // It is held until the end of this function.
+        let _lock = lock(safe_folder(folder)?).map_err(|error| wrong(folder, error))?;
         remove_dead(path)?;
         let bound = os::with_mask(0o177, || UnixListener::bind(path));
         let listener = bound.map_err(|error| wrong(path, error))?;
@@ -94,9 +95,9 @@ fn safe_folder(folder: &Path) -> io::Result<File> {
 }
 
 /// Takes the lock of the folder, so that of several servers that start one at a time looks for a dead socket.
-fn lock(folder: &File) -> io::Result<&File> {
+fn lock(folder: File) -> io::Result<File> {
     for _ in 0..TRIES {
-        match os::try_lock(folder) {
+        match os::try_lock(&folder) {
             Err(error) if error.kind() == ErrorKind::WouldBlock => thread::sleep(Duration::from_millis(100)),
             answer => return answer.map(|()| folder),
         }
