@@ -143,9 +143,7 @@ struct Attribute<'a> {
 pub fn show(client: &mut Client, line: &ShowAttribute, output: &mut Output) -> Result<(), Failure> {
     let nodes = nodes_of(client, &line.nodes)?;
     let values = pinned(client, |client| {
-        let values = nodes
-            .iter()
-            .map(|node| Ok((*node, client.get(*node, &line.name)?)));
+        let values = nodes.iter().map(|node| Ok((*node, client.get(*node, &line.name)?)));
         values.collect::<Result<Vec<_>, Failure>>()
     })?;
     let mut all = true;

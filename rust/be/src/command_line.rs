@@ -214,7 +214,7 @@ pub struct Status {
     pub json: bool,
 }
 
-/// Reads what names a node: digits, or else a path.
+/// Reads what names a node: digits are a number, and other words a path.
 fn places() -> impl TypedValueParser<Value = Place> {
     OsStringValueParser::new().map(Place::from)
 }

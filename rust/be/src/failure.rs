@@ -96,7 +96,10 @@ impl fmt::Display for Failure {
             Failure::Gone(folder) => write!(f, "{} is gone, and nothing was removed from the store", shown(folder)),
             Failure::Another(folder) => {
                 writeln!(f, "{} is another folder than before, and is empty", shown(folder))?;
-                write!(f, "  nothing was removed from the store; be import --reread removes the nodes of its files")
+                write!(
+                    f,
+                    "  nothing was removed from the store; be import --reread removes the nodes of its files"
+                )
             }
             Failure::Output(error) => write!(f, "the output can't be written: {error}"),
             Failure::Reported => Ok(()),

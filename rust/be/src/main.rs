@@ -33,11 +33,7 @@ fn main() -> ExitCode {
     }
 }
 
-fn run(
-    command: Command,
-    connect: &dyn Fn() -> Result<Client, Failure>,
-    output: &mut Output,
-) -> Result<(), Failure> {
+fn run(command: Command, connect: &dyn Fn() -> Result<Client, Failure>, output: &mut Output) -> Result<(), Failure> {
     match command {
         Command::Query(line) => query::run(&mut connect()?, &line, output),
         Command::Addattr(line) => {

@@ -31,7 +31,9 @@ pub enum Place {
 impl From<OsString> for Place {
     /// Digits are a node; all other words are a path.
     fn from(word: OsString) -> Self {
-        let number = word.to_str().filter(|text| text.bytes().all(|byte| byte.is_ascii_digit()));
+        let number = word
+            .to_str()
+            .filter(|text| text.bytes().all(|byte| byte.is_ascii_digit()));
         match number.and_then(|text| text.parse().ok()) {
             Some(node) => Place::Node(node),
             None => Place::File(word.into()),
@@ -219,7 +221,11 @@ mod tests {
         ]
         .into();
         let mut paths = Paths::default();
-        let mut path = |node: u64| paths.found(node, |node| Ok::<_, ()>(steps.get(&node).cloned())).unwrap();
+        let mut path = |node: u64| {
+            paths
+                .found(node, |node| Ok::<_, ()>(steps.get(&node).cloned()))
+                .unwrap()
+        };
         assert_eq!(path(3), Some("/home/ann/a\nb".into()));
         assert_eq!(path(2), Some("/home/ann".into()));
         assert_eq!(path(1), Some("/home".into()));

@@ -75,7 +75,9 @@ fn find(client: &mut Client, line: &Line, output: &mut Output) -> Result<(), Fai
         .map(|(name, row)| cells(name, row, output))
         .collect();
     if line.null {
-        return rows.iter().try_for_each(|row| output.bytes(&[&row.join(&b'\t')[..], b"\0"].concat()));
+        return rows
+            .iter()
+            .try_for_each(|row| output.bytes(&[&row.join(&b'\t')[..], b"\0"].concat()));
     }
     output.rows(&headings(line), &rows)
 }

@@ -169,7 +169,7 @@ impl Reader {
         Some((name.into(), value))
     }
 
-    /// The bytes as a value: as the index of this name takes it, otherwise a text, or else raw.
+    /// The bytes as a value: as the index of this name takes it, otherwise a text, or raw if it is none.
     fn value_of(&self, name: &str, bytes: Vec<u8>) -> Option<Value> {
         let kind = self.indices.get(name).copied().unwrap_or(Kind::Text);
         if let Some(value) = std::str::from_utf8(&bytes).ok().and_then(|text| number_of(kind, text)) {
@@ -220,9 +220,16 @@ fn begin_of(path: &Path, most: usize) -> io::Result<Vec<u8>> {
     Ok(begin)
 }
 
+/// The bytes of an extended attribute that has this value. Numbers are their digits.
+pub fn bytes_of(value: &Value) -> Vec<u8> {
+    value
+        .as_bytes()
+        .map_or_else(|| value.to_string().into_bytes(), <[u8]>::to_vec)
+}
+
 /// Whether the two are the same but for their kinds, which an extended attribute doesn't have.
 pub fn is_same(one: &Value, other: &Value) -> bool {
-    one == other || (one.to_string() == other.to_string() && one.kind() != Kind::Raw && other.kind() != Kind::Raw)
+    one == other || bytes_of(one) == bytes_of(other)
 }
 
 #[cfg(test)]

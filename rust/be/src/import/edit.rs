@@ -94,7 +94,13 @@ mod tests {
 
     #[test]
     fn what_a_user_has_set_stays() {
-        let mut had = attributes(&[("name", "a"), ("MAIL:to", "x"), ("rating", "5"), ("from-file", "y"), ("size", "1")]);
+        let mut had = attributes(&[
+            ("name", "a"),
+            ("MAIL:to", "x"),
+            ("rating", "5"),
+            ("from-file", "y"),
+            ("size", "1"),
+        ]);
         had.insert(XATTRS.into(), b"from-file\0other".to_vec().into());
         let wanted = attributes(&[("name", "b"), ("size", "1")]);
         assert_eq!(

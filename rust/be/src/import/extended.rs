@@ -1,6 +1,6 @@
 //! `--xattr`: attributes of nodes become extended attributes of their files.
 
-use super::content::{OWN, XATTRS};
+use super::content::{bytes_of, whole_names, OWN, STAT, XATTRS};
 use super::edit::{Edit, Edits};
 use super::stat::{Form, Stat};
 use super::summary::Summary;
@@ -48,9 +48,9 @@ impl Import<'_> {
         }
         let names: Vec<&str> = users(attributes).map(|(name, _)| name.as_str()).collect();
         let mut listed = names.join("\0").into_bytes();
-        listed.truncate(super::content::whole_names(&listed));
+        listed.truncate(whole_names(&listed));
         let edits = vec![
-            Edit::Set(super::content::STAT.into(), text.into()),
+            Edit::Set(STAT.into(), text.into()),
             Edit::Set(XATTRS.into(), listed.into()),
         ];
         Edits { path, node, edits }
@@ -70,7 +70,7 @@ fn write_all(path: &Path, attributes: &BTreeMap<String, Value>) -> io::Result<(u
     }
     let mut written = 0;
     for (name, value) in users(attributes) {
-        let bytes = value.as_bytes().map_or_else(|| value.to_string().into_bytes(), <[u8]>::to_vec);
+        let bytes = bytes_of(value);
         let name = format!("user.{name}");
         if xattr::get(path, &name)?.as_deref() != Some(&bytes) {
             xattr::set(path, &name, &bytes)?;

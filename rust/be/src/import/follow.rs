@@ -1,4 +1,4 @@
-//! `--follow`: what changes in the folder is written when inotify(7) tells of it.
+//! `--follow`: what inotify(7) reports of the folder is written.
 
 use super::summary::Summary;
 use super::walk::{Found, Walk, Walked};

@@ -60,7 +60,9 @@ impl Tree {
         for (node, stat) in stats {
             let parent = steps.get(&node).and_then(|step| step.parent);
             let known = Known { node, parent, stat };
-            match paths.found(node, |node| Ok::<_, std::convert::Infallible>(steps.get(&node).cloned())) {
+            match paths.found(node, |node| {
+                Ok::<_, std::convert::Infallible>(steps.get(&node).cloned())
+            }) {
                 Ok(Some(path)) if path.starts_with(folder) => {
                     tree.add(path, known);
                 }

@@ -45,7 +45,10 @@ impl Side {
     /// Whether the mail was read: the flag `S` in its name, which counts in `cur` alone.
     fn status(self, name: &OsStr) -> &'static str {
         let name = name.as_bytes();
-        let flags = name.windows(3).rposition(|part| part == b":2,").map(|at| &name[at + 3..]);
+        let flags = name
+            .windows(3)
+            .rposition(|part| part == b":2,")
+            .map(|at| &name[at + 3..]);
         match self == Side::Current && flags.map_or(false, |flags| flags.contains(&b'S')) {
             true => "Read",
             false => "New",
@@ -61,8 +64,16 @@ pub fn attributes(begin: &[u8], side: Option<Side>, name: &OsStr) -> Vec<(&'stat
     for (header, attribute) in ATTRIBUTES {
         values.extend(first(header).map(|value| (attribute, cut(&decoded(value)).into())));
     }
-    values.extend(first("from").and_then(|from| name_of(from)).map(|name| ("MAIL:name", cut(&name).into())));
-    values.extend(first("date").and_then(|date| seconds(date)).map(|when| ("MAIL:when", when.into())));
+    values.extend(
+        first("from")
+            .and_then(|from| name_of(from))
+            .map(|name| ("MAIL:name", cut(&name).into())),
+    );
+    values.extend(
+        first("date")
+            .and_then(|date| seconds(date))
+            .map(|when| ("MAIL:when", when.into())),
+    );
     values.extend(side.map(|side| ("MAIL:status", side.status(name).into())));
     values
 }
@@ -120,7 +131,9 @@ fn name_of(from: &str) -> Option<String> {
 /// The seconds since 1970 of a date as RFC 5322 has it. A weekday that is another one is no error.
 fn seconds(date: &str) -> Option<i64> {
     let without_weekday = date.split_once(',').map_or(date, |(_, rest)| rest);
-    let without_comment = without_weekday.split_once('(').map_or(without_weekday, |(time, _)| time);
+    let without_comment = without_weekday
+        .split_once('(')
+        .map_or(without_weekday, |(time, _)| time);
     let time = DateTime::parse_from_rfc2822(without_comment.trim()).ok()?;
     Some(time.timestamp())
 }
@@ -136,16 +149,22 @@ mod tests {
     fn value(head: &[u8], name: &str) -> Option<String> {
         let values = read(head);
         let found = values.iter().find(|(attribute, _)| *attribute == name);
-        found.map(|(_, value)| value.to_string())
+        found.map(|(_, value)| value.as_str().map_or_else(|| value.to_string(), String::from))
     }
 
     #[test]
     fn headers_become_attributes() {
         let head = b"Received: x\r\nFrom: \"Ada L.\" <ada@example.org>\r\nTO: bob@example.org,\r\n\tcy@example.org\r\n\
                      Subject: =?utf-8?q?Gr=C3=BC=C3=9Fe?=\r\nDate: Thu, 1 Jan 1970 01:00:05 +0100 (CET)\r\n\r\nSubject: no";
-        assert_eq!(value(head, "MAIL:from").as_deref(), Some("\"Ada L.\" <ada@example.org>"));
+        assert_eq!(
+            value(head, "MAIL:from").as_deref(),
+            Some("\"Ada L.\" <ada@example.org>")
+        );
         assert_eq!(value(head, "MAIL:name").as_deref(), Some("Ada L."));
-        assert_eq!(value(head, "MAIL:to").as_deref(), Some("bob@example.org, cy@example.org"));
+        assert_eq!(
+            value(head, "MAIL:to").as_deref(),
+            Some("bob@example.org, cy@example.org")
+        );
         assert_eq!(value(head, "MAIL:subject").as_deref(), Some("Grüße"));
         assert_eq!(value(head, "MAIL:when").as_deref(), Some("5"));
         assert_eq!(value(head, "MAIL:status"), None);
@@ -153,7 +172,8 @@ mod tests {
 
     #[test]
     fn broken_heads_lose_nothing_else() {
-        let head = b" begins so\nno header\n: empty\n\xff: no name\nSubject: gr\xfc\xdfe\nDate: yesterday\nFrom: <a@b>\n";
+        let head =
+            b" begins so\nno header\n: empty\n\xff: no name\nSubject: gr\xfc\xdfe\nDate: yesterday\nFrom: <a@b>\n";
         assert_eq!(value(head, "MAIL:subject").as_deref(), Some("grüße"));
         assert_eq!(value(head, "MAIL:from").as_deref(), Some("<a@b>"));
         assert_eq!((value(head, "MAIL:when"), value(head, "MAIL:name")), (None, None));

@@ -144,7 +144,10 @@ fn what_helps(files: usize, left: usize, pages: u64, used: u64) -> String {
     // A tenth more, since files differ.
     let needed = (used * (files + left) / files * 11 / 10).max(pages + 1);
     match needed <= MOST_PAGES {
-        true => format!("bestored --pages {} has room for all", needed.next_power_of_two().min(MOST_PAGES)),
+        true => format!(
+            "bestored --pages {} has room for all",
+            needed.next_power_of_two().min(MOST_PAGES)
+        ),
         false => {
             let volumes = (needed + MOST_PAGES - 1) / MOST_PAGES;
             format!("bestored --volumes {volumes} --pages {MOST_PAGES} has room for all")
@@ -168,8 +171,14 @@ mod tests {
 
     #[test]
     fn what_helps_has_room_for_all() {
-        assert_eq!(what_helps(100, 100, 1024, 1000), "bestored --pages 4096 has room for all");
-        assert_eq!(what_helps(100, 10, 1024, 1000), "bestored --pages 2048 has room for all");
+        assert_eq!(
+            what_helps(100, 100, 1024, 1000),
+            "bestored --pages 4096 has room for all"
+        );
+        assert_eq!(
+            what_helps(100, 10, 1024, 1000),
+            "bestored --pages 2048 has room for all"
+        );
         assert_eq!(
             what_helps(14_000, 46_000, 16_384, 16_000),
             "bestored --volumes 5 --pages 16384 has room for all"

@@ -32,12 +32,12 @@ struct Rule {
 /// The types by the names of files.
 #[derive(Debug, Default)]
 pub struct Types {
-    /// By whole names, and by what follows a `*` that is the glob's only sign: in lower case, and as they are.
+    /// By whole names, and by what follows a `*` that is the glob's only sign: in lower case, and in the case that counts.
     names: HashMap<String, Rule>,
     endings: HashMap<String, Rule>,
     exact_endings: HashMap<String, Rule>,
     others: Vec<(Pattern, Rule)>,
-    /// Where they are from, in words.
+    /// The files that they are from, in words.
     source: &'static str,
     /// Whether the database has what contents begin with.
     has_contents: bool,
@@ -79,7 +79,9 @@ impl Types {
             if let (Some(Ok(weight)), Some(mime), Some(glob)) =
                 (parts.next().map(str::parse), parts.next(), parts.next())
             {
-                let exact = parts.next().map_or(false, |flags| flags.split(',').any(|flag| flag == "cs"));
+                let exact = parts
+                    .next()
+                    .map_or(false, |flags| flags.split(',').any(|flag| flag == "cs"));
                 types.add(weight, mime, glob, exact);
             }
         }
@@ -106,24 +108,30 @@ impl Types {
         let is_plain = |text: &str| !text.contains(|sign| "*?[".contains(sign));
         match glob.strip_prefix('*') {
             Some(ending) if is_plain(ending) && exact => better(&mut self.exact_endings, ending.into(), rule),
+            // For programs that know no flags the database has such a glob once more, without it.
+            Some(ending) if is_plain(ending) && self.exact_endings.contains_key(ending) => {}
             Some(ending) if is_plain(ending) => better(&mut self.endings, ending.to_lowercase(), rule),
             None if is_plain(glob) => better(&mut self.names, glob.to_lowercase(), rule),
             _ => self.others.extend(Pattern::new(glob).map(|pattern| (pattern, rule))),
         }
     }
 
-    /// The type that the name says, if it says one.
-    pub fn of_name<'a>(&'a self, name: &str) -> Option<&'a str> {
-        let lower = name.to_lowercase();
-        let whole = self.names.get(&lower).into_iter();
+    /// The type that the name says, if it says one: as it is, otherwise in any case.
+    pub fn of_name(&self, name: &str) -> Option<&str> {
+        let best = self.best(name).or_else(|| self.best(&name.to_lowercase()));
+        best.map(|rule| rule.mime.as_str())
+    }
+
+    fn best<'a>(&'a self, name: &str) -> Option<&'a Rule> {
         let others = self.others.iter();
         let others = others.filter_map(|(pattern, rule)| pattern.matches_with(name, ANY_CASE).then_some(rule));
-        let best = whole
-            .chain(ending(&self.endings, &lower))
+        self.names
+            .get(name)
+            .into_iter()
+            .chain(ending(&self.endings, name))
             .chain(ending(&self.exact_endings, name))
             .chain(others)
-            .max();
-        best.map(|rule| rule.mime.as_str())
+            .max()
     }
 
     /// The type of a file that begins with these bytes.
@@ -131,7 +139,9 @@ impl Types {
         match begin {
             [] => "application/x-zerosize",
             _ if self.has_contents => tree_magic_mini::from_u8(begin),
-            _ if !begin.contains(&0) && std::str::from_utf8(begin).map_or_else(|error| error.error_len().is_none(), |_| true) => {
+            _ if !begin.contains(&0)
+                && std::str::from_utf8(begin).map_or_else(|error| error.error_len().is_none(), |_| true) =>
+            {
                 "text/plain"
             }
             _ => UNKNOWN,
@@ -157,7 +167,7 @@ mod tests {
     use super::*;
 
     const GLOBS: &str = "# comment\n50:text/plain:*.txt\n50:application/gzip:*.gz\n50:application/x-compressed-tar:*.tar.gz\n\
-                         50:text/x-c++src:*.C:cs\n50:text/x-csrc:*.c\n50:text/x-makefile:makefile\n10:text/x-readme:readme*\n\
+                         50:text/x-c++src:*.C:cs\n50:text/x-c++src:*.C\n50:text/x-csrc:*.c:cs\n50:text/x-csrc:*.c\n50:text/x-makefile:makefile\n10:text/x-readme:readme*\n\
                          60:image/gif:*.gif\n40:image/other:*.gif\nbroken\n";
 
     #[test]

@@ -61,12 +61,7 @@ impl Import<'_> {
     }
 
     /// Removes nodes, what is in a folder before the folder. What is below a folder that can't be read stays.
-    fn remove(
-        &mut self,
-        gone: Vec<(PathBuf, Known)>,
-        unread: &[Unread],
-        summary: &mut Summary,
-    ) -> Result<(), Failure> {
+    fn remove(&mut self, gone: Vec<(PathBuf, Known)>, unread: &[Unread], summary: &mut Summary) -> Result<(), Failure> {
         let (kept, mut gone): (Vec<_>, Vec<_>) = gone
             .into_iter()
             .partition(|(path, _)| unread.iter().any(|it| path.starts_with(&it.path)));
@@ -102,7 +97,8 @@ impl Import<'_> {
                     folder.and_then(|folder| nodes.get(folder).copied().or_else(|| self.node_at(folder)))
                 }
             };
-            let is_same = known.stat == file.found.stat.text()
+            let is_same = (parent.is_some() || self.is_root(&file.found.path))
+                && known.stat == file.found.stat.text()
                 && known.parent == parent
                 && was.file_name() == file.found.path.file_name()
                 && !self.line.reread;
@@ -256,8 +252,7 @@ impl Import<'_> {
                     false => summary.left += 1,
                 }
             }
-            let stats: HashMap<&Path, String> =
-                files.iter().map(|it| (it.path.as_path(), it.stat.text())).collect();
+            let stats: HashMap<&Path, String> = files.iter().map(|it| (it.path.as_path(), it.stat.text())).collect();
             let made = make_in(&mut self.volumes, new, &|count| progress.inc(count))?;
             summary.left += made.left.len();
             summary.refused.extend(made.refused);
@@ -331,7 +326,10 @@ fn make_in(volumes: &mut [Volume], files: Vec<New>, done: &(dyn Fn(u64) + Sync))
                 .zip(shares)
                 .map(|(volume, files)| scope.spawn(move || volume.make(files, done)))
                 .collect();
-            parts.into_iter().map(|part| part.join().expect("a writer ends")).collect()
+            parts
+                .into_iter()
+                .map(|part| part.join().expect("a writer ends"))
+                .collect()
         });
         for made in made {
             let made = made?;

@@ -1,4 +1,4 @@
-//! A volume of the server: one of the stores behind its queries. A server of one store has one.
+//! A volume of the server: one of the stores that its queries search. A server of one store has one.
 
 use crate::failure::{message, Failure};
 use crate::server;
@@ -160,11 +160,6 @@ impl Volume {
             left -= 1;
         }
     }
-
-    /// Writes batches. Those that are refused are returned with the reason.
-    pub fn apply(&mut self, batch: &Batch) -> Result<(), Error> {
-        server::apply(&mut self.client, batch)
-    }
 }
 
 /// A batch that makes a node for each file, from this number on, and the operations that it has no room for.
@@ -173,7 +168,11 @@ fn batch_of(files: &[New], first: u64) -> (Batch, Option<Batch>) {
     for (node, file) in (first..).zip(files) {
         batch.new_node();
         for (name, value) in &file.values {
-            let batch = if batch.len() < OPERATIONS { &mut batch } else { &mut rest };
+            let batch = if batch.len() < OPERATIONS {
+                &mut batch
+            } else {
+                &mut rest
+            };
             batch.set(node, name, value.clone());
         }
     }

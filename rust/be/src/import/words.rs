@@ -84,7 +84,8 @@ struct Said {
 impl Said {
     fn text(&mut self, text: &str) {
         if let Some(word) = self.last.take() {
-            self.text.push_str(&word.encoding.decode_without_bom_handling(&word.bytes).0);
+            self.text
+                .push_str(&word.encoding.decode_without_bom_handling(&word.bytes).0);
         }
         self.text.push_str(text);
     }
@@ -126,8 +127,17 @@ mod tests {
     #[test]
     fn what_is_no_word_stays() {
         for text in [
-            "", "=?", "=?utf-8", "=?utf-8?q?a", "=?none?q?a?=", "=?utf-8?x?a?=", "=?utf-8?q?=G0?=", "=?utf-8?q?=C?=", "=?utf-8?b?*?=",
-            "a =? b ?= c", "é",
+            "",
+            "=?",
+            "=?utf-8",
+            "=?utf-8?q?a",
+            "=?none?q?a?=",
+            "=?utf-8?x?a?=",
+            "=?utf-8?q?=G0?=",
+            "=?utf-8?q?=C?=",
+            "=?utf-8?b?*?=",
+            "a =? b ?= c",
+            "é",
         ] {
             assert_eq!(decoded(text), text);
         }
