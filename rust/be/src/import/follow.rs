@@ -80,11 +80,11 @@ impl Watches {
         }
     }
 
-    /// Waits for changes, and gathers them until there is a pause.
-    fn wait(&mut self) -> Result<Dirty, Failure> {
+    /// Waits for changes, and gathers them until there is a pause. If it doesn't block, it waits for such a pause alone.
+    fn wait(&mut self, blocks: bool) -> Result<Dirty, Failure> {
         let mut dirty = Dirty::default();
         let mut room = vec![0; EVENTS];
-        self.read(&mut room, true, &mut dirty)?;
+        self.read(&mut room, blocks, &mut dirty)?;
         let begun = Instant::now();
         let mut last = begun;
         loop {
@@ -154,7 +154,8 @@ impl Import<'_> {
     /// Follows the folder until it or the server is gone.
     pub fn follow(&mut self, mut watches: Watches, output: &mut Output) -> Result<(), Failure> {
         loop {
-            let dirty = watches.wait()?;
+            // What is missing is looked for once more before its node is removed.
+            let dirty = watches.wait(self.missing.is_empty())?;
             if dirty.gone || fs::symlink_metadata(&self.folder).is_err() {
                 return Err(Failure::Gone(self.folder.clone()));
             }
@@ -191,8 +192,9 @@ impl Import<'_> {
                 continue;
             }
             let there = fs::symlink_metadata(&path);
+            let is_folder = there.as_ref().map_or(false, fs::Metadata::is_dir);
             let is_same_folder = there.as_ref().map_or(false, |about| self.is_same_folder(&path, about));
-            if is_same_folder || !is_named {
+            if is_same_folder || !(is_named || is_folder) {
                 known.extend(self.tree.files.remove_entry(&path));
                 all.found.extend(there.ok().map(|about| Found {
                     path,

@@ -26,7 +26,7 @@ use bestore_client::Client;
 use content::{Reader, INDICES};
 use follow::Watches;
 use indicatif::{ProgressBar, ProgressStyle};
-use known::Tree;
+use known::{Known, Tree};
 use std::collections::BTreeMap;
 use std::fs;
 use std::os::unix::ffi::OsStrExt;
@@ -47,6 +47,8 @@ pub struct Import<'a> {
     volumes: Vec<Volume>,
     reader: Reader,
     tree: Tree,
+    /// Files that weren't at their paths when these were read last.
+    missing: Vec<(PathBuf, Known)>,
 }
 
 pub fn run(connect: &dyn Fn() -> Result<Client, Failure>, line: &Line, output: &mut Output) -> Result<(), Failure> {
@@ -88,6 +90,7 @@ impl<'a> Import<'a> {
                 types: Types::of_machine(),
                 indices,
             },
+            missing: Vec::new(),
             folder,
             line,
             client,
@@ -96,6 +99,17 @@ impl<'a> Import<'a> {
 
     /// Reads the whole folder, and writes what differs from the store.
     fn scan(&mut self, mut watches: Option<&mut Watches>) -> Result<Summary, Failure> {
+        let mut summary = self.scan_once(watches.as_deref_mut())?;
+        if !self.missing.is_empty() {
+            summary = summary.and_then(self.scan_once(watches)?);
+        }
+        match self.line.xattr {
+            true => self.write_extended(summary),
+            false => Ok(summary),
+        }
+    }
+
+    fn scan_once(&mut self, mut watches: Option<&mut Watches>) -> Result<Summary, Failure> {
         let progress = spinner("reading the folder");
         let mut failed = None;
         let mut before = |folder: &Path| {
@@ -117,11 +131,7 @@ impl<'a> Import<'a> {
             return Err(failure);
         }
         let known = std::mem::take(&mut self.tree.files).into_iter().collect();
-        let summary = self.update(walked, known)?;
-        match self.line.xattr {
-            true => self.write_extended(summary),
-            false => Ok(summary),
-        }
+        self.update(walked, known)
     }
 
     /// The value of `FILE:root` for the imported folder.

@@ -77,6 +77,19 @@ impl Summary {
         self.fates.push((fate, path));
     }
 
+    /// What this import and the next one of the same folder have done together.
+    pub fn and_then(self, next: Self) -> Self {
+        Self {
+            new: self.new + next.new,
+            changed: self.changed + next.changed,
+            renamed: self.renamed + next.renamed,
+            removed: self.removed + next.removed,
+            xattrs_left: self.xattrs_left + next.xattrs_left,
+            fates: self.fates.into_iter().chain(next.fates).collect(),
+            ..next
+        }
+    }
+
     /// Whether each file is in the store as it is.
     pub fn is_whole(&self) -> bool {
         self.left == 0 && self.unread.is_empty() && self.refused.is_empty()

@@ -12,7 +12,7 @@ use super::{bar, Import};
 use crate::failure::{message, Failure};
 use bestore::Batch;
 use bestore_client::Error;
-use std::collections::{BTreeMap, HashMap};
+use std::collections::{BTreeMap, HashMap, HashSet};
 use std::path::{Path, PathBuf};
 use std::thread;
 
@@ -29,7 +29,8 @@ const VOLUME: u64 = 100_000_000_000_000;
 const ENTRIES: u64 = 8;
 
 impl Import<'_> {
-    /// Writes what was found, and removes the nodes of those known files that weren't.
+    /// Writes what was found. The node of a known file that wasn't is removed if that is so two times in turn: a file that is moved
+    /// while folders are read is at neither of its paths for once.
     pub fn update(&mut self, walked: Walked, known: Vec<(PathBuf, Known)>) -> Result<Summary, Failure> {
         let Walked { found, unread } = walked;
         self.refuse_another(&found, &known)?;
@@ -37,13 +38,16 @@ impl Import<'_> {
         let lost_nodes: Vec<u64> = lost.iter().map(|known| known.node).collect();
         // A file that has lost its folder is known again by what it is.
         let lost = lost.into_iter().map(|known| (PathBuf::new(), known));
+        let missing = std::mem::take(&mut self.missing);
+        let missed: HashSet<u64> = missing.iter().map(|(_, known)| known.node).collect();
+        let known = lost.chain(missing).chain(known).collect();
         let client = &mut self.client;
-        let Matching { files, mut gone } = matched(found, known.into_iter().chain(lost).collect(), |node| {
+        let Matching { files, mut gone } = matched(found, known, |node| {
             client.attributes(node).map(|attributes| has_more(&attributes))
         })?;
         gone.retain(|(_, known)| !lost_nodes.contains(&known.node));
         let mut summary = Summary::default();
-        self.remove(gone, &unread, &mut summary)?;
+        self.remove(gone, &missed, &unread, &mut summary)?;
         summary.unread = unread;
 
         let (new, there): (Vec<Matched>, Vec<Matched>) = files.into_iter().partition(|file| file.known.is_none());
@@ -60,12 +64,23 @@ impl Import<'_> {
         Ok(summary)
     }
 
-    /// Removes nodes, what is in a folder before the folder. What is below a folder that can't be read stays.
-    fn remove(&mut self, gone: Vec<(PathBuf, Known)>, unread: &[Unread], summary: &mut Summary) -> Result<(), Failure> {
-        let (kept, mut gone): (Vec<_>, Vec<_>) = gone
+    /// Removes those nodes that were missing already, and keeps the others as missing. What is below a folder that can't be read
+    /// stays.
+    fn remove(
+        &mut self,
+        gone: Vec<(PathBuf, Known)>,
+        missed: &HashSet<u64>,
+        unread: &[Unread],
+        summary: &mut Summary,
+    ) -> Result<(), Failure> {
+        let (kept, gone): (Vec<_>, Vec<_>) = gone
             .into_iter()
             .partition(|(path, _)| unread.iter().any(|it| path.starts_with(&it.path)));
         self.tree.files.extend(kept);
+        let (mut gone, missing): (Vec<_>, Vec<_>) =
+            gone.into_iter().partition(|(_, known)| missed.contains(&known.node));
+        self.missing = missing;
+        // What is in a folder goes before the folder.
         gone.sort_unstable_by(|one, other| other.0.cmp(&one.0));
         let edits: Vec<Edits> = gone
             .iter()
