@@ -15,6 +15,6 @@ come and go.
 | `sources`, `own_server` | the store that is asked: a server's, or one in this process |
 | `folder`, `mail` | the import of a folder into a store in this process |
 | `asker` | the thread that asks, reads and writes |
-| `theme`, `find_row`, `query_menu`, `hit_list`, `attribute_editor`, `window` | what is shown, by tkinter; no other module needs it |
+| `window`, `find_row`, `query_menu`, `hit_list`, `attribute_editor`, `theme` | what is shown, by tkinter |
 | `pauses` | what keeps Python itself from halting the window |
 """

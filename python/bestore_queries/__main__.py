@@ -16,13 +16,14 @@ from .sources import FolderSource, ServerSource, Source
 def parser() -> argparse.ArgumentParser:
     """What the command line may have."""
     made = argparse.ArgumentParser(
-        prog="bestore-queries", description="A window that finds files by their attributes, and follows them while they come and go.",
-        epilog="Without --socket and --folder it asks the server at BESTORE_SOCKET, otherwise at its usual socket. If none listens "
-        "there it starts bestored for itself.")
+        prog="bestore-queries",
+        description="A window that finds files by their attributes, and follows them while they come and go.",
+        epilog="Without --socket and --folder it asks the server at BESTORE_SOCKET, otherwise at its usual socket. If none "
+        "listens there it starts bestored for itself.")
     where = made.add_mutually_exclusive_group()
     where.add_argument("--socket", metavar="PATH", help="the socket of the server whose store is asked")
     where.add_argument("--folder", metavar="FOLDER", help="read this folder, or Maildir, into a store of the window's own")
-    made.add_argument("--geometry", default="940x560", metavar="WxH", help="the size of the window in pixels, and its place as +X+Y")
+    made.add_argument("--geometry", default="940x560", metavar="WxH", help="the size in pixels, and the place as +X+Y after it")
     made.add_argument("query", nargs="?", metavar="QUERY", help="the query that is asked first; docs/QUERIES.md has its language")
     return made
 

@@ -1,5 +1,5 @@
-"""The thread that asks a store for a window, reads the hits, and writes attributes. The window sends it requests, and takes what it
-reports; neither waits for the other."""
+"""The thread that asks a store for a window, reads the hits, and writes attributes. The window sends it requests, and takes
+what it reports; neither waits for the other."""
 
 from __future__ import annotations
 

@@ -12,8 +12,9 @@ from . import dates
 
 MAIL_TYPE = "text/x-email"
 FOLDER_TYPE = "application/x-vnd.Be-directory"
-OF_FILES = frozenset({"name", "size", "last_modified", "created", "folder", "path", "FILE:parent", "FILE:root", "FILE:name", "FILE:stat",
-                      "FILE:xattrs"})
+HIDDEN = frozenset({"FILE:parent", "FILE:root", "FILE:name", "FILE:stat", "FILE:xattrs"})
+"""By what an import knows files again. Nobody looks at it."""
+OF_FILES = HIDDEN | {"name", "size", "last_modified", "created", "folder", "path"}
 """What a file itself says. The window doesn't edit it."""
 
 _TIME = re.compile(r"(?:.*[_:])?(?:modified|created|changed|when|date|time)", re.IGNORECASE)
@@ -48,9 +49,11 @@ def size_in_words(size: bestore.Value) -> str:
 
 
 def time_in_words(seconds: bestore.Value) -> str:
-    """A time, as people read it. A number that the calendar doesn't have stays a number."""
+    """A time, as people read it. What the calendar doesn't have is shown as it is."""
+    if not isinstance(seconds, int):
+        return text_of(seconds)
     try:
-        return time.strftime("%d %b %Y, %H:%M", time.localtime(int(seconds)))
+        return time.strftime("%d %b %Y, %H:%M", time.localtime(seconds))
     except (ValueError, OverflowError, OSError):
         return text_of(seconds)
 
@@ -101,12 +104,12 @@ def column_of(attribute: str, kind: Optional[bestore.Kind] = None) -> Column:
     title = attribute.rpartition(":")[2].replace("_", " ") or attribute
     title = title[:1].upper() + title[1:]
     if is_time(attribute) and (kind is None or is_number(kind)):
-        return Column(attribute, title, 160, "w", lambda value: time_in_words(value) if isinstance(value, int) else text_of(value))
+        return Column(attribute, title, 160, "w", time_in_words)
     return Column(attribute, title, 110 if is_number(kind) else 160, "e" if is_number(kind) else "w")
 
 
 def default_columns(indices: Mapping[str, bestore.Kind], is_mail: bool = False) -> List[Column]:
-    """The columns of a store with these indices, if nothing else was chosen: those of files or of mails, otherwise the first six."""
+    """The columns of a store with these indices, if nothing else was chosen: of files or of mails, otherwise the first six."""
     if "MAIL:subject" in indices and is_mail:
         return [_KNOWN[it] for it in _MAIL if it in indices]
     if "name" in indices:

@@ -50,8 +50,8 @@ def attributes_of(indices: Mapping[str, bestore.Kind]) -> List[str]:
 def everything(indices: Mapping[str, bestore.Kind]) -> Optional[str]:
     """The query that finds all files, or the nodes that have another attribute. None if nothing has an index."""
     for attribute in attributes_of(indices)[:1]:
-        relations = relations_of(attribute, indices[attribute])
-        return query_of(attribute, Relation.CONTAINS, "") if relations is _TEXT else f"{_quoted(attribute)}>={_LEAST[indices[attribute]]}"
+        least = _LEAST.get(indices[attribute])
+        return query_of(attribute, Relation.CONTAINS, "") if least is None else f"{_quoted(attribute)}>={least}"
     return None
 
 

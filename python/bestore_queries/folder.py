@@ -65,8 +65,8 @@ class Waiting(NamedTuple):
 
 
 class FolderReader(threading.Thread):
-    """Has a node for each file of a folder, and looks again and again for files that came, went or changed. A file that changes keeps
-    its node."""
+    """Has a node for each file of a folder, and looks again and again for files that came, went or changed. A file that
+    changes keeps its node."""
 
     def __init__(self, user: bestore.Pass, folder: str, pause: float) -> None:
         super().__init__(name="folder", daemon=True)
@@ -166,8 +166,8 @@ class FolderReader(threading.Thread):
             self._remove([file for file in files if file.about is None])
 
     def _remove(self, gone: List[Waiting]) -> None:
-        """Removes files of a full store. Since that takes pages too, fewer are removed at a time if need be, and one that can't be
-        is removed in a later round."""
+        """Removes files of a full store. Since that takes pages too, fewer are removed at a time if need be, and one that can't
+        be is removed in a later round."""
         try:
             self._commit(gone)
         except bestore.Full:

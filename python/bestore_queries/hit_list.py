@@ -1,4 +1,5 @@
-"""The list of hits. The widget has the rows that are seen, and no others, so it takes the same time for ten hits and for a million."""
+"""The list of hits. The widget has the rows that are seen, and no others, so it takes the same time for ten hits and for a
+million."""
 
 from __future__ import annotations
 
@@ -135,7 +136,7 @@ class HitList(tk.Frame):
         shown = (first or f"node {hit.node}", tuple(others), str(hit.attributes.get("BEOS:TYPE", "")), tag)
         if row < len(self._painted) and self._painted[row] == shown:
             return
-        options: Any = {"text": f" {shown[0]}", "values": others, "image": self._icons.of(shown[2]), "tags": (tag,) if tag else ()}
+        options: Any = {"text": f" {shown[0]}", "values": others, "image": self._icons.of(shown[2]), "tags": [tag] if tag else []}
         if row < len(self._painted):
             self.tree.item(str(row), **options)
             self._painted[row] = shown

@@ -18,8 +18,8 @@ MANY = 50_000
 
 @contextlib.contextmanager
 def short_pauses(root: tk.Tk) -> Iterator[None]:
-    """Until the end of the `with` threads take turns quickly, and the garbage collector looks at new objects alone: to look at all
-    hits would take longer the more there are."""
+    """Until the end of the `with` threads take turns quickly, and the garbage collector looks at new objects alone: a look at
+    all hits takes longer the more there are."""
     before = sys.getswitchinterval()
     sys.setswitchinterval(SWITCH)
     gc.disable()

@@ -154,8 +154,8 @@ def fault_of(error: bestore.Error, query: TypedQuery, indices: Mapping[str, best
     if isinstance(error, bestore.NotCovered):
         return _not_covered(error, query, indices)
     return Fault({
-        bestore.TooLong: "the query is too long: 4,096 bytes are the most", bestore.TooDeep: "more than 64 ( or ! within one another",
-        bestore.TooMany: "more than 256 comparisons",
+        bestore.TooLong: "the query is too long: 4,096 bytes are the most", bestore.TooMany: "more than 256 comparisons",
+        bestore.TooDeep: "more than 64 ( or ! within one another",
     }.get(type(error), error.summary), _place(error, query))
 
 
@@ -203,8 +203,8 @@ def _open_quote(typed: str) -> bool:
 
 
 def lines_of(fault: Fault, typed: str, width: int) -> List[str]:
-    """A fault in lines of up to so many columns: what it is, and what was typed with a caret under the place. Of what is wider the
-    part round the place is shown."""
+    """A fault in lines of up to so many columns: what it is, and what was typed with a caret under the place. Of what is wider
+    the part round the place is shown."""
     message = fault.message[:1].upper() + fault.message[1:]
     lines = [shortened(message, width)]
     if fault.column is not None:

@@ -99,6 +99,7 @@ class Window:
             self.entry.bind(key, lambda _: self._ask())
         self.entry.bind("<Down>", lambda _: self.list.tree.focus_set())
         self.find_row.entry.bind("<Down>", lambda _: self.list.tree.focus_set())
+        self.entry.bind("<Key>", lambda _: self.find_row.empty())
         self.root.bind("<Control-f>", lambda _: self.find_row.entry.focus_set())
         self.root.bind("<Control-l>", lambda _: self.entry.focus_set())
         self.root.bind("<Control-s>", lambda _: self._name_query())
@@ -327,8 +328,7 @@ class Window:
 
     def _offer_attributes(self) -> None:
         names = dict.fromkeys([*self._indices, *self._attributes])
-        hidden = ("FILE:parent", "FILE:root", "FILE:name", "FILE:stat", "FILE:xattrs")
-        self.attribute_menu.offer([it for it in names if it not in hidden], [it.attribute for it in self._columns()])
+        self.attribute_menu.offer([it for it in names if it not in columns.HIDDEN], [it.attribute for it in self._columns()])
 
     def _width(self) -> int:
         """How many characters a line below the query has room for."""

@@ -70,8 +70,10 @@ def file_of(store: bestore.Pass, **attributes: bestore.Value) -> int:
 def files_store(pages: int = 2048) -> bestore.Pass:
     """A store with the indices of files."""
     store = bestore.open(pages, 8)
-    for name, kind in (("name", bestore.STRING), ("size", bestore.INT64), ("last_modified", bestore.INT64), ("BEOS:TYPE", bestore.STRING)):
-        store.make_index(name, kind)
+    for name in ("name", "BEOS:TYPE"):
+        store.make_index(name, bestore.STRING)
+    for name in ("size", "last_modified"):
+        store.make_index(name, bestore.INT64)
     return store
 
 

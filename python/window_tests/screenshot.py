@@ -2,7 +2,8 @@
 
     PYTHONPATH=python python3 python/window_tests/screenshot.py FILE.png WxH [WORD..]
 
-The words are those of bestore-queries. WxH is the size in pixels. The picture is made once the window has stayed the same for two seconds.
+The words are those of bestore-queries. WxH is the size in pixels. The picture is made once the window has stayed
+the same for two seconds.
 """
 
 from __future__ import annotations

@@ -74,7 +74,7 @@ class Files(InFolder):
             return version.attributes(node)
 
     def test_beside_another_writer(self) -> None:
-        """Another pass makes nodes all the while. Each file has its own attributes all the same, and the other nodes have none."""
+        """Another pass makes nodes all the while. Each file has its own attributes all the same."""
         for number in range(100):
             write(self.path(f"{number}.txt"), "x" * number)
         other, others = self.store.another(), 0
@@ -161,7 +161,8 @@ class Mails(InFolder):
         for raw, text in [
             (b"=?utf-8?q?M=C3=BCller?=", "Müller"), ("Müller".encode(), "Müller"), (b"M\xfcller", "Müller"),
             (b"=?none?q?x?=", "=?none?q?x?="), ("=?utf-8?q?M=C3=BCller?= und Söhne".encode(), "Müller und Söhne"),
-            (b"=?utf-8?b?4pyJ?=\n =?utf-8?b?4pyJ?= x", "✉✉ x"), (b"=?utf-8?b?4py?=", "=?utf-8?b?4py?="), (b"\x81\xff", "\ufffdÿ"),
+            (b"=?utf-8?b?4pyJ?=\n =?utf-8?b?4pyJ?= x", "✉✉ x"), (b"=?utf-8?b?4py?=", "=?utf-8?b?4py?="),
+            (b"\x81\xff", "\ufffdÿ"),
         ]:
             with open(path, "wb") as file:
                 file.write(b"Subject: " + raw + b"\n\n")
@@ -199,7 +200,8 @@ class Where(unittest.TestCase):
                 self.assertEqual(where({"name": "b", "FILE:parent": root}), "/home/b")
                 self.assertIsNone(where({"name": "c", "FILE:parent": stray}))
                 self.assertIsNone(where({"name": "d", "FILE:parent": loop}))
-                self.assertEqual([where({"name": "e", "folder": "/x"}), where({"path": "/y"}), where({"name": "z"})], ["/x/e", "/y", None])
+                self.assertEqual(where({"name": "e", "folder": "/x"}), "/x/e")
+                self.assertEqual([where({"path": "/y"}), where({"name": "z"})], ["/y", None])
             self.assertEqual((places.forget([1000]), places.forget([7, sub])), (False, True))
 
 
@@ -231,8 +233,10 @@ class Opens(unittest.TestCase):
 
     def test_faults(self) -> None:
         write(os.path.join(self.folder, "a"), "")
-        for program, reason in [("exit 4", "no program opens"), ("echo oh dear >&2; exit 9", "oh dear"), ("exit 9", "ended with 9"),
-                                ("kill -9 $$", "ended with -9")]:
+        for program, reason in [
+            ("exit 4", "no program opens"), ("echo oh dear >&2; exit 9", "oh dear"), ("exit 9", "ended with 9"),
+            ("kill -9 $$", "ended with -9"),
+        ]:
             self.make_program(program)
             with self.assertRaisesRegex(CannotOpen, reason):
                 self.end_of("a")

@@ -66,7 +66,7 @@ def loop(window: "Window", is_done: Callable[[], bool]) -> float:
         if is_done():
             window.root.quit()
         elif time.monotonic() > end:
-            raise TimeoutError(f"{len(window.hits)} hits after {PATIENCE:g} seconds: {window.message['text']} {window.notice['text']}")
+            raise TimeoutError(f"{len(window.hits)} hits after {PATIENCE:g} seconds: {window.message['text']}")
         else:
             window.root.after(20, look)
     window.root.after(20, look)

@@ -35,16 +35,21 @@ class Dates(LocalTime):
         for text, begin, end in [
             ("today", "2026-11-27 00:00:00", "2026-11-28 00:00:00"), ("yesterday", "2026-11-26 00:00:00", "2026-11-27 00:00:00"),
             ("now", "2026-11-27 16:30:05", "2026-11-27 16:30:06"), ("last week", "2026-11-16 00:00:00", "2026-11-23 00:00:00"),
-            ("this month", "2026-11-01 00:00:00", "2026-12-01 00:00:00"), ("last year", "2025-01-01 00:00:00", "2026-01-01 00:00:00"),
-            ("2 days ago", "2026-11-25 16:30:05", "2026-11-25 16:30:06"), ("A Week ago", "2026-11-20 16:30:05", "2026-11-20 16:30:06"),
+            ("this month", "2026-11-01 00:00:00", "2026-12-01 00:00:00"),
+            ("last year", "2025-01-01 00:00:00", "2026-01-01 00:00:00"),
+            ("2 days ago", "2026-11-25 16:30:05", "2026-11-25 16:30:06"),
+            ("A Week ago", "2026-11-20 16:30:05", "2026-11-20 16:30:06"),
             ("monday", "2026-11-23 00:00:00", "2026-11-24 00:00:00"), ("friday", "2026-11-20 00:00:00", "2026-11-21 00:00:00"),
             ("next fri", "2026-12-04 00:00:00", "2026-12-05 00:00:00"), ("2024", "2024-01-01 00:00:00", "2025-01-01 00:00:00"),
-            ("2024-02", "2024-02-01 00:00:00", "2024-03-01 00:00:00"), ("2024-02-29", "2024-02-29 00:00:00", "2024-03-01 00:00:00"),
+            ("2024-02", "2024-02-01 00:00:00", "2024-03-01 00:00:00"),
+            ("2024-02-29", "2024-02-29 00:00:00", "2024-03-01 00:00:00"),
             ("2024-02-29 9:30", "2024-02-29 09:30:00", "2024-02-29 09:31:00"),
             ("2024-02-29T09:30:10", "2024-02-29 09:30:10", "2024-02-29 09:30:11"),
-            ("31 Jan 2024", "2024-01-31 00:00:00", "2024-02-01 00:00:00"), ("january 31, 2024", "2024-01-31 00:00:00", "2024-02-01 00:00:00"),
+            ("31 Jan 2024", "2024-01-31 00:00:00", "2024-02-01 00:00:00"),
+            ("january 31, 2024", "2024-01-31 00:00:00", "2024-02-01 00:00:00"),
             ("Dec", "2025-12-01 00:00:00", "2026-01-01 00:00:00"), ("31.1.2024", "2024-01-31 00:00:00", "2024-02-01 00:00:00"),
-            ("9:30", "2026-11-27 09:30:00", "2026-11-27 09:31:00"), ("yesterday at 9:30", "2026-11-26 09:30:00", "2026-11-26 09:31:00"),
+            ("9:30", "2026-11-27 09:30:00", "2026-11-27 09:31:00"),
+            ("yesterday at 9:30", "2026-11-26 09:30:00", "2026-11-26 09:31:00"),
         ]:
             span = dates.span_of(text, NOW)
             self.assertEqual((str(datetime.fromtimestamp(span.begin)), str(datetime.fromtimestamp(span.end))), (begin, end), text)
@@ -55,8 +60,10 @@ class Dates(LocalTime):
 
     def test_no_dates(self) -> None:
         for text, reason in [
-            ("2024-13-01", "a year has 12 months"), ("2023-02-29", "that month doesn't have"), ("1/2/2024", "two meanings"), ("soon", "such as"),
-            ("", "such as"), ("25:00", "a day has the hours"), ("9999999 years ago", "out of the calendar"), ("999999999 days ago", "isn't a date"),
+            ("2024-13-01", "a year has 12 months"), ("2023-02-29", "that month doesn't have"), ("1/2/2024", "two meanings"),
+            ("soon", "such as"),
+            ("", "such as"), ("25:00", "a day has the hours"), ("9999999 years ago", "out of the calendar"),
+            ("999999999 days ago", "isn't a date"),
             ("m", "such as"), ("yesterday yesterday", "such as"), ("٣ days ago", "such as"), ("2024-01-01 2024", "such as"),
         ]:
             with self.assertRaisesRegex(dates.NotADate, reason, msg=text):
@@ -66,7 +73,8 @@ class Dates(LocalTime):
 class Typed(LocalTime):
     def test_dates(self) -> None:
         for typed, sent in [
-            ("last_modified>=%yesterday%", "last_modified>=1795647600"), ("last_modified > 2024-01-01", "last_modified>=1704150000"),
+            ("last_modified>=%yesterday%", "last_modified>=1795647600"),
+            ("last_modified > 2024-01-01", "last_modified>=1704150000"),
             ("last_modified<=2024", "last_modified<1735686000"), ("last_modified<'31 Jan 2024'", "last_modified<1706655600"),
             ("a==1 && last_modified==2024-01-01 || b==2",
              "a==1 && (last_modified>=1704063600 && last_modified<1704150000) || b==2"),
@@ -105,8 +113,10 @@ class Typed(LocalTime):
             ('name=="é[a"', "the [ isn't closed, or its set is empty or runs backwards; \\[ is a plain [", 8),
             ("last_modified>today && größe==1 ||", name, 34), ("last_modified==today && size<", value, 29),
             ("größe==1", "“größe” has no index. Those that have one: last_modified, name, size", 0),
-            ("last_modified==yesterday || größe==1", "“größe” has no index. Those that have one: last_modified, name, size", 28),
-            ("size==1 ||" * 256 + "size==1", "more than 256 comparisons", None), ("(" * 65, "more than 64 ( or ! within one another", None),
+            ("last_modified==yesterday || größe==1", "“größe” has no index. Those that have one: last_modified, name, size",
+             28),
+            ("size==1 ||" * 256 + "size==1", "more than 256 comparisons", None),
+            ("(" * 65, "more than 64 ( or ! within one another", None),
             ("size==1" + " " * 5000, "the query is too long: 4,096 bytes are the most", None),
             ("name==\udcff", "half of a character can't be part of a query", 6),
         ]:
@@ -144,8 +154,10 @@ class Find(unittest.TestCase):
                 store.set(node, "size", place)
             with store.pin() as version:
                 for attribute, relation, text, found in [
-                    ("name", Relation.CONTAINS, "report", [1, 2]), ("name", Relation.BEGINS, "REP", [1]), ("name", Relation.ENDS, "port", [2]),
-                    ("name", Relation.IS, "A*B", [3]), ("name", Relation.CONTAINS, '"hi', [4]), ("name", Relation.CONTAINS, "STRAßE", [5]),
+                    ("name", Relation.CONTAINS, "report", [1, 2]), ("name", Relation.BEGINS, "REP", [1]),
+                    ("name", Relation.ENDS, "port", [2]),
+                    ("name", Relation.IS, "A*B", [3]), ("name", Relation.CONTAINS, '"hi', [4]),
+                    ("name", Relation.CONTAINS, "STRAßE", [5]),
                     ("name", Relation.IS, "[draft]", [6]), ("name", Relation.ISNT, "a*b", [1, 2, 4, 5, 6]),
                     ("name", Relation.CONTAINS, "", [1, 2, 3, 4, 5, 6]), ("size", Relation.GREATER, "3", [5, 6]),
                     ("size", Relation.LESS, "1", [1]), ("size", Relation.IS, "2", [3]), ("size", Relation.GREATER, "x", []),
@@ -162,7 +174,7 @@ class Find(unittest.TestCase):
         self.assertEqual(find.everything(INDICES), 'name=="*"')
         self.assertEqual(find.everything({"n": bestore.INT32}), "n>=-2147483648")
         self.assertIsNone(find.everything({}))
-        self.assertEqual(find.attributes_of({"a": bestore.STRING, "size": bestore.INT64, "name": bestore.STRING}), ["name", "size", "a"])
+        self.assertEqual(find.attributes_of({"a": bestore.STRING, **INDICES}), ["name", "size", "last_modified", "a"])
 
 
 class Values(LocalTime):
@@ -179,7 +191,8 @@ class Values(LocalTime):
             self.assertEqual(columns.typed_value("x", text, kind), value)
         self.assertEqual(columns.typed_value("MAIL:when", "2024-01-01", bestore.INT64), 1704063600)
         for kind, text, reason in [
-            (bestore.INT64, "1.5", "isn't a whole number"), (bestore.UINT32, "-1", "out of range"), (bestore.INT32, "2147483648", "out of range"),
+            (bestore.INT64, "1.5", "isn't a whole number"), (bestore.UINT32, "-1", "out of range"),
+            (bestore.INT32, "2147483648", "out of range"),
             (bestore.RAW, "f", "hexadecimal"), (bestore.STRING, "a\0", "zero byte"), (bestore.STRING, "é" * 128, "256 bytes"),
             (bestore.STRING, "\udcff", "half of a character"),
         ]:
@@ -197,7 +210,8 @@ class Values(LocalTime):
         self.assertEqual([it.attribute for it in columns.default_columns(INDICES)], ["name", "size", "last_modified", "folder"])
         self.assertEqual([it.attribute for it in columns.default_columns({"a": bestore.STRING})], ["a"])
         self.assertEqual([it.attribute for it in columns.default_columns({})], ["name"])
-        self.assertEqual([columns.column_of(it, bestore.INT64).title for it in ("META:year", "MAIL:when", "audio:date")], ["Year", "When", "Date"])
+        titles = [columns.column_of(it, bestore.INT64).title for it in ("META:year", "MAIL:when", "audio:date")]
+        self.assertEqual(titles, ["Year", "When", "Date"])
 
 
 if __name__ == "__main__":
