@@ -1,37 +1,38 @@
-//! The store of the server, in memory alone or kept in a file.
+//! The volumes of the server, in memory alone or kept in files.
 
 use crate::failure::Failure;
 use crate::options::Options;
-use bestore::saved::{self, Saved};
-use bestore::{Pass, Store};
+use bestore::saved::{self, SavedShelf};
+use bestore::{Shelf, ShelfPass};
+use std::path::Path;
 
-/// The store.
+/// The volumes.
 #[derive(Debug)]
 pub enum Kept {
-    Memory(Store),
-    File { saved: Saved, each: bool },
+    Memory(Shelf),
+    File { saved: SavedShelf, each: bool },
 }
 
 impl Kept {
     pub fn open(options: &Options) -> saved::Result<Self> {
         let path = match &options.keep {
-            None => return Ok(Kept::Memory(Store::open(options.limits())?)),
+            None => {
+                return Ok(Kept::Memory(Shelf::open(
+                    options.volumes.unwrap_or(1),
+                    options.limits(),
+                )?))
+            }
             Some(path) => path,
         };
-        let mut opened = saved::Options::new();
-        opened.limits(options.limits());
-        if let Some(time) = options.every {
-            opened.every(time);
-        }
         Ok(Kept::File {
-            saved: opened.open(path)?,
+            saved: open_files(options, path)?,
             each: options.every.is_none(),
         })
     }
 
-    pub fn pass(&self) -> bestore::Result<Pass> {
+    pub fn pass(&self) -> bestore::Result<ShelfPass> {
         match self {
-            Kept::Memory(store) => store.pass(),
+            Kept::Memory(shelf) => shelf.pass(),
             Kept::File { saved, .. } => saved.pass(),
         }
     }
@@ -61,18 +62,31 @@ impl Kept {
         Ok(self.saved()?.compact()?)
     }
 
-    fn saved(&self) -> Result<&Saved, Failure> {
+    fn saved(&self) -> Result<&SavedShelf, Failure> {
         match self {
             Kept::Memory(_) => Err(Failure::new("NotKept", "the server keeps no file")),
             Kept::File { saved, .. } => Ok(saved),
         }
     }
 
-    /// Saves what was written. The file is closed when the store is dropped.
+    /// Saves what was written. The files are closed when the store is dropped.
     pub fn finish(&self) -> saved::Result<()> {
         match self {
             Kept::Memory(_) => Ok(()),
             Kept::File { saved, .. } => saved.flush(),
         }
+    }
+}
+
+/// Opens the file of one store, or the folder of several volumes.
+fn open_files(options: &Options, path: &Path) -> saved::Result<SavedShelf> {
+    let mut opened = saved::Options::new();
+    opened.limits(options.limits());
+    if let Some(time) = options.every {
+        opened.every(time);
+    }
+    match options.volumes {
+        None | Some(1) if !path.is_dir() => SavedShelf::of_volumes(vec![opened.open(path)?]),
+        volumes => opened.open_shelf(path, volumes),
     }
 }

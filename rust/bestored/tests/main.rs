@@ -9,3 +9,4 @@ mod memory;
 mod pages;
 mod protocol;
 mod socket;
+mod volumes;
