@@ -198,24 +198,15 @@ fi
 python3 manual.py | cmp - ../docs/bestore.3
 (cd ../python && run_if_there types mypy --cache-dir="$work/mypy")
 
-# The query window, on a display in memory, and what it uses.
-unset DISPLAY
+run "examples in Python" "${python[@]}" -m unittest discover -q -s ../examples/python
+
+# The query window, on a display in memory, and what it uses. Over a server it is tried by rust/test.sh.
 window="what the query window uses"
 if ! command -v Xvfb >/dev/null; then
     echo "the query window: skipped, there is no Xvfb"
 elif ! python3 -c 'import tkinter' 2>/dev/null; then
     echo "the query window: skipped, python3 has no Tk"
 else
-    : >"$work/display"
-    Xvfb -displayfd 3 -nolisten tcp 3>"$work/display" 2>/dev/null &
-    server=$!
-    trap 'kill $server 2>/dev/null; rm -rf "$work"' EXIT
-    for _ in {1..100}; do [ -s "$work/display" ] || sleep 0.1; done
-    if [ -s "$work/display" ]; then
-        export DISPLAY=":$(<"$work/display")"
-        window="the query window, and what it uses"
-    else
-        echo "the query window: skipped, Xvfb gives no display"
-    fi
+    window="the query window, and what it uses"
 fi
-run "$window" "${python[@]}" -m unittest discover -q -s ../examples/python
+run "$window" "${python[@]}" -m unittest discover -q -s ../python/window_tests

@@ -1,7 +1,4 @@
-"""Makes a picture of the query window, on a display in memory: needs Xvfb.
-
-    PYTHONPATH=python python3 examples/python/screenshot.py FILE.png FOLDER [QUERY]
-"""
+"""A display in memory, by Xvfb, and pictures of it."""
 
 from __future__ import annotations
 
@@ -10,14 +7,12 @@ import os
 import shutil
 import struct
 import subprocess
-import sys
 import tempfile
 import time
 import zlib
-from typing import Iterator, List, NamedTuple
+from typing import Iterator, NamedTuple
 
 SIZE = "940x560"
-PROGRAM = os.path.join(os.path.dirname(os.path.abspath(__file__)), "queries.py")
 
 
 class Screen(NamedTuple):
@@ -28,13 +23,13 @@ class Screen(NamedTuple):
 
 
 @contextlib.contextmanager
-def display() -> Iterator[Screen]:
+def display(size: str = SIZE) -> Iterator[Screen]:
     """A display in memory, which goes at the end of the `with`."""
     server = shutil.which("Xvfb")
     if server is None:
         raise FileNotFoundError("Xvfb isn't installed")
     with tempfile.TemporaryDirectory() as folder:
-        words = [server, "-displayfd", "1", "-screen", "0", f"{SIZE}x24", "-fbdir", folder, "-nolisten", "tcp"]
+        words = [server, "-displayfd", "1", "-screen", "0", f"{size}x24", "-fbdir", folder, "-nolisten", "tcp"]
         with subprocess.Popen(words, stdout=subprocess.PIPE, stderr=subprocess.DEVNULL, text=True) as running:
             try:
                 assert running.stdout is not None
@@ -76,24 +71,3 @@ def png(screen: bytes) -> bytes:
         b"\x89PNG\r\n\x1a\n", chunk(b"IHDR", struct.pack(">IIBBBBB", width, height, 8, 2, 0, 0, 0)),
         chunk(b"IDAT", zlib.compress(b"".join(rows), 9)), chunk(b"IEND", b""),
     ])
-
-
-def main(words: List[str]) -> int:
-    if not 2 <= len(words) <= 3:
-        print(__doc__, file=sys.stderr)
-        return 2
-    with display() as screen:
-        program = [sys.executable, PROGRAM, *words[1:]]
-        with subprocess.Popen(program, env={**os.environ, "DISPLAY": screen.name}) as window:
-            pixels = drawn(screen.path)
-            has_ended = window.poll() is not None
-            window.terminate()
-    if has_ended:
-        return 1
-    with open(words[0], "wb") as file:
-        file.write(png(pixels))
-    return 0
-
-
-if __name__ == "__main__":
-    sys.exit(main(sys.argv[1:]))
