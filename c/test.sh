@@ -64,7 +64,7 @@ for test in "${tests[@]}"; do
     run "C, $test" "$work/$test"
 done
 build -O2 sizes.c -o "$work/sizes"
-run "C, sizes" "$work/sizes"
+run_if_there "C, sizes" python3 ../tools/try-sizes --c "$work/sizes"
 cc -std=c11 "${warn[@]}" -I../include test.c -L. -lbestore -lpthread -o "$work/shared"
 run "C, shared object" env LD_LIBRARY_PATH=. "$work/shared"
 
