@@ -1,4 +1,6 @@
 """The table of what grows, tools/growth.txt, and the sizes at which it is tried."""
+from __future__ import annotations
+
 import re
 from pathlib import Path
 from typing import Iterator, NamedTuple
