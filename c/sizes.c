@@ -13,7 +13,16 @@ static uint8_t told[MOST_BYTES];
 static bes_batch batch;
 static bes_operation listed[LONGEST_BATCH];
 
-#define AT_EACH_SIZE for (uint64_t at_ = 0, size; at_ < sizes_count && (size = sizes[at_], true); at_++)
+/* The size that is tried, which a failed check ends with. */
+static uint64_t tried;
+
+#define AT_EACH_SIZE for (uint64_t at_ = 0, size; at_ < sizes_count && (tried = size = sizes[at_], true); at_++)
+
+static void print_size(void)
+{
+    if (tried > 0)
+        fprintf(stderr, "at size %d\n", (int)tried);
+}
 
 static uint64_t write_list(bes_pass *pass)
 {
@@ -603,9 +612,11 @@ int main(int count, char **words)
 {
     for (int i = 2; i < count; i++)
         add_sizes(words[i]);
+    atexit(print_size);
     for (size_t i = 0; count > 2 && i < sizeof rows / sizeof *rows; i++)
         if (strcmp(rows[i].name, words[1]) == 0) {
             rows[i].run();
+            tried = 0;
             return 0;
         }
     fprintf(stderr, "usage: %s ROW SIZE...\n", words[0]);
