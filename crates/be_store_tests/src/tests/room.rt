@@ -5,7 +5,7 @@ use crate::tests::calls::{Text, answer, write};
 use crate::tests::carrying::carry_meanwhile;
 use crate::tests::conditional::answer_beside;
 use crate::tests::races::{closed, journal_of, make_both};
-use crate::tests::states::state_text;
+use crate::tests::states::{nodes_from, state_text};
 use be_store::{Journal, Limits, Live, Op, Pass, Refusal, Store, parse};
 use be_testing::{Answers, answer_lines, both_of};
 use std::alloc::Global;
@@ -191,6 +191,16 @@ impl Room {
             Err(Refusal::OutOfMemory) => self.state_once(alloc),
             text => text,
         }
+    }
+
+    /// So many nodes from a number on, at most.
+    pub(crate) fn nodes(
+        &mut self,
+        alloc: Global,
+        from: u64,
+        most: usize,
+    ) -> Result<Vec<u64>, Refusal> {
+        nodes_from(&self.store, alloc, &mut self.first, from, most)
     }
 
     fn watch(&mut self, alloc: Global, text: &str) -> Text {
