@@ -1,7 +1,7 @@
 //! A store with its passes, which replies to requests. What is known of them is its invariant, so that no method has a
 //! clause.
 
-use crate::tests::calls::{Text, answer, write};
+use crate::tests::calls::{Text, answer, ask_again, write};
 use crate::tests::carrying::carry_meanwhile;
 use crate::tests::conditional::answer_beside;
 use crate::tests::races::{closed, journal_of, make_both};
@@ -208,6 +208,14 @@ impl Room {
         Ok(String::from_str(alloc, "ok")?)
     }
 
+    /// What the live query finds at the pin of pass 0.
+    fn again(&mut self, alloc: Global) -> Text {
+        match &mut self.live {
+            Some(live) => ask_again(&self.store, alloc, &mut self.first, live),
+            None => Err(Refusal::BadLimits),
+        }
+    }
+
     fn answer(&mut self, alloc: Global, request: &str) -> Text {
         let (who, words) = request.split_once(" ").unwrap_or((request, ""));
         match who {
@@ -215,6 +223,7 @@ impl Room {
             "1" => self.answer_second(alloc, words),
             "head" => first_line(alloc, self.answer_first(alloc, words)),
             "live" => self.watch(alloc, words),
+            "again" => self.again(alloc),
             "seen" => seen_text(alloc, self.seen()),
             "meet" => met_text(alloc, self.meet()),
             "state" => self.state(alloc),
