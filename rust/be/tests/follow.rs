@@ -130,7 +130,7 @@ fn a_file_that_leaves_the_folder_goes_and_may_come_back() {
 
 #[test]
 fn many_changes_at_once_are_followed() {
-    let server = server!(Server::start());
+    let server = server!(Server::start_with(&["--pages", "1024", "--volumes", "3"]));
     let folder = Folder::new();
     let _follower = Follower::start(&server, &folder);
     for number in 0..400 {

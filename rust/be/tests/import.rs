@@ -477,6 +477,54 @@ fn the_tools_take_paths() {
 }
 
 #[test]
+fn files_are_spread_over_volumes_and_stay_there() {
+    let server = server!(Server::start_with(&["--pages", "256", "--volumes", "4"]));
+    let folder = small();
+    for number in 0..400 {
+        folder.folder(&format!("d{}/e", number % 30));
+        folder.file(&format!("d{}/e/f{number}", number % 30), "");
+    }
+    assert_eq!(server.import(&folder), [466, 0, 0, 0]);
+    let spread = server.spread(4);
+    assert_eq!(spread.iter().sum::<usize>(), 466);
+    assert!(spread.iter().all(|count| (80..160).contains(count)), "{spread:?}");
+    assert_eq!(server.import(&folder), [0; 4]);
+    assert_eq!(server.paths("name==\"*\""), folder.paths());
+    (0..30).for_each(|number| folder.rename(&format!("d{number}"), &format!("g{number}")));
+    let [new, _, renamed, removed] = server.import(&folder);
+    assert_eq!((new, renamed, removed), (0, 30, 0));
+    assert_eq!(server.spread(4), spread);
+    assert_eq!(server.paths("name==\"*\""), folder.paths());
+    server.done(&[
+        "addattr",
+        "mark",
+        "x",
+        &folder.word("g7/e"),
+        &folder.word("g8"),
+        &folder.word("z"),
+    ]);
+    assert_eq!(server.value("mark", &folder.path("g8")), "x");
+
+    // What one has no room for, the others take, until all are full.
+    (0..1000).for_each(|number| drop(folder.file(&format!("h{number}"), "")));
+    let said = server.be(&["import", "--json", &folder.all()]);
+    let read: serde_json::Value = serde_json::from_str(&said.out).unwrap();
+    assert_eq!(
+        (
+            said.status,
+            read["files"].as_u64().unwrap() + read["left"].as_u64().unwrap()
+        ),
+        (1, 1466)
+    );
+    assert!(said.error.contains("bestored --volumes 4 --pages 512 has room"), "{said:?}");
+    assert!(
+        server.spread(4).iter().all(|count| *count > 150),
+        "{:?}",
+        server.spread(4)
+    );
+}
+
+#[test]
 fn queries_find_what_find_finds() {
     let server = server!(Server::start());
     let folder = Folder::new();

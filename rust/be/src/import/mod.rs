@@ -163,7 +163,11 @@ fn make_indices(client: &mut Client) -> Result<BTreeMap<String, Kind>, Failure> 
             Some(_) => {}
         }
     }
-    Ok(kinds(server::indices(client)?))
+    let all = kinds(server::indices(client)?);
+    for (name, _) in INDICES.iter().filter(|(name, _)| !all.contains_key(*name)) {
+        complain(&format!("warning: not each volume has the index {name} with one type"));
+    }
+    Ok(all)
 }
 
 /// A sign on a terminal that something goes on, with a count.

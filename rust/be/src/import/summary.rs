@@ -53,6 +53,7 @@ pub struct Summary {
     /// How many pages the store has, and how many of them are used.
     pub pages: u64,
     pub used: u64,
+    pub volumes: u64,
     #[serde(serialize_with = "count")]
     pub unread: Vec<Unread>,
     /// Files of which the store refused something, or which refused an attribute, and why.
@@ -142,7 +143,7 @@ impl Summary {
             ));
         }
         if self.left > 0 {
-            let help = what_helps(self.files, self.left, self.pages, self.used);
+            let help = what_helps(self.files, self.left, self.pages, self.used, self.volumes);
             complain(&format!(
                 "the store is full: {} files are in it, and {} are not\n  {help}",
                 self.files, self.left
@@ -152,20 +153,20 @@ impl Summary {
 }
 
 /// What would take all files, by what those in the store take.
-fn what_helps(files: usize, left: usize, pages: u64, used: u64) -> String {
-    let (files, left) = (files.max(1) as u64, left as u64);
+fn what_helps(files: usize, left: usize, pages: u64, used: u64, volumes: u64) -> String {
+    let (files, left, volumes) = (files.max(1) as u64, left as u64, volumes.max(1));
     // A tenth more, since files differ.
     let needed = (used * (files + left) / files * 11 / 10).max(pages + 1);
-    match needed <= MOST_PAGES {
-        true => format!(
-            "bestored --pages {} has room for all",
-            needed.next_power_of_two().min(MOST_PAGES)
-        ),
-        false => {
+    let each = (needed + volumes - 1) / volumes;
+    let words = match (each <= MOST_PAGES, volumes) {
+        (true, 1) => format!("--pages {}", each.next_power_of_two().min(MOST_PAGES)),
+        (true, _) => format!("--volumes {volumes} --pages {}", each.next_power_of_two().min(MOST_PAGES)),
+        (false, _) => {
             let volumes = (needed + MOST_PAGES - 1) / MOST_PAGES;
-            format!("bestored --volumes {volumes} --pages {MOST_PAGES} has room for all")
+            format!("--volumes {volumes} --pages {MOST_PAGES}")
         }
-    }
+    };
+    format!("bestored {words} has room for all")
 }
 
 fn complain_of<'a>(list: impl ExactSizeIterator<Item = (&'a Path, String)>, what: &str) {
@@ -185,17 +186,21 @@ mod tests {
     #[test]
     fn what_helps_has_room_for_all() {
         assert_eq!(
-            what_helps(100, 100, 1024, 1000),
+            what_helps(100, 100, 1024, 1000, 1),
             "bestored --pages 4096 has room for all"
         );
         assert_eq!(
-            what_helps(100, 10, 1024, 1000),
+            what_helps(100, 10, 1024, 1000, 1),
             "bestored --pages 2048 has room for all"
         );
         assert_eq!(
-            what_helps(14_000, 46_000, 16_384, 16_000),
+            what_helps(100, 100, 1024, 1000, 4),
+            "bestored --volumes 4 --pages 1024 has room for all"
+        );
+        assert_eq!(
+            what_helps(14_000, 46_000, 16_384, 16_000, 1),
             "bestored --volumes 5 --pages 16384 has room for all"
         );
-        assert_eq!(what_helps(0, 5, 8, 8), "bestored --pages 64 has room for all");
+        assert_eq!(what_helps(0, 5, 8, 8, 1), "bestored --pages 64 has room for all");
     }
 }

@@ -10,7 +10,7 @@ use super::volume::{Made, New, Volume};
 use super::walk::{Found, Unread, Walked};
 use super::{bar, Import};
 use crate::failure::{message, Failure};
-use bestore::Batch;
+use bestore::{Batch, Node};
 use bestore_client::Error;
 use std::collections::{BTreeMap, HashMap, HashSet};
 use std::path::{Path, PathBuf};
@@ -21,9 +21,6 @@ const SLICE: usize = 8_192;
 
 /// The most operations of a batch.
 const OPERATIONS: usize = 64;
-
-/// The nodes of one volume are below the first one of the next.
-const VOLUME: u64 = 100_000_000_000_000;
 
 /// About so many entries of the store's trees does a page have.
 const ENTRIES: u64 = 8;
@@ -215,7 +212,7 @@ impl Import<'_> {
             let mut batch = Batch::new();
             let first = at;
             while at < edits.len()
-                && edits[at].node / VOLUME == edits[first].node / VOLUME
+                && volume_of(&edits[at]) == volume_of(&edits[first])
                 && (at == first || batch.len() + edits[at].edits.len() <= OPERATIONS)
             {
                 edits[at].add_to(&mut batch);
@@ -287,10 +284,15 @@ impl Import<'_> {
     fn look(&mut self, summary: &mut Summary) -> Result<(), Failure> {
         self.volumes.iter_mut().try_for_each(Volume::look)?;
         summary.files = self.tree.files.len();
+        summary.volumes = self.volumes.len() as u64;
         summary.pages = self.volumes.iter().map(|volume| volume.pages).sum();
         summary.used = self.volumes.iter().map(|volume| volume.pages - volume.free).sum();
         Ok(())
     }
+}
+
+fn volume_of(edits: &Edits) -> u32 {
+    Node::from(edits.node).volume
 }
 
 /// The folders by how deep they are, the least deep first.

@@ -3,15 +3,19 @@
 use crate::failure::{message, Failure};
 use crate::server;
 use bestore::{Batch, Value, Written};
-use bestore_client::wire::Next;
+use bestore_client::wire::{Command, Next, Nothing};
 use bestore_client::{Client, Error};
 use std::collections::BTreeMap;
 use std::path::PathBuf;
+use std::sync::{Arc, Mutex, MutexGuard};
 use std::thread;
 use std::time::Duration;
 
 /// The most operations of a batch.
 const OPERATIONS: usize = 64;
+
+/// The most connections, which the volumes share: a server has 62 at most.
+const CONNECTIONS: u32 = 8;
 
 /// How many batches are written until the volume is asked again how full it is.
 const LOOK: u32 = 16;
@@ -40,9 +44,11 @@ pub struct Made {
     pub refused: Vec<(PathBuf, String)>,
 }
 
-/// A volume, with a connection of its own.
+/// A volume, and a connection to its server that it may share with others.
 pub struct Volume {
-    client: Client,
+    client: Arc<Mutex<Client>>,
+    /// Its number, if the server has several.
+    number: Option<u32>,
     /// Its commit number, and the number of its next node, as far as is known.
     commit: u64,
     next: u64,
@@ -55,39 +61,65 @@ pub struct Volume {
 impl Volume {
     /// The volumes of a server.
     pub fn all(connect: &dyn Fn() -> Result<Client, Failure>) -> Result<Vec<Self>, Failure> {
-        let mut volume = Self {
-            client: connect()?,
+        let mut first = connect()?;
+        let count = first.hello()?.volumes;
+        let mut clients = vec![Arc::new(Mutex::new(first))];
+        for _ in 1..count.min(CONNECTIONS) {
+            clients.push(Arc::new(Mutex::new(connect()?)));
+        }
+        let mut volumes: Vec<Self> = (0..count)
+            .zip(clients.iter().cycle())
+            .map(|(number, client)| Self::new(Arc::clone(client), (count > 1).then_some(number)))
+            .collect();
+        for volume in &mut volumes {
+            volume.look()?;
+            volume.meet()?;
+        }
+        Ok(volumes)
+    }
+
+    fn new(client: Arc<Mutex<Client>>, number: Option<u32>) -> Self {
+        Self {
+            client,
+            number,
             commit: 0,
             next: 0,
             pages: 0,
             free: 0,
             is_full: false,
             batches: 0,
-        };
-        volume.look()?;
-        volume.meet()?;
-        Ok(vec![volume])
+        }
+    }
+
+    fn client(&self) -> MutexGuard<'_, Client> {
+        self.client.lock().expect("a writer ends")
     }
 
     /// Asks how full the volume is.
     pub fn look(&mut self) -> Result<(), Failure> {
-        let status = self.client.status()?;
-        (self.pages, self.free) = (status.pages, status.free);
+        let status = self.client().status()?;
+        let of_volume = self.number.and_then(|number| status.volumes.get(number as usize));
+        (self.pages, self.free) = of_volume.map_or((status.pages, status.free), |it| (it.pages, it.free));
         self.is_full = self.free * RESERVE < self.pages;
         Ok(())
     }
 
     /// Asks for the commit number and the next node.
     fn meet(&mut self) -> Result<(), Failure> {
-        let next: Next = self
-            .client
-            .call(bestore_client::wire::Command::Next(bestore_client::wire::Nothing {}))?;
-        (self.commit, self.next) = (next.commit, next.next);
+        let next: Next = self.client().call(Command::Next(Nothing {}))?;
+        let at = self.number.map_or(0, |number| number as usize);
+        self.commit = next.commits.get(at).copied().unwrap_or(next.commit);
+        self.next = next.nexts.get(at).copied().unwrap_or(next.next);
         Ok(())
     }
 
+    /// Writes the batch if nobody else has written this volume since it was met.
     fn write(&mut self, batch: &Batch) -> Result<Written, Error> {
-        self.client.apply_if(self.commit, batch)
+        let mut client = self.client();
+        match self.number {
+            Some(number) => client.apply_in_if(number, self.commit, batch),
+            None => client.apply_if(self.commit, batch),
+        }
     }
 
     /// Makes nodes for the files, as many at a time as a batch takes, and calls `done` with how many were made.
@@ -148,7 +180,7 @@ impl Volume {
                     self.commit = written.number;
                     self.next += files.len() as u64;
                     if let Some(rest) = rest {
-                        server::apply(&mut self.client, &rest)?;
+                        server::apply(&mut self.client(), &rest)?;
                         self.meet()?;
                     }
                     return Ok(written.nodes);

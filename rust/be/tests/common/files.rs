@@ -112,6 +112,16 @@ impl Server {
         said.out
     }
 
+    /// How many nodes each volume has, by the nodes that are printed.
+    pub fn spread(&self, volumes: usize) -> Vec<usize> {
+        let mut spread = vec![0; volumes];
+        for line in self.done(&["query", "name==*"]).lines() {
+            let node: u64 = line.parse().unwrap();
+            spread[bestore::Node::from(node).volume as usize] += 1;
+        }
+        spread
+    }
+
     /// How many entries the journal has.
     pub fn entries(&self) -> u64 {
         let status: serde_json::Value = serde_json::from_str(&self.done(&["status", "--json"])).unwrap();
