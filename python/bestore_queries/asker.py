@@ -13,7 +13,7 @@ import bestore
 from . import columns, find
 from .places import PLACE_NAMES, Places
 from .sorted_hits import Hit, Node
-from .sources import LiveAnswer, Numbers, Session, Source, numbers_of
+from .sources import LiveAnswer, Numbers, Session, Source
 
 SLICE = 1_000   # hits that are read of one snapshot
 REPORTED = 100  # hits of one report, so that the window needs little time for it
@@ -129,7 +129,7 @@ class _Following:
     def refresh(self, version: bestore.Version, changed: Iterable[Node]) -> List[Node]:
         """Goes on to a snapshot, in which these nodes may have other attributes. Returns which hits went that were reported."""
         came, went = self.live.refresh(version)
-        self.seen = numbers_of(version)
+        self.seen = version.numbers
         reported = [node for node in went if node not in self.waiting]
         for node in went:
             self.waiting.pop(node, None)
@@ -286,7 +286,7 @@ class Asker(threading.Thread):
     def _follow(self, session: Session, following: _Following, version: bestore.Version) -> List[Report]:
         """What there is to report of a snapshot."""
         turn, reports = following.ask.turn, []  # type: int, List[Report]
-        is_new = numbers_of(version) != following.seen
+        is_new = version.numbers != following.seen
         if is_new:
             went = following.refresh(version, self._changed(session, following, version))
             if went:

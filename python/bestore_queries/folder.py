@@ -17,7 +17,7 @@ INDICES = {
     "MAIL:when": bestore.INT64, "MAIL:status": bestore.STRING,
 }
 RESERVE = 48
-"""Pages of the store that no new file takes, so that files can still change and go."""
+"""Pages of a volume that no new file takes, so that files can still change and go."""
 
 
 def type_of(name: str) -> str:
@@ -156,8 +156,7 @@ class FolderReader(threading.Thread):
         files, self._waiting = self._waiting, []
         try:
             self._commit(files)
-            status = self._user.status()
-            self._is_full = status.free + status.retired < RESERVE
+            self._is_full = all(it.free + it.retired < RESERVE for it in self._user.statuses())
         except bestore.Full:
             self._is_full = True
             for file in files:
@@ -177,7 +176,17 @@ class FolderReader(threading.Thread):
                 self._remove(gone[half:])
 
     def _commit(self, files: List[Waiting]) -> None:
-        nodes = self._user.change(lambda change: [self._file(change, it) for it in files]) if files else []
+        """Writes files, each volume by a change of its own. New files go into the volume that has most room."""
+        parts: Dict[Optional[int], List[Waiting]] = {}
+        for file in files:
+            known = self._known.get(file.path)
+            parts.setdefault(None if known is None else bestore.volume_of(known.node), []).append(file)
+        for part in parts.values():
+            self._commit_part(part)
+
+    def _commit_part(self, files: List[Waiting]) -> None:
+        """Writes files of one volume."""
+        nodes = self._user.change(lambda change: [self._file(change, it) for it in files])
         for file, node in zip(files, nodes):
             if file.about is None:
                 self._known.pop(file.path, None)

@@ -2,17 +2,22 @@
 
 from __future__ import annotations
 
+import math
 from abc import ABC, abstractmethod
-from typing import Any, Dict, Iterator, List, NamedTuple, Optional, Set, Tuple
+from typing import Iterator, List, NamedTuple, Optional, Set, Tuple
 
 import bestore
 from bestore.connected import ConnectedPass, Watch
+from bestore.shelf import MOST_VOLUMES
 
 from . import own_server
-from .folder import INDICES, FolderReader
+from .folder import INDICES, FolderReader, files_below
 from .sorted_hits import Node
 
-MANY = 5_000  # entries of the journal that are read for what they set
+MANY = 5_000           # entries of the journal that are read for what they set
+MOST_PAGES = 16_384    # of a volume
+PAGES_OF_A_FILE = 1.1  # with five attributes, all indexed
+GROWTH = 1.3           # how many more files than there are at first have room
 
 
 class Condition(NamedTuple):
@@ -24,12 +29,6 @@ class Condition(NamedTuple):
 
 Numbers = Tuple[int, ...]
 """The commit number of each volume of a store."""
-
-
-def numbers_of(version: bestore.Version) -> Numbers:
-    """Up to which commits a snapshot has the store."""
-    numbers: Numbers = getattr(version, "numbers", (version.number,))
-    return numbers
 
 
 class LiveAnswer(ABC):
@@ -59,19 +58,18 @@ class Session(ABC):
 
     def written(self, since: Numbers, version: bestore.Version) -> Optional[Set[Node]]:
         """The nodes whose attributes were set after these commits and up to a snapshot. None if that is too much to be read."""
-        now = numbers_of(version)
+        now = version.numbers
         if len(now) != len(since) or sum(now) - sum(since) > MANY:
             return None
         nodes: Set[Node] = set()
         for volume, (first, last) in enumerate(zip(since, now)):
-            for entry in self._entries(volume, first, last, len(now) > 1):
+            for entry in self._entries(volume if len(now) > 1 else None, first, last):
                 nodes.update(it.node for it in entry.operations if isinstance(it, (bestore.SetAttribute, bestore.UnsetAttribute)))
         return nodes
 
-    def _entries(self, volume: int, first: int, last: int, is_one_of_several: bool) -> Iterator[bestore.Entry]:
+    def _entries(self, volume: Optional[int], first: int, last: int) -> Iterator[bestore.Entry]:
         """What was written to a volume from a commit to another one."""
-        which: Dict[str, Any] = {"volume": volume} if is_one_of_several else {}
-        for entry in self.user.journal_from(first, **which) if first < last else ():
+        for entry in self.user.journal_from(first, volume=volume) if first < last else ():
             if entry.number > last:
                 break
             yield entry
@@ -152,40 +150,52 @@ class _ServerSession(Session):
         return self._commits.wait(0) is not None
 
 
-class FolderSource(Source):
-    """A store in this process, with the files of a folder."""
+def size_for(files: int) -> Tuple[int, int]:
+    """How many volumes a store needs for so many files and some more, and of how many pages each."""
+    pages = 4096 + math.ceil(files * PAGES_OF_A_FILE * GROWTH)
+    volumes = min(math.ceil(pages / MOST_PAGES), MOST_VOLUMES)
+    return volumes, min(math.ceil(pages / volumes), MOST_PAGES)
 
-    def __init__(self, folder: str, pages: int = 16384, pause: float = 1.0) -> None:
-        self.title, self._folder = folder, folder
-        self._store = bestore.open(pages, 3)
-        batch = bestore.Batch()
-        for name, kind in INDICES.items():
-            batch.make_index(name, kind)
-        self._store.apply(batch)
-        self.reader = FolderReader(self._store.another(), folder, pause)
-        self._user = self._store.another()
+
+class FolderSource(Source):
+    """A store in this process, with the files of a folder. It is made at the first opening, for as many files as there are then."""
+
+    def __init__(self, folder: str, pages: Optional[int] = None, pause: float = 1.0) -> None:
+        self.title, self._folder, self._pages, self._pause = folder, folder, pages, pause
+        self._store: Optional[bestore.Pass] = None
+        self.reader: Optional[FolderReader] = None
+        """What reads the folder, once the store was opened."""
 
     def open(self) -> Session:
-        if not self.reader.is_alive() and self.reader.rounds == 0:
+        if self._store is None:
+            volumes, pages = size_for(sum(1 for _ in files_below(self._folder))) if self._pages is None else (1, self._pages)
+            self._store = bestore.open_shelf(volumes, pages, 3)
+            for name, kind in INDICES.items():
+                self._store.make_index(name, kind)
+            self.reader = FolderReader(self._store.another(), self._folder, self._pause)
             self.reader.start()
-        return _FolderSession(self._user)
+        return _FolderSession(self._store.another())
 
     @property
     def condition(self) -> Condition:
         reader = self.reader
+        if reader is None:
+            return Condition("reading the folder")
         if reader.fault is not None:
             return Condition(f"The folder is no longer followed: {reader.fault}", True)
         if reader.is_gone:
             return Condition(f"The folder {self._folder} can't be read: what is shown is what it had", True)
         if reader.left_out:
             return Condition(
-                f"The store is full: {len(reader):,} files are in, and {reader.left_out:,} aren't. A server with "
-                "--volumes has room for more, by be import", True)
+                f"The store is full: {len(reader):,} files are in, and {reader.left_out:,} aren't. Open the window again, and it "
+                "makes room for all", True)
         return Condition("following the folder" if reader.rounds else "reading the folder")
 
     def close(self) -> None:
-        self.reader.end()
-        self._store.close()
+        if self.reader is not None:
+            self.reader.end()
+        if self._store is not None:
+            self._store.close()
 
 
 class ServerSource(Source):

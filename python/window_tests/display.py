@@ -8,7 +8,6 @@ import shutil
 import struct
 import subprocess
 import tempfile
-import time
 import zlib
 from typing import Iterator, NamedTuple
 
@@ -41,17 +40,6 @@ def display(size: str = SIZE) -> Iterator[Screen]:
 def pixels_of(path: str) -> bytes:
     with open(path, "rb") as file:
         return file.read()
-
-
-def drawn(path: str, seconds: float = 2, most: float = 120) -> bytes:
-    """The pixels of a screen, once something was drawn on it and has stayed the same for so long."""
-    end, last, since = time.monotonic() + most, pixels_of(path), float("inf")
-    while time.monotonic() < end and time.monotonic() < since + seconds:
-        time.sleep(0.1)
-        pixels = pixels_of(path)
-        if pixels != last:
-            last, since = pixels, time.monotonic()
-    return last
 
 
 def png(screen: bytes) -> bytes:

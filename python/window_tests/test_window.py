@@ -6,7 +6,7 @@ import os
 import stat
 import tempfile
 import unittest
-from typing import List
+from typing import Dict, List
 from unittest import mock
 
 import bestore
@@ -110,7 +110,7 @@ class Faults(OverStore):
         self.becomes(window, lambda: window.notice.winfo_viewable() == 1)
         reader = window._source.reader  # type: ignore[attr-defined]
         self.becomes(window, lambda: reader.rounds > 0 and str(window.notice["text"]).startswith(
-            f"The store is full: {len(reader):,} files are in, and {500 - len(reader):,} aren't. A server"))
+            f"The store is full: {len(reader):,} files are in, and {500 - len(reader):,} aren't. Open the window again"))
         self.assertEqual((str(window.notice["background"]), str(window.notice["foreground"])), (theme.FAULT_PAPER, theme.FAULT))
         self.assertNotIn("following", str(window.state["text"]))
 
@@ -429,8 +429,10 @@ class Listing(OverStore):
 class OverServer(OnDisplay):
     """A window over the store of a server."""
 
+    options: List[object] = []
+
     def setUp(self) -> None:
-        self.server = servers.Server()
+        self.server = servers.Server(*self.options)
         self.addCleanup(self.server.close)
         self.store = self.server.connect()
         self.addCleanup(self.store.close)
@@ -439,9 +441,13 @@ class OverServer(OnDisplay):
     def make_files(self) -> None:
         for name, kind in INDICES.items():
             self.store.make_index(name, kind)
-        root = file_of(self.store, **{"name": "home", "FILE:root": "/home", "BEOS:TYPE": "inode/directory"})
-        for name in ("b", "a"):
-            file_of(self.store, **{"name": name, "size": 5, "FILE:parent": root})
+        home: Dict[str, bestore.Value] = {"name": "home", "FILE:root": "/home", "BEOS:TYPE": "inode/directory"}
+        self.home = file_of(self.store, **home)
+        self.nodes = [self.make_file(name, 5) for name in ("b", "a")]
+
+    def make_file(self, name: str, size: int) -> int:
+        values: Dict[str, bestore.Value] = {"name": name, "size": size, "FILE:parent": self.home}
+        return file_of(self.store, **values)
 
     def test_follows(self) -> None:
         self.make_files()
@@ -449,13 +455,13 @@ class OverServer(OnDisplay):
         window.ask("size>=0")
         self.becomes(window, lambda: [(row[0], row[4]) for row in window.list.shown()] == [("a", "/home"), ("b", "/home")])
         self.assertIn("2 of 3", str(window.state["text"]))
-        file_of(self.store, **{"name": "c", "size": 6, "FILE:parent": 1})
+        added = self.make_file("c", 6)
         self.shows(window, "a", "b", "c")
-        self.store.set(2, "name", "z")
+        self.store.set(self.nodes[0], "name", "z")
         self.shows(window, "a", "c", "z")
-        self.store.set(1, "FILE:root", "/house")  # the folder was renamed
+        self.store.set(self.home, "FILE:root", "/house")  # the folder was renamed
         self.becomes(window, lambda: {row[4] for row in window.list.shown()} == {"/house"})
-        self.store.remove_node(4)
+        self.store.remove_node(added)
         self.shows(window, "a", "z")
         self.assertNotRegex(str(window.state["text"]), "score|version")
 
@@ -506,6 +512,25 @@ class OverServer(OnDisplay):
             source.close()
             with self.assertRaises(bestore.NoServer):
                 bestore.connect(socket)
+
+
+class OverVolumes(OverServer):
+    """The same over a server with several volumes."""
+
+    options = ["--volumes", 3]
+
+    def test_spread(self) -> None:
+        """The files lie in several volumes, and each is followed."""
+        self.make_files()
+        window = self.show(ServerSource(self.server.path), saved=self.saved)
+        names = [f"{number:02}" for number in range(12)]
+        made = [self.make_file(name, 50) for name in names]
+        window.ask("size==50")
+        self.shows(window, *names)
+        self.assertEqual({bestore.volume_of(node) for node in made}, {0, 1, 2})
+        for node, name in zip(made[:6], "abcdef"):
+            self.store.set(node, "name", name)
+        self.shows(window, *names[6:], *"abcdef")
 
 
 if __name__ == "__main__":
