@@ -10,6 +10,7 @@
 
 mod counting;
 mod ranges;
+mod sizes;
 
 ghost use Rattle.std.specs.Prelude.{◌≡◌, true, IfOk};
 ghost use Rattle.be_volume.specs.Volume.{State};
