@@ -60,6 +60,11 @@ fn server_program() -> Option<PathBuf> {
 impl Server {
     /// Starts a server. `None`, and a line that says so, if it isn't built.
     pub fn start() -> Option<Self> {
+        Self::start_with(&[])
+    }
+
+    /// Starts a server with these options too.
+    pub fn start_with(options: &[&str]) -> Option<Self> {
         static STARTED: AtomicU32 = AtomicU32::new(0);
         let program = match server_program() {
             Some(program) => program,
@@ -76,6 +81,7 @@ impl Server {
             .arg("--socket")
             .arg(folder.join("socket"))
             .args(["--pages", "1024"])
+            .args(options)
             .spawn()
             .unwrap();
         let server = Self { child, folder };
