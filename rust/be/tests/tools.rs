@@ -286,14 +286,12 @@ fn exit_statuses_are_those_of_the_page() {
         &["query", "--watch", "--limit", "5", "a==1"],
         &["addattr", "name"],
         &["addattr", "name", "value"],
-        &["addattr", "name", "value", "node"],
         &["addattr", "--new", "name", "value", "1"],
         &["addattr", "-t", "float", "name", "value", "1"],
         &["catattr", "name"],
         &["catattr", "name", "-1"],
         &["rmindex", "a", "b"],
         &["rmnode"],
-        &["rmnode", "node"],
         &["status", "--table"],
     ] {
         let said = none(words);
@@ -307,7 +305,7 @@ fn exit_statuses_are_those_of_the_page() {
 
 #[test]
 fn the_tools_work_over_volumes() {
-    let server = server!(Server::start_with(&["--volumes", "2"]));
+    let server = server!(Server::start_with(&["--pages", "1024", "--volumes", "2"]));
     server.done(&["mkindex", "-t", "int64", "size"]);
     let mut nodes: Vec<String> = (0..20)
         .map(|_| {
