@@ -55,7 +55,7 @@ build() { cc -std=c11 "${warn[@]}" -I../include "$@" libbestore.a -lpthread; }
 build_cpp() { c++ -std=c++17 "${warn[@]}" -I../include "$@" libbestore.a -lpthread; }
 
 # The tests, and those of them in which threads run.
-tests=(test threads helpers texts racing)
+tests=(test errors threads helpers texts racing)
 tests_cpp=(test helpers racing)
 with_threads=(threads helpers racing)
 
@@ -64,7 +64,7 @@ for test in "${tests[@]}"; do
     run "C, $test" "$work/$test"
 done
 build -O2 sizes.c -o "$work/sizes"
-run "C, sizes" "$work/sizes"
+run_if_there "C, sizes" python3 ../tools/try-sizes --c "$work/sizes"
 cc -std=c11 "${warn[@]}" -I../include test.c -L. -lbestore -lpthread -o "$work/shared"
 run "C, shared object" env LD_LIBRARY_PATH=. "$work/shared"
 

@@ -286,14 +286,12 @@ fn exit_statuses_are_those_of_the_page() {
         &["query", "--watch", "--limit", "5", "a==1"],
         &["addattr", "name"],
         &["addattr", "name", "value"],
-        &["addattr", "name", "value", "node"],
         &["addattr", "--new", "name", "value", "1"],
         &["addattr", "-t", "float", "name", "value", "1"],
         &["catattr", "name"],
         &["catattr", "name", "-1"],
         &["rmindex", "a", "b"],
         &["rmnode"],
-        &["rmnode", "node"],
         &["status", "--table"],
     ] {
         let said = none(words);
