@@ -109,7 +109,8 @@ class Asking(unittest.TestCase):
         for write, fault in [
             (Write(node, "BEOS:TYPE", "x", None), None),
             (Write(node, "BEOS:TYPE", "y", None), "another program has set it to “x” meanwhile"),
-            (Write(node, "BEOS:TYPE", "", "x"), None), (Write(node, "BEOS:TYPE", "", "x"), "another program has removed it meanwhile"),
+            (Write(node, "BEOS:TYPE", "", "x"), None),
+            (Write(node, "BEOS:TYPE", "", "x"), "another program has removed it meanwhile"),
             (Write(node, "BEOS:TYPE", "", None), None), (Write(999, "BEOS:TYPE", "x", None), "it is gone"),
             (Write(node, "size", "much", 1), "“much” isn't a whole number"),
             (Write(node, "n" * 64, "x", None), "a name has not 1 to 63 bytes"),
@@ -120,7 +121,8 @@ class Asking(unittest.TestCase):
             self.assertIn(Written(write, fault), self.others)
 
     def test_store_that_is_not_there(self) -> None:
-        with mock.patch.object(MadeSource, "open", side_effect=bestore.NoServer("x", "y")), mock.patch.object(asker, "RETRY", 0.01):
+        no_server = mock.patch.object(MadeSource, "open", side_effect=bestore.NoServer("x", "y"))
+        with no_server, mock.patch.object(asker, "RETRY", 0.01):
             self.asker.start()
             self.assertTrue(wait_for(lambda: self.has(Lost)))
         self.assertTrue(wait_for(lambda: self.has(Opened)))
