@@ -248,7 +248,13 @@ pub(crate) fn tell_value<L: Look>(
 {
     let Some(cell) = value_cell(look, page, at, filled.bytes) else {
         let offset = filled.bytes;
-        tell(cells, bytes, filled, empty_cell(&Refusal::NoAttr, offset), b"");
+        tell(
+            cells,
+            bytes,
+            filled,
+            empty_cell(&Refusal::NoAttr, offset),
+            b"",
+        );
         return;
     };
     if cell.length == 0 {

@@ -48,7 +48,12 @@ fn step_to<L: Look>(look: &mut L, cursor: &mut Cursor, key: &[u8]) -> Option<(u6
 
 /// Where the attribute with a key stands in the catalog's tree, if it is there: at the cursor, or where a descent leads. The
 /// cursor is past it then.
-fn next_place<L: Look>(look: &mut L, catalog: u64, cursor: &mut Cursor, key: &[u8]) -> Option<(u64, usize)>
+fn next_place<L: Look>(
+    look: &mut L,
+    catalog: u64,
+    cursor: &mut Cursor,
+    key: &[u8],
+) -> Option<(u64, usize)>
     requires tree { IsTree (L.standing look.old) (L.words look.old) catalog }
     requires cursor { IsCursor (L.standing look.old) (L.words look.old) cursor.old }
     requires among { IsAmong (L.words look.old) catalog cursor.old }

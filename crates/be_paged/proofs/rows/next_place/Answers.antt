@@ -29,9 +29,9 @@ returns-clause-found g c =
     let v = g.L.Look.words c.seek.new.look in
     let moved = c.seek.ensures.unchanged.words in
     let rising : IsRising (pairs v root) = subst (λ (w : ℕ → ℕ → ℕ). IsRising (pairs w root)) (sym (moved ∙ c.step_to.ensures.unchanged.words))
-        (tree_rising (g.L.Look.standing c.args.look.now) (g.L.Look.words c.args.look.now) root c.requires.tree) in
+    (tree_rising (g.L.Look.standing c.args.look.now) (g.L.Look.words c.args.look.now) root c.requires.tree) in
     let rest : remaining v c.seek.new.self ≡ pairs_from (pairs v root) c.args.key.now false =
-        ap (λ (w : ℕ → ℕ → ℕ). remaining w c.seek.new.self) moved ∙ c.seek.ensures.remaining ∙ ap (λ (w : ℕ → ℕ → ℕ). pairs_from (pairs w root) c.args.key.now false) (sym moved) in
+    ap (λ (w : ℕ → ℕ → ℕ). remaining w c.seek.new.self) moved ∙ c.seek.ensures.remaining ∙ ap (λ (w : ℕ → ℕ → ℕ). pairs_from (pairs w root) c.args.key.now false) (sym moved) in
     place_sought (g.L.Look.standing c.seek.new.look) (g.L.Look.standing c.step_to-2.new.look) v (g.L.Look.words c.step_to-2.new.look) root c.args.key.now c.seek.new.self c.step_to-2.result
     c.step_to-2.ensures.unchanged.standing c.step_to-2.ensures.unchanged.words rising rest c.step_to-2.ensures.item c.step_to-2.ensures.found c.step_to-2.ensures.same c.step_to-2.ensures.none
 
@@ -42,8 +42,8 @@ returns-clause-among g c =
     let v = g.L.Look.words c.seek.new.look in
     let moved = c.seek.ensures.unchanged.words in
     let rising : IsRising (pairs v root) = subst (λ (w : ℕ → ℕ → ℕ). IsRising (pairs w root)) (sym (moved ∙ c.step_to.ensures.unchanged.words))
-        (tree_rising (g.L.Look.standing c.args.look.now) (g.L.Look.words c.args.look.now) root c.requires.tree) in
+    (tree_rising (g.L.Look.standing c.args.look.now) (g.L.Look.words c.args.look.now) root c.requires.tree) in
     let rest : remaining v c.seek.new.self ≡ pairs_from (pairs v root) c.args.key.now false =
-        ap (λ (w : ℕ → ℕ → ℕ). remaining w c.seek.new.self) moved ∙ c.seek.ensures.remaining ∙ ap (λ (w : ℕ → ℕ → ℕ). pairs_from (pairs w root) c.args.key.now false) (sym moved) in
+    ap (λ (w : ℕ → ℕ → ℕ). remaining w c.seek.new.self) moved ∙ c.seek.ensures.remaining ∙ ap (λ (w : ℕ → ℕ → ℕ). pairs_from (pairs w root) c.args.key.now false) (sym moved) in
     subst (λ (w : ℕ → ℕ → ℕ). IsAmong w root c.step_to-2.new.cursor) (sym c.step_to-2.ensures.unchanged.words)
     (among_next v root c.seek.new.self c.step_to-2.new.cursor rising c.step_to-2.ensures.rest (inr (c.args.key.now, false, rest)))
