@@ -230,7 +230,7 @@ begins limits words ledger within size blank none limit page count shown idle le
   first_board limits words,
   record {
     table = record {
-      words = record { size = size; lock = blank 0 (omega arith); current = blank 8 (omega arith); announced = λ k lt. blank (16 + 8 * k) (let f = within.few in omega arith); pages = λ p i a b. refl };
+      words = record { size = size; lock = blank 0 (omega arith); current = blank 8 (omega arith); announced = λ k lt. blank (16 + 8 * k) (let f = within.few in omega arith); pages = λ p i a b. refl; unused = λ k u. blank k u.0 };
       home = (ledger, refl, record { journal = none; limit = limit; page = page; count = count; shown = shown; idle = idle; left = omega (arith, left) });
       version = refl;
     };

@@ -184,6 +184,7 @@ module _ (w : World) (page : ℕ) (ws : List ℕ) (h : WordsAgree w page ws) whe
     current = h.current;
     announced = λ j lt. elim (eqb_tells j k) [ inl y ↦ rw (y.0) (h.announced j lt ∙ ap (λ n. announce_word (w.phases n)) y.1 ∙ sym e) | inr n ↦ rw n.0 (h.announced j lt) ];
     pages = h.pages;
+    unused = h.unused;
   }
 
   -- an announcement is stored
@@ -197,6 +198,7 @@ module _ (w : World) (page : ℕ) (ws : List ℕ) (h : WordsAgree w page ws) whe
       | inr m ↦ rw m.0 (get_or-set_other ws (16 + 8 * k) (16 + 8 * j) n 0 (λ e. m.1 (omega arith)) ∙ h.announced j below)
     ];
     pages = pages_else w.pages w.words ws (16 + 8 * k) n (omega arith) h.pages;
+    unused = λ j u. get_or-set_other ws (16 + 8 * k) j n 0 (λ e. u.3 k lt (omega arith)) ∙ h.unused j u;
   }
 
   -- the lock word is stored
@@ -207,6 +209,7 @@ module _ (w : World) (page : ℕ) (ws : List ℕ) (h : WordsAgree w page ws) whe
     current = get_or-set_other ws 0 8 n 0 (λ e. absurd (omega arith)) ∙ h.current;
     announced = λ j below. get_or-set_other ws 0 (16 + 8 * j) n 0 (λ e. absurd (omega arith)) ∙ h.announced j below;
     pages = pages_else w.pages w.words ws 0 n (omega arith) h.pages;
+    unused = λ j u. get_or-set_other ws 0 j n 0 (λ e. u.1 (omega arith)) ∙ h.unused j u;
   }
 
   -- a word of a page is stored
@@ -217,6 +220,7 @@ module _ (w : World) (page : ℕ) (ws : List ℕ) (h : WordsAgree w page ws) whe
     current = get_or-set_other ws (word_place p i) 8 x 0 (λ e. absurd (omega arith)) ∙ h.current;
     announced = λ j below. get_or-set_other ws (word_place p i) (16 + 8 * j) x 0 (λ e. absurd (omega arith)) ∙ h.announced j below;
     pages = pages_fill w.pages w.words ws p i x h.size lp li h.pages;
+    unused = λ j u. get_or-set_other ws (word_place p i) j x 0 (λ e. absurd (let low = u.0 in omega arith)) ∙ h.unused j u;
   }
 
 -- ## What the other passes know

@@ -1,7 +1,7 @@
 -- Each step of the holder is its event of the machine, and keeps the rule.
 use Rattle.std.proofs.Common.{◌≡◌, ℕ, suc, MatchBool, ◌+◌, ◌*◌, ◌<◌, ◌≤◌, ◌==◌, if◌then◌else◌, List, [], ◌∷◌, length, set, slice_set, Bool, true, false, ◌||◌, Option, Some, None, refl, sym, ap, ◌∙◌, subst, inl, inr, arith, slice_index, map, length-set, IsTrue}
 use Rattle.std.proofs.lemmas.Bool.Decides.{eqb_tells}
-use Rattle.std.proofs.lemmas.List.{length-map}
+use Rattle.std.proofs.lemmas.List.{length-map, set-get_or}
 use mathlib.Core.Option.{some, none}
 use lib.ListN.{get_elem?}
 use Rattle.atomic_table.specs.Table.{Step, keeps, step, stepped, Allows}
@@ -20,13 +20,13 @@ use Rattle.be_table.specs.declared.pass.Move.TheVariants.{Scan, Fill, Return}
 use Rattle.be_table.specs.Laws.{AllowsBy, NoEvent, IsFill, IsReturn, IsScan}
 use Rattle.be_pages.specs.Place.{place_of, is_in_hand, is_held_page, given_place, swept_place}
 use Rattle.be_table.specs.Ledger.{shows_taken, shows_free, retired_with}
-use Rattle.be_table.specs.Rule.{Board, page_at, reach_at, announce_word, word_place, known_holder, WordsAgree, Holds, Fits, Stands, Shows, Reaches, pass_of, one_step_on}
-use Rattle.be_table.specs.Steps.{fills, takes_page, gives_up, least_found, least_then, pages_from, scans_on, scans_out, scans, MayBeFilled, OwnRead, FilledAt, FilledFound, PageTaken, PageGivenUp, Scanned, FillMoves, FoundFillMoves, GiveUpMoves, ScanMoves, given_moves}
+use Rattle.be_table.specs.Rule.{Board, page_at, reach_at, announce_word, word_place, known_holder, WordsAgree, PagesAgree, Holds, Fits, Stands, Shows, Reaches, pass_of, one_step_on}
+use Rattle.be_table.specs.Steps.{fills, takes_page, gives_up, least_found, least_then, pages_from, scans_on, scans_out, scans, MayBeFilled, OwnRead, FilledAt, FilledFound, PageTaken, PageGivenUp, Scanned, FillMoves, FoundFillMoves, TakeMoves, GiveUpMoves, ScanMoves, given_moves}
 use Rattle.be_table.proofs.Frames.{Table, Me1, views_step, fits_counted, words_load, words_fill, pages_fill, same_place, not_holder, fits_world, sound_world}
 use Rattle.be_table.specs.Trace.{Makes, AllRest, with_history}
-use Rattle.be_table.proofs.Traces.{IsOne, moving, resting, retold, one_of}
+use Rattle.be_table.proofs.Traces.{IsOne, moving, moving_from, resting, retold, one_of}
 use Rattle.be_table.proofs.Locks.{at_work, held_by, same_some, unheld_by}
-use Rattle.be_table.proofs.Ledgers.{shows-fill, shows-return, shows-place, shows-sweep}
+use Rattle.be_table.proofs.Ledgers.{shows-fill, shows-take, shows-return, shows-place, shows-sweep}
 
 -- the holder, with other numbers, places and words
 abbrev works : Knowledge → ℕ → ℕ → List Place → List ℕ → List ℕ → Knowledge
@@ -177,17 +177,17 @@ module _ (limits : Limits) (slots i : ℕ) (a : Knowledge) (carried : List (ℕ 
         refl,
       )
 
-  -- a load by the holder, before which a page that it had filled goes back to the free ones
-  back_by : (p : ℕ) → a.writes ≡ true → p < length a.places → place_of a.places p ≡ Filled
+  -- a load by the holder, before which a page that it had taken goes back to the free ones
+  back_by : (p : ℕ) (y : Place) → a.writes ≡ true → p < length a.places → place_of a.places p ≡ y → shows_taken y ≡ true → retired_with y ≡ None
       → let c : Knowledge = record a { places = slice_set a.places p Free; steps = a.steps + 1 } in AllowsBy limits slots i (a ∷ [], carried) (word_place p 0) (λ n. n) (IsReturn a.number p) (λ n r. r ≡ (c ∷ [], carried))
-  back_by p writes lp filled s b0 h0 sized at fits =
+  back_by p y writes lp is taken unretired s b0 h0 sized at fits =
       let work = at_work limits s b0 i a h0 at writes in
       let b : Board = held_by b0 (Some (known_holder a)) in
       let h = work.0 in
       let m = work.1 in
       let v = b.world in
       let w : World = after_return v p in
-      let in_hand : IsTrue (v.taken p) = m.shown.taken p ∙ ap shows_taken filled in
+      let in_hand : IsTrue (v.taken p) = m.shown.taken p ∙ ap shows_taken is ∙ taken in
       let t = words_load v (page_at b.log (length b.log)) s.words h.table.words (word_place p 0) in (
         record a { places = slice_set a.places p Free; steps = a.steps + 1 } ∷ [],
         keeps,
@@ -195,14 +195,14 @@ module _ (limits : Limits) (slots i : ℕ) (a : Knowledge) (carried : List (ℕ 
         (
           record b { world = w },
           stands_held limits s b0 i a h at a.scanned a.least (slice_set a.places p Free) a.words a.held w.free w.taken w.retired w.words (set s.words (word_place p 0) (slice_index s.words (word_place p 0)))
-              (record { size = t.size; lock = t.lock; current = t.current; announced = t.announced; pages = t.pages })
+              (record { size = t.size; lock = t.lock; current = t.current; announced = t.announced; pages = t.pages; unused = t.unused })
               (after_return-sound v h.sound.machine p in_hand)
               (record {
                 log = m.log;
                 holder = refl;
                 turn = m.turn;
                 count = length-set a.places p Free ∙ m.count;
-                shown = shows-return a.places v m.shown p lp (ap retired_with filled);
+                shown = shows-return a.places v m.shown p lp (ap retired_with is ∙ unretired);
                 size = m.size;
                 words = m.words;
               }),
@@ -219,8 +219,43 @@ module _ (limits : Limits) (slots i : ℕ) (a : Knowledge) (carried : List (ℕ 
       let y = by s b h sized at fits in
       (y.0, y.1, y.2, y.3, λ q f. let z = same_place p 0 q 0 (omega arith) (omega arith) f in y.4 ∙ ap (λ (k : Knowledge). (k ∷ [], carried)) (sym is ∙ ap c z.0))
 
-  pub take_by : (p : ℕ) → a.writes ≡ true → p < length a.places → place_of a.places p ≡ Free → AllowsBy limits slots i (a ∷ [], carried) (word_place p 0) (λ n. n) NoEvent (PageTaken (step slots (word_place p 0) 0 0 none) (a ∷ [], carried))
-  take_by p writes lp is = at_page p Reserved (takes_page a) refl NoEvent (note_by p Reserved writes lp (ap shows_free (sym is)) (ap shows_taken (sym is)) (ap retired_with (sym is)))
+  -- a load by the holder that takes a page is the fill of the word that is there
+  pub take_by : (p : ℕ) → a.writes ≡ true → a.published ≡ false → p < length a.places → place_of a.places p ≡ Free
+      → AllowsBy limits slots i (a ∷ [], carried) (word_place p 0) (λ n. n) (λ n. IsFill a.number p 0 n n) (PageTaken (step slots (word_place p 0) 0 0 none) (a ∷ [], carried))
+  take_by p writes unpublished lp is s b0 h0 sized at fits =
+      let work = at_work limits s b0 i a h0 at writes in
+      let b : Board = held_by b0 (Some (known_holder a)) in
+      let h = work.0 in
+      let m = work.1 in
+      let v = b.world in
+      let x = slice_index s.words (word_place p 0) in
+      let w : World = after_fill v p 0 x in
+      let lv : p < v.pages = omega (arith, lp, m.count) in
+      let few : v.passes ≤ 64 = rw h.sound.passes h.sound.within.few in
+      let in_hand : IsTrue (v.taken p || v.free p) = rw (m.shown.free p, m.shown.taken p, is) refl in
+      let found : x ≡ slice_index a.words (word_place p 0) = h.table.words.pages p 0 lv (omega arith) ∙ sym (m.words p 0 lv (omega arith)) in
+      let stays : set a.words (word_place p 0) x ≡ a.words = ap (set a.words (word_place p 0)) found ∙ set-get_or a.words (word_place p 0) 0 in (
+        takes_page a p ∷ [],
+        keeps,
+        tt,
+        (
+          record b { world = w },
+          stands_held limits s b0 i a h at a.scanned a.least (slice_set a.places p Reserved) a.words a.held w.free w.taken w.retired w.words (set s.words (word_place p 0) x)
+              (words_fill v (page_at b.log (length b.log)) s.words h.table.words p 0 x lv (omega arith) few)
+              (after_fill-sound v h.sound.machine p in_hand 0 x (known_holder a, refl))
+              (record {
+                log = m.log;
+                holder = refl;
+                turn = m.turn;
+                count = length-set a.places p Reserved ∙ m.count;
+                shown = shows-take a.places v m.shown p 0 x lp (ap retired_with is);
+                size = m.size;
+                words = subst (PagesAgree v.pages w.words) stays (pages_fill v.pages v.words a.words p 0 x m.size lv (omega arith) m.words);
+              }),
+          unheld_by b0.world (known_holder a) (λ u. IsFill a.number p 0 x x u w) ((h0.views i (a ∷ []) at).0.whole writes).holder ((lv, omega arith, (known_holder a, (refl, refl, unpublished)), in_hand), refl),
+        ),
+        ((λ q e. let z = same_place p 0 q 0 (omega arith) (omega arith) e in ap (λ (y : ℕ). (takes_page a y ∷ [], carried)) z.0), found),
+      )
 
   pub give_up_by : (p : ℕ) → a.writes ≡ true → p < length a.places → IsTrue (is_held_page (place_of a.places p)) → AllowsBy limits slots i (a ∷ [], carried) (word_place p 0) (λ n. n) (λ n v w. MatchBool (shows_taken (place_of a.places p)) (IsReturn a.number p n v w) (NoEvent n v w)) (PageGivenUp (step slots (word_place p 0) 0 0 none) (a ∷ [], carried))
   give_up_by p writes lp held = at_page p (given_place (place_of a.places p)) (gives_up a) refl (Gives (place_of a.places p)) (by_place (place_of a.places p) refl held)
@@ -234,8 +269,8 @@ module _ (limits : Limits) (slots i : ℕ) (a : Knowledge) (carried : List (ℕ 
 
       by_place : (y : Place) → place_of a.places p ≡ y → IsTrue (is_held_page y) → AllowsBy limits slots i (a ∷ [], carried) (word_place p 0) (λ n. n) (Gives y) (λ n r. r ≡ (record a { places = slice_set a.places p (given_place y); steps = a.steps + 1 } ∷ [], carried))
       by_place Free e h = absurd (cc)
-      by_place Reserved e h = noted Free (ap shows_free (sym e)) (ap shows_taken (sym e)) (ap retired_with (sym e))
-      by_place Filled e h = back_by p writes lp e
+      by_place Reserved e h = back_by p Reserved writes lp e refl refl
+      by_place Filled e h = back_by p Filled writes lp e refl refl
       by_place Current e h = noted GivenUp (ap shows_free (sym e)) (ap shows_taken (sym e)) (ap retired_with (sym e))
       by_place GivenUp e h = absurd (cc)
       by_place (Retired r) e h = absurd (cc)
@@ -268,7 +303,7 @@ module _ (limits : Limits) (slots i : ℕ) (a : Knowledge) (carried : List (ℕ 
                 record b { world = w },
                 subst (λ x. Stands limits (stepped s (16 + 8 * j) n i carried (x ∷ []) keeps) (record b { world = w })) (sym (chosen_out passes y.0 n))
                     (stands_held limits s b0 i a h at 0 (least_then a n) (map (swept_place (least_then a n)) a.places) a.words (pages_from is_in_hand 0 a.places) w.free w.taken w.retired w.words (set s.words (16 + 8 * j) n)
-                    (record { size = t.size; lock = t.lock; current = t.current; announced = t.announced; pages = t.pages })
+                    (record { size = t.size; lock = t.lock; current = t.current; announced = t.announced; pages = t.pages; unused = t.unused })
                     (subst Sound (λ k. swept (record v { holder = Some record (known_holder a) { scanned = 0; least = least k } }) (least k)) (whole-sound v h.sound.machine (known_holder a) a.number j (refl, refl, unpublished) refl y.1))
                     (record {
                       log = m.log;
@@ -305,7 +340,7 @@ module _ (limits : Limits) (slots i : ℕ) (a : Knowledge) (carried : List (ℕ 
                 record b { world = w },
                 subst (λ x. Stands limits (stepped s (16 + 8 * j) n i carried (x ∷ []) keeps) (record b { world = w })) (sym (chosen_on passes y.0 n))
                     (stands_held limits s b0 i a h at (suc j) (least_then a n) a.places a.words a.held w.free w.taken w.retired w.words (set s.words (16 + 8 * j) n)
-                    (record { size = t.size; lock = t.lock; current = t.current; announced = t.announced; pages = t.pages })
+                    (record { size = t.size; lock = t.lock; current = t.current; announced = t.announced; pages = t.pages; unused = t.unused })
                     (subst Sound (λ k. record v { holder = Some record (known_holder a) { scanned = suc j; least = least k } }) (part-sound v h.sound.machine (known_holder a) a.number j (refl, refl, unpublished) refl))
                     (record {
                       log = m.log;
@@ -354,6 +389,20 @@ module _ (limits : Limits) (slots i : ℕ) (a : Knowledge) (carried : List (ℕ 
       (moving limits slots i a carried (word_place p j) (λ n. n) (λ n. Fill a.number p j n) (λ n. IsFill a.number p j n n) (λ h. FilledFound (step slots (word_place p j) 0 0 none) (with_history a h ∷ [], carried)) (λ n w. Unit {0}) (λ n. refl)
       (λ h. found_by limits slots i (with_history a h) carried p j writes un may lj) (λ n v w g. (g, tt)) (λ h n r t. one_of a (fills (with_history a h) p j n) h carried r (t.0 p j refl lj) refl refl))
 
+  -- the page that was taken is that of the step
+  at_taken : (p n : ℕ) (h : List Move) → Makes a.number a.history (Fill a.number p 0 n ∷ []) h → (r : Me1) → ((q : ℕ) → word_place p 0 ≡ word_place q 0 → r ≡ (takes_page (with_history a h) q ∷ [], carried))
+      → (q : ℕ) → word_place p 0 ≡ word_place q 0 → (h : List Move) × Makes a.number a.history (Fill a.number q 0 n ∷ []) h × (r ≡ (takes_page (with_history a h) q ∷ [], carried))
+  at_taken p n h makes r told q e = let z = same_place p 0 q 0 (omega arith) (omega arith) e in (h, subst (λ (y : ℕ). Makes a.number a.history (Fill a.number y 0 n ∷ []) h) z.0 makes, told q e)
+
+  taking : (p : ℕ) → a.writes ≡ true → a.published ≡ false → p < length a.places → place_of a.places p ≡ Free → Allows (Shows limits) slots i (a ∷ [], carried) (word_place p 0) (λ n. n) (TakeMoves (step slots (word_place p 0) 0 0 none) (a ∷ [], carried))
+  taking p writes un lp is =
+      retold limits slots i (a ∷ [], carried) (word_place p 0) (λ n. n)
+      (λ n r. (h : List Move) × Makes a.number a.history (Fill a.number p 0 n ∷ []) h × Reaches (pass_of r.0) (λ w. Unit {0}) × PageTaken (step slots (word_place p 0) 0 0 none) (with_history a h ∷ [], carried) n r)
+      (TakeMoves (step slots (word_place p 0) 0 0 none) (a ∷ [], carried))
+      (λ n r g. (at_taken p n g.0 g.1 r g.3.0, g.3.1))
+      (moving limits slots i a carried (word_place p 0) (λ n. n) (λ n. Fill a.number p 0 n) (λ n. IsFill a.number p 0 n n) (λ h. PageTaken (step slots (word_place p 0) 0 0 none) (with_history a h ∷ [], carried)) (λ n w. Unit {0}) (λ n. refl)
+      (λ h. take_by limits slots i (with_history a h) carried p writes un lp is) (λ n v w g. (g, tt)) (λ h n r t. one_of a (takes_page (with_history a h) p) h carried r (t.0 p refl) refl refl))
+
   -- the page that was given up is that of the step
   at_given : (p : ℕ) (h : List Move) → Makes a.number a.history (given_moves a p) h → (r : Me1) → ((q : ℕ) → word_place p 0 ≡ word_place q 0 → r ≡ (gives_up (with_history a h) q ∷ [], carried))
       → (q : ℕ) → word_place p 0 ≡ word_place q 0 → (h : List Move) × Makes a.number a.history (given_moves a q) h × (r ≡ (gives_up (with_history a h) q ∷ [], carried))
@@ -397,7 +446,7 @@ module _ (limits : Limits) (slots i : ℕ) (a : Knowledge) (carried : List (ℕ 
 
   scanning : a.writes ≡ true → a.published ≡ false → Allows (Shows limits) slots i (a ∷ [], carried) (16 + 8 * a.scanned) (λ n. n) (ScanMoves (step slots (16 + 8 * a.scanned) 0 0 none) (a ∷ [], carried))
   scanning writes un =
-      moving limits slots i a carried (16 + 8 * a.scanned) (λ n. n) (λ n. Scan a.number a.scanned) (IsScan a.number a.scanned) (λ h. Scanned (step slots (16 + 8 * a.scanned) 0 0 none) (with_history a h ∷ [], carried)) (λ n w. n ≡ announce_word (w.phases a.scanned)) (λ n. refl)
+      moving_from limits slots i a carried (16 + 8 * a.scanned) (λ n. n) (λ n. Scan a.number a.scanned) (IsScan a.number a.scanned) (λ h. Scanned (step slots (16 + 8 * a.scanned) 0 0 none) (with_history a h ∷ [], carried)) (λ n w. n ≡ announce_word (w.phases a.scanned)) (λ n. refl)
       (λ h. scan_by limits slots i (with_history a h) carried writes un)
       (λ n v w g. ((g.0, g.1), g.2 ∙ ap (λ f. announce_word (f a.scanned)) (sym (ap (λ (u : World). u.phases) g.1 ∙ scan_phases v v.holder a.scanned))))
       (λ h n r t. scanned_one h n r t.0)
@@ -417,11 +466,9 @@ module _ (limits : Limits) (slots i : ℕ) (a : Knowledge) (carried : List (ℕ 
   found_as p j word writes un may lj at =
       subst (λ (q : Me1 × ℕ). Allows (Shows limits) slots i q.0 q.1 (λ n. n) (FoundFillMoves (step slots q.1 0 0 none) q.0)) (λ k. (sym e k, sym at k)) (founding limits slots i a carried p j writes un may lj)
 
-  pub takes_as : (p word : ℕ) → a.writes ≡ true → p < length a.places → place_of a.places p ≡ Free → word ≡ word_place p 0 → Allows (Shows limits) slots i me word (λ n. n) (PageTaken (step slots word 0 0 none) me)
-  takes_as p word writes lp is at =
-      subst (λ (q : Me1 × ℕ). Allows (Shows limits) slots i q.0 q.1 (λ n. n) (PageTaken (step slots q.1 0 0 none) q.0)) (λ k. (sym e k, sym at k))
-      (resting limits slots i (a ∷ []) carried (word_place p 0) (λ n. n) NoEvent (PageTaken (step slots (word_place p 0) 0 0 none) (a ∷ [], carried)) (take_by limits slots i a carried p writes lp is)
-      (λ n v w g. g) (λ n r t l rest. subst (AllRest l) (sym (ap (λ (m : Me1). m.0) (t p refl))) rest))
+  pub takes_as : (p word : ℕ) → a.writes ≡ true → a.published ≡ false → p < length a.places → place_of a.places p ≡ Free → word ≡ word_place p 0 → Allows (Shows limits) slots i me word (λ n. n) (TakeMoves (step slots word 0 0 none) me)
+  takes_as p word writes un lp is at =
+      subst (λ (q : Me1 × ℕ). Allows (Shows limits) slots i q.0 q.1 (λ n. n) (TakeMoves (step slots q.1 0 0 none) q.0)) (λ k. (sym e k, sym at k)) (taking limits slots i a carried p writes un lp is)
 
   pub gives_as : (p word : ℕ) → a.writes ≡ true → p < length a.places → IsTrue (is_held_page (place_of a.places p)) → word ≡ word_place p 0 → Allows (Shows limits) slots i me word (λ n. n) (GiveUpMoves (step slots word 0 0 none) me)
   gives_as p word writes lp held at =

@@ -112,6 +112,15 @@ shows-fill places w s p i word inside unretired = record {
   retired = λ q. elim (eqb_tells q p) [ inl y ↦ rw (y.1, get_or-set_same places p Filled Current inside) (s.retired p ∙ unretired) | inr n ↦ rw (get_or-set_other places p q Filled Current n.1) (s.retired q) ];
 }
 
+-- a free page is taken
+pub shows-take : (places : List Place) (w : World) → ShowsPlaces places w → (p i word : ℕ) → p < length places → retired_with (place_of places p) ≡ None
+    → ShowsPlaces (slice_set places p Reserved) (after_fill w p i word)
+shows-take places w s p i word inside unretired = record {
+  free = λ q. elim (eqb_tells q p) [ inl y ↦ rw (y.0, y.1, get_or-set_same places p Reserved Current inside) refl | inr n ↦ rw (n.0, get_or-set_other places p q Reserved Current n.1) (s.free q) ];
+  taken = λ q. elim (eqb_tells q p) [ inl y ↦ rw (y.0, y.1, get_or-set_same places p Reserved Current inside) refl | inr n ↦ rw (n.0, get_or-set_other places p q Reserved Current n.1) (s.taken q) ];
+  retired = λ q. elim (eqb_tells q p) [ inl y ↦ rw (y.1, get_or-set_same places p Reserved Current inside) (s.retired p ∙ unretired) | inr n ↦ rw (get_or-set_other places p q Reserved Current n.1) (s.retired q) ];
+}
+
 -- a place changes, and the sets stay
 pub shows-place : (places : List Place) (w : World) → ShowsPlaces places w → (p : ℕ) (x : Place) → p < length places → shows_free x ≡ shows_free (place_of places p) → shows_taken x ≡ shows_taken (place_of places p) → retired_with x ≡ retired_with (place_of places p)
     → ShowsPlaces (slice_set places p x) w
@@ -121,7 +130,7 @@ shows-place places w s p x inside f t r = record {
   retired = λ q. elim (eqb_tells q p) [ inl y ↦ rw (y.1, get_or-set_same places p x Current inside) (s.retired p ∙ sym r) | inr n ↦ rw (get_or-set_other places p q x Current n.1) (s.retired q) ];
 }
 
--- a filled page goes back
+-- a page that was taken goes back
 pub shows-return : (places : List Place) (w : World) → ShowsPlaces places w → (p : ℕ) → p < length places → retired_with (place_of places p) ≡ None
     → ShowsPlaces (slice_set places p Free) (after_return w p)
 shows-return places w s p inside unretired = record {

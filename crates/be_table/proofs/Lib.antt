@@ -24,4 +24,5 @@ pub mod Keeping
 pub mod Answers
 pub mod Readers
 pub mod Fills
+pub mod Unused
 pub mod Worked

@@ -110,7 +110,7 @@ module _ (limits : Limits) (slots i : ℕ) (a : Knowledge) (carried : List (ℕ 
         (
           d,
           record {
-            table = record { words = record { size = v.size; lock = v.lock; current = v.current; announced = v.announced; pages = v.pages }; home = ap (λ hs. set hs 0 none) home.1; version = t.version };
+            table = record { words = record { size = v.size; lock = v.lock; current = v.current; announced = v.announced; pages = v.pages; unused = v.unused }; home = ap (λ hs. set hs 0 none) home.1; version = t.version };
             sound = sd;
             views = views_step limits b d s.views i a c h.views at (λ j y ne f. fits_world limits b w j y (not_other k y.number ne) refl (λ z. absurd (let e = z.holder in cc)) (λ g. g) f) fc;
           },
@@ -178,7 +178,7 @@ module _ (limits : Limits) (slots i : ℕ) (a : Knowledge) (ledger : Ledger) whe
           d,
           record {
             table = record {
-              words = record { size = v.size; lock = v.lock; current = v.current; announced = v.announced; pages = v.pages };
+              words = record { size = v.size; lock = v.lock; current = v.current; announced = v.announced; pages = v.pages; unused = v.unused };
               home = (
                 ledger,
                 ap (λ hs. set hs 0 (some (Some ledger))) t.home,

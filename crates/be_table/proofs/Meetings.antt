@@ -1,5 +1,6 @@
 -- Two passes of one seat compare what they have seen.
 use Rattle.std.proofs.Common.{◌≡◌, ℕ, ◌<◌, ◌≤◌, List, [], ◌∷◌, ◌++◌, length, Bool, false, true≢false, if◌then◌else◌, Option, refl, sym, ap, ◌∙◌, subst, arith}
+use Rattle.std.specs.Prelude.{drop}
 use mathlib.Core.Option.{none}
 use mathlib.Core.Logic.{dite}
 use native.Mathlib.Decide.{dec_lt}
@@ -14,11 +15,11 @@ use Rattle.be_table.specs.History.{StartsWith}
 use Rattle.be_table.specs.Laws.{AllowsBy, NoEvent}
 use Rattle.be_table.specs.Rule.{Board, entries, page_at, Fits, Shows, one_step_on, pass_of, seats_together, first_seat, other_seats}
 use Rattle.be_table.specs.Seats.{IsTold, pin_of}
-use Rattle.be_table.specs.Steps.{IsPass, Compared, having_seen, longer}
+use Rattle.be_table.specs.Steps.{IsPass, Compared, CompareMoves, having_seen, longer}
 use Rattle.be_table.proofs.Histories.{starts_itself, by_pass-between}
 use Rattle.be_table.proofs.Deals.{deals}
 use Rattle.be_table.proofs.Frames.{Me1, views_change, entries-start, longer_seen, is_pass, in_time_later, words_load}
-use Rattle.be_table.specs.Trace.{AllRest}
+use Rattle.be_table.specs.Trace.{AllRest, HasTrace}
 use Rattle.be_table.proofs.Traces.{resting}
 use Rattle.be_table.proofs.PinMarks.{pin_stays}
 use Rattle.be_table.proofs.Told.{told_as, stepped_pass}
@@ -85,11 +86,33 @@ module _ (limits : Limits) (slots i : ℕ) (a c : Knowledge) (carried : List (�
 pub joined_pair : (a c : Knowledge) (m n r : Me1) → m ≡ (a ∷ [], []) → n ≡ (c ∷ [], []) → r ≡ (seats_together m.0 n.0, m.1) → r ≡ (one_step_on a ∷ one_step_on c ∷ [], [])
 joined_pair a c m n r e f g = g ∙ (λ k. (seats_together ((e k).0) ((f k).0), (e k).1))
 
-pub compares_as : (limits : Limits) (slots i : ℕ) (a c : Knowledge) (me : Me1) → me ≡ (a ∷ c ∷ [], []) → a.writes ≡ false → c.writes ≡ false → Allows (Shows limits) slots i me 0 (λ n. n) (Compared (step slots 0 0 0 none) me)
+-- a comparison is no move, and tells that both histories are fronts of the trace
+comparing : (limits : Limits) (slots i : ℕ) (a c : Knowledge) → a.writes ≡ false → c.writes ≡ false → Allows (Shows limits) slots i (a ∷ c ∷ [], []) 0 (λ n. n) (CompareMoves (step slots 0 0 0 none) (a ∷ c ∷ [], []))
+comparing limits slots i a c idle idle' s h sized at fits =
+    let y = resting limits slots i (a ∷ c ∷ []) [] 0 (λ n. n) NoEvent (Compared (step slots 0 0 0 none) (a ∷ c ∷ [], [])) (compare_by limits slots i a c [] idle idle')
+    (λ n v w g. g) (λ n r t l rest. subst (AllRest l) (sym (ap (λ (m : Me1). m.0) t.0)) rest) s h sized at fits in
+    let tr = h.2.1 in (
+      y.0,
+      y.1,
+      y.2,
+      y.3,
+      (
+        y.4,
+        subst (λ (l : Limits). HasTrace l (a ∷ c ∷ [])) (sym (h.1.views i (a ∷ c ∷ []) at).0.limits_are)
+            (record { trace = h.2.0; runs = (tr.words, h.0.world, tr.runs); rests = tr.rests i (a ∷ c ∷ []) at }),
+      ),
+    )
+
+pub compares_as : (limits : Limits) (slots i : ℕ) (a c : Knowledge) (me : Me1) → me ≡ (a ∷ c ∷ [], []) → a.writes ≡ false → c.writes ≡ false → Allows (Shows limits) slots i me 0 (λ n. n) (CompareMoves (step slots 0 0 0 none) me)
 compares_as limits slots i a c me e idle idle' =
-    subst (λ (m : Me1). Allows (Shows limits) slots i m 0 (λ n. n) (Compared (step slots 0 0 0 none) m)) (sym e)
-    (resting limits slots i (a ∷ c ∷ []) [] 0 (λ n. n) NoEvent (Compared (step slots 0 0 0 none) (a ∷ c ∷ [], [])) (compare_by limits slots i a c [] idle idle')
-    (λ n v w g. g) (λ n r t l rest. subst (AllRest l) (sym (ap (λ (m : Me1). m.0) t.0)) rest))
+    subst (λ (m : Me1). Allows (Shows limits) slots i m 0 (λ n. n) (CompareMoves (step slots 0 0 0 none) m)) (sym e) (comparing limits slots i a c idle idle')
+
+-- what the two had done before they met lies in one trace
+pub traced : (a c : Knowledge) (m n j l : Me1) → m ≡ (a ∷ [], []) → n ≡ (c ∷ [], []) → j ≡ (seats_together m.0 n.0, m.1) → CompareMoves (step 0 0 0 0 none) j 0 l → HasTrace a.limits (a ∷ c ∷ [])
+traced a c m n j l left right pair compared =
+    let t : HasTrace a.limits (one_step_on a ∷ one_step_on c ∷ []) =
+    subst (λ (x : Me1). HasTrace (pass_of x.0).limits (pass_of x.0 ∷ pass_of (drop 1 x.0) ∷ [])) (joined_pair a c m n j left right pair) compared.1 in
+    record { trace = t.trace; runs = t.runs; rests = (t.rests.0, (t.rests.1.0, tt)) }
 
 pub deals_as : (limits : Limits) (i : ℕ) (a : Knowledge) (v u : List Knowledge) → u ≡ a ∷ v → Splits (Shows limits) i u (other_seats u) (first_seat u)
 deals_as limits i a v u e = subst (λ (w : List Knowledge). Splits (Shows limits) i w (other_seats w) (first_seat w)) (sym e) (deals limits i a v)

@@ -8,7 +8,7 @@ use Rattle.be_table.specs.declared.pass.Commit.{Commit}
 use Rattle.be_table.specs.declared.writing.Writing.TheInside.{Inside}
 use Rattle.be_table.specs.Rule.{entries, ledger_places, LeftAreRetired, page_at, pass_of}
 use Rattle.be_table.specs.Seats.{pin_of}
-use Rattle.be_table.specs.Trace.{HasWorked}
+use Rattle.be_table.specs.Working.{HasWorked}
 use Rattle.be_table.specs.Writes.{IsOpen}
 use Rattle.be_core.specs.Machine.{has}
 use Rattle.be_table.specs.Place.{Work}
@@ -82,7 +82,7 @@ has_room a log e l lt = let long : length log.entries ≡ length a.seen = ap len
 pub reopened : (w v : Inside) (c : Knowledge) → let a = pass_of w.base.me.0 in IsOpen w → v.table.now ≡ w.table.now → v.marks ≡ w.marks → v.reserved ≡ w.reserved → v.ledger.journal ≡ w.ledger.journal → v.ledger.page ≡ w.ledger.page
     → v.base.table_id ≡ w.base.table_id → v.base.me ≡ (c ∷ [], (0, None) ∷ []) → c ≡ record a { scanned = c.scanned; least = c.least; places = c.places; words = c.words; held = c.held; steps = c.steps; history = c.history }
     → c.scanned ≡ 0 → length c.words ≡ length a.words → length c.places ≡ length a.places → ledger_places v.ledger ≡ c.places → LeftAreRetired v.ledger
-    → (c.published ≡ false → HasWorked c.number c.history) → IsOpen v
+    → (c.published ≡ false → HasWorked c.limits c.number c.history) → IsOpen v
 reopened w v c i table marks reserved journal page id me same turn size count places left worked =
     let a = pass_of w.base.me.0 in
     let k : pass_of v.base.me.0 ≡ c = ap (λ m. pass_of m.0) me in
@@ -108,5 +108,5 @@ reopened w v c i table marks reserved journal page id me same turn size count pl
       left = left;
       room = λ some. let r = i.room (subst (λ n. 0 < n) reserved some) in
           (ap (λ j. j.reserved) journal ∙ r.0 ∙ sym reserved, subst (λ (q : ℕ × ℕ). q.0 < q.1) (λ n. (ap length (sym seen) n, ap (λ l. l.commits) (sym limits) n)) r.1);
-      worked = subst (λ (x : Knowledge). x.published ≡ false → HasWorked x.number x.history) (sym k) worked;
+      worked = subst (λ (x : Knowledge). x.published ≡ false → HasWorked x.limits x.number x.history) (sym k) worked;
     }

@@ -1,5 +1,5 @@
 -- A version is published.
-use Rattle.std.proofs.Common.{◌≡◌, ℕ, zero, suc, ◌+◌, ◌*◌, ◌<◌, ◌≤◌, List, [], ◌∷◌, ◌++◌, length, set, Bool, false, not, ◌&&◌, ◌||◌, Option, Some, refl, sym, ap, ◌∙◌, subst, inl, inr, arith, map, take, slice_index, get_or, IsTrue, length-append, if◌then◌else◌, get_or-set_same, get_or-set_other, length-set}
+use Rattle.std.proofs.Common.{◌≡◌, ◌≢◌, ℕ, zero, suc, ◌+◌, ◌*◌, ◌<◌, ◌≤◌, List, [], ◌∷◌, ◌++◌, length, set, Bool, false, not, ◌&&◌, ◌||◌, Option, Some, refl, sym, ap, ◌∙◌, subst, inl, inr, arith, map, take, slice_index, get_or, IsTrue, length-append, if◌then◌else◌, get_or-set_same, get_or-set_other, length-set}
 use Rattle.std.specs.Prelude.{slice_index_or}
 use Rattle.std.proofs.lemmas.Bool.{cases_lt}
 use Rattle.std.proofs.lemmas.List.{length-map}
@@ -63,20 +63,20 @@ module _ (xs : List Place) (w : World) (s : Sound w) (shown : ShowsPlaces xs w) 
   past_place (x ∷ xs) zero le = absurd (omega arith)
   past_place (x ∷ xs) (suc q) le = past_place xs q (omega arith)
 
-  pub shows-publish : ShowsPlaces (map (published_place w.current) xs) (after_publish w given)
-  shows-publish = record {
-    free = λ p. rw (place-map (published_place w.current) refl xs p) (shown.free p ∙ free (place_of xs p));
+  pub shows-publish : ((q : ℕ) → place_of xs q ≢ Reserved) → ShowsPlaces (map (published_place w.current) xs) (after_publish w given)
+  shows-publish unreserved = record {
+    free = λ p. rw (place-map (published_place w.current) refl xs p) (shown.free p ∙ free (place_of xs p) (unreserved p));
     taken = λ p. rw (place-map (published_place w.current) refl xs p) (taken (place_of xs p));
     retired = λ p. rw (place-map (published_place w.current) refl xs p, given_at p, shown.retired p) (retired (place_of xs p));
   }
     where
-      free : (x : Place) → shows_free x ≡ shows_free (published_place w.current x)
-      free Free = refl
-      free Reserved = refl
-      free Filled = refl
-      free Current = refl
-      free GivenUp = refl
-      free (Retired r) = refl
+      free : (x : Place) → x ≢ Reserved → shows_free x ≡ shows_free (published_place w.current x)
+      free Free n = refl
+      free Reserved n = absurd (n refl)
+      free Filled n = refl
+      free Current n = refl
+      free GivenUp n = refl
+      free (Retired r) n = refl
 
       taken : (x : Place) → false ≡ shows_taken (published_place w.current x)
       taken Free = refl
@@ -95,19 +95,19 @@ module _ (xs : List Place) (w : World) (s : Sound w) (shown : ShowsPlaces xs w) 
       retired (Retired r) = refl
 
   -- the pages of the new version
-  pub reach_new : (q : ℕ) → ((w.reach w.current q && not (has given q)) || w.taken q) ≡ has (pages_from is_of_next 0 xs) q
-  reach_new q = elim (cases_lt q (length xs)) [
-    | inl lt ↦ rw (reach_shown xs w s shown count q lt, given_at q, shown.taken q, listed is_of_next xs q, tested is_of_next xs q lt) (kept (place_of xs q))
+  pub reach_new : ((q : ℕ) → place_of xs q ≢ Reserved) → (q : ℕ) → ((w.reach w.current q && not (has given q)) || w.taken q) ≡ has (pages_from is_of_next 0 xs) q
+  reach_new unreserved q = elim (cases_lt q (length xs)) [
+    | inl lt ↦ rw (reach_shown xs w s shown count q lt, given_at q, shown.taken q, listed is_of_next xs q, tested is_of_next xs q lt) (kept (place_of xs q) (unreserved q))
     | inr le ↦ rw (reach_past xs w s shown count q le, shown.taken q, past_place xs q le, listed is_of_next xs q, untested is_of_next xs q le) refl
   ]
     where
-      kept : (x : Place) → ((is_current x && not (is_given x)) || shows_taken x) ≡ is_of_next x
-      kept Free = refl
-      kept Reserved = refl
-      kept Filled = refl
-      kept Current = refl
-      kept GivenUp = refl
-      kept (Retired r) = refl
+      kept : (x : Place) → x ≢ Reserved → ((is_current x && not (is_given x)) || shows_taken x) ≡ is_of_next x
+      kept Free n = refl
+      kept Reserved n = absurd (n refl)
+      kept Filled n = refl
+      kept Current n = refl
+      kept GivenUp n = refl
+      kept (Retired r) n = refl
 
   given_current : (x : Place) → IsTrue (is_given x) → IsTrue (is_current x)
   given_current Free h = absurd (cc)
@@ -148,6 +148,7 @@ words_publish w page v ws given n g held few is h = record {
   current = get_or-set_same ws 8 n 0 (let z = h.size in omega arith) ∙ is;
   announced = λ j below. get_or-set_other ws 8 (16 + 8 * j) n 0 (λ e. absurd (omega arith)) ∙ h.announced j below;
   pages = pages_else w.pages w.words ws 8 n (omega arith) h.pages;
+  unused = λ j u. get_or-set_other ws 8 j n 0 (λ e. u.2 (omega arith)) ∙ h.unused j u;
 }
 
 -- the image of an older version
@@ -206,7 +207,7 @@ module _ (limits : Limits) (slots i : ℕ) (a : Knowledge) (carried : List (ℕ 
       let whole : take (suc (length b.log)) (entries log) ≡ entries a.seen ++ e ∷ [] = ap (λ k. take k (entries log)) (sym (length-map log (λ (x : Commit). x.entry) ∙ long)) ∙ take_all (entries log) ∙ journal in
       let older = λ (n : ℕ) (le : n ≤ g.current). test-other n (suc g.current) (λ z. absurd (omega arith)) in
       let grown : by_pass a.number (entries log) ≡ a.mine ++ e ∷ [] = ap (by_pass a.number) journal ∙ by_pass-own a.number (entries a.seen) e may.by ∙ ap (λ l. l ++ e ∷ []) fa.own in
-      let shown : ShowsPlaces c.places w = subst (λ n. ShowsPlaces (map (published_place n) a.places) w) now (shows-publish a.places g h.sound.machine m.shown m.count) in
+      let shown : ShowsPlaces c.places w = subst (λ n. ShowsPlaces (map (published_place n) a.places) w) now (shows-publish a.places g h.sound.machine m.shown m.count may.none_reserved) in
       let grows : c.seen ≡ log = ap (λ l. l ++ commit ∷ []) m.log in
       let fc : Fits limits d i c = record {
         number = fa.number;
@@ -250,7 +251,7 @@ module _ (limits : Limits) (slots i : ℕ) (a : Knowledge) (carried : List (ℕ 
           | inr past ↦
               let at_new : n ≡ suc g.current = omega arith in
               subst (λ n. w.reach n p ≡ has (reach_at log n) p) (sym at_new)
-              (ap (λ (f : ℕ → Bool). f p) (update-same g.reach (suc g.current) (λ p. (g.reach g.current p && not (has given p)) || g.taken p)) ∙ reach_new a.places g h.sound.machine m.shown m.count p ∙ ap (λ l. has l p) (sym (ap (λ k. reach_at log (suc k)) version ∙ newest)))
+              (ap (λ (f : ℕ → Bool). f p) (update-same g.reach (suc g.current) (λ p. (g.reach g.current p && not (has given p)) || g.taken p)) ∙ reach_new a.places g h.sound.machine m.shown m.count may.none_reserved p ∙ ap (λ l. has l p) (sym (ap (λ k. reach_at log (suc k)) version ∙ newest)))
         ];
         machine = sound;
         spelt = λ n le. elim (cases_lt n (suc (length b.log))) [
@@ -308,4 +309,4 @@ module _ (limits : Limits) (slots i : ℕ) (a : Knowledge) (carried : List (ℕ 
       (λ h. publish_by limits slots i (with_history a h) carried e v new (dated_may h) is) (λ n u w g. (g, tt)) (λ h n r t. one_of a (publishes (with_history a h) e v) h carried r t.0 refl refl))
     where
       dated_may : (h : List Move) → MayPublish limits (with_history a h) e v
-      dated_may h = record { writes = may.writes; unpublished = may.unpublished; by = may.by; agrees = may.agrees; operations = may.operations; room = may.room; inside = may.inside; filled = may.filled; spelt = may.spelt }
+      dated_may h = record { writes = may.writes; unpublished = may.unpublished; by = may.by; agrees = may.agrees; operations = may.operations; room = may.room; inside = may.inside; filled = may.filled; none_reserved = may.none_reserved; spelt = may.spelt }

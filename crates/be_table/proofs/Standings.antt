@@ -1,12 +1,12 @@
 -- Where the pages of a ledger stand.
-use Rattle.std.proofs.Common.{◌≡◌, ℕ, zero, suc, [], ◌∷◌, Ok, Err, ◌+◌, ◌<◌, ◌≤◌, List, length, map, Bool, true, false, nat_lt, if◌then◌else◌, refl, sym, ap, ◌∙◌, inl, inr, arith}
+use Rattle.std.proofs.Common.{◌≡◌, ◌≢◌, ℕ, zero, suc, [], ◌∷◌, Ok, Err, ◌+◌, ◌<◌, ◌≤◌, List, length, map, Bool, true, false, nat_lt, if◌then◌else◌, refl, sym, ap, ◌∙◌, inl, inr, arith}
 use Rattle.std.specs.Prelude.{Result, IfErr, OnErr, IsTrue, slice_index_or}
 use Rattle.std.proofs.lemmas.Bool.{cases_lt}
 use Rattle.std.proofs.lemmas.List.{get_or_default, get_or_past}
 use borrow.Author.Tests.{lt-ltb, le-ltb}
 use mathlib.Core.Bool.{false≢true}
 use Rattle.be_core.specs.Machine.{World, Sound, bit, set_count}
-use Rattle.be_pages.specs.declared.room.Standing.TheVariants.{Free as Nowhere, Filled as Full}
+use Rattle.be_pages.specs.declared.room.Standing.TheVariants.{Free as Nowhere, Taken, Filled as Full}
 use Rattle.be_pages.specs.declared.page_pool.Place.{Place}
 use Rattle.be_pages.specs.declared.page_pool.Place.TheVariants.{Free, Reserved, Filled, Current, GivenUp, Retired}
 use Rattle.be_pages.specs.Pages.{is_readable, is_taken}
@@ -99,6 +99,23 @@ filled_place xs q is = elim (cases_lt q (length xs)) [
     by_place Current false e = absurd (cc)
     by_place GivenUp false e = absurd (cc)
     by_place (Retired r) false e = absurd (cc)
+
+-- where no page of the table is free, no page is
+pub none_past : (xs : List Place) → ((p : ℕ) → p < length xs → place_of xs p ≢ Free) → (p : ℕ) → place_of xs p ≢ Free
+none_past xs none p is = elim (cases_lt p (length xs)) [
+  | inl lt ↦ none p lt is
+  | inr le ↦ absurd (let past : place_of xs p ≡ Current = get_or_past xs p Current le in let e : Current ≡ Free = sym past ∙ is in cc)
+]
+
+-- where no page stands taken, none is reserved
+pub unreserved : (xs : List Place) (q : ℕ) → standing_among xs q ≢ Taken → length xs ≤ 16384 → place_of xs q ≢ Reserved
+unreserved xs q none few is = elim (cases_lt q (length xs)) [
+  | inl lt ↦
+      let in_range : nat_lt q 16384 ≡ true = lt-ltb q 16384 (omega (arith, lt, few)) in
+      let place : slice_index_or xs q Free ≡ place_of xs q = get_or_default xs q Free Current lt in
+      none (rw (in_range, place, is) refl)
+  | inr le ↦ absurd (let past : place_of xs q ≡ Current = get_or_past xs q Current le in let e : Current ≡ Reserved = sym past ∙ is in cc)
+]
 
 -- a page that a scan frees stood nowhere before, and stands nowhere then
 swept_standing : (l : ℕ) (x : Place) → standing_at (swept_place l x) ≡ standing_at x

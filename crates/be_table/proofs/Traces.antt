@@ -11,7 +11,7 @@ use Rattle.be_table.specs.declared.limits.Limits.{Limits}
 use Rattle.be_table.specs.declared.pass.Knowledge.{Knowledge}
 use Rattle.be_table.specs.declared.pass.Move.{Move}
 use Rattle.be_table.specs.Laws.{AllowsBy}
-use Rattle.be_table.specs.Rule.{Board, Fits, AllFit, Stands, Shows, IsAt, Reaches, pass_of, one_step_on}
+use Rattle.be_table.specs.Rule.{Board, Fits, AllFit, Stands, Shows, IsAt, Reaches, StoodBefore, pass_of, one_step_on}
 use Rattle.be_table.specs.Seats.{IsTold}
 use Rattle.be_table.specs.Steps.{IsPass}
 use Rattle.be_table.specs.Trace.{mover, after_move, Run, RunsTo, NoneBy, Makes, Rests, AllRest, with_history}
@@ -83,7 +83,7 @@ stands_dated limits s b i a h st at = record {
 
 -- what the machine is to a pass that fits
 is_at : (limits : Limits) (s : Table) (d : Board) (i : ℕ) (c : Knowledge) → Stands limits s d → Fits limits d i c → IsAt c d.world
-is_at limits s d i c st f = record { phase = f.phase; writes = f.writes; holds = λ t. (f.whole t).holder; seen = let long = longer_seen d.log c.seen f.seen in let version = st.table.version in omega arith; shown = λ t. (f.whole t).shown }
+is_at limits s d i c st f = record { phase = f.phase; writes = f.writes; holds = λ t. (f.whole t).holder; seen = let long = longer_seen d.log c.seen f.seen in let version = st.table.version in omega arith; shown = λ t. (f.whole t).shown; image = f.image }
 
 -- what a step owes
 abbrev pub Goes : Limits → Table → Board → ℕ → ℕ → ℕ → List (ℕ × Option Ledger) → (World → World → Type 0) → (Me1 → Type 0) → Type 0
@@ -101,6 +101,21 @@ IsOne a h r = (c : Knowledge) × (r.0 ≡ c ∷ []) × (c.number ≡ a.number) �
 module _ (limits : Limits) (s : Table) (h : Shows limits s) (word n i : ℕ) (a : Knowledge) (carried : List (ℕ × Option Ledger)) (at : get_elem? s.views i ≡ some (a ∷ [])) (m : Move) (is : mover m ≡ a.number) where
   abbrev pub later : List Move
   later = h.2.0 ++ m ∷ []
+
+  -- before it the machine was as the pass knew it
+  pub stood : StoodBefore a m later
+  stood =
+      let tr = h.2.1 in
+      let fa = (h.1.views i (a ∷ []) at).0 in
+      let r = (tr.rests i (a ∷ []) at).0 in record {
+        others = r.0;
+        none = r.1;
+        ends = ap (λ l. l ++ m ∷ []) r.2;
+        words = tr.words;
+        world = h.0.world;
+        runs = subst (λ (q : Limits × List Move). RunsTo q.0 tr.words q.1 h.0.world) (λ k. (sym fa.limits_are k, r.2 k)) tr.runs;
+        known = is_at limits s h.0 i a h.1 fa;
+      }
 
   pub moved : (event : World → World → Type 0) (then : List Move → Me1 → Type 0) (so : World → Type 0) → Goes limits (dated s i a later) h.0 word n i carried event (then later)
       → ((v w : World) → event v w → Run v (m ∷ []) w × so w) → ((r : Me1) → then later r → IsOne a later r)
@@ -159,6 +174,18 @@ moving limits slots i a carried word f move event then so is by goes shape s h s
     let hist = h.2.0 ++ move n ∷ [] in
     moved limits s h word (f n) i a carried at (move n) (is n) (event n) (λ hist r. then hist n r) (so n)
     (by hist (dated s i a hist) h.0 (stands_dated limits s h.0 i a hist h.1 at) sized (set_at s.views i (a ∷ []) (with_history a hist ∷ []) at) fits) (goes n) (shape hist n)
+
+-- the same, with what the machine was before
+pub moving_from : (limits : Limits) (slots i : ℕ) (a : Knowledge) (carried : List (ℕ × Option Ledger)) (word : ℕ) (f : ℕ → ℕ) (move : ℕ → Move) (event : ℕ → World → World → Type 0) (then : List Move → ℕ → Me1 → Type 0) (so : ℕ → World → Type 0)
+    → ((n : ℕ) → mover (move n) ≡ a.number) → ((hist : List Move) → AllowsBy limits slots i (with_history a hist ∷ [], carried) word f event (then hist))
+    → ((n : ℕ) (v w : World) → event n v w → Run v (move n ∷ []) w × so n w) → ((hist : List Move) (n : ℕ) (r : Me1) → then hist n r → IsOne a hist r)
+    → Allows (Shows limits) slots i (a ∷ [], carried) word f (λ n r. (hist : List Move) × Makes a.number a.history (move n ∷ []) hist × Reaches (pass_of r.0) (so n) × (then hist n r × StoodBefore a (move n) hist))
+moving_from limits slots i a carried word f move event then so is by goes shape s h sized at fits =
+    let n = slice_index s.words word in
+    let hist = h.2.0 ++ move n ∷ [] in
+    let y = by hist (dated s i a hist) h.0 (stands_dated limits s h.0 i a hist h.1 at) sized (set_at s.views i (a ∷ []) (with_history a hist ∷ []) at) fits in
+    moved limits s h word (f n) i a carried at (move n) (is n) (event n) (λ hist r. then hist n r × StoodBefore a (move n) hist) (so n)
+    (y.0, y.1, y.2, y.3, (y.4, stood limits s h word (f n) i a carried at (move n) (is n))) (goes n) (λ r t. shape hist n r t.0)
 
 -- a step that is none
 pub rested : (limits : Limits) (s : Table) (h : Shows limits s) (word n i : ℕ) (v : List Knowledge) (carried : List (ℕ × Option Ledger)) → get_elem? s.views i ≡ some v → (event : World → World → Type 0) (then : Me1 → Type 0) → Goes limits s h.0 word n i carried event then

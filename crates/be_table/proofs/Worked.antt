@@ -1,8 +1,9 @@
 -- What a write does between its lock and its unlock.
-use Rattle.std.proofs.Common.{◌≡◌, ◌≢◌, ℕ, zero, suc, ◌||◌, Bool, true, false, if◌then◌else◌, List, [], ◌∷◌, ◌++◌, refl, sym, ap, ◌∙◌, subst, eq-eqb, ne_eqb}
+use Rattle.std.proofs.Common.{◌≡◌, ◌≢◌, ℕ, zero, suc, ◌||◌, Bool, true, false, if◌then◌else◌, List, [], ◌∷◌, ◌++◌, refl, sym, ap, ◌∙◌, subst, eq-eqb, ne_eqb, append_assoc}
 use Rattle.std.proofs.Common.{◌⊎◌, inl, inr}
 use Rattle.std.specs.List.{list_any}
 use Rattle.std.specs.Prelude.{Result, Ok, Err, IfOk, IfErr}
+use Rattle.be_table.specs.declared.limits.Limits.{Limits}
 use Rattle.be_table.specs.declared.pass.Knowledge.{Knowledge}
 use Rattle.be_table.specs.declared.pass.Move.{Move}
 use Rattle.be_table.specs.declared.pass.Move.TheVariants.{Look, Announce, LookAgain, Unpin, Lock, Scan, Fill, Publish, Unlock, Return}
@@ -10,9 +11,12 @@ use Rattle.be_pages.specs.Refusal.{IsFullOf}
 use Rattle.be_value.specs.declared.refusals.Refusal.{Refusal}
 use Rattle.be_table.specs.Place.{Work}
 use Rattle.be_table.specs.Reading.{open_of}
-use Rattle.be_table.specs.Steps.{fill_moves, fills_word, given_moves, gives_up, scans_of}
-use Rattle.be_table.specs.Trace.{mover, NoneBy, Makes, is_lock_of, upto_lock, IsWork, AreWork, HasWorked, with_history}
+use Rattle.be_table.specs.Steps.{fill_moves, fills_word, given_moves, gives_up, take_moves, scans_of}
+use Rattle.be_table.specs.Trace.{mover, NoneBy, Makes, is_lock_of, upto_lock, IsWork, AreWork, with_history}
+use Rattle.be_table.specs.History.{StartsWith}
+use Rattle.be_table.specs.Working.{HasReason, MakesForReason, HasWorked, WorksOn}
 use Rattle.be_table.specs.Works.{FindsNone, MakesScan, TakesPage}
+use Rattle.be_table.proofs.Scans.{makes_starts}
 use Rattle.be_table.proofs.Traces.{makes_more}
 
 -- ## The moves up to the last lock
@@ -111,16 +115,89 @@ return_work k p false = tt
 pub given_work : (a : Knowledge) (p : ℕ) → AreWork a.number (given_moves a p)
 given_work a p = return_work a.number p _
 
--- a pass that has just taken the lock has done nothing with it
-pub worked_none : (k : ℕ) (h : List Move) → upto_lock k h ≡ h → HasWorked k h
-worked_none k h e = record { own = []; work = tt; made = sym e }
+pub take_work : (a : Knowledge) (p : ℕ) → AreWork a.number (take_moves a p)
+take_work a p = (refl, tt)
 
-pub worked_more : (k : ℕ) (old own new : List Move) → AreWork k own → Makes k old own new → HasWorked k old → HasWorked k new
-worked_more k old own new w m h = record {
-  own = h.own ++ own;
-  work = work_append k h.own own h.work w;
-  made = subst (λ (l : List Move). Makes k l (h.own ++ own) new) (sym (upto_work k old own new w m)) (makes_more k (upto_lock k old) h.own old own new h.made m);
-}
+-- ## Reasons
+
+pub reasons_more : (limits : Limits) (k : ℕ) (old own mid more new : List Move) → MakesForReason limits k old own mid → MakesForReason limits k mid more new → MakesForReason limits k old (own ++ more) new
+reasons_more limits k old [] mid more new a b = subst (λ (l : List Move). MakesForReason limits k l more new) a b
+reasons_more limits k old (m ∷ own) mid more new a b = (a.0, a.1, a.2, reasons_more limits k ((old ++ a.0) ++ m ∷ []) own mid more new a.3 b)
+
+-- without the reasons
+pub reasons_left : (limits : Limits) (k : ℕ) (old own new : List Move) → MakesForReason limits k old own new → Makes k old own new
+reasons_left limits k old [] new a = a
+reasons_left limits k old (m ∷ own) new a = (a.0, a.1, reasons_left limits k ((old ++ a.0) ++ m ∷ []) own new a.3)
+
+-- each of the moves has a reason at any time
+abbrev NeedNone : Limits → List Move → Type 0
+NeedNone limits [] = Unit {0}
+NeedNone limits (m ∷ ms) = ((before : List Move) → HasReason limits before m) × NeedNone limits ms
+
+pub reasons_none : (limits : Limits) (k : ℕ) (old own new : List Move) → NeedNone limits own → Makes k old own new → MakesForReason limits k old own new
+reasons_none limits k old [] new n a = a
+reasons_none limits k old (m ∷ own) new n a = (a.0, a.1, n.0 (old ++ a.0), reasons_none limits k ((old ++ a.0) ++ m ∷ []) own new n.1 a.2)
+
+second_needs : (limits : Limits) (k p i x : ℕ) (b : Bool) → NeedNone limits (if b then [] else Fill k p i x ∷ [])
+second_needs limits k p i x true = tt
+second_needs limits k p i x false = ((λ before. tt), tt)
+
+pub fill_needs : (limits : Limits) (a : Knowledge) (p i x : ℕ) → NeedNone limits (fill_moves a p i x)
+fill_needs limits a p i x = ((λ before. tt), second_needs limits a.number p i x _)
+
+return_needs : (limits : Limits) (k p : ℕ) (b : Bool) → NeedNone limits (if b then Return k p ∷ [] else [])
+return_needs limits k p true = ((λ before. tt), tt)
+return_needs limits k p false = tt
+
+pub given_needs : (limits : Limits) (a : Knowledge) (p : ℕ) → NeedNone limits (given_moves a p)
+given_needs limits a p = return_needs limits a.number p _
+
+pub take_needs : (limits : Limits) (a : Knowledge) (p : ℕ) → NeedNone limits (take_moves a p)
+take_needs limits a p = ((λ before. tt), tt)
+
+-- ## A write that goes on
+
+-- a pass that has just taken the lock has done nothing with it
+pub worked_none : (limits : Limits) (k : ℕ) (h : List Move) → upto_lock k h ≡ h → HasWorked limits k h
+worked_none limits k h e = record { first = []; early = inl refl; begun = upto_lock k h; scanned = refl; own = []; work = tt; made = sym e }
+
+-- nor has it, where it has scanned once
+pub worked_first : (limits : Limits) (k : ℕ) (old new : List Move) → upto_lock k old ≡ old → Makes k old (scans_of k limits.passes) new → HasWorked limits k new
+worked_first limits k old new e m =
+    let upto : upto_lock k new ≡ old = upto_work k old (scans_of k limits.passes) new (scans_work k limits.passes) m ∙ e in
+    record { first = scans_of k limits.passes; early = inr refl; begun = new; scanned = subst (λ (l : List Move). Makes k l (scans_of k limits.passes) new) (sym upto) m; own = []; work = tt; made = refl }
+
+pub worked_more : (limits : Limits) (k : ℕ) (old own new : List Move) → AreWork k own → MakesForReason limits k old own new → HasWorked limits k old → HasWorked limits k new
+worked_more limits k old own new w m h =
+    let upto : upto_lock k new ≡ upto_lock k old = upto_work k old own new w (reasons_left limits k old own new m) in record {
+      first = h.first;
+      early = h.early;
+      begun = h.begun;
+      scanned = subst (λ (l : List Move). Makes k l h.first h.begun) (sym upto) h.scanned;
+      own = h.own ++ own;
+      work = work_append k h.own own h.work w;
+      made = reasons_more limits k h.begun h.own old own new h.made m;
+    }
+
+-- a whole scan has its reason, or comes first
+pub worked_scan : (limits : Limits) (k : ℕ) (old new : List Move) (none : Type 0) → none ⊎ (upto_lock k old ≡ old) → Makes k old (scans_of k limits.passes) new → (none → MakesForReason limits k old (scans_of k limits.passes) new)
+    → HasWorked limits k old → HasWorked limits k new
+worked_scan limits k old new none (inl n) m r h = worked_more limits k old (scans_of k limits.passes) new (scans_work k limits.passes) (r n) h
+worked_scan limits k old new none (inr e) m r h = worked_first limits k old new e m
+
+-- ## From the lock on
+
+pub works_none : (limits : Limits) (k : ℕ) (h : List Move) → WorksOn limits k h h
+works_none limits k h = record { first = []; early = inl refl; begun = h; scanned = refl; own = []; work = tt; made = refl }
+
+pub works_scan : (limits : Limits) (k : ℕ) (old new : List Move) → Makes k old (scans_of k limits.passes) new → WorksOn limits k old new
+works_scan limits k old new m = record { first = scans_of k limits.passes; early = inr refl; begun = new; scanned = m; own = []; work = tt; made = refl }
+
+pub works_start : (limits : Limits) (k : ℕ) (old new : List Move) → WorksOn limits k old new → StartsWith new old
+works_start limits k old new w =
+    let f = makes_starts k old w.first w.begun w.scanned in
+    let s = makes_starts k w.begun w.own new (reasons_left limits k w.begun w.own new w.made) in
+    (f.0 ++ s.0, s.1 ∙ ap (λ (l : List Move). l ++ s.0) f.1 ∙ append_assoc old f.0 s.0)
 
 -- ## What no call on an open write changes
 
@@ -135,7 +212,10 @@ scanned_kept o n (inl same) = ap open_of same
 scanned_kept o n (inr s) = scan_kept o n s.0 s.1
 
 pub take_kept : (r : Result ℕ Refusal) (old new : Work) → IfOk r (TakesPage old new) → IfErr r (IsFullOf (FindsNone old new)) → open_of new ≡ open_of old
-take_kept (Ok page) old new t f = ap open_of t.taken ∙ scanned_kept old t.between t.scan
+take_kept (Ok page) old new t f =
+    let b = t.between in let k = b.knows in
+    ap open_of t.taken ∙ ap (λ (l : List Move). record (open_of b) { begun = l })
+    (upto_work k.number k.history (take_moves k page) new.knows.history (take_work k page) t.moves) ∙ scanned_kept old b t.scan
 take_kept (Err e) old new t f = scan_kept old new f.0 f.2.scan
 
 pub fill_kept : (old new : Work) (page i word : ℕ) → new ≡ record old { knows = fills_word (with_history old.knows new.knows.history) page i word }

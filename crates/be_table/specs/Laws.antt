@@ -18,7 +18,7 @@ use Rattle.be_pages.specs.declared.page_pool.Place.TheVariants.{Free}
 use Rattle.be_pages.specs.Place.{undone_place, is_held_page, place_of}
 use Rattle.be_table.specs.Ledger.{is_given, shows_taken}
 use Rattle.be_table.specs.Trace.{MayReturn, Run, RunsTo}
-use Rattle.be_table.specs.Rule.{ledger_places, LeftAreRetired, Board, Stands, IsWithin, entries, page_at, reach_at, word_place, announce_word, current_word, HasCurrent, one_step_on, seats_together}
+use Rattle.be_table.specs.Rule.{ledger_places, LeftAreRetired, Board, Stands, Shows, IsUnused, IsWithin, entries, page_at, reach_at, word_place, announce_word, current_word, HasCurrent, one_step_on, seats_together}
 use Rattle.be_table.specs.Steps.{LookTold, Told, PinnedAt, Unpinned, PinnedRead, Locked, Unlocked, Scanned, OwnRead, FilledAt, FilledFound, PageTaken, PageGivenUp, MayBeFilled, MayPublish, Published, Compared, pages_from}
 
 -- ## The events: what a step that found the number n does to the machine
@@ -57,7 +57,7 @@ IsScan k j n v w = MayScan v k j × (w ≡ after_scan v j) × (n ≡ announce_wo
 abbrev pub IsFill : (k p i word : ℕ) → ℕ → World → World → Type 0
 IsFill k p i word n v w = MayFill v k p i × (w ≡ after_fill v p i word)
 
--- a page that the write had filled goes back to the free ones
+-- a page that the write had taken goes back to the free ones
 abbrev pub IsReturn : (k p : ℕ) → ℕ → World → World → Type 0
 IsReturn k p n v w = MayReturn v k p × (w ≡ after_return v p)
 
@@ -118,11 +118,12 @@ module _ (limits : Limits) (slots id : ℕ) (a : Knowledge) (carried : List (ℕ
   OwnReadIsNoEvent = (p i : ℕ) → a.writes ≡ true → p < a.limits.pages → i < 512
       → AllowsBy limits slots id (a ∷ [], carried) (word_place p i) (λ n. n) NoEvent (OwnRead (step slots (word_place p i) 0 0 none) (a ∷ [], carried))
 
-  abbrev pub TakeIsNoEvent : Type 0
-  TakeIsNoEvent = (p : ℕ) → a.writes ≡ true → p < length a.places → place_of a.places p ≡ Free
-      → AllowsBy limits slots id (a ∷ [], carried) (word_place p 0) (λ n. n) NoEvent (PageTaken (step slots (word_place p 0) 0 0 none) (a ∷ [], carried))
+  -- a load that takes a page fills its first word with the word that is there
+  abbrev pub TakeIsItsEvent : Type 0
+  TakeIsItsEvent = (p : ℕ) → a.writes ≡ true → a.published ≡ false → p < length a.places → place_of a.places p ≡ Free
+      → AllowsBy limits slots id (a ∷ [], carried) (word_place p 0) (λ n. n) (λ n. IsFill a.number p 0 n n) (PageTaken (step slots (word_place p 0) 0 0 none) (a ∷ [], carried))
 
-  -- a page that the write had filled goes back to the free ones, and else nothing happens
+  -- a page that the write had taken goes back to the free ones, and else nothing happens
   abbrev pub GiveUpIsNoEvent : Type 0
   GiveUpIsNoEvent = (p : ℕ) → a.writes ≡ true → p < length a.places → IsTrue (is_held_page (place_of a.places p))
       → AllowsBy limits slots id (a ∷ [], carried) (word_place p 0) (λ n. n) (λ n v w. MatchBool (shows_taken (place_of a.places p)) (IsReturn a.number p n v w) (NoEvent n v w)) (PageGivenUp (step slots (word_place p 0) 0 0 none) (a ∷ [], carried))
@@ -191,3 +192,13 @@ RunsAreSound = (limits : Limits) (words : ℕ → ℕ → ℕ) (ms : List Move) 
 -- each beginning of a run is a run
 abbrev pub FrontsRun : Type 0
 FrontsRun = (limits : Limits) (words : ℕ → ℕ → ℕ) (front rest : List Move) (w : World) → RunsTo limits words (front ++ rest) w → (mid : World) × RunsTo limits words front mid × Run mid rest w
+
+-- ## The words for which the table has no use
+
+-- between any two steps they are 0
+abbrev pub UnusedAreZero : Type 0
+UnusedAreZero = (limits : Limits) (s : State (Option Ledger) (List Knowledge)) (k : ℕ) → Shows limits s → IsUnused limits.passes k → slice_index s.words k ≡ 0
+
+-- So a step stores nothing but 0 there, whatever it makes of its seat: there is no word for a lock of another kind.
+abbrev pub UnusedStayZero : Type 0
+UnusedStayZero = (limits : Limits) (s : State (Option Ledger) (List Knowledge)) (k n id : ℕ) (carried : List (ℕ × Option Ledger)) (v : List Knowledge) (x : Act (Option Ledger)) → IsUnused limits.passes k → Shows limits (stepped s k n id carried v x) → n ≡ 0

@@ -5,19 +5,19 @@ use Rattle.be_pages.specs.Place.{place_of}
 use Rattle.be_pages.specs.declared.page_pool.Place.{Place}
 use Rattle.be_pages.specs.declared.page_pool.Place.TheVariants.{Free, Reserved, Filled, Current, GivenUp, Retired}
 
--- free, or taken and not filled yet
+-- free
 abbrev pub shows_free : Place → Bool
 shows_free Free = true
-shows_free Reserved = true
+shows_free Reserved = false
 shows_free Filled = false
 shows_free Current = false
 shows_free GivenUp = false
 shows_free (Retired r) = false
 
--- taken and filled
+-- taken
 abbrev pub shows_taken : Place → Bool
 shows_taken Free = false
-shows_taken Reserved = false
+shows_taken Reserved = true
 shows_taken Filled = true
 shows_taken Current = false
 shows_taken GivenUp = false

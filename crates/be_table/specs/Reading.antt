@@ -10,6 +10,7 @@ use Rattle.be_pages.specs.declared.room.Standing.{Standing}
 use Rattle.be_pages.specs.declared.room.Standing.TheVariants.{Free as Nowhere, Old, GivenUp as Given, Taken, Filled as Full}
 use Rattle.be_pages.specs.declared.page_pool.Place.{Place}
 use Rattle.be_pages.specs.declared.page_pool.Place.TheVariants.{Free, Reserved, Filled, Current, GivenUp, Retired}
+use Rattle.be_table.specs.declared.limits.Limits.{Limits}
 use Rattle.be_table.specs.declared.pass.Commit.{Commit}
 use Rattle.be_table.specs.declared.pass.Knowledge.{Knowledge}
 use Rattle.be_table.specs.declared.pass.Move.{Move}
@@ -44,13 +45,14 @@ words_of w q i = word_of_page w.knows.words q i
 pub record StaysOpen : Type 0 where
   pub table : Opened
   pub number : ℕ
+  pub limits : Limits
   pub phase : Phase
   pub seen : List Commit
   pub published : Bool
   pub begun : List Move
 
 abbrev pub open_of : Work → StaysOpen
-open_of w = record { table = w.table; number = w.knows.number; phase = w.knows.phase; seen = w.knows.seen; published = w.knows.published; begun = upto_lock w.knows.number w.knows.history }
+open_of w = record { table = w.table; number = w.knows.number; limits = w.knows.limits; phase = w.knows.phase; seen = w.knows.seen; published = w.knows.published; begun = upto_lock w.knows.number w.knows.history }
 
 -- the pages of the pinned version
 abbrev pub reach_of : Phase → List Commit → List ℕ

@@ -18,7 +18,7 @@ use Rattle.be_pages.specs.Place.{is_retired, undone_place}
 use Rattle.be_table.specs.Ledger.{ShowsPlaces}
 use Rattle.be_journal.specs.Journal.{by_pass, replay}
 use Rattle.be_table.specs.History.{StartsWith, AreOfPasses, IsHistory}
-use Rattle.be_table.specs.Trace.{RunsTo, AllRest}
+use Rattle.be_table.specs.Trace.{RunsTo, NoneBy, AllRest}
 use Rattle.be_table.specs.Versions.{in_pages, SpellsVolume}
 
 -- what the table shows: the journal with its versions, the machine, and which seat each pass has
@@ -97,12 +97,17 @@ IsHome (Some h) w log homes = homes ≡ none ∷ []
 
 -- ## The first part: the table shows the state
 
+-- a word before the pages that is neither the lock, nor the current version, nor the announcement of one of so many passes
+abbrev pub IsUnused : (passes k : ℕ) → Type 0
+IsUnused passes k = (k < 528) × (k ≢ 0) × (k ≢ 8) × ((j : ℕ) → j < passes → k ≢ 16 + 8 * j)
+
 pub record WordsAgree (w : World) (page : ℕ) (words : List ℕ) : Type 0 where
   pub size : length words ≡ 528 + 512 * w.pages
   pub lock : slice_index words 0 ≡ lock_word w.holder
   pub current : slice_index words 8 ≡ current_word w.current page
   pub announced : (k : ℕ) → k < w.passes → slice_index words (16 + 8 * k) ≡ announce_word (w.phases k)
   pub pages : PagesAgree w.pages w.words words
+  pub unused : (k : ℕ) → IsUnused w.passes k → slice_index words k ≡ 0
 
 -- the words, the slot and the journal's length are those of the machine
 pub record ShowsBoard (b : Board) (s : State (Option Ledger) (List Knowledge)) : Type 0 where
@@ -219,6 +224,7 @@ pub record IsAt (a : Knowledge) (w : World) : Type 0 where
   pub holds : a.writes ≡ true → w.holder ≡ Some (known_holder a)
   pub seen : length a.seen ≤ w.current
   pub shown : a.writes ≡ true → ShowsPlaces a.places w
+  pub image : ImageIs w a.phase a.image
 
 -- the machine after the history of the pass is as the pass knows it, and P is so of it
 pub record Reaches (a : Knowledge) (P : World → Type 0) : Type 0 where
@@ -227,6 +233,16 @@ pub record Reaches (a : Knowledge) (P : World → Type 0) : Type 0 where
   pub runs : RunsTo a.limits words a.history world
   pub known : IsAt a world
   pub so : P world
+
+-- just before the move that ends this history, the machine was as the pass knew it
+pub record StoodBefore (a : Knowledge) (move : Move) (history : List Move) : Type 0 where
+  pub others : List Move
+  pub none : NoneBy a.number others
+  pub ends : history ≡ (a.history ++ others) ++ move ∷ []
+  pub words : ℕ → ℕ → ℕ
+  pub world : World
+  pub runs : RunsTo a.limits words (a.history ++ others) world
+  pub known : IsAt a world
 
 -- a pass that has seen nothing
 abbrev pub newcomer : Limits → ℕ → ℕ → Knowledge

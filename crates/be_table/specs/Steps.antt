@@ -21,8 +21,8 @@ use Rattle.be_journal.specs.Journal.{HasOperations, Agrees, by_pass, replay}
 use Rattle.be_table.specs.History.{StartsWith, AreOfPasses, IsHistory}
 use Rattle.be_table.specs.Reading.{standing_among, word_of_page}
 use Rattle.be_table.specs.Versions.{at_start, CanSpellEach, SpellsVolume}
-use Rattle.be_table.specs.Trace.{RunsTo, Makes, with_history}
-use Rattle.be_table.specs.Rule.{Reaches, HasCurrent, announce_word, ledger_places, LeftAreRetired, IsWithin, AreInside, OwnPages, pass_of, one_step_on, current_word, page_at, reach_at, entries, word_place}
+use Rattle.be_table.specs.Trace.{RunsTo, Makes, HasTrace, with_history}
+use Rattle.be_table.specs.Rule.{Reaches, StoodBefore, HasCurrent, announce_word, ledger_places, LeftAreRetired, IsWithin, AreInside, OwnPages, pass_of, one_step_on, current_word, page_at, reach_at, entries, word_place}
 
 -- what is always so of a pass
 pub record IsPass (a : Knowledge) : Type 0 where
@@ -141,6 +141,7 @@ pub record MayPublish (limits : Limits) (a : Knowledge) (e : Entry) (v : ℕ) : 
   pub room : length a.seen < limits.commits
   pub inside : v < length a.places
   pub filled : place_of a.places v ≡ Filled
+  pub none_reserved : (q : ℕ) → place_of a.places q ≢ Reserved
   pub spelt : SpellsVolume (pages_from is_of_next 0 a.places) (word_of_page a.words) v (replay (entries a.seen ++ e ∷ []))
 
 -- a pass that holds the lock may read the announcement of the pass j
@@ -264,7 +265,7 @@ FilledFound st m n r = let a = pass_of m.0 in ((p i : ℕ) → st.word ≡ word_
 
 -- the page is taken or given up, at its first word
 abbrev pub PageTaken : Step (Option Ledger) → Me (Option Ledger) (List Knowledge) → ℕ → Me (Option Ledger) (List Knowledge) → Type 0
-PageTaken st m n r = let a = pass_of m.0 in (p : ℕ) → st.word ≡ word_place p 0 → r ≡ (takes_page a p ∷ [], m.1)
+PageTaken st m n r = let a = pass_of m.0 in ((p : ℕ) → st.word ≡ word_place p 0 → r ≡ (takes_page a p ∷ [], m.1)) × (n ≡ slice_index a.words st.word)
 
 abbrev pub PageGivenUp : Step (Option Ledger) → Me (Option Ledger) (List Knowledge) → ℕ → Me (Option Ledger) (List Knowledge) → Type 0
 PageGivenUp st m n r = let a = pass_of m.0 in (p : ℕ) → st.word ≡ word_place p 0 → r ≡ (gives_up a p ∷ [], m.1)
@@ -316,9 +317,15 @@ UnpinMoves st m n r = Moving (Unpin (pass_of m.0).number) (λ w. Unit {0}) (λ m
 abbrev pub LockMoves : Step (Option Ledger) → Me (Option Ledger) (List Knowledge) → ℕ → Me (Option Ledger) (List Knowledge) → Type 0
 LockMoves st m n r = MatchBool (n == 0) (Moving (Lock (pass_of m.0).number) (λ w. Unit {0}) Gets m r) (LockIsHeld m n r)
 
--- the number found is the announcement of the pass whose turn it is
+-- two passes of one seat compare what they have seen, and their histories are fronts of one trace
+abbrev pub CompareMoves : Step (Option Ledger) → Me (Option Ledger) (List Knowledge) → ℕ → Me (Option Ledger) (List Knowledge) → Type 0
+CompareMoves st m n r = let a = pass_of m.0 in let c = pass_of (drop 1 m.0) in Compared st m n r × HasTrace a.limits (a ∷ c ∷ [])
+
+-- the number found is the announcement of the pass whose turn it is, and just before the machine was as the pass knew it
 abbrev pub ScanMoves : Step (Option Ledger) → Me (Option Ledger) (List Knowledge) → ℕ → Me (Option Ledger) (List Knowledge) → Type 0
-ScanMoves st m n r = let a = pass_of m.0 in Moving (Scan a.number a.scanned) (λ w. n ≡ announce_word (w.phases a.scanned)) (λ m r. Scanned st m n r) m r
+ScanMoves st m n r =
+    let a = pass_of m.0 in (h : List Move) × Makes a.number a.history (Scan a.number a.scanned ∷ []) h × Reaches (pass_of r.0) (λ w. n ≡ announce_word (w.phases a.scanned))
+    × (Scanned st (with_history a h ∷ [], m.1) n r × StoodBefore a (Scan a.number a.scanned) h)
 
 abbrev pub FillMoves : Step (Option Ledger) → Me (Option Ledger) (List Knowledge) → ℕ → Me (Option Ledger) (List Knowledge) → Type 0
 FillMoves st m n r =
@@ -328,11 +335,20 @@ FillMoves st m n r =
 abbrev pub FoundFillMoves : Step (Option Ledger) → Me (Option Ledger) (List Knowledge) → ℕ → Me (Option Ledger) (List Knowledge) → Type 0
 FoundFillMoves st m n r = FillMoves st m n r × (n ≡ slice_index (pass_of m.0).words st.word)
 
+-- a page is taken by a load of its first word, which is the fill of the word that is there
+abbrev pub take_moves : Knowledge → ℕ → List Move
+take_moves a p = Fill a.number p 0 (slice_index a.words (word_place p 0)) ∷ []
+
+abbrev pub TakeMoves : Step (Option Ledger) → Me (Option Ledger) (List Knowledge) → ℕ → Me (Option Ledger) (List Knowledge) → Type 0
+TakeMoves st m n r =
+    let a = pass_of m.0 in ((p : ℕ) → st.word ≡ word_place p 0 → (h : List Move) × Makes a.number a.history (Fill a.number p 0 n ∷ []) h × (r ≡ (takes_page (with_history a h) p ∷ [], m.1)))
+    × (n ≡ slice_index a.words st.word)
+
 -- a word of a page is filled with what is there, and then with x where that is another
 abbrev pub fill_moves : Knowledge → ℕ → ℕ → ℕ → List Move
 fill_moves a p i x = let found = slice_index a.words (word_place p i) in Fill a.number p i found ∷ (if found == x then [] else Fill a.number p i x ∷ [])
 
--- a page that the write had filled goes back to the free ones, and of another that is given up the machine knows nothing yet
+-- a page that the write had taken goes back to the free ones, and of another that is given up the machine knows nothing yet
 abbrev pub given_moves : Knowledge → ℕ → List Move
 given_moves a p = if shows_taken (place_of a.places p) then Return a.number p ∷ [] else []
 

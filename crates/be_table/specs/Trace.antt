@@ -127,9 +127,3 @@ IsWork k (Return j p) = j ≡ k
 abbrev pub AreWork : ℕ → List Move → Type 0
 AreWork k [] = Unit {0}
 AreWork k (m ∷ ms) = IsWork k m × AreWork k ms
-
--- since it took the lock, the pass k has only scanned, filled and returned pages
-pub record HasWorked (k : ℕ) (history : List Move) : Type 0 where
-  pub own : List Move
-  pub work : AreWork k own
-  pub made : Makes k (upto_lock k history) own history

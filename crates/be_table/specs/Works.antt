@@ -17,9 +17,9 @@ use Rattle.be_table.specs.Place.{SeatFacts, Opened, Work}
 use Rattle.be_table.specs.Reading.{standing_among, word_of_page}
 use Rattle.be_table.specs.Versions.{at_start, SpellsVolume}
 use Rattle.be_journal.specs.Journal.{replay}
-use Rattle.be_table.specs.Trace.{AllRest, Makes, with_history}
+use Rattle.be_table.specs.Trace.{AllRest, Makes, upto_lock, with_history}
 use Rattle.be_table.specs.Rule.{Reaches, AreBad, IsWithin, entries, page_at, reach_at, newcomer}
-use Rattle.be_table.specs.Steps.{Has, AllIdle, KeepsSeen, IsPass, looks, finds_held, takes_lock, pins, takes_page, scans_all, IsLeastAnnounced, IsOwnLeast, pages_from, UnreachedAreFree, NoCommitReaches, AreFound, scans_of}
+use Rattle.be_table.specs.Steps.{Has, AllIdle, KeepsSeen, IsPass, looks, finds_held, takes_lock, pins, takes_page, take_moves, scans_all, IsLeastAnnounced, IsOwnLeast, pages_from, UnreachedAreFree, NoCommitReaches, AreFound, scans_of}
 
 -- a seat of this table
 abbrev pub IsSeatOf : Opened → SeatFacts → Type 0
@@ -101,6 +101,10 @@ pub record MakesScan (old new : Work) (least : ℕ) : Type 0 where
 abbrev pub HasNoFree : Work → Type 0
 HasNoFree w = (p : ℕ) → p < length w.knows.places → place_of w.knows.places p ≢ Free
 
+-- a whole scan has a reason: it comes right after the lock, or no page is free
+abbrev pub HasReasonToScan : Work → Type 0
+HasReasonToScan w = HasNoFree w ⊎ (upto_lock w.knows.number w.knows.history ≡ w.knows.history)
+
 -- a free page is taken, and a whole scan comes before that only where none was free
 pub record TakesPage (old new : Work) (page : ℕ) : Type 0 where
   pub between : Work
@@ -109,7 +113,8 @@ pub record TakesPage (old new : Work) (page : ℕ) : Type 0 where
   pub inside : page < length between.knows.places
   pub small : page < 16384
   pub free : place_of between.knows.places page ≡ Free
-  pub taken : new ≡ record between { knows = takes_page between.knows page }
+  pub taken : new ≡ record between { knows = takes_page (with_history between.knows new.knows.history) page }
+  pub moves : Makes between.knows.number between.knows.history (take_moves between.knows page) new.knows.history
 
 -- of the pages that no version from the least on reaches, each is held by the write
 abbrev pub HoldsUnreached : Knowledge → ℕ → Type 0

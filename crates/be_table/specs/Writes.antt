@@ -5,7 +5,7 @@ use Rattle.be_table.specs.Place.{Work}
 use Rattle.be_table.specs.Rule.{pass_of, entries, page_at, ledger_places, LeftAreRetired}
 use Rattle.be_table.specs.Seats.{pin_of}
 use Rattle.be_table.specs.Steps.{IsPass}
-use Rattle.be_table.specs.Trace.{HasWorked}
+use Rattle.be_table.specs.Working.{HasWorked}
 
 abbrev pub work_of : Inside → Work
 work_of w = record { table = w.table.now; knows = pass_of w.base.me.0; reserved = w.reserved; left = w.ledger.left }
@@ -29,4 +29,4 @@ pub record IsOpen (w : Inside) : Type 0 where
   pub limit : w.ledger.journal.limit ≡ w.table.now.limits.commits
   pub left : LeftAreRetired w.ledger
   pub room : 0 < w.reserved → (w.ledger.journal.reserved ≡ w.reserved) × (length (pass_of w.base.me.0).seen < w.table.now.limits.commits)
-  pub worked : (pass_of w.base.me.0).published ≡ false → HasWorked (pass_of w.base.me.0).number (pass_of w.base.me.0).history
+  pub worked : (pass_of w.base.me.0).published ≡ false → HasWorked (pass_of w.base.me.0).limits (pass_of w.base.me.0).number (pass_of w.base.me.0).history

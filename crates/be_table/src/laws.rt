@@ -6,7 +6,7 @@
 //! step; the state that the table shows before allows the event, and the one that it shows afterwards is the event's. A
 //! step whose word has no event leaves the machine as it was. The calls of the table are proved from the same lemmas.
 ghost use Rattle.std.specs.Prelude.{ℕ, List, Option};
-ghost use Rattle.be_table.specs.Laws.{GiveUpIsNoEvent, PublishIsItsEvent, UnlockIsItsEvent, CompareIsNoEvent, SplitIsNoEvent, JoinIsNoEvent, ArrivalIsNoEvent, EventsAreMoves, RunsAreSound, FrontsRun, LockIsItsEvent, ScanIsItsEvent, FillIsItsEvent, FoundFillIsItsEvent, OwnReadIsNoEvent, TakeIsNoEvent};
+ghost use Rattle.be_table.specs.Laws.{GiveUpIsNoEvent, PublishIsItsEvent, UnlockIsItsEvent, CompareIsNoEvent, SplitIsNoEvent, JoinIsNoEvent, ArrivalIsNoEvent, EventsAreMoves, RunsAreSound, FrontsRun, UnusedAreZero, UnusedStayZero, LockIsItsEvent, ScanIsItsEvent, FillIsItsEvent, FoundFillIsItsEvent, OwnReadIsNoEvent, TakeIsItsEvent};
 ghost use Rattle.be_table.specs.Laws.{LookIsItsEvent, AnnounceIsItsEvent, LookAgainIsItsEvent, UnpinIsItsEvent, PinnedReadIsItsEvent};
 ghost use Rattle.be_table.specs.declared.ledger.Ledger.{Ledger};
 ghost use Rattle.be_table.specs.declared.limits.Limits.{Limits};
@@ -62,12 +62,12 @@ pub fn own_read()
     ensures { (limits : Limits) (slots id : ℕ) (a : Knowledge) (carried : List (ℕ × Option Ledger)) → OwnReadIsNoEvent limits slots id a carried }
 {}
 
-/// The load by which a page is taken is no event.
+/// The load by which a page is taken is Fill, of the word that is there.
 pub fn take()
-    ensures { (limits : Limits) (slots id : ℕ) (a : Knowledge) (carried : List (ℕ × Option Ledger)) → TakeIsNoEvent limits slots id a carried }
+    ensures { (limits : Limits) (slots id : ℕ) (a : Knowledge) (carried : List (ℕ × Option Ledger)) → TakeIsItsEvent limits slots id a carried }
 {}
 
-/// The load by which a page is given up is no event: a page that the write had filled goes back to the free ones, which
+/// The load by which a page is given up is no event: a page that the write had taken goes back to the free ones, which
 /// is the holder's bookkeeping.
 pub fn give_up()
     ensures { (limits : Limits) (slots id : ℕ) (a : Knowledge) (carried : List (ℕ × Option Ledger)) → GiveUpIsNoEvent limits slots id a carried }
@@ -113,4 +113,11 @@ pub fn events_are_moves()
 pub fn runs()
     ensures sound { RunsAreSound }
     ensures fronts { FrontsRun }
+{}
+
+/// The words of the first 528 that are neither the lock, nor the current version, nor a pass's announcement are 0
+/// between any two steps. So no call can have a lock of its own there.
+pub fn unused_words()
+    ensures zero { UnusedAreZero }
+    ensures stay { UnusedStayZero }
 {}

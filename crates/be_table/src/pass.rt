@@ -31,7 +31,7 @@ pub enum Move {
     /// Publishes a version page, and gives up the pages of the list.
     Publish(u64, u64, LinkedList<u64>),
     Unlock(u64),
-    /// A page that the write had filled goes back to the free ones.
+    /// A page that the write had taken goes back to the free ones.
     Return(u64, u64),
 }
 

@@ -4,7 +4,7 @@
 //! its pass is the definition that its name carries.
 ghost use Rattle.std.specs.Prelude.{[]};
 ghost use Rattle.be_table.specs.Rule.{Shows, everyone, first_seat, other_seats, seats_together};
-ghost use Rattle.be_table.specs.Steps.{LookMoves, LockMoves, UnlockMoves, Compared, Arrived, AnnounceMoves, LookAgainMoves, UnpinMoves, ScanMoves, PinnedRead, OwnRead, FillMoves, FoundFillMoves, PageTaken, GiveUpMoves, PublishMoves};
+ghost use Rattle.be_table.specs.Steps.{LookMoves, LockMoves, UnlockMoves, CompareMoves, Arrived, AnnounceMoves, LookAgainMoves, UnpinMoves, ScanMoves, PinnedRead, OwnRead, FillMoves, FoundFillMoves, TakeMoves, GiveUpMoves, PublishMoves};
 
 use crate::ledger::Ledger;
 use crate::limits::Limits;
@@ -57,7 +57,7 @@ impl Join<View> for Deal {
 pub(crate) struct Compare;
 
 impl Play<Option<Ledger>, View> for Compare {
-    ghost then = { Compared };
+    ghost then = { CompareMoves };
 }
 
 /// A seat with no pass.
@@ -119,7 +119,7 @@ impl Play<Option<Ledger>, View> for FoundFill {
 pub(crate) struct TakePage;
 
 impl Play<Option<Ledger>, View> for TakePage {
-    ghost then = { PageTaken };
+    ghost then = { TakeMoves };
 }
 
 pub(crate) struct GiveUp;

@@ -246,7 +246,8 @@ impl VersionTable {
 
     /// Two passes tell each other what they have seen, in three steps: their seats are joined, a load compares what
     /// they have seen, and the seats are cut apart again. Both passes have then seen what either had: of two beginnings
-    /// of one journal the longer. Answers its length.
+    /// of one journal the longer. Answers its length. What the two have done so far lies in one trace, and a meeting adds
+    /// nothing to it.
     pub fn meet(&self, left: Seat, right: Seat) -> (Seat, Seat, u64)
         requires { IsSeatOf self.now left × IsSeatOf self.now right }
         ensures seats { IsSeatOf self.now result.0 × IsSeatOf self.now result.1 }
@@ -255,6 +256,7 @@ impl VersionTable {
         ensures right { StartsWith (longer left.knows.seen right.knows.seen) right.knows.seen
             × (result.1.knows ≡ met right.knows (longer left.knows.seen right.knows.seen)) }
         ensures length { result.2 ≡ length (longer left.knows.seen right.knows.seen) }
+        ensures trace { HasTrace self.now.limits (left.knows ∷ right.knows ∷ []) }
     {
         let (mut base, mut marks) = left.into_base();
         let (other, mut other_marks) = right.into_base();

@@ -10,10 +10,11 @@ ghost use Rattle.be_volume.specs.Sound.{IsOperation};
 ghost use Rattle.be_table.specs.Reading.{standing_among};
 ghost use Rattle.be_table.specs.Rule.{Reaches, announce_word, pass_of, one_step_on, word_place, current_word};
 ghost use Rattle.be_table.specs.Statuses.{FindsOldest, LieAt, Tells};
-ghost use Rattle.be_table.specs.Steps.{AreFound, fill_moves, given_moves, given_of, scans_of, NoneRetiredLater, IsPass, IsFound, MayPublish, publishes, MayBeFilled, MayReadAnnouncement, IsPart, fills_word};
+ghost use Rattle.be_table.specs.Steps.{AreFound, take_moves, fill_moves, given_moves, given_of, scans_of, NoneRetiredLater, IsPass, IsFound, MayPublish, publishes, MayBeFilled, MayReadAnnouncement, IsPart, fills_word};
 ghost use Rattle.be_table.specs.Steps.{takes_page, gives_up, scans, scans_out, scans_all, least_found, IsLeastAnnounced, IsOwnLeast, UnreachedAreFree};
-ghost use Rattle.be_table.specs.Trace.{HasWorked, Makes, upto_lock, with_history};
-ghost use Rattle.be_table.specs.Works.{Moves};
+ghost use Rattle.be_table.specs.Trace.{Makes, upto_lock, with_history};
+ghost use Rattle.be_table.specs.Working.{HasWorked, MakesForReason};
+ghost use Rattle.be_table.specs.Works.{HasReasonToScan, Moves};
 ghost use Rattle.be_table.specs.declared.pass.Move.TheVariants as moves;
 
 use crate::ledger::Ledger;
@@ -177,7 +178,8 @@ impl<'a> Writing<'a> {
         requires open { self.old.knows.published ≡ false }
         ensures some { IfSome result (λ page. (page < length self.old.knows.places) × (place_of self.old.knows.places page ≡ Place.Free)) }
         ensures small { IfSome result (λ page. page < 16384) }
-        ensures taken { IfSome result (λ page. self.new ≡ record self.old { knows = takes_page self.old.knows page }) }
+        ensures taken { IfSome result (λ page. self.new ≡ record self.old { knows = takes_page (with_history self.old.knows self.new.knows.history) page }) }
+        ensures moves { IfSome result (λ page. Makes self.old.knows.number self.old.knows.history (take_moves self.old.knows page) self.new.knows.history) }
         ensures none { IfNone result ((p : ℕ) → p < length self.old.knows.places → place_of self.old.knows.places p ≢ Place.Free) }
         ensures count { IfNone result (length self.old.knows.places ≡ self.old.knows.limits.pages) }
         ensures same { IfNone result (self.new ≡ self.old) }
@@ -216,9 +218,11 @@ impl<'a> Writing<'a> {
     }
 
     /// Reads every announcement once. Answers the least of them and of the current number; the pages that were retired
-    /// with a smaller number are free. A load for each pass, and work for each page that becomes free.
+    /// with a smaller number are free. A load for each pass, and work for each page that becomes free. It is called right
+    /// after the lock, or where no page is free.
     pub fn scan(&mut self) -> u64
         requires open { self.old.knows.published ≡ false }
+        requires reason { HasReasonToScan self.old }
         ensures { MakesScan self.old self.new result }
     {
         self.survey().least
@@ -227,6 +231,7 @@ impl<'a> Writing<'a> {
     /// Scans, and finds the oldest announcement too.
     fn survey(&mut self) -> Found
         requires open { self.old.knows.published ≡ false }
+        requires reason { HasReasonToScan self.old }
         ensures scan { MakesScan self.old self.new result.least }
         ensures oldest { FindsOldest self.old.knows.limits self.old.knows.number self.old.knows.history self.new.knows.history result.oldest }
         ensures places { LieAt self.old.knows.limits self.new.knows.history self.new.knows.places }
@@ -257,6 +262,7 @@ impl<'a> Writing<'a> {
     /// `scan` does.
     pub fn status(&mut self) -> Status
         requires open { self.old.knows.published ≡ false }
+        requires reason { HasReasonToScan self.old }
         ensures scan { (least : ℕ) × MakesScan self.old self.new least }
         ensures oldest { FindsOldest self.old.knows.limits self.old.knows.number self.old.knows.history self.new.knows.history result.oldest }
         ensures places { LieAt self.old.knows.limits self.new.knows.history self.new.knows.places }
@@ -305,7 +311,7 @@ impl<'a> Writing<'a> {
           reserved = 0;
         } }
         ensures moves { Moves self.old.knows (moves.Publish self.old.knows.number page (given_of self.old.knows) ∷ []) self.new.knows }
-        ensures worked { HasWorked self.old.knows.number self.old.knows.history }
+        ensures worked { HasWorked self.old.knows.limits self.old.knows.number self.old.knows.history }
         ensures result { result ≡ length self.new.knows.seen }
     {
         all_valid(ops);
@@ -325,7 +331,7 @@ impl<'a> Writing<'a> {
         ensures seat { IsSeatOf self.entry.table result }
         ensures pass { result.knows ≡ without_lock (with_history self.entry.knows result.knows.history) }
         ensures moves { Moves self.entry.knows (moves.Unlock self.entry.knows.number ∷ []) result.knows }
-        ensures worked { self.entry.knows.published ≡ false → HasWorked self.entry.knows.number self.entry.knows.history }
+        ensures worked { self.entry.knows.published ≡ false → HasWorked self.entry.knows.limits self.entry.knows.number self.entry.knows.history }
     {
         let Writing {
             table,
@@ -379,12 +385,13 @@ fn store_version<E: NextVersion>(
 /// The load by which a page is taken.
 fn tell_taken(table: &VersionTable, base: &mut Base, page: u64)
     requires seat { base.old.table_id ≡ table.now.id }
-    requires pass { (base.old.me.0 ≡ pass_of base.old.me.0 ∷ []) × ((pass_of base.old.me.0).writes ≡ true) }
+    requires pass { (base.old.me.0 ≡ pass_of base.old.me.0 ∷ []) × ((pass_of base.old.me.0).writes ≡ true) × ((pass_of base.old.me.0).published ≡ false) }
     requires small { page < 16384 }
     requires page { (page < table.now.limits.pages) × (page < length (pass_of base.old.me.0).places)
         × (place_of (pass_of base.old.me.0).places page ≡ Place.Free) }
     ensures seat { (base.new.table_id ≡ base.old.table_id) × (base.new.id ≡ base.old.id) }
-    ensures me { base.new.me ≡ (takes_page (pass_of base.old.me.0) page ∷ [], base.old.me.1) }
+    ensures me { base.new.me ≡ (takes_page (with_history (pass_of base.old.me.0) (pass_of base.new.me.0).history) page ∷ [], base.old.me.1) }
+    ensures moves { Makes (pass_of base.old.me.0).number (pass_of base.old.me.0).history (take_moves (pass_of base.old.me.0) page) (pass_of base.new.me.0).history }
 {
     let at = PAGES + PAGE_WORDS * page as usize;
     table.table.shared.load::<TakePage>(base, at);
@@ -421,6 +428,9 @@ fn read_announcement(table: &VersionTable, base: &mut Base, pass: u64) -> u64
     ensures found { Reaches (pass_of base.new.me.0) (λ w. result ≡ announce_word (w.phases (pass_of base.old.me.0).scanned)) }
     ensures leaves { suc (pass_of base.old.me.0).scanned ≡ (pass_of base.old.me.0).limits.passes → UnreachedAreFree (scans_out (pass_of base.old.me.0) result) }
     ensures own { (pass_of base.old.me.0).scanned ≡ (pass_of base.old.me.0).number → result ≡ announce_word (pass_of base.old.me.0).phase }
+    ensures reason { ((p : ℕ) → place_of (pass_of base.old.me.0).places p ≢ Place.Free)
+        → MakesForReason (pass_of base.old.me.0).limits (pass_of base.old.me.0).number (pass_of base.old.me.0).history
+        (moves.Scan (pass_of base.old.me.0).number (pass_of base.old.me.0).scanned ∷ []) (pass_of base.new.me.0).history }
 {
     table
         .table
@@ -449,6 +459,9 @@ fn read_all(table: &VersionTable, base: &mut Base, current: u64) -> Found
         × IsLeastAnnounced current found result.least
         × AreFound (pass_of base.old.me.0).limits (pass_of base.old.me.0).number (pass_of base.old.me.0).history (pass_of base.new.me.0).history found }
     ensures moves { Makes (pass_of base.old.me.0).number (pass_of base.old.me.0).history
+        (scans_of (pass_of base.old.me.0).number table.now.limits.passes) (pass_of base.new.me.0).history }
+    ensures reasons { ((p : ℕ) → place_of (pass_of base.old.me.0).places p ≢ Place.Free)
+        → MakesForReason (pass_of base.old.me.0).limits (pass_of base.old.me.0).number (pass_of base.old.me.0).history
         (scans_of (pass_of base.old.me.0).number table.now.limits.passes) (pass_of base.new.me.0).history }
     ensures part { IsPart table.now.limits.passes (pass_of base.old.me.0) (pass_of base.new.me.0) table.now.limits.passes result.least }
     ensures own { IsOwnLeast (pass_of base.old.me.0) result.least }

@@ -1,9 +1,14 @@
-use Rattle.std.proofs.Common.{◌≡◌, ℕ, suc, true, ◌+◌, [], ◌∷◌, ◌++◌, refl, sym, ap, ◌∙◌, subst, arith, length-append}
+use Rattle.std.proofs.Common.{◌≡◌, ◌≢◌, ℕ, List, suc, true, ◌+◌, [], ◌∷◌, ◌++◌, refl, sym, ap, ◌∙◌, subst, arith, length-append}
 use Rattle.be_table.specs.declared.pass.Move.TheVariants.{Scan}
 use Rattle.be_table.specs.Rule.{Reaches, announce_word, pass_of}
 use Rattle.be_table.specs.Steps.{IsLeastAnnounced, IsPart, scans, scans_of}
 use Rattle.be_table.specs.Trace.{Makes, with_history}
+use Rattle.be_pages.specs.Place.{place_of}
+use Rattle.be_pages.specs.declared.page_pool.Place.{Place}
+use Rattle.be_pages.specs.declared.page_pool.Place.TheVariants.{Free}
+use Rattle.be_table.specs.Working.{MakesForReason}
 use Rattle.be_table.proofs.Traces.{makes_more}
+use Rattle.be_table.proofs.Worked.{reasons_more}
 use Rattle.be_table.proofs.Scans.{Me3, scans_history, scans_limits, found_more, found_now, makes_starts, IsOwnPart, me_next, part_none, part_step, least_none, least_more, own_none, own_step, own_all, found_own}
 use Rattle.be_table.specs.declared.limits.Limits.{Limits}
 use Rattle.be_table.specs.Statuses.{LieAt}
@@ -17,6 +22,7 @@ loop-pass-init c =
       id = refl;
       me = ([], refl, (λ k. (r.0 k, m.1)), least_none c.args.current, (λ j lt. absurd (omega (arith, lt))), oldest_none);
       moves = refl;
+      reasons = λ none. refl;
       part = part_none c.args.table.now.limits.passes a c.args.current (omega (arith, r.4)) r.3 c.requires.current.1;
       own = own_none a c.args.current c.requires.current.1;
       places = λ some. absurd (omega (arith, some));
@@ -49,6 +55,12 @@ loop-pass-preserved c =
         c.older-oldest.ensures i.me.0 i.me.1 i.me.5,
       );
       moves = subst (λ j. Makes a.number a.history (scans_of a.number j) q.history) next (makes_more a.number a.history (scans_of a.number c.loop-pass.pass) s.history (Scan a.number c.loop-pass.pass ∷ []) q.history i.moves one);
+      reasons = λ none.
+          let known : (p : ℕ) → place_of s.places p ≢ Free = subst (λ (ps : List Place). (p : ℕ) → place_of ps p ≢ Free) (sym (i.part.waits (omega arith))) none in
+          let more : MakesForReason a.limits a.number s.history (Scan a.number c.loop-pass.pass ∷ []) q.history =
+          subst (λ (p : Limits × ℕ × ℕ). MakesForReason p.0 p.1 s.history (Scan p.1 p.2 ∷ []) q.history) (λ k. (ap (λ x. x.limits) i.part.same k, number k, turn k)) (r.ensures.reason known) in
+          subst (λ j. MakesForReason a.limits a.number a.history (scans_of a.number j) q.history) next
+          (reasons_more a.limits a.number a.history (scans_of a.number c.loop-pass.pass) s.history (Scan a.number c.loop-pass.pass ∷ []) q.history (i.reasons none) more);
       part = subst (IsPart c.args.table.now.limits.passes a (pass_of r.new.base.me.0) (c.loop-pass.pass + 1)) (sym c.lower-least.ensures)
           (part_step c.args.table.now.limits.passes a c.loop-pass.base.me r.new.base.me c.loop-pass.pass c.loop-pass.least r.result (omega arith) (ap (λ l. l.passes) c.requires.current.0) i.part r.ensures.me r.ensures.leaves);
       own = subst (IsOwnPart a (c.loop-pass.pass + 1)) (sym c.lower-least.ensures)
@@ -66,3 +78,9 @@ returns-clause-oldest c =
 
 pub returns-clause-places : goal.returns-clause-places
 returns-clause-places c = c.loop-pass.invariant.places (omega (arith, c.requires.number))
+
+pub returns-clause-reasons : goal.returns-clause-reasons
+returns-clause-reasons c none =
+    let a = pass_of c.args.base.now.me.0 in let i = c.loop-pass.invariant in
+    let all : c.loop-pass.pass ≡ c.args.table.now.limits.passes = omega arith in
+    subst (λ j. MakesForReason a.limits a.number a.history (scans_of a.number j) (pass_of c.loop-pass.base.me.0).history) all (i.reasons none)

@@ -1,8 +1,11 @@
-use Rattle.std.proofs.Common.{◌≡◌, ◌<◌, [], ◌∷◌, length, ℕ, List}
+use Rattle.std.proofs.Common.{◌≡◌, ◌≢◌, ◌<◌, [], ◌∷◌, length, ℕ, List}
+use Rattle.be_pages.specs.Place.{place_of}
+use Rattle.be_pages.specs.declared.page_pool.Place.TheVariants.{Free}
 use Rattle.be_table.specs.Rule.{pass_of}
 use Rattle.be_table.specs.Statuses.{IsOldest, LieAt}
 use Rattle.be_table.specs.Steps.{scans_all, scans_of, AreFound, IsLeastAnnounced, IsPart}
 use Rattle.be_table.specs.Trace.{Makes, with_history}
+use Rattle.be_table.specs.Working.{MakesForReason}
 use Rattle.be_table.proofs.Scans.{IsOwnPart}
 use Rattle.be_table.proofs.writing.read_all.Given as goal
 
@@ -14,6 +17,8 @@ invariant-loop-pass l = record {
       × AreFound (pass_of l.fn.base.me.0).limits (pass_of l.fn.base.me.0).number (pass_of l.fn.base.me.0).history (pass_of l.base.me.0).history found
       × IsOldest found l.oldest;
   moves : Makes (pass_of l.fn.base.me.0).number (pass_of l.fn.base.me.0).history (scans_of (pass_of l.fn.base.me.0).number l.pass) (pass_of l.base.me.0).history;
+  reasons : ((p : ℕ) → place_of (pass_of l.fn.base.me.0).places p ≢ Free)
+      → MakesForReason (pass_of l.fn.base.me.0).limits (pass_of l.fn.base.me.0).number (pass_of l.fn.base.me.0).history (scans_of (pass_of l.fn.base.me.0).number l.pass) (pass_of l.base.me.0).history;
   part : IsPart l.table.limits.passes (pass_of l.fn.base.me.0) (pass_of l.base.me.0) l.pass l.least;
   own : IsOwnPart (pass_of l.fn.base.me.0) l.pass l.least;
   places : 0 < l.pass → LieAt (pass_of l.fn.base.me.0).limits (pass_of l.base.me.0).history (pass_of l.base.me.0).places;

@@ -1,7 +1,7 @@
 use Rattle.std.proofs.Common.{◌≡◌, ◌+◌, ◌*◌, sym, ap, ◌∙◌, arith}
 use Rattle.be_table.specs.Rule.{pass_of}
 use Rattle.be_table.proofs.Holding.{scans_as}
-use Rattle.be_table.proofs.Moved.{scan_makes}
+use Rattle.be_table.proofs.Moved.{scan_makes, scan_reason}
 use Rattle.be_table.proofs.writing.read_announcement.Goals as goal
 
 pub load-requires : goal.load-requires
@@ -23,7 +23,10 @@ pub returns-clause-found : goal.returns-clause-found
 returns-clause-found c = (scan_makes c.load.result c.args.base.now.me c.load.new.seat.me c.load.ensures.2).2
 
 pub returns-clause-leaves : goal.returns-clause-leaves
-returns-clause-leaves c = c.load.ensures.2.3.1
+returns-clause-leaves c = c.load.ensures.2.3.0.1
 
 pub returns-clause-own : goal.returns-clause-own
-returns-clause-own c = c.load.ensures.2.3.2
+returns-clause-own c = c.load.ensures.2.3.0.2
+
+pub returns-clause-reason : goal.returns-clause-reason
+returns-clause-reason c none = scan_reason c.load.result c.args.base.now.me c.load.new.seat.me c.load.ensures.2 c.requires.pass.1 none

@@ -1,8 +1,9 @@
-use Rattle.std.proofs.Common.{◌≡◌, length, sym, ap, ◌∙◌, arith}
+use Rattle.std.proofs.Common.{◌≡◌, length, [], ◌∷◌, sym, ap, ◌∙◌, subst, arith}
 use Rattle.be_table.specs.Rule.{one_step_on}
 use Rattle.be_table.proofs.Deals.{joins}
 use Rattle.be_table.specs.Steps.{longer}
-use Rattle.be_table.proofs.Meetings.{joined_pair, compares_as, deals_as, left_longer, right_longer, met_left, met_right}
+use Rattle.be_table.specs.Trace.{HasTrace}
+use Rattle.be_table.proofs.Meetings.{joined_pair, compares_as, deals_as, left_longer, right_longer, met_left, met_right, traced}
 use Rattle.be_table.proofs.table.VersionTable.meet.Goals as goal
 use Rattle.be_table.proofs.table.VersionTable.meet.Goals.{then-marks-other_marks, else-marks-other_marks}
 
@@ -24,7 +25,7 @@ pub split_seat-first-requires : goal.split_seat-first-requires
 split_seat-first-requires c =
     let p = c.into_base-base.ensures.pass in let q = c.into_base-other.ensures.pass in let id = sym (ap (λ t. t.id) c.self.view_is) in
     let j = c.join_seat.ensures in let l = c.load.ensures in
-    (l.0 ∙ j.0 ∙ p.0 ∙ c.requires.0.1 ∙ id, omega (arith, c.self.invariant.0), deals_as _ _ _ _ _ (ap (λ m. m.0) l.2.0))
+    (l.0 ∙ j.0 ∙ p.0 ∙ c.requires.0.1 ∙ id, omega (arith, c.self.invariant.0), deals_as _ _ _ _ _ (ap (λ m. m.0) l.2.0.0))
 
 pub of-requires-clause-told : goal.of-requires-clause-told
 of-requires-clause-told c =
@@ -34,7 +35,7 @@ of-requires-clause-told c =
       | then-marks-other_marks w ↦ right_longer a.seen b.seen (omega (arith, p.told.1.seen_is, q.told.1.seen_is, w.if-marks-other_marks)) ∙ q.told.1.seen_is ∙ sym w.both-is
       | else-marks-other_marks w ↦ left_longer a.seen b.seen (omega (arith, p.told.1.seen_is, q.told.1.seen_is, w.if-marks-other_marks)) ∙ p.told.1.seen_is ∙ sym w.both-is
     ] in
-    met_left a b _ _ _ c.load.new.seat.me c.split_seat-first.result.me _ _ _ p.pass.1 q.pass.1 c.join_seat.ensures.2 c.load.ensures.2 long (ap (λ m. m.0) c.split_seat-first.ensures.4) p.told.1
+    met_left a b _ _ _ c.load.new.seat.me c.split_seat-first.result.me _ _ _ p.pass.1 q.pass.1 c.join_seat.ensures.2 c.load.ensures.2.0 long (ap (λ m. m.0) c.split_seat-first.ensures.4) p.told.1
 
 pub of-requires-2-clause-told : goal.of-requires-2-clause-told
 of-requires-2-clause-told c =
@@ -44,4 +45,10 @@ of-requires-2-clause-told c =
       | then-marks-other_marks w ↦ right_longer a.seen b.seen (omega (arith, p.told.1.seen_is, q.told.1.seen_is, w.if-marks-other_marks)) ∙ q.told.1.seen_is ∙ sym w.both-is
       | else-marks-other_marks w ↦ left_longer a.seen b.seen (omega (arith, p.told.1.seen_is, q.told.1.seen_is, w.if-marks-other_marks)) ∙ p.told.1.seen_is ∙ sym w.both-is
     ] in
-    met_right a b _ _ _ c.load.new.seat.me c.split_seat-first.new.seat.me _ _ _ p.pass.1 q.pass.1 c.join_seat.ensures.2 c.load.ensures.2 long (ap (λ m. m.0) c.split_seat-first.ensures.2) q.told.1
+    met_right a b _ _ _ c.load.new.seat.me c.split_seat-first.new.seat.me _ _ _ p.pass.1 q.pass.1 c.join_seat.ensures.2 c.load.ensures.2.0 long (ap (λ m. m.0) c.split_seat-first.ensures.2) q.told.1
+
+pub returns-clause-trace : goal.returns-clause-trace
+returns-clause-trace c =
+    let a = c.args.left.knows in let b = c.args.right.knows in
+    subst (λ l. HasTrace l (a ∷ b ∷ [])) c.requires.0.2
+    (traced a b _ _ _ c.load.new.seat.me c.into_base-base.ensures.pass.1 c.into_base-other.ensures.pass.1 c.join_seat.ensures.2 c.load.ensures.2)

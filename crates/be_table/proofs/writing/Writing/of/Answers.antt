@@ -22,5 +22,5 @@ invariant_of-result c = let l = c.requires.ledger in let p = c.requires.pass in 
   pin = c.requires.pin;
   pass = p.4;
   room = λ e. absurd (omega arith);
-  worked = λ _. worked_none (pass_of c.args.base.me.0).number (pass_of c.args.base.me.0).history c.requires.begun;
+  worked = λ _. worked_none (pass_of c.args.base.me.0).limits (pass_of c.args.base.me.0).number (pass_of c.args.base.me.0).history c.requires.begun;
 }

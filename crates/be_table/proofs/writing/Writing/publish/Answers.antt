@@ -1,4 +1,4 @@
-use Rattle.std.proofs.Common.{◌≡◌, true≢false, ◌≤◌, ◌<◌, [], ◌∷◌, ◌++◌, None, length, map, count_by, refl, sym, ap, ◌∙◌, subst, arith}
+use Rattle.std.proofs.Common.{◌≡◌, ◌≢◌, true≢false, ◌≤◌, ◌<◌, [], ◌∷◌, ◌++◌, None, length, map, count_by, refl, sym, ap, ◌∙◌, subst, arith}
 use Rattle.std.proofs.lemmas.List.{length-map}
 use Rattle.be_journal.specs.declared.entries.Entry.{Entry}
 use Rattle.be_journal.specs.Journal.{Agrees, replay}
@@ -8,9 +8,11 @@ use Rattle.be_table.specs.Place.{Work}
 use Rattle.be_table.specs.Rule.{entries, ledger_places, page_at, pass_of}
 use Rattle.be_table.specs.Seats.{pin_of}
 use Rattle.be_table.specs.Ledger.{is_of_next}
-use Rattle.be_table.specs.Reading.{word_of_page}
+use Rattle.be_pages.specs.declared.room.Standing.TheVariants.{Taken}
+use Rattle.be_table.specs.Reading.{standing_among, word_of_page}
 use Rattle.be_table.specs.Steps.{commit_of, pages_from, publishes}
-use Rattle.be_table.specs.Trace.{HasWorked, with_history}
+use Rattle.be_table.specs.Trace.{with_history}
+use Rattle.be_table.specs.Working.{HasWorked}
 use Rattle.be_table.specs.Versions.{SpellsVolume}
 use Rattle.be_table.proofs.Keeping.{spells_kept}
 use Rattle.be_table.proofs.Ledgers.{left-publish}
@@ -19,6 +21,7 @@ use Rattle.be_table.proofs.Answers.{answers_each}
 use Rattle.be_table.proofs.Opened.{seen_length}
 use Rattle.be_table.proofs.PinMarks.{pin_stays}
 use Rattle.be_table.proofs.Publishing.{last_page}
+use Rattle.be_table.proofs.Standings.{unreserved}
 use Rattle.be_table.proofs.writing.Writing.publish.Goals as goal
 
 pub store_version-requires-clause-pass : goal.store_version-requires-clause-pass
@@ -39,6 +42,7 @@ store_version-requires-clause-pass c =
         room = (i.room (let n = c.requires.count.0 in let r = c.requires.reserved in omega arith)).1;
         inside = subst (λ (n : Knowledge). c.args.page < length n.places) (sym k) c.is_filled.ensures.0;
         filled = ap (λ (n : Knowledge). place_of n.places c.args.page) k ∙ c.is_filled.ensures.1;
+        none_reserved = λ q. unreserved a.places q (subst (λ (n : Knowledge). standing_among n.places q ≢ Taken) (sym k) (c.requires.filled q)) (omega (arith, few, ap (λ (x : Knowledge). length x.places) k));
         spelt = subst (λ (n : Knowledge). SpellsVolume (pages_from is_of_next 0 n.places) (word_of_page n.words) c.args.page (replay (entries n.seen ++ e ∷ []))) (sym k)
             (subst (λ s. SpellsVolume (pages_from is_of_next 0 n0.places) (word_of_page n0.words) c.args.page s) (sym (c.replay_push.ensures (entries n0.seen) e))
             (spells_kept n0.places few c.requires.filled (word_of_page n0.words) c.args.page _ c.requires.volume c.requires.exact));
@@ -92,4 +96,4 @@ append-requires-clause-newest c =
 pub returns-clause-worked : goal.returns-clause-worked
 returns-clause-worked c =
     let w = c.self.inside in let k : pass_of w.base.me.0 ≡ c.args.self.now.knows = ap (λ (x : Work). x.knows) c.self.view_is in
-    subst (λ (x : Knowledge). HasWorked x.number x.history) k (c.self.invariant.worked (ap (λ (x : Knowledge). x.published) k ∙ c.requires.open))
+    subst (λ (x : Knowledge). HasWorked x.limits x.number x.history) k (c.self.invariant.worked (ap (λ (x : Knowledge). x.published) k ∙ c.requires.open))

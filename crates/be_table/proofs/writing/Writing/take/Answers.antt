@@ -1,19 +1,19 @@
-use Rattle.std.proofs.Common.{arith, refl, sym, subst, inl, inr}
+use Rattle.std.proofs.Common.{◌≡◌, false, arith, refl, sym, subst, inl, inr}
 use Rattle.be_table.specs.Place.{Work}
 use Rattle.be_table.specs.Steps.{IsOwnLeast}
-use Rattle.be_table.specs.Works.{MakesScan, FindsNone}
+use Rattle.be_table.specs.Works.{HasNoFree, MakesScan, FindsNone}
 use Rattle.be_table.proofs.Opened.{all_held}
 use Rattle.be_table.proofs.writing.Writing.take.Goals as goal
 
 pub returns-in-Some-clause-ok : goal.returns-in-Some-clause-ok
 returns-in-Some-clause-ok c =
-    let e = c.in-Some.ensures in record { between = c.args.self.now; scan = inl refl; because = inl refl; inside = e.some.0; small = e.small; free = e.some.1; taken = e.taken }
+    let e = c.in-Some.ensures in record { between = c.args.self.now; scan = inl refl; because = inl refl; inside = e.some.0; small = e.small; free = e.some.1; taken = e.taken; moves = e.moves }
 
 pub returns-in-Some-take_free-clause-ok : goal.returns-in-Some-take_free-clause-ok
 returns-in-Some-take_free-clause-ok c =
     let e = c.in-Some-take_free.ensures in
     let h = subst (λ (w : Work). MakesScan w c.scan-least.new.self c.scan-least.result) c.in_default.ensures.same c.scan-least.ensures in
-    record { between = c.scan-least.new.self; scan = inr (c.scan-least.result, h); because = inr c.in_default.ensures.none; inside = e.some.0; small = e.small; free = e.some.1; taken = e.taken }
+    record { between = c.scan-least.new.self; scan = inr (c.scan-least.result, h); because = inr c.in_default.ensures.none; inside = e.some.0; small = e.small; free = e.some.1; taken = e.taken; moves = e.moves }
 
 pub returns-in-None-clause-full : goal.returns-in-None-clause-full
 returns-in-None-clause-full c =
@@ -23,3 +23,9 @@ returns-in-None-clause-full c =
       refl,
       subst (λ (w : Work). FindsNone c.args.self.now w c.scan-least.result) (sym e.same) (record { before = c.in_default.ensures.none; scan = h; none = e.none; spent = (sym h.least_is, λ p lt. all_held c.args.self.now c.scan-least.new.self c.scan-least.result h e.none p (let count = e.count in omega arith), subst (λ (w : Work). IsOwnLeast w.knows c.scan-least.result) (sym h.same) h.own) }),
     )
+
+pub scan-least-requires : goal.scan-least-requires
+scan-least-requires c = record {
+  «open» = subst (λ (w : Work). w.knows.published ≡ false) (sym c.in_default.ensures.same) c.requires.«open»;
+  reason = inl (subst HasNoFree (sym c.in_default.ensures.same) c.in_default.ensures.none);
+}

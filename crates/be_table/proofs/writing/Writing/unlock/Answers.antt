@@ -6,7 +6,8 @@ use Rattle.be_table.specs.Rule.{ledger_places, pass_of}
 use Rattle.be_table.proofs.Frames.{Me1}
 use Rattle.be_pages.specs.Place.{is_retired, undone_place}
 use Rattle.be_table.specs.Steps.{without_lock}
-use Rattle.be_table.specs.Trace.{HasWorked, with_history}
+use Rattle.be_table.specs.Trace.{with_history}
+use Rattle.be_table.specs.Working.{HasWorked}
 use Rattle.be_table.proofs.Traces.{pass_history}
 use Rattle.be_table.proofs.Ledgers.{left-undo}
 use Rattle.be_table.proofs.Locks.{unlocks_as}
@@ -34,4 +35,4 @@ of-requires-clause-told c =
 
 pub returns-clause-worked : goal.returns-clause-worked
 returns-clause-worked c =
-    subst (λ (x : Knowledge). x.published ≡ false → HasWorked x.number x.history) (ap (λ (x : Work). x.knows) c.self.view_is) c.self.invariant.worked
+    subst (λ (x : Knowledge). x.published ≡ false → HasWorked x.limits x.number x.history) (ap (λ (x : Work). x.knows) c.self.view_is) c.self.invariant.worked
