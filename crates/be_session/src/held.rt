@@ -4,8 +4,8 @@ ghost use Rattle.be_paged.specs.Cells.{name_in};
 ghost use Rattle.be_session.specs.Meaning.{IsNoName};
 ghost use Rattle.be_value.specs.Name.{name_from};
 
-use crate::meanings::name;
 use crate::Fault;
+use crate::meanings::name;
 use be_store::HeldName;
 
 /// How many cells one call tells at most: 2^32.

@@ -30,8 +30,8 @@ use crate::shared::Shared;
 use crate::{Fault, StatePlace};
 use be_store::laws::seen_is_legal;
 use be_store::{
-    ArrayVec, Cell, Done, Entry, HeldName, Kind, Limits, Live, Name, Op, Pass, Query, Refusal, Status, Store,
-    Updates, Value, parse,
+    ArrayVec, Cell, Done, Entry, HeldName, Kind, Limits, Live, Name, Op, Pass, Query, Refusal,
+    Status, Store, Updates, Value, parse,
 };
 use std::alloc::{AllocFailed, Global};
 use std::marker::Model;

@@ -228,7 +228,7 @@ fn named<T>(list: &List, read: impl Fn(&sys::bes_operation) -> T) -> Vec<(String
         .collect()
 }
 
-/// The value that a cell tells, whose bytes are some of these.
+/// The value of a cell, whose bytes are some of these.
 fn value_of(cell: &sys::bes_cell, bytes: &[u8]) -> Option<Value> {
     if cell.error != sys::BES_OK {
         return None;
