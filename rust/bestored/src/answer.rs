@@ -59,6 +59,14 @@ impl<'v, 'p> View<'v, 'p> {
         }
     }
 
+    /// Refuses to wait for an entry while a snapshot is kept, which entries may need to be given back first.
+    fn check_waits(&self, wanted: &wire::OfLog) -> Result<(), Failure> {
+        match (self, wanted.entry) {
+            (View::Kept { .. }, Some(_)) => Err(Failure::pinned()),
+            _ => Ok(()),
+        }
+    }
+
     /// Reads in the snapshot that is kept, otherwise in the current one.
     fn read<T>(&mut self, read: impl FnOnce(&Snapshot<'_>) -> Result<T, Failure>) -> Result<T, Failure> {
         match self {
@@ -150,6 +158,13 @@ impl<'a> Desk<'a> {
             Command::Journal(journal) => page::journal(view.pass(), &journal).map(|page| self.reply(id, &page)),
             Command::State(from) => state(view, from.from).map(|page| self.reply(id, &page)),
             Command::Flush(_) => self.shared.kept.flush().map(|()| self.reply(id, &wire::Nothing {})),
+            Command::Log(wanted) => {
+                // Earlier replies don't wait for an entry.
+                self.send()?;
+                let status = view.check_waits(&wanted);
+                let status = status.and_then(|()| self.shared.kept.log_status(&wanted));
+                status.map(|status| self.reply(id, &status))
+            }
             Command::Compact(_) => self.shared.kept.compact().map(|()| self.reply(id, &wire::Nothing {})),
             command => view.read(|snapshot| self.read(id, command, snapshot)),
         };
@@ -172,6 +187,7 @@ impl<'a> Desk<'a> {
         let reply = wire::Written {
             commit: written.number,
             nodes: written.nodes,
+            entry: self.shared.kept.entry(written.number),
         };
         self.reply(id, &reply);
         Ok(())

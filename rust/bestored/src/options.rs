@@ -6,8 +6,22 @@ use clap::{value_parser, Arg, Command};
 use std::path::PathBuf;
 use std::time::Duration;
 
+/// The most passes of a store.
+const MOST_PASSES: u64 = 63;
+
 /// Passes of the store that are the server's own.
 const OWN_PASSES: u64 = 1;
+
+/// Passes of the store that a log of machines takes.
+const LOG_PASSES: u64 = 2;
+
+/// The log that machines share, and what this one begins with.
+#[derive(Clone, Debug)]
+#[cfg_attr(not(feature = "log"), allow(dead_code))]
+pub struct InLog {
+    pub url: String,
+    pub leads: bool,
+}
 
 /// How the server runs.
 #[derive(Clone, Debug)]
@@ -16,6 +30,8 @@ pub struct Options {
     pub socket: Option<PathBuf>,
     pub keep: Option<PathBuf>,
     pub every: Option<Duration>,
+    /// The log, if machines share one.
+    pub log: Option<InLog>,
     pub pages: u64,
     pub passes: u64,
     pub commits: u64,
@@ -37,6 +53,7 @@ fn command() -> Command {
             .value_name(shown)
             .value_parser(value_parser!(PathBuf))
     };
+    let url = |name, others: &[&'static str]| Arg::new(name).long(name).value_name("URL").conflicts_with_all(others);
     Command::new("bestored")
         .version(env!("CARGO_PKG_VERSION"))
         .about("Shares a store of attributes between the programs of a user")
@@ -53,6 +70,8 @@ fn command() -> Command {
                 .requires("keep")
                 .help("Replies to writes don't wait for the file, which has them after this time"),
         )
+        .arg(url("log", &["keep", "follow"]).help("Leads a log in PostgreSQL that several machines share"))
+        .arg(url("follow", &["keep"]).help("Follows such a log, and leads once nobody does"))
         .arg(number("pages", "N", 8..=16_384, "4096").help("Pages of 4 KiB"))
         .arg(number("passes", "N", 1..=62, "62").help("Clients at the same time"))
         .arg(number("commits", "N", 1..=u32::MAX.into(), "4294967295").help("Entries of the journal"))
@@ -63,13 +82,20 @@ impl Options {
     /// Reads the command line. Ends the program at `--help`, `--version` and at errors.
     pub fn read() -> Self {
         let read = command().get_matches();
-        let number = |name| read.get_one(name).copied().unwrap_or_default();
+        let number = |name| read.get_one::<u64>(name).copied().unwrap_or_default();
+        let in_log = |name, leads| {
+            let url = read.get_one::<String>(name).cloned();
+            url.map(|url| InLog { url, leads })
+        };
+        let log = in_log("log", true).or_else(|| in_log("follow", false));
+        let most = MOST_PASSES - OWN_PASSES - log.as_ref().map_or(0, |_| LOG_PASSES);
         Self {
             socket: read.get_one("socket").cloned(),
             keep: read.get_one("keep").cloned(),
             every: read.get_one("every").copied().map(Duration::from_millis),
+            log,
             pages: number("pages"),
-            passes: number("passes"),
+            passes: number("passes").min(most),
             commits: number("commits"),
             hold: Duration::from_secs(number("hold")),
         }
@@ -79,7 +105,7 @@ impl Options {
     pub fn limits(&self) -> Limits {
         Limits {
             pages: self.pages,
-            passes: self.passes + OWN_PASSES,
+            passes: self.passes + OWN_PASSES + self.log.as_ref().map_or(0, |_| LOG_PASSES),
             commits: self.commits,
         }
     }
@@ -102,6 +128,18 @@ mod tests {
     #[test]
     fn numbers_out_of_range_are_refused() {
         for arguments in [["--pages", "7"], ["--passes", "63"], ["--every", "5"], ["--hold", "0"]] {
+            let read = command().try_get_matches_from([&["bestored"][..], &arguments[..]].concat());
+            assert!(read.is_err(), "{arguments:?}");
+        }
+    }
+
+    #[test]
+    fn writes_are_kept_in_one_place() {
+        for arguments in [
+            ["--log=a", "--keep=b"],
+            ["--follow=a", "--keep=b"],
+            ["--log=a", "--follow=b"],
+        ] {
             let read = command().try_get_matches_from([&["bestored"][..], &arguments[..]].concat());
             assert!(read.is_err(), "{arguments:?}");
         }

@@ -76,6 +76,16 @@ parameters! {
         pub limit: Option<u64>,
     }
 
+    /// Of `log`.
+    OfLog {
+        /// The entry of the log that the server has to have.
+        #[serde(default, skip_serializing_if = "Option::is_none")]
+        pub entry: Option<u64>,
+        /// For how many milliseconds it is waited for.
+        #[serde(default, skip_serializing_if = "Option::is_none")]
+        pub within: Option<u64>,
+    }
+
     /// Of `state`.
     From {
         /// The index of the first batch.
@@ -230,6 +240,8 @@ commands! {
     Flush(Nothing) = "flush";
     /// Writes the state into the file anew.
     Compact(Nothing) = "compact";
+    /// What the server does in the log that machines share. Waits for an entry.
+    Log(OfLog) = "log";
 }
 
 /// A request.
@@ -331,6 +343,7 @@ mod tests {
             r#"{"id":0,"batch":{"operations":[["new"]],"expected":3}}"#,
             r#"{"id":2,"query":{"query":"size>=5","columns":["size"],"limit":3,"from":0,"count":false}}"#,
             r#"{"id":3,"watch":{}}"#,
+            r#"{"id":3,"log":{"entry":7,"within":0}}"#,
             r#"{"id":3,"get":{"node":1,"name":"a\"b"}}"#,
         ] {
             let request: Request<'_> = serde_json::from_str(line).unwrap();
