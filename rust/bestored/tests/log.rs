@@ -46,8 +46,12 @@ impl Member {
     }
 
     fn start_in(folder: Folder, database: &Database, how: &str) -> Self {
+        Self::start_at(folder, &database.url(), how)
+    }
+
+    fn start_at(folder: Folder, url: &str, how: &str) -> Self {
         let socket = folder.join("socket");
-        let options = [how, &database.url(), "--pages", "512", "--passes", "16"];
+        let options = [how, url, "--pages", "512", "--passes", "16"];
         let mut command = command(&socket, &options);
         command.stderr(
             File::options()
@@ -63,7 +67,7 @@ impl Member {
     /// Kills the server, and starts another one at the same socket, which follows.
     fn follow_again(self, database: &Database) -> Self {
         self.server.kill();
-        Self::start_in(self.folder, database, "--follow")
+        Self::start_at(self.folder, &database.url_of_tcp(), "--follow")
     }
 
     fn client(&self) -> Client {
@@ -216,11 +220,11 @@ fn followers_refuse_writes_and_wait_for_entries() {
         assert!(found >= Some(count));
     }
     // What doesn't come is waited for so long, and not while a snapshot is kept.
-    let behind = follower.wait_for_entry(99, Duration::from_millis(20)).unwrap_err();
-    let details = &behind.refusal().unwrap().details;
+    let late = follower.wait_for_entry(99, Duration::from_millis(20)).unwrap_err();
+    let details = &late.refusal().unwrap().details;
     assert!(
-        behind.is("Behind") && details["expected"] == 99 && details["found"] == 51,
-        "{behind}"
+        late.is("Behind") && details["expected"] == 99 && details["found"] == 51,
+        "{late}"
     );
     assert!(follower
         .wait_for_entry(1, Duration::from_secs(61))

@@ -15,7 +15,7 @@ use tokio_postgres::{AsyncMessage, Client, Config, NoTls, Row as SqlRow, Socket,
 const FORMAT: i32 = 1;
 
 /// How long a call may take. PostgreSQL gives a statement up a little sooner.
-const LIMIT: Duration = Duration::from_secs(12);
+const LIMIT: Duration = Duration::from_secs(8);
 
 /// The most entries that are read at once.
 pub const ENTRIES: usize = 500;
@@ -26,7 +26,7 @@ const SPARE: u64 = 10_000;
 /// A leader whose machine is gone is given up by PostgreSQL after some 11 seconds, so that another one can lead. An answered
 /// write is on PostgreSQL's disk, whatever the default of the database is.
 const SETTINGS: &str = "
-    SET statement_timeout = '10s';
+    SET statement_timeout = '7s';
     SET tcp_keepalives_idle = 5;
     SET tcp_keepalives_interval = 2;
     SET tcp_keepalives_count = 3;
@@ -218,12 +218,12 @@ impl Database {
         }
     }
 
-    /// Asks to be told of new entries.
+    /// Lets PostgreSQL send a message for new entries.
     pub async fn listen(&self) -> Result<()> {
         limited(self.client.batch_execute("LISTEN bestore_log")).await
     }
 
-    /// Asks no longer.
+    /// Ends that.
     pub async fn unlisten(&self) -> Result<()> {
         limited(self.client.batch_execute("UNLISTEN *")).await
     }

@@ -161,8 +161,8 @@ impl Line {
         });
     }
 
-    /// The log can't be read or written now. Returns whether that is new.
-    pub fn trouble(&self, error: Error) -> bool {
+    /// The log can't be read or written since then. Returns whether that is new.
+    pub fn trouble(&self, error: Error, since: Instant) -> bool {
         let why = Arc::new(error);
         self.change(|state| match &mut state.trouble {
             Some(trouble) => {
@@ -170,10 +170,7 @@ impl Line {
                 false
             }
             none => {
-                *none = Some(Trouble {
-                    since: Instant::now(),
-                    why,
-                });
+                *none = Some(Trouble { since, why });
                 true
             }
         })

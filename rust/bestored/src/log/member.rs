@@ -54,6 +54,8 @@ pub struct Member {
     state: u64,
     /// From when on a follower may lead.
     may_lead: Instant,
+    /// When the last call of the database that may fail began.
+    tried: Instant,
 }
 
 impl Member {
@@ -81,6 +83,7 @@ impl Member {
             sending: Vec::new(),
             state,
             may_lead: Instant::now(),
+            tried: Instant::now(),
         };
         member.apply_to(head.last, None).await?;
         Ok((member, line))
@@ -111,7 +114,7 @@ impl Member {
     /// Says once that the log can't be read or written.
     fn note(&self, error: Error) {
         let text = error.to_string();
-        if self.line.trouble(error) {
+        if self.line.trouble(error, self.tried) {
             eprintln!("bestored: {text}; it is tried again");
         }
     }
@@ -135,7 +138,6 @@ impl Member {
                 Ok(database) => {
                     self.database = database;
                     self.may_lead = Instant::now() + GRACE;
-                    self.line.change(|state| state.trouble = None);
                     return Ok(Turn::Next);
                 }
                 Err(error @ Error::Led { .. }) => self.note(error),
@@ -165,7 +167,10 @@ impl Member {
         self.database.listen().await?;
         let mut looked = None;
         while !self.line.is_closing() {
-            self.apply_new(Some(shared)).await?;
+            self.tried = Instant::now();
+            if self.apply_some(Some(shared)).await? == ENTRIES {
+                continue;
+            }
             if looked.map_or(true, |looked: Instant| looked.elapsed() >= LOOK) {
                 looked = Some(Instant::now());
                 let head = self.database.head().await?;
@@ -209,20 +214,22 @@ impl Member {
 
     /// Applies the entries that the log has.
     async fn apply_new(&mut self, shared: Option<&Shared>) -> Result<()> {
-        loop {
-            let known = self.line.lock().saved;
-            let entries = self.database.entries(known).await?;
-            for (number, entry) in (known + 1..).zip(&entries) {
-                self.apply(number, entry, shared.map(|shared| &shared.pressure))?;
-                self.line.saved(number);
-            }
-            if let (Some(shared), false) = (shared, entries.is_empty()) {
-                shared.watcher.written();
-            }
-            if entries.len() < ENTRIES || shared.is_some() && self.line.is_closing() {
-                return Ok(());
-            }
+        while self.apply_some(shared).await? == ENTRIES {}
+        Ok(())
+    }
+
+    /// Applies some of the entries that the log has. Returns how many.
+    async fn apply_some(&mut self, shared: Option<&Shared>) -> Result<usize> {
+        let known = self.line.lock().saved;
+        let entries = self.database.entries(known).await?;
+        for (number, entry) in (known + 1..).zip(&entries) {
+            self.apply(number, entry, shared.map(|shared| &shared.pressure))?;
+            self.line.saved(number);
         }
+        if let (Some(shared), false) = (shared, entries.is_empty()) {
+            shared.watcher.written();
+        }
+        Ok(entries.len())
     }
 
     /// Applies an entry, and compares its outcome with the leader's.
@@ -264,15 +271,15 @@ impl Member {
     async fn lead(&mut self, term: u64, shared: &Arc<Shared>) -> Result<Turn> {
         loop {
             self.write_state_if_due(shared);
+            if self.line.is_at_end() {
+                return Ok(Turn::End);
+            }
             if self.sending.is_empty() {
                 self.sending = self.line.take();
             }
-            if let Some(last) = self.sending.last().map(|row| row.number) {
-                self.send(term, last).await?;
-            } else if self.line.is_at_end() {
-                return Ok(Turn::End);
-            } else {
-                self.rest(term).await?;
+            match self.sending.last().map(|row| row.number) {
+                Some(last) => self.send(term, last).await?,
+                None => self.rest(term).await?,
             }
         }
     }
@@ -280,6 +287,7 @@ impl Member {
     /// Adds the entries up to this one to the log.
     async fn send(&mut self, term: u64, last: u64) -> Result<()> {
         let before = self.line.lock().saved;
+        self.tried = Instant::now();
         match self.database.append(term, before, &self.sending).await {
             Ok(true) => {
                 self.sending.clear();
@@ -307,6 +315,7 @@ impl Member {
         if begin.elapsed() < LEADING {
             return Ok(());
         }
+        self.tried = Instant::now();
         let head = self.database.head().await?;
         self.check(&head)?;
         match head.term == term {

@@ -2,6 +2,7 @@
 
 use super::{wait_until, Folder};
 use std::fs;
+use std::net::TcpListener;
 use std::os::unix::process::CommandExt;
 use std::path::{Path, PathBuf};
 use std::process::{Child, Command, Stdio};
@@ -10,7 +11,7 @@ use std::sync::{Arc, Mutex, PoisonError, Weak};
 
 /// The options of each database server.
 const OPTIONS: [&str; 5] = [
-    "listen_addresses=",
+    "listen_addresses=127.0.0.1",
     "max_connections=100",
     "shared_buffers=32MB",
     "log_min_messages=fatal",
@@ -24,6 +25,7 @@ pub struct Postgres {
     folder: Folder,
     programs: PathBuf,
     user: Option<(u32, u32)>,
+    port: u16,
     fsync: &'static str,
 }
 
@@ -58,6 +60,12 @@ fn other_user() -> Option<(u32, u32)> {
     id_of("postgres").or_else(|| id_of("nobody"))
 }
 
+/// A port that nobody listens at.
+fn free_port() -> u16 {
+    let listener = TcpListener::bind("127.0.0.1:0").unwrap();
+    listener.local_addr().unwrap().port()
+}
+
 impl Postgres {
     /// Starts a server in memory. A test kills it and not the machine, so nothing has to be on a disk. `None`: PostgreSQL isn't
     /// installed.
@@ -88,6 +96,7 @@ impl Postgres {
             folder,
             programs: programs()?,
             user: other_user(),
+            port: free_port(),
             fsync,
         };
         if let Some((user, group)) = postgres.user {
@@ -132,6 +141,7 @@ impl Postgres {
     fn command(&self, program: &str) -> Command {
         let mut command = Command::new(self.programs.join(program));
         command.current_dir("/");
+        command.env("PGPORT", self.port.to_string());
         if let Some((user, group)) = self.user {
             command.uid(user).gid(group);
         }
@@ -190,10 +200,15 @@ pub struct Database {
 }
 
 impl Database {
-    /// Its URL.
+    /// Its URL, by a Unix socket.
     pub fn url(&self) -> String {
-        let folder = self.postgres.path().display();
-        format!("postgresql:///{}?user=bestore&host={folder}", self.name)
+        let (folder, port) = (self.postgres.path().display(), self.postgres.port);
+        format!("postgresql:///{}?user=bestore&host={folder}&port={port}", self.name)
+    }
+
+    /// Its URL, by TCP.
+    pub fn url_of_tcp(&self) -> String {
+        format!("postgresql://bestore@127.0.0.1:{}/{}", self.postgres.port, self.name)
     }
 
     /// Runs statements, and returns the lines of what the last one finds, with `|` between columns.
