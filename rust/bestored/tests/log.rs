@@ -1,6 +1,7 @@
 //! Servers that share a log in a real PostgreSQL.
 
 use crate::common::postgres::{Database, Postgres};
+use crate::common::proxy::{Lost, Proxy};
 use crate::common::writers::{check_history, state_of, Writers};
 use crate::common::{command, wait_until, Folder, Random, Server};
 use bestore::Batch;
@@ -335,6 +336,48 @@ fn a_leader_that_was_away_adds_nothing() {
     // Who wants to lead a log that is led is refused.
     let said = Member::start_in(old.folder, &database, "--log").end();
     assert!(said.contains("the log is led by "), "{said}");
+}
+
+#[test]
+fn a_leader_without_its_term_adds_nothing() {
+    let database = match database() {
+        Some(database) => database,
+        None => return,
+    };
+    let leader = Member::start(&database, "--log");
+    let mut client = leader.client();
+    client.apply(Batch::new().new_node().set(1, "count", 0_u64)).unwrap();
+    // Its session goes on, and has the lock.
+    database.sql("UPDATE bestore_log SET term = term + 1, leader = 'another', run = 'another'");
+    client.apply(&set_count(1)).unwrap_err();
+    let said = leader.end();
+    assert!(said.contains("another leads the log now"), "{said}");
+    let found = database.sql("SELECT last, count(*) FROM bestore_log, bestore_entry GROUP BY last");
+    assert_eq!(found, "1|1");
+}
+
+#[test]
+fn a_request_or_a_reply_of_the_database_is_lost() {
+    let database = match database() {
+        Some(database) => database,
+        None => return,
+    };
+    let proxy = Proxy::start(database.postgres.port);
+    let leader = Member::start_at(Folder::in_memory(), &database.url_at(proxy.port), "--log");
+    let mut client = leader.client();
+    client.apply(Batch::new().new_node().set(1, "count", 0_u64)).unwrap();
+    for count in 1..=6 {
+        proxy.lose(if count % 2 == 0 { Lost::Requests } else { Lost::Replies });
+        // The write waits, and is made once.
+        let written = client.apply(Batch::new().new_node().set(1, "count", count)).unwrap();
+        assert_eq!(written.nodes, [count + 1]);
+        assert!(proxy.has_lost());
+    }
+    assert_eq!(client.log().unwrap().entry, 7);
+    let found = database.sql("SELECT last, count(*), max(number) FROM bestore_log, bestore_entry GROUP BY last");
+    assert_eq!(found, "7|7|7");
+    let follower = Member::start(&database, "--follow");
+    check_all_alike(&[leader, follower], 0);
 }
 
 #[test]

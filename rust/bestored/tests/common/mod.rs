@@ -4,6 +4,8 @@
 pub mod disk;
 #[cfg(feature = "log")]
 pub mod postgres;
+#[cfg(feature = "log")]
+pub mod proxy;
 pub mod writers;
 
 use bestore_client::Client;

@@ -25,7 +25,7 @@ pub struct Postgres {
     folder: Folder,
     programs: PathBuf,
     user: Option<(u32, u32)>,
-    port: u16,
+    pub port: u16,
     fsync: &'static str,
 }
 
@@ -208,7 +208,12 @@ impl Database {
 
     /// Its URL, by TCP.
     pub fn url_of_tcp(&self) -> String {
-        format!("postgresql://bestore@127.0.0.1:{}/{}", self.postgres.port, self.name)
+        self.url_at(self.postgres.port)
+    }
+
+    /// Its URL through what listens at this port.
+    pub fn url_at(&self, port: u16) -> String {
+        format!("postgresql://bestore@127.0.0.1:{port}/{}", self.name)
     }
 
     /// Runs statements, and returns the lines of what the last one finds, with `|` between columns.
