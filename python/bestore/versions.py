@@ -7,7 +7,7 @@ from abc import ABC, abstractmethod
 from types import TracebackType
 from typing import ClassVar, Dict, Iterable, Iterator, List, Literal, Mapping, Optional, Tuple, Type, TypeVar, Union, overload
 
-from .errors import NoAttribute, NoIndex, NoNode, NotCovered
+from .errors import NoAttribute, NoIndex, NoNode, NotCovered, NoVolume
 from .language import Hint, comparisons, hint
 from .operations import Batch
 from .queries import Item, Name, Operator, Prepared, prepare
@@ -50,6 +50,11 @@ class Version(ABC):
         """The commit number of the last write that it has: how many writes it contains."""
 
     @property
+    def numbers(self) -> Tuple[int, ...]:
+        """The commit number of each volume, whose sum is `number`. A store without volumes has one."""
+        return (self.number,)
+
+    @property
     @abstractmethod
     def _is_pinned(self) -> bool:
         """Whether the pin is there."""
@@ -72,6 +77,12 @@ class Version(ABC):
     @abstractmethod
     def next_node(self) -> int:
         """The number of the next node that is made, if no other write comes before."""
+
+    def _next_in(self, volume: int) -> int:
+        """The next node of a volume. `NoVolume` if it isn't there."""
+        if volume != 0:
+            raise NoVolume(volume, 1)
+        return self.next_node
 
     @abstractmethod
     def _nodes_of(self, asked: Query) -> List[int]:
@@ -177,16 +188,22 @@ class Version(ABC):
 
     @abstractmethod
     def indices(self) -> Dict[str, Kind]:
-        """The indices: a dict of names and kinds, by ascending names."""
+        """The indices: a dict of names and kinds, by ascending names. Of several volumes those that each one has, with one
+        kind."""
+
+    def partial_indices(self) -> Dict[str, List[int]]:
+        """The indices that some volumes lack, or have with another kind: a dict of names and the volumes that have them."""
+        return {}
 
     @abstractmethod
-    def state(self) -> Iterator[Batch]:
+    def state(self, volume: Optional[int] = None) -> Iterator[Batch]:
         """The operations that make the version again on an empty store, as batches of 1 to 64, each for one
         `Pass.apply`:
 
             for batch in version.state():
                 other.apply(batch)
-        """
+
+        If there are several volumes, the batches of this one, for `apply` with the same `volume`; `NoVolume` without one."""
 
     def typed(self, node: int, name: str) -> Optional[Typed]:
         """A node's attribute with its kind, or None if it isn't there. Takes one search in a tree."""

@@ -59,6 +59,26 @@ impl Failure {
         failure.with("found", found)
     }
 
+    /// A request that has to say a volume, and doesn't.
+    pub fn volume_missing(volumes: usize) -> Self {
+        let message = format!("the server has {volumes} volumes, and the request says none");
+        Self::new("NoVolume", message).with("volumes", volumes)
+    }
+
+    /// Commit numbers that aren't those of the volumes.
+    pub fn numbers(volumes: usize) -> Self {
+        match volumes {
+            1 => Self::bad_request("the server has one volume, and so one commit number"),
+            _ => Self::bad_request(&format!(
+                "the server has {volumes} volumes, and a list has the number of each"
+            )),
+        }
+    }
+
+    pub fn bad_request(why: &str) -> Self {
+        Self::new("BadRequest", why)
+    }
+
     pub fn no_watch() -> Self {
         Self::new("NoWatch", "the connection has no such live query")
     }
@@ -81,6 +101,11 @@ impl Failure {
 
 impl From<Error> for Failure {
     fn from(error: Error) -> Self {
+        if let Some(volume) = error.volume() {
+            let Failure(refusal) = error.without_volume().into();
+            let message = format!("volume {volume}: {}", refusal.message);
+            return Failure(Refusal { message, ..refusal }).with("volume", volume);
+        }
         let failure = match &error {
             #[cfg(feature = "log")]
             Error::Other(other) => match other.downcast_ref::<Refused>() {
@@ -102,6 +127,11 @@ impl From<Error> for Failure {
             }
             Error::BadCount { count } => failure.with("count", count),
             Error::Conflict { expected, found } => failure.with("expected", expected).with("found", found),
+            Error::PartialIndex { operation } => failure.with("operation", operation),
+            Error::NoVolume { volume, volumes } => failure.with("volume", volume).with("volumes", volumes),
+            Error::OtherVolume { volume, operation } => {
+                failure.with("volume", volume).with_some("operation", operation)
+            }
             _ => failure,
         }
     }
@@ -126,6 +156,9 @@ fn name(error: &Error) -> &'static str {
         Error::NoPass => "NoPass",
         Error::BadCount { .. } => "BadCount",
         Error::Conflict { .. } => "Conflict",
+        Error::PartialIndex { .. } => "PartialIndex",
+        Error::NoVolume { .. } => "NoVolume",
+        Error::OtherVolume { .. } => "OtherVolume",
         Error::NotSaved(_) => "NotSaved",
         Error::Stopped(_) => "Stopped",
         _ => "Unexpected",
@@ -136,6 +169,11 @@ impl From<saved::Error> for Failure {
     fn from(error: saved::Error) -> Self {
         match error {
             saved::Error::Store(error) => error.into(),
+            saved::Error::OfVolume { volume, error } => {
+                let Failure(refusal) = (*error).into();
+                let message = format!("volume {volume}: {}", refusal.message);
+                Failure(Refusal { message, ..refusal }).with("volume", volume)
+            }
             saved::Error::Stopped(_) | saved::Error::Closed => Failure::new("Stopped", error.to_string()),
             error => Failure::new("NotSaved", error.to_string()),
         }

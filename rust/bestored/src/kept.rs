@@ -1,23 +1,24 @@
-//! The store of the server: in memory alone, kept in a file, or in a log that machines share.
+//! The volumes of the server: in memory alone, kept in files, or one in a log that machines share.
 
 use crate::failure::Failure;
 #[cfg(feature = "log")]
 use crate::log::Log;
 use crate::options::Options;
 use crate::server::Shared;
-use bestore::saved::{self, Saved};
-use bestore::{Pass, Store};
+use bestore::saved::{self, SavedShelf};
+use bestore::{Shelf, ShelfPass};
 use bestore_client::wire;
 use std::error::Error;
 use std::io;
+use std::path::Path;
 use std::sync::Arc;
 
-/// The store.
+/// The volumes.
 #[derive(Debug)]
 pub enum Kept {
-    Memory(Store),
+    Memory(Shelf),
     File {
-        saved: Saved,
+        saved: SavedShelf,
         each: bool,
     },
     #[cfg(feature = "log")]
@@ -39,22 +40,20 @@ pub fn start(_: &Arc<Shared>) -> io::Result<()> {
 }
 
 impl Kept {
-    /// Opens the store of a server with this text of its run.
+    /// Opens the volumes of a server with this text of its run.
     pub fn open(options: &Options, run: &str) -> Result<Self, Box<dyn Error>> {
         if options.log.is_some() {
             return Self::open_log(options, run);
         }
         let path = match &options.keep {
-            None => return Ok(Kept::Memory(Store::open(options.limits())?)),
+            None => {
+                let volumes = options.volumes.unwrap_or(1);
+                return Ok(Kept::Memory(Shelf::open(volumes, options.limits())?));
+            }
             Some(path) => path,
         };
-        let mut opened = saved::Options::new();
-        opened.limits(options.limits());
-        if let Some(time) = options.every {
-            opened.every(time);
-        }
         Ok(Kept::File {
-            saved: opened.open(path)?,
+            saved: open_files(options, path)?,
             each: options.every.is_none(),
         })
     }
@@ -69,9 +68,9 @@ impl Kept {
         Err("this program is built without the feature log".into())
     }
 
-    pub fn pass(&self) -> bestore::Result<Pass> {
+    pub fn pass(&self) -> bestore::Result<ShelfPass> {
         match self {
-            Kept::Memory(store) => store.pass(),
+            Kept::Memory(shelf) => shelf.pass(),
             Kept::File { saved, .. } => saved.pass(),
             #[cfg(feature = "log")]
             Kept::Log(log) => log.pass(),
@@ -137,7 +136,7 @@ impl Kept {
         }
     }
 
-    /// Saves what was written. A file is closed when the store is dropped.
+    /// Saves what was written. The files are closed when the store is dropped.
     pub fn finish(&self) -> Result<(), Box<dyn Error>> {
         match self {
             Kept::Memory(_) => Ok(()),
@@ -150,4 +149,17 @@ impl Kept {
 
 fn not_kept() -> Failure {
     Failure::new("NotKept", "the server keeps no file")
+}
+
+/// Opens the file of one store, or the folder of several volumes.
+fn open_files(options: &Options, path: &Path) -> saved::Result<SavedShelf> {
+    let mut opened = saved::Options::new();
+    opened.limits(options.limits());
+    if let Some(time) = options.every {
+        opened.every(time);
+    }
+    match options.volumes {
+        None | Some(1) if !path.is_dir() => SavedShelf::of_volumes(vec![opened.open(path)?]),
+        volumes => opened.open_shelf(path, volumes),
+    }
 }

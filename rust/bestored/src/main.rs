@@ -14,8 +14,10 @@ mod os;
 mod outbox;
 mod page;
 mod pressure;
+mod reach;
 mod server;
 mod socket;
+mod volumes;
 mod watcher;
 
 use kept::Kept;

@@ -1,7 +1,7 @@
 //! The options of the command line.
 
 use crate::socket;
-use bestore::Limits;
+use bestore::{Limits, MOST_VOLUMES};
 use clap::{value_parser, Arg, Command};
 use std::path::PathBuf;
 use std::time::Duration;
@@ -32,6 +32,7 @@ pub struct Options {
     pub every: Option<Duration>,
     /// The log, if machines share one.
     pub log: Option<InLog>,
+    pub volumes: Option<u32>,
     pub pages: u64,
     pub passes: u64,
     pub commits: u64,
@@ -61,7 +62,7 @@ fn command() -> Command {
             path("socket", "PATH")
                 .help("The socket; otherwise bestore/socket in $XDG_RUNTIME_DIR, or in /tmp/bestore-UID"),
         )
-        .arg(path("keep", "FILE").help("The file in which the writes are kept"))
+        .arg(path("keep", "FILE").help("The file in which the writes are kept, or the folder of several volumes"))
         .arg(
             Arg::new("every")
                 .long("every")
@@ -70,11 +71,18 @@ fn command() -> Command {
                 .requires("keep")
                 .help("Replies to writes don't wait for the file, which has them after this time"),
         )
-        .arg(url("log", &["keep", "follow"]).help("Leads a log in PostgreSQL that several machines share"))
-        .arg(url("follow", &["keep"]).help("Follows such a log, and leads once nobody does"))
-        .arg(number("pages", "N", 8..=16_384, "4096").help("Pages of 4 KiB"))
+        .arg(url("log", &["keep", "follow", "volumes"]).help("Leads a log in PostgreSQL that several machines share"))
+        .arg(url("follow", &["keep", "volumes"]).help("Follows such a log, and leads once nobody does"))
+        .arg(
+            Arg::new("volumes")
+                .long("volumes")
+                .value_name("N")
+                .value_parser(value_parser!(u32).range(1..=i64::from(MOST_VOLUMES)))
+                .help("Stores that one query searches; otherwise those of the folder, or 1"),
+        )
+        .arg(number("pages", "N", 8..=16_384, "4096").help("Pages of 4 KiB, of each volume"))
         .arg(number("passes", "N", 1..=62, "62").help("Clients at the same time"))
-        .arg(number("commits", "N", 1..=u32::MAX.into(), "4294967295").help("Entries of the journal"))
+        .arg(number("commits", "N", 1..=u32::MAX.into(), "4294967295").help("Entries of the journal, of each volume"))
         .arg(number("hold", "SECONDS", 1..=86_400, "60").help("How long a client may keep a snapshot"))
 }
 
@@ -94,6 +102,7 @@ impl Options {
             keep: read.get_one("keep").cloned(),
             every: read.get_one("every").copied().map(Duration::from_millis),
             log,
+            volumes: read.get_one("volumes").copied(),
             pages: number("pages"),
             passes: number("passes").min(most),
             commits: number("commits"),
@@ -101,7 +110,7 @@ impl Options {
         }
     }
 
-    /// The limits of the store.
+    /// The limits of each volume.
     pub fn limits(&self) -> Limits {
         Limits {
             pages: self.pages,
@@ -127,7 +136,14 @@ mod tests {
 
     #[test]
     fn numbers_out_of_range_are_refused() {
-        for arguments in [["--pages", "7"], ["--passes", "63"], ["--every", "5"], ["--hold", "0"]] {
+        for arguments in [
+            ["--pages", "7"],
+            ["--passes", "63"],
+            ["--every", "5"],
+            ["--hold", "0"],
+            ["--volumes", "0"],
+            ["--volumes", "65"],
+        ] {
             let read = command().try_get_matches_from([&["bestored"][..], &arguments[..]].concat());
             assert!(read.is_err(), "{arguments:?}");
         }
@@ -139,6 +155,8 @@ mod tests {
             ["--log=a", "--keep=b"],
             ["--follow=a", "--keep=b"],
             ["--log=a", "--follow=b"],
+            ["--log=a", "--volumes=2"],
+            ["--follow=a", "--volumes=1"],
         ] {
             let read = command().try_get_matches_from([&["bestored"][..], &arguments[..]].concat());
             assert!(read.is_err(), "{arguments:?}");

@@ -8,7 +8,7 @@ use crate::os;
 use crate::pressure::{self, Pressure};
 use crate::socket::Socket;
 use crate::watcher::Watcher;
-use bestore::{Error, Pass};
+use bestore::{Error, ShelfPass};
 use std::collections::BTreeMap;
 use std::fs::File;
 use std::io::{self, ErrorKind};
@@ -88,7 +88,7 @@ impl Clients {
 }
 
 /// Serves clients until a signal ends the program.
-pub fn run(socket: Socket, signals: &File, shared: Shared, own: Pass) -> Result<(), Box<dyn std::error::Error>> {
+pub fn run(socket: Socket, signals: &File, shared: Shared, own: ShelfPass) -> Result<(), Box<dyn std::error::Error>> {
     let shared = Arc::new(shared);
     kept::start(&shared)?;
     let watching = {
@@ -183,10 +183,10 @@ fn serve(shared: &Shared, stream: Arc<UnixStream>) {
     let _ = Connection::new(shared, stream).and_then(|mut connection| connection.run(pass));
 }
 
-fn take_pass(shared: &Shared) -> bestore::Result<Pass> {
+fn take_pass(shared: &Shared) -> bestore::Result<ShelfPass> {
     let until = Instant::now() + FOR_PASS;
     loop {
-        match shared.kept.pass() {
+        match shared.kept.pass().map_err(Error::without_volume) {
             Err(Error::NoPass) if Instant::now() < until => thread::sleep(Duration::from_millis(5)),
             answer => {
                 let mut pass = answer?;

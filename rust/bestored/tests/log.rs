@@ -5,7 +5,7 @@ use crate::common::proxy::{Lost, Proxy};
 use crate::common::writers::{check_history, state_of, Writers};
 use crate::common::{command, wait_until, Folder, Random, Server};
 use bestore::Batch;
-use bestore_client::wire::{Command, LogStatus, Nothing};
+use bestore_client::wire::{Command, LogStatus, Nothing, Write, Written};
 use bestore_client::{Client, Error};
 use std::fs::{self, File};
 use std::sync::atomic::{AtomicBool, Ordering::Relaxed};
@@ -312,9 +312,9 @@ fn a_leader_that_was_away_adds_nothing() {
     let mut waiting = old.client();
     waiting.log().unwrap();
     old.server.stop();
-    let sent = waiting.send(Command::Batch(bestore_client::wire::Write {
+    let sent = waiting.send(Command::Batch(Write {
         operations: set_count(1).into(),
-        expected: None,
+        ..Write::default()
     }));
     database.sql(
         "SELECT pg_terminate_backend(pid) FROM pg_locks JOIN pg_database ON database = pg_database.oid \
@@ -323,7 +323,7 @@ fn a_leader_that_was_away_adds_nothing() {
     wait_until("the follower leads", || new.leads());
     new.client().apply(&set_count(2)).unwrap();
     old.server.signal("CONT");
-    let answer = waiting.receive::<bestore_client::wire::Written>(sent.unwrap());
+    let answer = waiting.receive::<Written>(sent.unwrap());
     assert!(answer.is_err(), "{answer:?}");
     let said = old.end();
     assert!(

@@ -11,3 +11,4 @@ mod memory;
 mod pages;
 mod protocol;
 mod socket;
+mod volumes;

@@ -17,7 +17,7 @@ use crate::kept::Kept;
 use crate::options::Options;
 use crate::os;
 use crate::server::Shared;
-use bestore::{Pass, Store};
+use bestore::{Shelf, ShelfPass, Store};
 use bestore_client::wire;
 use database::Database;
 use error::Result;
@@ -80,6 +80,8 @@ fn runtime() -> Result<Runtime> {
 #[derive(Debug)]
 pub struct Log {
     store: Store,
+    /// The store as the one volume of the server.
+    shelf: Shelf,
     line: Arc<Line>,
     access: Access,
     /// Who writes the state has it.
@@ -102,6 +104,7 @@ impl Log {
         let runtime = runtime()?;
         let (member, line) = runtime.block_on(Member::begin(access.clone(), pass, in_log.leads))?;
         Ok(Self {
+            shelf: Shelf::of_volumes(vec![store.clone()])?,
             store,
             line,
             access,
@@ -111,8 +114,8 @@ impl Log {
     }
 
     /// Takes a pass, whose writes are added to the log.
-    pub fn pass(&self) -> bestore::Result<Pass> {
-        Ok(self.store.pass()?.kept_by(self.line.clone()))
+    pub fn pass(&self) -> bestore::Result<ShelfPass> {
+        Ok(self.shelf.pass()?.kept_by(|_| self.line.clone()))
     }
 
     /// Starts the thread of the log, which runs until `finish`. If it fails, the program ends.

@@ -173,7 +173,12 @@ pub fn state_of(client: &mut Client) -> (u64, Vec<Batch>) {
     let mut from = Some(0);
     let mut next = 0;
     while let Some(index) = from {
-        let page: wire::State = client.call(Command::State(wire::From { from: index })).unwrap();
+        let page: wire::State = client
+            .call(Command::State(wire::From {
+                from: index,
+                volume: None,
+            }))
+            .unwrap();
         batches.extend(page.batches.into_iter().map(|operations| operations.batch));
         (from, next) = (page.more, page.next);
     }
