@@ -264,6 +264,45 @@ static void meet_busy(void)
     CHECK(bes_unpin(&mine) == BES_OK && bes_pin(&mine, &out.number) == BES_OK && out.number == 8 + accepted);
 }
 
+static bes_pass second;
+static unsigned met;
+
+/* Meets the pass that was given back, while the first pass holds the lock. */
+static void meet_between(void)
+{
+    uint64_t number = 7, node = 7;
+    CHECK(bes_new_node(&second, &node) == BES_BUSY && bes_meet(&second, &number) == BES_OK && number == 1);
+    met++;
+}
+
+/* A meeting takes no lock: it returns while another pass holds that. */
+static void meet_while_locked(void)
+{
+    bes_pass first = BES_PASS_INIT, third = BES_PASS_INIT;
+    uint64_t node = 0, count = 0;
+    uint8_t text[64];
+    CHECK(bes_open(64, 3, 100, &first) == BES_OK && bes_another(&first, &second) == BES_OK && bes_another(&first, &third) == BES_OK);
+    CHECK(bes_new_node(&third, &node) == BES_OK && bes_close(&third) == BES_OK);
+    between = meet_between;
+    CHECK(bes_journal(&first, text, sizeof text, &count) == BES_OK && count > 0);
+    between = NULL;
+    CHECK(met > 0 && bes_close(&first) == BES_OK && bes_close(&second) == BES_OK);
+}
+
+/* A state without a pin: memory for its place is asked for first. */
+static void state_without_pin(void)
+{
+    bes_pass pass = BES_PASS_INIT;
+    CHECK(bes_open(8, 1, 1, &pass) == BES_OK);
+    requests = 0;
+    refused = 1;
+    CHECK(bes_state(&pass, &place, &out.counts, out.listed, 4, out.bytes, 64) == BES_NO_MEMORY);
+    refused = 0;
+    CHECK(bes_state(&pass, &place, &out.counts, out.listed, 4, out.bytes, 64) == BES_NOT_PINNED);
+    bes_leave(&place);
+    CHECK(bes_close(&pass) == BES_OK);
+}
+
 int main(void)
 {
     memset(&untouched, 7, sizeof untouched);
@@ -271,6 +310,8 @@ int main(void)
     CHECK(bes_leave(&place) == BES_OK);
     refuse_between_lists();
     meet_busy();
+    meet_while_locked();
+    state_without_pin();
     CHECK(bes_release(&kept) == BES_OK && bes_release(&by_text) == BES_OK && bes_release(&by_items) == BES_OK);
     /* A pass that was given back isn't lost if there is no memory for its handle. */
     CHECK(bes_close(&theirs) == BES_OK && refuse_each(call_another) > 0);

@@ -209,6 +209,31 @@ class Reading(WithServer):
         with _open(64, 1, 100) as store:
             self.assertEqual(columns(self.store), columns(store))
 
+    def test_rows(self):
+        """They are the same as in a store of this process, also if they come in several replies."""
+        names = ["b", "a", "none"]
+
+        def rows(store):
+            store.make_index("a", bestore.STRING)
+            for first in range(1, 9601, 16):
+                batch = bestore.Batch()
+                for node in range(first, first + 16):
+                    batch.new_node().set(node, "a", str(node)).set(node, "b", f"{node:0250}")
+                store.apply(batch)
+            with store.pin() as version, bestore.prepare("a==*7") as prepared:
+                with self.assertRaises(ValueError):
+                    version.rows("a==*", names, 0, -1)
+                for wrong, kind in [("a==", bestore.QuerySyntax), ("b>1", bestore.NotCovered)]:
+                    with self.assertRaises(kind):
+                        version.rows(wrong, names)
+                return [version.rows(prepared, iter(names), 17, 2), version.rows("a==*", names, 0, 30000), version.rows("a==*", names, 9599),
+                        version.rows("a==*", [], -5, 1), version.rows("a==*", names, 2**70), version.rows("a==*", names, 5, 0)]
+        with _open(4096, 1, 2**32 - 1) as store:
+            found = rows(self.store)
+            self.assertEqual(found, rows(store))
+        self.assertEqual(found[0], [(17, [f"{17:0250}", "17", None]), (27, [f"{27:0250}", "27", None])])
+        self.assertEqual([len(it) for it in found], [2, 9600, 2, 1, 0, 0])
+
     def test_the_journal_is_the_same_text(self):
         batches = [
             bestore.Batch().new_node().set(1, 'a"b\\\n\r\t', 'x"\\\n\r\t\x7fé漢'), bestore.Batch().set(1, "r", b""),

@@ -98,6 +98,17 @@ else
         exit 1
     fi
     echo "Python, over the server: ok, $(sed -n 's/^Ran \([0-9]* tests\) in .*/\1/p' "$work/said")"
+    if ! command -v Xvfb >/dev/null || ! python3 -c 'import tkinter' 2>/dev/null; then
+        echo "the query window, over the server: skipped, there is no Xvfb or python3 has no Tk"
+    elif ! (cd ../python && timeout -k 10 600 env BESTORE_LIBRARY="$BESTORE_LIB_DIR/libbestore.so" PYTHONDONTWRITEBYTECODE=1 \
+        PYTHONPATH=.:window_tests python3 -W error -m unittest test_window.OverServer test_window.OverVolumes test_sixty_thousand.SixtyThousand.test_of_a_server) \
+        >"$work/said" 2>&1; then
+        cat "$work/said" >&2
+        echo "the query window, over the server: failed, or not at its end after 600 seconds" >&2
+        exit 1
+    else
+        echo "the query window, over the server: ok, $(sed -n 's/^Ran \([0-9]* tests\) in .*/\1/p' "$work/said")"
+    fi
 fi
 
 # How the library is found: by pkg-config, in an archive, and not at all.

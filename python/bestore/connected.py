@@ -45,7 +45,7 @@ from .operations import MOST_OPERATIONS, NEW, Batch
 from .queries import Prepared, prepare_items
 from .store import TRIES, Entry, Held, Status, ThreadPass
 from .values import RANGES, Kind, Typed, plain
-from .versions import Query, Version, not_covered
+from .versions import Query, Row, Version, not_covered
 
 __all__ = [
     "BrokenConnection", "Changes", "ConnectedPass", "ConnectedVersion", "Disconnected", "Expired", "LineTooLong",
@@ -162,6 +162,17 @@ class ConnectedVersion(Version):
     def _count_of(self, asked: Query) -> int:
         return self._ask_query("query", asked, _text_of(asked), {"count": True}, lambda ok: int(ok["count"]))
 
+    def _rows_of(self, query: Union[str, Prepared], names: List[str], first: int, most: int) -> List[Row]:
+        for name in names:
+            encoded(name)
+        text, rows = _text_of(query), []  # type: str, List[Row]
+        more: Optional[int] = first
+        while more is not None and more < 2**64 and len(rows) < most:
+            others: JSON = {"columns": names, "from": more, "limit": most - len(rows)}
+            page, more = self._ask_query("query", query, text, others, _read_rows)
+            rows += page
+        return rows
+
     def explain(self, text: str) -> str:
         encoded_query(text)
         return self._ask_query("explain", text, text, {}, lambda ok: str(ok["text"]))
@@ -226,6 +237,11 @@ def _text_of(asked: Query) -> str:
 
 def _read_page(ok: JSON) -> Tuple[List[int], Optional[int]]:
     return read_nodes(ok["nodes"]), ok.get("more")
+
+
+def _read_rows(ok: JSON) -> Tuple[List[Row], Optional[int]]:
+    rows = [[None if value is None else read_value(value).value for value in row] for row in ok["rows"]]
+    return list(zip(read_nodes(ok["nodes"]), rows)), ok.get("more")
 
 
 def _read_state(ok: JSON) -> Tuple[List[Batch], Optional[int]]:

@@ -4,6 +4,7 @@ from __future__ import annotations
 
 import operator
 from abc import ABC, abstractmethod
+from bisect import bisect_left
 from types import TracebackType
 from typing import ClassVar, Dict, Iterable, Iterator, List, Literal, Mapping, Optional, Tuple, Type, TypeVar, Union, overload
 
@@ -15,6 +16,8 @@ from .values import RANGES, Kind, Typed, Value
 
 _Self = TypeVar("_Self", bound="Version")
 Query = Union[str, Prepared, Tuple[Item, ...]]  # as it was asked
+Row = Tuple[int, List[Optional[Value]]]
+"""A node, and values of its attributes."""
 
 
 def not_covered(asked: Query, indices: Iterable[str]) -> NotCovered:
@@ -233,6 +236,21 @@ class Version(ABC):
         process it takes less time than a `column` for each name, since it reads node by node."""
         read = list(nodes)
         return [self.column(read, name) for name in names]
+
+    def rows(self, query: Union[str, Prepared], names: Iterable[str], first: int = 0, most: int = 1024) -> List[Row]:
+        """Nodes that meet the query, ascending and from the number `first` on, up to `most` of them, each with its attributes of
+        these names: pairs of a node and a list of values, None where it has none. Takes the query and a search in a tree for each
+        value. In a version of a server it takes a round trip for some thousand rows, and no more than 64 names."""
+        if most < 0:
+            raise ValueError(f"{most} rows are asked for")
+        return self._rows_of(query, list(names), max(operator.index(first), 0), most)
+
+    def _rows_of(self, query: Union[str, Prepared], names: List[str], first: int, most: int) -> List[Row]:
+        nodes = self._nodes_of(query)
+        begin = bisect_left(nodes, first)
+        nodes = nodes[begin:begin + most]
+        found = self.columns(nodes, names)
+        return [(node, [column[place] for column in found]) for place, node in enumerate(nodes)]
 
     def __getitem__(self, node: int) -> Attributes:
         """A node's attributes, each of which is read when it is asked for."""

@@ -10,13 +10,14 @@
 
 mod counting;
 mod ranges;
+mod sizes;
 
 ghost use Rattle.std.specs.Prelude.{◌≡◌, true, IfOk};
 ghost use Rattle.be_volume.specs.Volume.{State};
 ghost use Rattle.be_plan.specs.Explain.{are_places};
 
 use crate::tests::counting::{nodes_by, nodes_chosen};
-use be_plan::{Cover, Picks, Source, choose_from, explain, volume_source};
+use be_plan::{Cover, Picks, Source, choose, choose_from, explain, volume_source};
 use be_query::{Query, parse};
 use be_testing::{Answers, check_lines, list_of};
 use be_value::{Kind, Name, Refusal, word_of};
@@ -181,10 +182,39 @@ fn chosen(alloc: Global, volume: &Volume, query: &Query) -> Result<Cover, Refusa
     choose_from(alloc, query, &mut source)
 }
 
-/// The text of the same.
-fn explained(alloc: Global, volume: &Volume, query: &Query) -> Result<String, Refusal> {
+/// What is chosen by the list of the volume's indices.
+fn listed(alloc: Global, volume: &Volume, query: &Query) -> Result<Cover, Refusal>
+    ensures places { IfOk result (λ cover. are_places query.now cover.picks ≡ true) }
+{
+    let indices = volume.indices()?;
+    choose(alloc, query, indices.as_slice())
+}
+
+/// The text of what is chosen by the list.
+fn listed_text(alloc: Global, volume: &Volume, query: &Query) -> Result<String, Refusal> {
+    let cover = listed(alloc, volume, query)?;
+    explain(alloc, query, &cover)
+}
+
+/// The text of what is chosen by the volume's indices.
+fn chosen_text(alloc: Global, volume: &Volume, query: &Query) -> Result<String, Refusal> {
     let cover = chosen(alloc, volume, query)?;
     explain(alloc, query, &cover)
+}
+
+/// The same, if what is chosen by the list is the same too; otherwise BadLimits.
+fn explained(alloc: Global, volume: &Volume, query: &Query) -> Result<String, Refusal> {
+    match (
+        chosen_text(alloc, volume, query),
+        listed_text(alloc, volume, query),
+    ) {
+        (Ok(text), Ok(other)) if text.as_str() == other.as_str() => Ok(text),
+        (Err(refusal), Err(other)) if refusal == other => Err(refusal),
+        (Err(Refusal::OutOfMemory), _) | (_, Err(Refusal::OutOfMemory)) => {
+            Err(Refusal::OutOfMemory)
+        }
+        _ => Err(Refusal::BadLimits),
+    }
 }
 
 /// The picks of digits.

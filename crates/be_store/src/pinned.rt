@@ -3,7 +3,7 @@
 //! A pin that is forgotten holds its version's pages for as long as the store lives. So a program that leaves a function by
 //! `?` asks through a `Pinned`, which unpins when it goes.
 ghost use Rattle.std.specs.List.Sorted.{IsStrictlyIncreasing};
-ghost use Rattle.std.specs.Prelude.{◌≡◌, ◌⊎◌, ◌<◌, ◌≤◌, ◌++◌, ℕ, true, false, [], None, Ok, Err, IsOk, IfOk, IfErr, IfNone, IfSome, length};
+ghost use Rattle.std.specs.Prelude.{◌≡◌, ◌⊎◌, ◌<◌, ◌≤◌, ◌++◌, ℕ, true, false, [], None, Ok, Err, IsOk, IfOk, IfErr, IfNone, IfSome, OnOk, length};
 ghost use Rattle.be_value.specs.Refusal.{Answers};
 ghost use Rattle.be_value.specs.declared.refusals.Refusal.TheVariants.{OutOfMemory, NotCovered};
 ghost use Rattle.be_volume.specs.Query.{scan, has_index, covered};
@@ -22,7 +22,7 @@ ghost use Rattle.be_store.specs.Passes.{IsBetweenCalls, IsBetweenCalls-prop, IsP
 
 use crate::answers::{Answer, Updates};
 use crate::{Live, Pass, Store};
-use be_plan::Cover;
+use be_plan::{Cover, PreparedQuery};
 use be_query::Query;
 use be_state::Place;
 use be_value::{Kind, Name, Refusal, Value};
@@ -76,6 +76,44 @@ impl Pinned<'_> {
         ensures pin { IfOk result (λ a. IsPinnedTo self.old.pass.now.knows a.pin) }
     {
         self.store.query(alloc, self.pass, query)
+    }
+
+    /// As `Store::query_into`.
+    pub fn query_into(
+        &mut self,
+        alloc: Global,
+        query: &Query,
+        nodes: &mut Vec<u64>,
+    ) -> Result<u64, Refusal>
+        requires pinned { (n : ℕ) × IsPinnedTo self.old.pass.now.knows n }
+        ensures same_reference { self.new.pass.ghost_name ≡ self.old.pass.ghost_name }
+        ensures store { (self.new.store.now ≡ self.old.store.now) × (self.new.number ≡ self.old.number) }
+        ensures read { HasRead self.old.pass.now.knows self.new.pass.now.knows }
+        ensures nodes { Answers (λ _. nodes.new.items) result (scan (volume_pinned self.old.pass.now.knows) query.now) }
+        ensures rising { OnOk result (IsStrictlyIncreasing nodes.new.items) }
+        ensures pin { IfOk result (λ pin. IsPinnedTo self.old.pass.now.knows pin) }
+    {
+        self.store.query_into(alloc, self.pass, query, nodes)
+    }
+
+    /// As `Store::query_prepared`.
+    #[inline(always)]
+    pub fn query_prepared(
+        &mut self,
+        alloc: Global,
+        query: &mut PreparedQuery,
+        nodes: &mut Vec<u64>,
+    ) -> Result<u64, Refusal>
+        requires pinned { (n : ℕ) × IsPinnedTo self.old.pass.now.knows n }
+        ensures same_reference { self.new.pass.ghost_name ≡ self.old.pass.ghost_name }
+        ensures store { (self.new.store.now ≡ self.old.store.now) × (self.new.number ≡ self.old.number) }
+        ensures read { HasRead self.old.pass.now.knows self.new.pass.now.knows }
+        ensures nodes { Answers (λ _. nodes.new.items) result (scan (volume_pinned self.old.pass.now.knows) query.old) }
+        ensures rising { OnOk result (IsStrictlyIncreasing nodes.new.items) }
+        ensures pin { IfOk result (λ pin. IsPinnedTo self.old.pass.now.knows pin) }
+        ensures same { query.new ≡ query.old }
+    {
+        self.store.query_prepared(alloc, self.pass, query, nodes)
     }
 
     /// As `Store::explain`.

@@ -3,6 +3,8 @@
 #[macro_use]
 mod common;
 mod broken;
+mod follow;
+mod import;
 mod page;
 mod queries;
 mod tools;

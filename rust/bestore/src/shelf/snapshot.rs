@@ -74,12 +74,20 @@ impl<'a> ShelfSnapshot<'a> {
         Ok(found)
     }
 
-    /// The nodes of all volumes that the query finds, ascending. The text is parsed once for each volume.
+    /// The nodes of all volumes that the query finds, ascending. The text is parsed once.
     ///
     /// # Errors
     /// As [`Snapshot::query`]. If volumes don't cover the query, the error has the first of them.
     pub fn query(&self, text: &str) -> Result<Vec<u64>> {
-        self.found(|snapshot| snapshot.query(text))
+        if let [only] = &self.volumes[..] {
+            return only.query(text);
+        }
+        let prepared = Prepared::new(text)?;
+        self.found(|snapshot| {
+            let found = snapshot.query_prepared(&prepared);
+            // The error of the text has the place in it that is wrong.
+            found.or_else(|_| snapshot.query(text))
+        })
     }
 
     /// The nodes of all volumes that the prepared query finds, ascending.
