@@ -49,7 +49,7 @@ run() {
 
 # Cargo resolves the dependencies of all features, so without rusqlite it finds no way. Of those of the log there are empty ones.
 resolves() { cargo metadata --format-version 1 "${options[@]}" >/dev/null 2>"$work/said"; }
-missing() { grep -m1 -o 'no matching package named.*' "$work/said" || tail -1 "$work/said"; }
+missing() { grep -m1 -o 'no matching package named.*\|searched package name.*' "$work/said" || tail -1 "$work/said"; }
 features=saved,log
 if ! resolves; then
     missing=$(missing)
