@@ -516,7 +516,10 @@ fn files_are_spread_over_volumes_and_stay_there() {
         ),
         (1, 1466)
     );
-    assert!(said.error.contains("bestored --volumes 4 --pages 512 has room"), "{said:?}");
+    assert!(
+        said.error.contains("bestored --volumes 4 --pages 512 has room"),
+        "{said:?}"
+    );
     assert!(
         server.spread(4).iter().all(|count| *count > 150),
         "{:?}",

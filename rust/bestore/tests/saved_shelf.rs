@@ -179,12 +179,17 @@ fn a_volume_that_cant_be_saved_stops_alone() {
     let failed = pass.set(nodes[1], "size", 6_i64).unwrap_err();
     assert_eq!(failed.volume(), Some(1), "{failed}");
     assert!(matches!(failed.without_volume(), bestore::Error::NotSaved(_)));
-    let stopped = pass.change(|change| change.set(nodes[1], "size", 7_i64).map(drop)).unwrap_err();
+    let stopped = pass
+        .change(|change| change.set(nodes[1], "size", 7_i64).map(drop))
+        .unwrap_err();
     assert!(matches!(stopped.without_volume(), bestore::Error::Stopped(_)));
     // The others go on, and reads see what is in memory.
     pass.set(nodes[0], "size", 6_i64).unwrap();
     let third = sized(&mut pass, 2, 6);
-    assert_eq!(pass.pin().unwrap().query("size==6").unwrap(), [nodes[0], nodes[1], third]);
+    assert_eq!(
+        pass.pin().unwrap().query("size==6").unwrap(),
+        [nodes[0], nodes[1], third]
+    );
     assert!(matches!(saved.flush(), Err(Error::OfVolume { volume: 1, .. })));
     assert!(matches!(saved.close(), Err(Error::OfVolume { volume: 1, .. })));
     assert_eq!(found(&folder.open(None).unwrap(), "size==6"), [nodes[0], third]);

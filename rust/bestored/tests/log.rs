@@ -298,17 +298,21 @@ fn a_wrong_outcome_is_named_with_its_entry() {
 
 #[test]
 fn a_leader_that_was_away_adds_nothing() {
-    let database = match database() {
-        Some(database) => database,
-        None => return,
-    };
-    let old = Member::start(&database, "--log");
+    for is_next_one_killed in [false, true] {
+        if let Some(database) = database() {
+            leave_leader(&database, is_next_one_killed);
+        }
+    }
+}
+
+/// Stops a leader while a client waits for a write, until another server has led, and perhaps was killed.
+fn leave_leader(database: &Database, is_next_one_killed: bool) {
+    let old = Member::start(database, "--log");
     old.client()
         .apply(Batch::new().new_node().set(1, "count", 0_u64))
         .unwrap();
-    let new = Member::start(&database, "--follow");
+    let new = Member::start(database, "--follow");
     new.client().wait_for_entry(1, Duration::from_secs(60)).unwrap();
-    // The old leader is asked to write while it is stopped, and its session ends.
     let mut waiting = old.client();
     waiting.log().unwrap();
     old.server.stop();
@@ -321,7 +325,11 @@ fn a_leader_that_was_away_adds_nothing() {
          WHERE locktype = 'advisory' AND datname = current_database()",
     );
     wait_until("the follower leads", || new.leads());
-    new.client().apply(&set_count(2)).unwrap();
+    let mut client = new.client();
+    client.apply(&set_count(2)).unwrap();
+    if is_next_one_killed {
+        new.server.kill();
+    }
     old.server.signal("CONT");
     let answer = waiting.receive::<Written>(sent.unwrap());
     assert!(answer.is_err(), "{answer:?}");
@@ -330,12 +338,22 @@ fn a_leader_that_was_away_adds_nothing() {
         said.contains("leads the log now") && said.contains("1 writes"),
         "{said}"
     );
+    assert_eq!(
+        database.sql("SELECT last, count(*) FROM bestore_log, bestore_entry GROUP BY last"),
+        "2|2"
+    );
+    let new = match is_next_one_killed {
+        true => new.follow_again(database),
+        false => new,
+    };
+    wait_until("it leads", || new.leads());
     let found = new.client().get(1, "count").unwrap().and_then(|value| value.as_u64());
     assert_eq!(found, Some(2));
-    assert_eq!(database.sql("SELECT last FROM bestore_log"), "2");
-    // Who wants to lead a log that is led is refused.
-    let said = Member::start_in(old.folder, &database, "--log").end();
-    assert!(said.contains("the log is led by "), "{said}");
+    if !is_next_one_killed {
+        // Who wants to lead a log that is led is refused.
+        let said = Member::start_in(old.folder, database, "--log").end();
+        assert!(said.contains("the log is led by "), "{said}");
+    }
 }
 
 #[test]

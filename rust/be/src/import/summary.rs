@@ -160,7 +160,10 @@ fn what_helps(files: usize, left: usize, pages: u64, used: u64, volumes: u64) ->
     let each = (needed + volumes - 1) / volumes;
     let words = match (each <= MOST_PAGES, volumes) {
         (true, 1) => format!("--pages {}", each.next_power_of_two().min(MOST_PAGES)),
-        (true, _) => format!("--volumes {volumes} --pages {}", each.next_power_of_two().min(MOST_PAGES)),
+        (true, _) => format!(
+            "--volumes {volumes} --pages {}",
+            each.next_power_of_two().min(MOST_PAGES)
+        ),
         (false, _) => {
             let volumes = (needed + MOST_PAGES - 1) / MOST_PAGES;
             format!("--volumes {volumes} --pages {MOST_PAGES}")
