@@ -588,29 +588,34 @@ def main():
 main()
 """
 
-CATALOGUED = """
-import pathlib, sys, time
-from catalogue import Catalogue
-with Catalogue(sys.argv[1], pages=64, pause=0.01) as catalogue:
-    print(catalogue.ask('name=="*.txt" && size>2'))
-    names = {}
-    def follow(count):
-        until = time.monotonic() + 30
-        while len(names) != count and time.monotonic() < until:
-            came, went = catalogue.step(2)
-            names.update((hit.node, hit.attributes["name"]) for hit in came)
-            for node in went:
-                del names[node]
-        print(sorted(names.values()), catalogue.hits)
-    follow(3)
-    pathlib.Path(sys.argv[1], "d.txt").write_text("four")
-    follow(4)
-    pathlib.Path(sys.argv[1], "a.txt").write_text("1")
-    follow(3)
-    try:
-        catalogue.ask("nothing==5")
-    except Exception as error:
-        print(type(error), error)
+FOLDER_READ = """
+import os, pathlib, sys, time
+import bestore
+from bestore_queries.folder import INDICES, FolderReader
+store = bestore.open(64, 3)
+for name, kind in INDICES.items():
+    store.make_index(name, kind)
+reader = FolderReader(store.another(), sys.argv[1], 0.01)
+reader.start()
+query, names = bestore.prepare('name=="*.txt" && size>2'), {}
+def follow(count):
+    until = time.monotonic() + 30
+    while len(names) != count and time.monotonic() < until:
+        with store.pin() as version:
+            came, went = version.refresh(query)
+            names.update((node, version[node]["name"]) for node in came)
+        for node in went:
+            del names[node]
+    print(sorted(names.values()))
+follow(3)
+pathlib.Path(sys.argv[1], "d.txt").write_text("four")
+follow(4)
+pathlib.Path(sys.argv[1], "a.txt").write_text("1")
+follow(3)
+os.unlink(os.path.join(sys.argv[1], "b.txt"))
+follow(2)
+reader.end()
+print(reader.fault, reader.left_out)
 """
 
 
@@ -670,24 +675,21 @@ class Programs(unittest.TestCase):
             printed = self.run_program(folder, text)
             self.assertEqual(self.run_program(folder, self.changed(text, opened, server.path)), printed)
 
-    def test_catalogue(self):
+    def test_folder(self):
         """A live query over files that a second pass writes."""
-        with open(os.path.join(EXAMPLES, "catalogue.py"), encoding="utf-8") as file:
-            module = file.read()
         printed = []
         for is_changed in (False, True):
-            with tempfile.TemporaryDirectory() as folder, Server() as server:
+            with tempfile.TemporaryDirectory() as folder, Server("--pages", 64) as server:
                 server.connect().close()
                 files = os.path.join(folder, "files")
                 os.mkdir(files)
                 for name in ("a.txt", "b.txt", "c.txt", "c.c"):
                     with open(os.path.join(files, name), "w", encoding="utf-8") as file:
                         file.write("some text")
-                if is_changed:
-                    with open(os.path.join(folder, "catalogue.py"), "w", encoding="utf-8") as file:
-                        file.write(self.changed(module, "bestore.open(pages, 3)", server.path))
-                printed.append(self.run_program(folder, CATALOGUED, files))
+                text = self.changed(FOLDER_READ, "bestore.open(64, 3)", server.path) if is_changed else FOLDER_READ
+                printed.append(self.run_program(folder, text, files))
         self.assertEqual(printed[0], printed[1])
+        self.assertEqual(printed[0].splitlines()[-2:], ["['c.txt', 'd.txt']", "None 0"])
 
 
 if __name__ == "__main__":

@@ -123,21 +123,29 @@ class _Following:
         self.ask, self.live = ask, live
         self.known: Set[Node] = set()
         self.waiting: Dict[Node, None] = {}
+        self.gone: List[Node] = []  # those that went, and that isn't reported yet
         self.seen: Optional[Numbers] = None
         self.is_named = False
 
-    def refresh(self, version: bestore.Version, changed: Iterable[Node]) -> List[Node]:
-        """Goes on to a snapshot, in which these nodes may have other attributes. Returns which hits went that were reported."""
+    def refresh(self, version: bestore.Version, changed: Iterable[Node]) -> None:
+        """Goes on to a snapshot, in which these nodes may have other attributes."""
         came, went = self.live.refresh(version)
         self.seen = version.numbers
-        reported = [node for node in went if node not in self.waiting]
+        self.gone += [node for node in went if node not in self.waiting]
         for node in went:
             self.waiting.pop(node, None)
         self.known.difference_update(went)
         self.known.update(came)
         self.waiting.update(dict.fromkeys(came))
         self.waiting.update(dict.fromkeys(node for node in changed if node in self.known))
-        return reported
+
+    def reports(self, hits: List[Hit]) -> List[Report]:
+        """What there is to report once these hits were read. Those that went come first, since one may have come again."""
+        turn, gone, self.gone = self.ask.turn, self.gone, []
+        for hit in hits:
+            del self.waiting[hit.node]
+        parts = [hits[first:first + REPORTED] for first in range(0, len(hits), REPORTED)]
+        return [*([Went(turn, gone)] if gone else []), *(Came(turn, part) for part in parts)]
 
     def read(self, version: bestore.Version, names: Sequence[str]) -> Dict[Node, List[Optional[bestore.Value]]]:
         """These attributes of the next hits that wait."""
@@ -284,24 +292,18 @@ class Asker(threading.Thread):
             self._report(*reports)
 
     def _follow(self, session: Session, following: _Following, version: bestore.Version) -> List[Report]:
-        """What there is to report of a snapshot."""
-        turn, reports = following.ask.turn, []  # type: int, List[Report]
-        is_new = version.numbers != following.seen
-        if is_new:
-            went = following.refresh(version, self._changed(session, following, version))
-            if went:
-                reports.append(Went(turn, went))
-        self._has_news = False
-        has_waiting = bool(following.waiting)
-        if has_waiting:
-            hits = self._read(following, version)
-            if not following.is_named:
-                following.is_named = True
-                reports.append(Named(turn, sorted({name for hit in hits[:NAMED] for name in version.attributes(hit.node)})))
-            reports += [Came(turn, hits[first:first + REPORTED]) for first in range(0, len(hits), REPORTED)]
-        if is_new or has_waiting:
-            reports.append(Counted(turn, len(following.known), len(following.waiting), self._count(version)))
-        return reports
+        """What there is to report of a snapshot. If it raises, the next call reports it."""
+        turn = following.ask.turn
+        if version.numbers != following.seen:
+            following.refresh(version, self._changed(session, following, version))
+        hits = self._read(following, version) if following.waiting else []
+        reports: List[Report] = []
+        if hits and not following.is_named:
+            reports.append(Named(turn, sorted({name for hit in hits[:NAMED] for name in version.attributes(hit.node)})))
+        count = self._count(version)
+        following.is_named, self._has_news = bool(hits) or following.is_named, False
+        reports += following.reports(hits)
+        return [*reports, Counted(turn, len(following.known), len(following.waiting), count)]
 
     def _changed(self, session: Session, following: _Following, version: bestore.Version) -> Iterable[Node]:
         """The hits whose attributes were set since the last snapshot. If a folder's were, all hits may be in it."""
@@ -321,7 +323,6 @@ class Asker(threading.Thread):
             attributes = {name: value for name, value in zip(names, values) if value is not None}
             self._places.locate(version, attributes)
             hits.append(Hit(node, attributes))
-            del following.waiting[node]
         return hits
 
     def _count(self, version: bestore.Version) -> int:

@@ -158,7 +158,8 @@ def size_for(files: int) -> Tuple[int, int]:
 
 
 class FolderSource(Source):
-    """A store in this process, with the files of a folder. It is made at the first opening, for as many files as there are then."""
+    """A store in this process, with the files of a folder. It is made at the first opening, for as many files as there are
+    then."""
 
     def __init__(self, folder: str, pages: Optional[int] = None, pause: float = 1.0) -> None:
         self.title, self._folder, self._pages, self._pause = folder, folder, pages, pause

@@ -208,42 +208,46 @@ fn shown(what: &str, (seconds, counts): &(f64, serde_json::Value)) {
     );
 }
 
+/// How many milliseconds it takes until the query finds so many files.
+fn until(client: &mut Client, query: &str, count: u64) -> Result<u128> {
+    let begun = Instant::now();
+    while client.count(query)? != count {
+        thread::sleep(Duration::from_millis(2));
+    }
+    Ok(begun.elapsed().as_millis())
+}
+
+/// Makes, changes, renames and removes a file of a followed folder, and returns how long each took.
+fn change_file(client: &mut Client, folder: &Path, round: usize) -> Result<[u128; 4]> {
+    let (name, other) = (format!("round-{round}"), format!("other-{round}"));
+    let size = 7_000_000 + round;
+    fs::write(folder.join(&name), "new")?;
+    let new = until(client, &format!("name=={name}"), 1)?;
+    fs::write(folder.join(&name), vec![b'x'; size])?;
+    let changed = until(client, &format!("name=={name} && size=={size}"), 1)?;
+    fs::rename(folder.join(&name), folder.join(&other))?;
+    let renamed = until(client, &format!("name=={other}"), 1)?;
+    fs::remove_file(folder.join(&other))?;
+    let removed = until(client, &format!("name=={other}"), 0)?;
+    Ok([new, changed, renamed, removed])
+}
+
 /// How long it takes until the store has a change of a followed folder.
 fn follow(server: &Server) -> Result<()> {
     let folder = server.folder.join("followed");
     fs::create_dir(&folder)?;
-    let mut follower = server
-        .be(&["import", "--follow", &folder.to_string_lossy()])?
-        .stdout(Stdio::null())
-        .spawn()?;
+    let mut command = server.be(&["import", "--follow", &folder.to_string_lossy()])?;
+    let mut follower = command.stdout(Stdio::null()).spawn()?;
     let mut client = Client::connect(server.socket())?;
-    let mut until = |query: String, count: u64| -> Result<u128> {
-        let begun = Instant::now();
-        while client.count(&query)? != count {
-            thread::sleep(Duration::from_millis(2));
-        }
-        Ok(begun.elapsed().as_millis())
-    };
-    until("name==followed".into(), 1)?;
+    until(&mut client, "name==followed", 1)?;
     thread::sleep(Duration::from_millis(500));
-    let mut times = [Vec::new(), Vec::new(), Vec::new(), Vec::new()];
-    for round in 0..ROUNDS {
-        let (name, other) = (
-            folder.join(format!("round-{round}")),
-            folder.join(format!("other-{round}")),
-        );
-        fs::write(&name, "new")?;
-        times[0].push(until(format!("name==round-{round}"), 1)?);
-        fs::write(&name, vec![b'x'; 7_000_000 + round])?;
-        times[1].push(until(format!("name==round-{round} && size=={}", 7_000_000 + round), 1)?);
-        fs::rename(&name, &other)?;
-        times[2].push(until(format!("name==other-{round}"), 1)?);
-        fs::remove_file(&other)?;
-        times[3].push(until(format!("name==other-{round}"), 0)?);
-    }
+    let times: Vec<[u128; 4]> = (0..ROUNDS)
+        .map(|round| change_file(&mut client, &folder, round))
+        .collect::<Result<_>>()?;
     follower.kill()?;
     follower.wait()?;
-    for (what, mut times) in ["new", "changed", "renamed", "removed"].iter().zip(times) {
+    for (at, what) in ["new", "changed", "renamed", "removed"].iter().enumerate() {
+        let mut times: Vec<u128> = times.iter().map(|times| times[at]).collect();
         times.sort_unstable();
         println!(
             "| followed, a {what} file | {} ms, at most {} ms of {ROUNDS} |",

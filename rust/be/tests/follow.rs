@@ -4,7 +4,8 @@ use crate::common::files::Folder;
 use crate::common::{Said, Server};
 use std::fs;
 use std::io::{BufRead, BufReader};
-use std::process::{Child, Stdio};
+use std::os::unix::fs::PermissionsExt;
+use std::process::{Child, Command, Stdio};
 use std::thread;
 use std::time::{Duration, Instant};
 
@@ -27,6 +28,14 @@ impl Follower {
             .unwrap();
         assert!(line.starts_with("{\"files\":"), "{line}");
         Self { child }
+    }
+
+    fn signal(&self, signal: &str) {
+        let sent = Command::new("kill")
+            .arg(signal)
+            .arg(self.child.id().to_string())
+            .status();
+        assert!(sent.unwrap().success());
     }
 
     /// Waits until the import has ended by itself.
@@ -105,12 +114,32 @@ fn what_changes_is_followed() {
     soon("a file in a renamed folder", || same(&server, &folder));
     fs::remove_dir_all(folder.path("z")).unwrap();
     soon("removed folders", || same(&server, &folder));
+}
 
-    // As an editor saves.
+#[test]
+fn a_followed_file_keeps_its_node_when_an_editor_saves() {
+    let server = server!(Server::start());
+    let folder = Folder::new();
+    folder.file("y", "");
+    let _follower = Follower::start(&server, &folder);
+    server.done(&["addattr", "mark", "x", &folder.word("y")]);
     folder.file("y.tmp", "saved by an editor");
     folder.rename("y.tmp", "y");
-    soon("a replaced file", || count("size==18") == 1 && same(&server, &folder));
-    assert!(marked("y"));
+    soon("a replaced file", || {
+        server.paths("size==18").len() == 1 && same(&server, &folder)
+    });
+    assert_eq!(server.value("mark", &folder.path("y")), "x");
+    // Names that change faster than they are read.
+    for round in 0..200 {
+        folder.rename("y", &format!("y{round}"));
+        folder.rename(&format!("y{round}"), "y");
+        thread::sleep(Duration::from_millis(round % 9));
+    }
+    folder.rename("y", "z");
+    soon("a file of many names", || {
+        same(&server, &folder) && server.paths("name==z").len() == 1
+    });
+    assert_eq!(server.value("mark", &folder.path("z")), "x");
 }
 
 #[test]
@@ -151,6 +180,34 @@ fn many_changes_at_once_are_followed() {
     // All that is known is as it was followed.
     let [new, _, _, removed] = server.import(&folder);
     assert_eq!((new, removed), (0, 0));
+}
+
+#[test]
+fn events_that_were_lost_are_made_good() {
+    let server = server!(Server::start());
+    let most = fs::read_to_string("/proc/sys/fs/inotify/max_queued_events").unwrap();
+    let most: usize = most.trim().parse().unwrap();
+    if most > 100_000 {
+        println!("be, lost events: skipped, {most} are kept");
+        return;
+    }
+    let folder = Folder::new();
+    folder.file("a", "");
+    folder.file("b", "");
+    let follower = Follower::start(&server, &folder);
+    follower.signal("-STOP");
+    // Two events in turn, since the kernel joins the same ones.
+    for number in 0..most {
+        let mode = fs::Permissions::from_mode(0o600 + (number / 2 % 2) as u32 * 0o44);
+        fs::set_permissions(folder.path(["a", "b"][number % 2]), mode).unwrap();
+    }
+    folder.folder("lost/too");
+    folder.file("lost/too/file", "");
+    folder.rename("a", "c");
+    follower.signal("-CONT");
+    soon("lost events", || same(&server, &folder));
+    folder.file("lost/too/later", "");
+    soon("a file after them", || same(&server, &folder));
 }
 
 #[test]

@@ -9,8 +9,8 @@ use std::os::unix::net::UnixListener;
 use std::path::PathBuf;
 use std::process::{Command, Stdio};
 use std::sync::atomic::{AtomicBool, Ordering};
+use std::thread;
 use std::time::Duration;
-use std::{iter, thread};
 
 /// A folder with a few files.
 fn small() -> Folder {
@@ -77,59 +77,59 @@ fn a_second_import_writes_what_has_changed_alone() {
     );
 }
 
+/// The number of a file's node.
+fn node_of(server: &Server, folder: &Folder, name: &str) -> u64 {
+    let printed = server.done(&["listattr", "--json", &folder.word(name)]);
+    let read: serde_json::Value = serde_json::from_str(&printed).unwrap();
+    read["node"].as_u64().unwrap()
+}
+
 #[test]
-fn what_a_user_has_set_stays_when_a_file_is_renamed_moved_or_replaced() {
+fn what_a_user_has_set_stays_when_a_file_is_renamed_or_moved() {
     let server = server!(Server::start());
     let folder = small();
     server.import(&folder);
-    let node = |name: &str| server.done(&["listattr", "--json", &folder.word(name)]);
-    let number = |name: &str| -> u64 {
-        let read: serde_json::Value = serde_json::from_str(&node(name)).unwrap();
-        read["node"].as_u64().unwrap()
-    };
-    server.done(&[
-        "addattr",
-        "-t",
-        "int32",
-        "rating",
-        "5",
-        &folder.word("a/x.txt"),
-        &folder.word("a/b"),
-    ]);
-    let (file, inner) = (number("a/x.txt"), number("a/b/y.h"));
-
+    let node = |name: &str| node_of(&server, &folder, name);
+    let rating = ["addattr", "-t", "int32", "rating", "5"];
+    server.done(&[&rating[..], &[&folder.word("a/x.txt"), &folder.word("a/b")]].concat());
+    let (file, inner) = (node("a/x.txt"), node("a/b/y.h"));
     folder.rename("a/x.txt", "a/b/moved.txt");
     folder.rename("a/b", "c");
     assert_eq!(server.import(&folder)[2], 2);
-    assert_eq!((number("c/moved.txt"), number("c/y.h")), (file, inner));
+    assert_eq!((node("c/moved.txt"), node("c/y.h")), (file, inner));
     assert_eq!(server.value("rating", &folder.path("c")), "5");
+    assert_eq!(server.value("rating", &folder.path("c/moved.txt")), "5");
     assert_eq!(server.value("name", &folder.path("c/moved.txt")), "moved.txt");
+    assert_eq!(server.paths("name==\"*\""), folder.paths());
+}
 
-    // As an editor saves: another file takes the place.
-    folder.file("c/.moved.txt.swp", "saved");
-    folder.rename("c/.moved.txt.swp", "c/moved.txt");
-    assert_eq!(server.import(&folder)[0], 0);
-    assert_eq!(
-        (
-            number("c/moved.txt"),
-            server.value("rating", &folder.path("c/moved.txt"))
-        ),
-        (file, "5".into())
-    );
-    assert_eq!(server.value("size", &folder.path("c/moved.txt")), "5");
-
-    // Also if the other file has a node by then.
-    folder.file("c/.moved.txt.swp", "saved again");
+#[test]
+fn what_a_user_has_set_stays_when_an_editor_saves() {
+    let server = server!(Server::start());
+    let folder = small();
     server.import(&folder);
-    folder.rename("c/.moved.txt.swp", "c/moved.txt");
+    let node = node_of(&server, &folder, "a/x.txt");
+    server.done(&["addattr", "mark", "x", &folder.word("a/x.txt")]);
+    let stays = || {
+        let file = folder.path("a/x.txt");
+        assert_eq!(node_of(&server, &folder, "a/x.txt"), node);
+        assert_eq!(server.value("mark", &file), "x");
+        assert_eq!(
+            server.value("size", &file),
+            fs::metadata(file).unwrap().len().to_string()
+        );
+    };
+    // Another file takes the place.
+    folder.file("a/.x.swp", "saved");
+    folder.rename("a/.x.swp", "a/x.txt");
+    assert_eq!(server.import(&folder)[0], 0);
+    stays();
+    // Also if the other file has a node by then.
+    folder.file("a/.x.swp", "saved again");
+    server.import(&folder);
+    folder.rename("a/.x.swp", "a/x.txt");
     assert_eq!(server.import(&folder)[3], 1);
-    assert_eq!(
-        (
-            number("c/moved.txt"),
-            server.value("rating", &folder.path("c/moved.txt"))
-        ),
-        (file, "5".into())
-    );
+    stays();
     assert_eq!(server.paths("name==\"*\""), folder.paths());
 }
 
@@ -152,24 +152,27 @@ fn two_names_of_one_file_are_two_nodes() {
     assert_eq!(server.value("mark", &folder.path("a/z")), "a/z");
 }
 
+/// Names that a shell, a query or a terminal may stumble over.
+const NAMES: [&[u8]; 10] = [
+    b"bad\xff.txt",
+    b"line\nfeed",
+    b" ",
+    b"*",
+    b"\"q\"",
+    b"\\",
+    b"[x]",
+    b"-n",
+    "é".as_bytes(),
+    &[0xff; 255],
+];
+
 #[test]
 fn names_and_files_of_all_forms_are_imported() {
     let server = server!(Server::start());
     let folder = small();
-    for name in [
-        &b"bad\xff.txt"[..],
-        b"line\nfeed",
-        b" ",
-        b"*",
-        b"\"q\"",
-        b"\\",
-        b"[x]",
-        b"-n",
-        "é".as_bytes(),
-    ] {
+    for name in NAMES {
         File::create(folder.path(name_of_bytes(name))).unwrap();
     }
-    File::create(folder.path(name_of_bytes(&[0xff; 255]))).unwrap();
     symlink("..", folder.path("a/up")).unwrap();
     symlink("self", folder.path("self")).unwrap();
     symlink("/nowhere", folder.path("nowhere")).unwrap();
@@ -186,7 +189,7 @@ fn names_and_files_of_all_forms_are_imported() {
     ] {
         assert_eq!(server.value("BEOS:TYPE", &folder.path(name)), mime, "{name}");
     }
-    for name in [&b"bad\xff.txt"[..], b"line\nfeed", b"\\", b"[x]", &[0xff; 255]] {
+    for name in NAMES {
         let name = name_of_bytes(name);
         let text = server.value("name", &folder.path(name));
         assert!(name.to_string_lossy().starts_with(&text), "{text}");
@@ -402,6 +405,31 @@ fn extended_attributes_are_read_and_written() {
 }
 
 #[test]
+fn a_file_of_as_many_attributes_as_a_node_holds_is_imported() {
+    let server = server!(Server::start());
+    let folder = small();
+    let file = folder.path("z");
+    for number in 0..70 {
+        if let Err(error) = xattr::set(&file, format!("user.a{number}"), b"1") {
+            println!("be, many extended attributes: skipped, {error}");
+            return;
+        }
+    }
+    let said = server.be(&["import", "--json", &folder.all()]);
+    assert_eq!((said.status, counts(&said.out)), (0, [6, 0, 0, 0]), "{said:?}");
+    assert!(said.error.contains("extended attributes are left out"), "{said:?}");
+    let count = || server.done(&["listattr", &folder.word("z")]).matches("\"a").count();
+    assert!((50..60).contains(&count()), "{}", count());
+    for number in 0..70 {
+        xattr::remove(&file, format!("user.a{number}")).unwrap();
+        xattr::set(&file, format!("user.b{number}"), b"2").unwrap();
+    }
+    let said = server.be(&["import", "--json", &folder.all()]);
+    assert_eq!((said.status, counts(&said.out)), (0, [0, 1, 0, 0]), "{said:?}");
+    assert_eq!(count(), 0);
+}
+
+#[test]
 fn mails_have_the_attributes_of_their_heads() {
     let server = server!(Server::start());
     let folder = Folder::new();
@@ -472,7 +500,7 @@ fn the_tools_take_paths() {
     assert_eq!(said.error, "be: nowhere: No such file or directory (os error 2)\n");
     assert_eq!(server.be(&["import", &folder.word("z")]).status, 1);
     assert_eq!(server.be(&["import", &folder.word("nowhere")]).status, 1);
-    let long: String = iter::repeat("/x").take(200).collect();
+    let long = "/x".repeat(200);
     assert_eq!(server.be(&["import", &long]).status, 1);
 }
 
@@ -504,18 +532,17 @@ fn files_are_spread_over_volumes_and_stay_there() {
         &folder.word("z"),
     ]);
     assert_eq!(server.value("mark", &folder.path("g8")), "x");
+}
 
-    // What one has no room for, the others take, until all are full.
-    (0..1000).for_each(|number| drop(folder.file(&format!("h{number}"), "")));
+#[test]
+fn what_one_volume_has_no_room_for_the_others_take() {
+    let server = server!(Server::start_with(&["--pages", "256", "--volumes", "4"]));
+    let folder = Folder::new();
+    (0..1400).for_each(|number| drop(folder.file(&format!("h{number}"), "")));
     let said = server.be(&["import", "--json", &folder.all()]);
     let read: serde_json::Value = serde_json::from_str(&said.out).unwrap();
-    assert_eq!(
-        (
-            said.status,
-            read["files"].as_u64().unwrap() + read["left"].as_u64().unwrap()
-        ),
-        (1, 1466)
-    );
+    let (files, left) = (read["files"].as_u64().unwrap(), read["left"].as_u64().unwrap());
+    assert_eq!((said.status, files + left), (1, 1401));
     assert!(
         said.error.contains("bestored --volumes 4 --pages 512 has room"),
         "{said:?}"
@@ -527,27 +554,31 @@ fn files_are_spread_over_volumes_and_stay_there() {
     );
 }
 
-#[test]
-fn queries_find_what_find_finds() {
-    let server = server!(Server::start());
+/// Files of many names and sizes in 35 folders, and a few symlinks.
+fn many() -> Folder {
     let folder = Folder::new();
-    if Command::new("find").arg("--version").output().is_err() {
-        println!("be, beside find: skipped, there is no find");
-        return;
-    }
     for number in 0..700_usize {
         let inner = format!("{}/{}", number % 5, number % 7);
         folder.folder(&inner);
         let letter = char::from(b'a' + u8::try_from(number % 26).unwrap());
         let ending = ["h", "c", "txt", "H"][number % 4];
-        folder.file(
-            &format!("{inner}/{letter}{number}.{ending}"),
-            vec![b'x'; number * number % 30_000],
-        );
+        let content = vec![b'x'; number * number % 30_000];
+        folder.file(&format!("{inner}/{letter}{number}.{ending}"), content);
         if number % 50 == 0 {
             symlink("nowhere", folder.path(format!("link{number}.h"))).unwrap();
         }
     }
+    folder
+}
+
+#[test]
+fn queries_find_what_find_finds() {
+    let server = server!(Server::start());
+    if Command::new("find").arg("--version").output().is_err() {
+        println!("be, beside find: skipped, there is no find");
+        return;
+    }
+    let folder = many();
     assert_eq!(server.be(&["import", &folder.all()]).status, 0);
     for (query, words) in [
         (

@@ -4,6 +4,7 @@
 mod common;
 mod broken;
 mod follow;
+mod guide;
 mod import;
 mod page;
 mod queries;

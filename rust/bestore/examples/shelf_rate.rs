@@ -91,11 +91,12 @@ fn main() -> Result<()> {
             best.iter_mut().zip(now).for_each(|(best, now)| *best = best.max(now));
         }
     }
-    println!("| {nodes} nodes in | query of 1, a second | of 100 | of 100, prepared | of all | least free pages of a volume |");
+    println!("{nodes} nodes of five attributes, three of them indexed; queries a second");
+    println!("| volumes | of 1 node | of 100 | of 100, prepared | of all | least free pages of a volume |");
     println!("|---|---|---|---|---|---|");
     for (volumes, pass, [one, hundred, prepared, all]) in &passes {
         let free = pass.status()?.iter().map(|status| status.free).min().unwrap_or(0);
-        println!("| {volumes} volumes | {one:.0} | {hundred:.0} | {prepared:.0} | {all:.0} | {free} |");
+        println!("| {volumes} | {one:.0} | {hundred:.0} | {prepared:.0} | {all:.0} | {free} |");
     }
     Ok(())
 }

@@ -278,9 +278,9 @@ query name=="101*" && size>=1500 => 50 found, 6734 words read"#;
 /// Prepared queries at their second asking. Each would grow by a search for its index, whose name is compared where it stood, or by a look at a node.
 #[test]
 fn prepared_costs(rt: HostRuntime) -> Result<(), Fail> {
-    let rows = r#"again name=="10150-document.txt" => 1 found, 0 words read
-again size==1500 => 1 found, 0 words read
-again size>=1000 && size<2000 => 100 found, 0 words read"#;
+    let rows = r#"again name=="10150-document.txt" => 1 found, 40 words read
+again size==1500 => 1 found, 53 words read
+again size>=1000 && size<2000 => 100 found, 426 words read"#;
     expect_rows(rt.alloc(), rows)
 }
 

@@ -205,7 +205,7 @@ pub fn whole_names(listed: &[u8]) -> usize {
 
 /// The name of a file in its folder. That of the root of all files is `/`.
 pub fn name_in(path: &Path) -> &OsStr {
-    path.file_name().unwrap_or_else(|| path.as_os_str())
+    path.file_name().unwrap_or(path.as_os_str())
 }
 
 /// So many bytes of the file from its beginning. It isn't opened through a symlink, and nothing is waited for: a FIFO that has

@@ -1,6 +1,6 @@
 //! Changes of nodes that files have already.
 
-use super::content::{is_same, OWN, PARENT, ROOT, XATTRS};
+use super::content::{is_same, OWN, PARENT, ROOT, STAT, XATTRS};
 use bestore::{Batch, Value};
 use std::collections::{BTreeMap, BTreeSet};
 use std::path::PathBuf;
@@ -50,11 +50,16 @@ pub fn between(had: &BTreeMap<String, Value>, wanted: &BTreeMap<String, Value>) 
         .filter(|name| !wanted.contains_key(*name))
         .map(|name| Edit::Unset(name.clone()));
     let differs = |(name, value): &(&String, &Value)| had.get(*name).map_or(true, |had| !is_same(had, value));
-    let set = wanted
-        .iter()
+    let set = stat_last(wanted)
         .filter(differs)
         .map(|(name, value)| Edit::Set(name.clone(), value.clone()));
     unset.chain(set).collect()
+}
+
+/// The attributes with `FILE:stat` at the end: if they are more than a batch, a file has it once all others are written.
+pub fn stat_last(values: &BTreeMap<String, Value>) -> impl Iterator<Item = (&String, &Value)> {
+    let others = values.iter().filter(|(name, _)| *name != STAT);
+    others.chain(values.get_key_value(STAT))
 }
 
 /// The names of the attributes that came from extended attributes.
@@ -90,6 +95,13 @@ mod tests {
     fn attributes(list: &[(&str, &str)]) -> BTreeMap<String, Value> {
         let pair = |(name, value): &(&str, &str)| (name.to_string(), Value::from(*value));
         list.iter().map(pair).collect()
+    }
+
+    #[test]
+    fn the_state_of_a_file_is_written_last() {
+        let values = attributes(&[("FILE:stat", "1"), ("name", "a"), ("FILE:parent", "2")]);
+        let names: Vec<&str> = stat_last(&values).map(|(name, _)| name.as_str()).collect();
+        assert_eq!(names, ["FILE:parent", "name", "FILE:stat"]);
     }
 
     #[test]

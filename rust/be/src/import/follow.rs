@@ -1,5 +1,6 @@
 //! `--follow`: what inotify(7) reports of the folder is written.
 
+use super::known::Known;
 use super::summary::Summary;
 use super::walk::{Found, Walk, Walked};
 use super::Import;
@@ -44,6 +45,22 @@ struct Dirty {
     gone: bool,
     /// Moves of which only the first half has come.
     moves: Vec<u32>,
+}
+
+/// What was found at paths, and what was known there.
+#[derive(Default)]
+struct Seen {
+    walked: Walked,
+    known: Vec<(PathBuf, Known)>,
+    /// The last path that was read with all that is below it.
+    below: Option<PathBuf>,
+}
+
+impl Seen {
+    /// Whether the path was read with a folder above it. The paths are asked for in their order.
+    fn has(&self, path: &Path) -> bool {
+        self.below.as_ref().map_or(false, |folder| path.starts_with(folder))
+    }
 }
 
 impl Watches {
@@ -110,14 +127,16 @@ impl Watches {
             Err(error) if matches!(error.kind(), ErrorKind::WouldBlock | ErrorKind::Interrupted) => return Ok(false),
             Err(error) => return Err(Failure::Watch(self.root.clone(), error)),
         };
+        let mut some = false;
         for event in events {
+            some = true;
             if event.mask.contains(EventMask::IGNORED) {
                 self.folders.remove(&event.wd);
             }
             let folder = self.folders.get(&event.wd).map(PathBuf::as_path);
             dirty.add(&event, folder, &self.root);
         }
-        Ok(true)
+        Ok(some)
     }
 }
 
@@ -173,8 +192,7 @@ impl Import<'_> {
 
     /// Writes what has changed at these paths.
     fn step(&mut self, watches: &mut Watches, dirty: Dirty) -> Result<Summary, Failure> {
-        let mut all = Walked::default();
-        let mut known = Vec::new();
+        let mut seen = Seen::default();
         let mut failed = None;
         let mut before = |folder: &Path| {
             if let Err(failure) = watches.add(folder) {
@@ -185,33 +203,33 @@ impl Import<'_> {
             before: &mut before,
             one_file_system: self.line.one_file_system,
         };
-        let mut walked_below: Option<PathBuf> = None;
         for (path, is_named) in dirty.paths {
-            // What is below a folder that was read as a whole was read with it.
-            if walked_below.as_ref().map_or(false, |folder| path.starts_with(folder)) {
-                continue;
+            if !seen.has(&path) {
+                self.see(path, is_named, &mut walk, &mut seen);
             }
-            let there = fs::symlink_metadata(&path);
-            let is_folder = there.as_ref().map_or(false, fs::Metadata::is_dir);
-            let is_same_folder = there.as_ref().map_or(false, |about| self.is_same_folder(&path, about));
-            if is_same_folder || !(is_named || is_folder) {
-                known.extend(self.tree.files.remove_entry(&path));
-                all.found.extend(there.ok().map(|about| Found {
-                    path,
-                    stat: (&about).into(),
-                }));
-                continue;
-            }
-            known.extend(self.tree.take_below(&path));
-            let walked = walk.below(&path);
-            all.found.extend(walked.found);
-            all.unread.extend(walked.unread);
-            walked_below = Some(path);
         }
         match failed {
             Some(failure) => Err(failure),
-            None => self.update(all, known),
+            None => self.update(seen.walked, seen.known),
         }
+    }
+
+    /// Looks what is at a path now: a folder that came is read as a whole.
+    fn see(&mut self, path: PathBuf, is_named: bool, walk: &mut Walk<'_>, seen: &mut Seen) {
+        let there = fs::symlink_metadata(&path);
+        let is_folder = there.as_ref().map_or(false, fs::Metadata::is_dir);
+        let is_same_folder = there.as_ref().map_or(false, |about| self.is_same_folder(&path, about));
+        if is_same_folder || !(is_named || is_folder) {
+            seen.known.extend(self.tree.files.remove_entry(&path));
+            let stat = there.ok().map(|about| (&about).into());
+            seen.walked.found.extend(stat.map(|stat| Found { path, stat }));
+            return;
+        }
+        seen.known.extend(self.tree.take_below(&path));
+        let walked = walk.below(&path);
+        seen.walked.found.extend(walked.found);
+        seen.walked.unread.extend(walked.unread);
+        seen.below = Some(path);
     }
 
     /// Whether the folder that is at this path is the one that was there.

@@ -181,8 +181,11 @@ impl Import<'_> {
                 if !edits.is_empty() {
                     let fate = if *was == path { Fate::Changed } else { Fate::Renamed };
                     summary.add(fate, path.clone());
-                    let node = known.node;
-                    all.push(Edits { path, node, edits });
+                    all.extend(edits.chunks(OPERATIONS).map(|edits| Edits {
+                        path: path.clone(),
+                        node: known.node,
+                        edits: edits.to_vec(),
+                    }));
                 }
             }
             self.write(&all, summary)?;

@@ -1,5 +1,6 @@
 //! A volume of the server: one of the stores that its queries search. A server of one store has one.
 
+use super::edit::stat_last;
 use crate::failure::{message, Failure};
 use crate::server;
 use bestore::{Batch, Value, Written};
@@ -14,7 +15,7 @@ use std::time::Duration;
 /// The most operations of a batch.
 const OPERATIONS: usize = 64;
 
-/// The most connections, which the volumes share: a server has 62 at most.
+/// The most connections, which the volumes share: a server has up to 62.
 const CONNECTIONS: u32 = 8;
 
 /// How many batches are written until the volume is asked again how full it is.
@@ -199,7 +200,7 @@ fn batch_of(files: &[New], first: u64) -> (Batch, Option<Batch>) {
     let (mut batch, mut rest) = (Batch::new(), Batch::new());
     for (node, file) in (first..).zip(files) {
         batch.new_node();
-        for (name, value) in &file.values {
+        for (name, value) in stat_last(&file.values) {
             let batch = if batch.len() < OPERATIONS {
                 &mut batch
             } else {
