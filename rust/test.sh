@@ -47,12 +47,20 @@ run() {
     grep -h "skipped\|^killed\|^[0-9]* requests\|^[0-9]* runs" "$work/said" || true
 }
 
-# Cargo resolves the dependencies of all features, so without rusqlite it finds no way.
-if ! cargo metadata --format-version 1 "${options[@]}" >/dev/null 2>"$work/said"; then
-    skip "a package is missing: $(grep -m1 -o 'no matching package named.*' "$work/said" || tail -1 "$work/said")"
+# Cargo resolves the dependencies of all features, so without rusqlite it finds no way. Of those of the log there are empty ones.
+resolves() { cargo metadata --format-version 1 "${options[@]}" >/dev/null 2>"$work/said"; }
+missing() { grep -m1 -o 'no matching package named.*\|searched package name.*' "$work/said" || tail -1 "$work/said"; }
+features=saved,log
+if ! resolves; then
+    missing=$(missing)
+    options+=(--config 'patch.crates-io.tokio.path="absent/tokio"')
+    options+=(--config 'patch.crates-io.tokio-postgres.path="absent/tokio-postgres"')
+    features=saved
+    resolves || skip "a package is missing: $(missing)"
+    echo "Rust, a log in PostgreSQL: skipped, a package is missing: $missing"
 fi
 
-run "Rust" test --workspace --features saved -- --show-output
+run "Rust" test --workspace --features $features -- --show-output
 run "Rust, without features" test -p bestore-sys -p bestore --lib --tests
 for example in first mailbox shelf; do
     run "Rust, example $example" run -q -p bestore --example $example
@@ -62,7 +70,8 @@ for expected in "run 1" "run 2"; do
     grep -qx "$expected" "$work/said" || { echo "Rust, example kept: failed, it doesn't say $expected" >&2; exit 1; }
 done
 if cargo clippy --version >/dev/null 2>&1; then
-    run "Rust, clippy" clippy --workspace --all-targets --features saved -- -D warnings
+    run "Rust, clippy" clippy --workspace --all-targets --features $features -- -D warnings
+    run "Rust, clippy without a log" clippy -p bestored --all-targets -- -D warnings
 else
     echo "Rust, clippy: skipped, there is no cargo clippy"
 fi
@@ -71,7 +80,7 @@ if cargo fmt --version >/dev/null 2>&1; then
 else
     echo "Rust, fmt: skipped, there is no cargo fmt"
 fi
-RUSTDOCFLAGS="-D warnings" run "Rust, documentation" doc --workspace --no-deps --features saved
+RUSTDOCFLAGS="-D warnings" run "Rust, documentation" doc --workspace --no-deps --features $features
 
 # The client for Python, by the server that was built above; and a kept file that Rust and Python open in turn.
 if ! command -v python3 >/dev/null; then

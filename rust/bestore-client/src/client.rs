@@ -387,6 +387,25 @@ impl Client {
         self.call(Command::Status(Nothing {}))
     }
 
+    /// What the server does in the log that machines share.
+    ///
+    /// # Errors
+    /// As `call`; `NoLog` if there is no such log.
+    pub fn log(&mut self) -> Result<wire::LogStatus> {
+        self.call(Command::Log(wire::OfLog::default()))
+    }
+
+    /// Waits until the server has this entry of the log that machines share. Reads after it see at least that entry.
+    ///
+    /// # Errors
+    /// As `call`; `Behind` at the end of the time, of which a minute is the most; `NoLog`; `Pinned`.
+    pub fn wait_for_entry(&mut self, entry: u64, within: Duration) -> Result<wire::LogStatus> {
+        self.call(Command::Log(wire::OfLog {
+            entry: Some(entry),
+            within: Some(u64::try_from(within.as_millis()).unwrap_or(u64::MAX)),
+        }))
+    }
+
     /// A page of the journal, from the entry with this index on.
     ///
     /// # Errors

@@ -89,6 +89,14 @@ impl<'v, 'p> View<'v, 'p> {
         }
     }
 
+    /// Refuses to wait for an entry while a snapshot is kept, which entries may need to be given back first.
+    fn check_waits(&self, wanted: &wire::OfLog) -> Result<(), Failure> {
+        match (self, wanted.entry) {
+            (View::Kept { .. }, Some(_)) => Err(Failure::pinned()),
+            _ => Ok(()),
+        }
+    }
+
     /// Reads in the snapshot that is kept, otherwise in the current one.
     pub fn read<T>(&mut self, read: impl FnOnce(&ShelfSnapshot<'_>) -> Result<T, Failure>) -> Result<T, Failure> {
         match self {
@@ -181,6 +189,13 @@ impl<'a> Desk<'a> {
             Command::State(from) => state(view, &from).map(|page| self.reply(id, &page)),
             Command::Reach(reach) => reach::reach(view, &reach).map(|reached| self.reply(id, &reached)),
             Command::Flush(_) => self.shared.kept.flush().map(|()| self.reply(id, &wire::Nothing {})),
+            Command::Log(wanted) => {
+                // Earlier replies don't wait for an entry.
+                self.send()?;
+                let status = view.check_waits(&wanted);
+                let status = status.and_then(|()| self.shared.kept.log_status(&wanted));
+                status.map(|status| self.reply(id, &status))
+            }
             Command::Compact(_) => self.shared.kept.compact().map(|()| self.reply(id, &wire::Nothing {})),
             command => view.read(|snapshot| self.read(id, command, snapshot)),
         };
@@ -204,7 +219,9 @@ impl<'a> Desk<'a> {
         };
         // Some volumes may have been written before another one refused.
         self.shared.watcher.written();
-        self.reply(id, &written?);
+        let mut written = written?;
+        written.entry = self.shared.kept.entry(written.commit);
+        self.reply(id, &written);
         Ok(())
     }
 

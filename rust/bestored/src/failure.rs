@@ -1,5 +1,7 @@
 //! Errors as the protocol has them.
 
+#[cfg(feature = "log")]
+use crate::log::Refused;
 use bestore::{saved, Error, QueryError, QueryFault};
 use bestore_client::wire::Refusal;
 use serde_json::Value;
@@ -47,6 +49,14 @@ impl Failure {
 
     pub fn expired() -> Self {
         Self::new("Expired", "the snapshot was kept too long, and the server took it back")
+    }
+
+    /// The server doesn't have an entry yet.
+    #[cfg(feature = "log")]
+    pub fn behind(expected: u64, found: u64) -> Self {
+        let message = format!("the server has {found} entries of the log");
+        let failure = Self::new("Behind", message).with("expected", expected);
+        failure.with("found", found)
     }
 
     /// A request that has to say a volume, and doesn't.
@@ -97,6 +107,11 @@ impl From<Error> for Failure {
             return Failure(Refusal { message, ..refusal }).with("volume", volume);
         }
         let failure = match &error {
+            #[cfg(feature = "log")]
+            Error::Other(other) => match other.downcast_ref::<Refused>() {
+                Some(refused) => refused.clone().into(),
+                None => Failure::new("Unexpected", other.to_string()),
+            },
             Error::Query(query) => Failure::of_query(query),
             _ => Failure::new(name(&error), error.to_string()),
         };
@@ -161,6 +176,18 @@ impl From<saved::Error> for Failure {
             }
             saved::Error::Stopped(_) | saved::Error::Closed => Failure::new("Stopped", error.to_string()),
             error => Failure::new("NotSaved", error.to_string()),
+        }
+    }
+}
+
+#[cfg(feature = "log")]
+impl From<Refused> for Failure {
+    fn from(refused: Refused) -> Self {
+        let message = refused.to_string();
+        match refused {
+            Refused::NotLeader { leader } => Failure::new("NotLeader", message).with("leader", leader),
+            Refused::NotSaved(_) => Failure::new("NotSaved", message),
+            Refused::Stopped(_) => Failure::new("Stopped", message),
         }
     }
 }

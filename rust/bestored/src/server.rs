@@ -2,7 +2,7 @@
 
 use crate::connection::Connection;
 use crate::failure::Failure;
-use crate::kept::Kept;
+use crate::kept::{self, Kept};
 use crate::options::Options;
 use crate::os;
 use crate::pressure::{self, Pressure};
@@ -88,8 +88,9 @@ impl Clients {
 }
 
 /// Serves clients until a signal ends the program.
-pub fn run(socket: Socket, signals: &File, shared: Shared, own: ShelfPass) -> bestore::saved::Result<()> {
+pub fn run(socket: Socket, signals: &File, shared: Shared, own: ShelfPass) -> Result<(), Box<dyn std::error::Error>> {
     let shared = Arc::new(shared);
+    kept::start(&shared)?;
     let watching = {
         let shared = shared.clone();
         thread::spawn(move || shared.watcher.run(own, &shared.kept))

@@ -5,6 +5,8 @@ mod crowd;
 mod full;
 mod killed;
 mod live;
+#[cfg(feature = "log")]
+mod log;
 mod memory;
 mod pages;
 mod protocol;

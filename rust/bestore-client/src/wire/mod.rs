@@ -7,12 +7,12 @@ mod value;
 
 pub use operation::{Operations, ShownOperations};
 pub use reply::{
-    Attributes, Commit, Explained, HeldBy, Hello, Hits, Indices, Journal, JournalEntry, Limits, Next, Nodes, Push,
-    Refusal, State, Status, Value, VolumeStatus, Watched, Written,
+    Attributes, Commit, Explained, HeldBy, Hello, Hits, Indices, Journal, JournalEntry, Limits, LogStatus, Next, Nodes,
+    Push, Refusal, State, Status, Value, VolumeStatus, Watched, Written,
 };
 pub use request::{
-    id_of, Columns, Command, From, Get, Greeting, JournalFrom, Node, NodesFrom, Nothing, Numbers, Query, QueryText,
-    Reach, Request, Watch, Watching, Write,
+    id_of, Columns, Command, From, Get, Greeting, JournalFrom, Node, NodesFrom, Nothing, Numbers, OfLog, Query,
+    QueryText, Reach, Request, Watch, Watching, Write,
 };
 pub use value::{kind_name, kind_named, Json};
 

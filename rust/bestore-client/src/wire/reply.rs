@@ -63,6 +63,27 @@ replies! {
         pub commits: Vec<u64>,
         /// The nodes that were made.
         pub nodes: Vec<u64>,
+        /// The number of the entry in the log, if the server has one.
+        #[serde(default, skip_serializing_if = "Option::is_none")]
+        pub entry: Option<u64>,
+    }
+
+    /// Of `log`.
+    LogStatus {
+        /// `leader` or `follower`.
+        pub role: String,
+        /// Who leads, as far as the server knows: its machine and its socket.
+        pub leader: String,
+        /// Which leader the server is, counted from the first one, if it is one.
+        #[serde(default, skip_serializing_if = "Option::is_none")]
+        pub term: Option<u64>,
+        /// The last entry of the log that is in the store.
+        pub entry: u64,
+        /// Its commit number in the store.
+        pub commit: u64,
+        /// Why the log can't be reached now, if it can't.
+        #[serde(default, skip_serializing_if = "Option::is_none")]
+        pub trouble: Option<String>,
     }
 
     /// A snapshot, and the number that the next node will have: of `pin` and `next`.

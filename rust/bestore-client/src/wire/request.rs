@@ -82,6 +82,16 @@ parameters! {
         pub volume: Option<u32>,
     }
 
+    /// Of `log`.
+    OfLog {
+        /// The entry of the log that the server has to have.
+        #[serde(default, skip_serializing_if = "Option::is_none")]
+        pub entry: Option<u64>,
+        /// For how many milliseconds it is waited for.
+        #[serde(default, skip_serializing_if = "Option::is_none")]
+        pub within: Option<u64>,
+    }
+
     /// Of `state`.
     From {
         /// The index of the first batch.
@@ -300,6 +310,8 @@ commands! {
     Flush(Nothing) = "flush";
     /// Writes the state into the file anew.
     Compact(Nothing) = "compact";
+    /// What the server does in the log that machines share. Waits for an entry.
+    Log(OfLog) = "log";
 }
 
 /// A request.
@@ -401,6 +413,7 @@ mod tests {
             r#"{"id":0,"batch":{"operations":[["new"]],"expected":3}}"#,
             r#"{"id":2,"query":{"query":"size>=5","columns":["size"],"limit":3,"from":0,"count":false}}"#,
             r#"{"id":3,"watch":{}}"#,
+            r#"{"id":3,"log":{"entry":7,"within":0}}"#,
             r#"{"id":4,"batch":{"operations":[["new"]],"expected":[3,0],"volume":1}}"#,
             r#"{"id":5,"reach":{"commit":[3,0],"within":5}}"#,
             r#"{"id":3,"get":{"node":1,"name":"a\"b"}}"#,

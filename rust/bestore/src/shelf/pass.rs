@@ -2,7 +2,7 @@
 
 use super::snapshot::{at, roomiest};
 use super::{Node, ShelfChange, ShelfSnapshot};
-use crate::{Batch, Error, Kind, Pass, Result, Retry, Status, Value};
+use crate::{Batch, Error, Keeper, Kind, Pass, Result, Retry, Status, Value};
 use std::sync::{Arc, Mutex};
 use std::thread;
 use std::time::{Duration, Instant};
@@ -33,6 +33,17 @@ pub struct ShelfPass {
 impl ShelfPass {
     pub(super) fn new(volumes: Vec<Pass>, indexing: Arc<Mutex<()>>) -> Self {
         Self { volumes, indexing }
+    }
+
+    /// The pass, whose writes go by the keeper of their volume from now on, as those of [`Pass::kept_by`]. Keepers are given numbers
+    /// of nodes in the volume.
+    #[must_use]
+    pub fn kept_by(self, keeper: impl Fn(u32) -> Arc<dyn Keeper>) -> Self {
+        let passes = (0..).zip(self.volumes);
+        Self {
+            volumes: passes.map(|(volume, pass)| pass.kept_by(keeper(volume))).collect(),
+            indexing: self.indexing,
+        }
     }
 
     /// The pass of each volume, whose nodes have their numbers in the volume. It may write, too.

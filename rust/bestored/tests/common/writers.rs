@@ -168,7 +168,7 @@ fn batches_of(snapshot: &Snapshot<'_>) -> (u64, Vec<Batch>) {
 }
 
 /// The next node and the batches of the snapshot that the client has pinned.
-fn state_of(client: &mut Client) -> (u64, Vec<Batch>) {
+pub fn state_of(client: &mut Client) -> (u64, Vec<Batch>) {
     let mut batches = Vec::new();
     let mut from = Some(0);
     let mut next = 0;
