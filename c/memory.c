@@ -94,6 +94,14 @@ static uint32_t call_nodes(void) { return bes_nodes(&mine, 0, out.nodes, 4, &out
 static uint32_t call_status(void) { return bes_status(&mine, &out.usage, &out.number); }
 static uint32_t call_changes(void) { return bes_changes(&kept, out.nodes, 4, out.more, 4); }
 static uint32_t call_get(void) { return bes_read(&mine, 1, "size", &out.told, out.bytes, 64); }
+static uint32_t call_columns(void)
+{
+    static const uint64_t nodes[] = {1, 9};
+    bes_name held;
+    bes_cell cells[2];
+    uint32_t error = bes_check_name((const uint8_t *)"size", 4, &held);
+    return error != BES_OK ? error : bes_columns(&mine, nodes, 2, &held, 1, cells, 2, out.bytes, 64, &out.count);
+}
 static uint32_t call_unpin(void) { return bes_unpin(&mine); }
 static uint32_t call_pin(void) { return bes_pin(&mine, &out.number); }
 static uint32_t call_prepared_text(void) { return bes_prepared_text(&kept, out.bytes, 64, &out.count); }
@@ -150,8 +158,8 @@ static void refuse_all(void)
         call_another, call_prepare, call_prepare_items, call_query, call_items, call_prepared, call_explain, call_attributes,
         call_indices, call_nodes, call_state, call_journal, call_journal_from, call_prepared_text, call_apply, call_retry
     };
-    uint32_t (*const without[])(void) = {call_changes, call_get, call_status, call_next, call_number, call_move_prepared,
-                                         call_move_place, call_unpin, call_pin, call_move};
+    uint32_t (*const without[])(void) = {call_changes, call_get, call_columns, call_status, call_next, call_number,
+                                         call_move_prepared, call_move_place, call_unpin, call_pin, call_move};
     CHECK(bes_open(64, 2, 100, &mine) == BES_OK);
     CHECK(bes_make_index(&mine, "size", BES_INT32_TYPE) == BES_OK && bes_make_index(&mine, "name", BES_STRING_TYPE) == BES_OK);
     CHECK(bes_new_node(&mine, &out.number) == BES_OK && bes_set_int32(&mine, 1, "size", 1) == BES_OK);
@@ -264,6 +272,45 @@ static void meet_busy(void)
     CHECK(bes_unpin(&mine) == BES_OK && bes_pin(&mine, &out.number) == BES_OK && out.number == 8 + accepted);
 }
 
+static bes_pass second;
+static unsigned met;
+
+/* Meets the pass that was given back, while the first pass holds the lock. */
+static void meet_between(void)
+{
+    uint64_t number = 7, node = 7;
+    CHECK(bes_new_node(&second, &node) == BES_BUSY && bes_meet(&second, &number) == BES_OK && number == 1);
+    met++;
+}
+
+/* A meeting takes no lock: it returns while another pass holds that. */
+static void meet_while_locked(void)
+{
+    bes_pass first = BES_PASS_INIT, third = BES_PASS_INIT;
+    uint64_t node = 0, count = 0;
+    uint8_t text[64];
+    CHECK(bes_open(64, 3, 100, &first) == BES_OK && bes_another(&first, &second) == BES_OK && bes_another(&first, &third) == BES_OK);
+    CHECK(bes_new_node(&third, &node) == BES_OK && bes_close(&third) == BES_OK);
+    between = meet_between;
+    CHECK(bes_journal(&first, text, sizeof text, &count) == BES_OK && count > 0);
+    between = NULL;
+    CHECK(met > 0 && bes_close(&first) == BES_OK && bes_close(&second) == BES_OK);
+}
+
+/* A state without a pin: memory for its place is asked for first. */
+static void state_without_pin(void)
+{
+    bes_pass pass = BES_PASS_INIT;
+    CHECK(bes_open(8, 1, 1, &pass) == BES_OK);
+    requests = 0;
+    refused = 1;
+    CHECK(bes_state(&pass, &place, &out.counts, out.listed, 4, out.bytes, 64) == BES_NO_MEMORY);
+    refused = 0;
+    CHECK(bes_state(&pass, &place, &out.counts, out.listed, 4, out.bytes, 64) == BES_NOT_PINNED);
+    bes_leave(&place);
+    CHECK(bes_close(&pass) == BES_OK);
+}
+
 int main(void)
 {
     memset(&untouched, 7, sizeof untouched);
@@ -271,6 +318,8 @@ int main(void)
     CHECK(bes_leave(&place) == BES_OK);
     refuse_between_lists();
     meet_busy();
+    meet_while_locked();
+    state_without_pin();
     CHECK(bes_release(&kept) == BES_OK && bes_release(&by_text) == BES_OK && bes_release(&by_items) == BES_OK);
     /* A pass that was given back isn't lost if there is no memory for its handle. */
     CHECK(bes_close(&theirs) == BES_OK && refuse_each(call_another) > 0);

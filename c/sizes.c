@@ -1,42 +1,28 @@
-/* Each list, text and number that a call takes or writes, at twenty sizes or more between its bounds. malloc refuses nothing here, so
- * no call has a reason to return BES_NO_MEMORY. */
+/* Each list, text and number that a call takes or writes, at the sizes that tools/try-sizes names: what grows, and then sizes or ranges
+ * of them, ascending, as in `sizes nodes 1-255 256 511-513`. malloc refuses nothing here, so no call has a reason to return
+ * BES_NO_MEMORY. */
 #include "tests.h"
 
 #define OK(call) CHECK((call) == BES_OK)
 
-enum { MOST_NODES = 10000, MOST_ENTRIES = 20000, MOST_COMMITS = 200000 };
+enum { MOST_NODES = 26000, MOST_ENTRIES = 1000000, MOST_BYTES = 1 << 26, LONGEST_NAME = 63, LONGEST_VALUE = 255, LONGEST_BATCH = 64 };
 
-static uint64_t place, sizes[80], nodes[MOST_NODES + 1], others[MOST_NODES + 1];
-static char text[4097], name[64], expected[1 << 20];
-static uint8_t told[1 << 20];
+static uint64_t place, sizes[1 << 16], sizes_count, nodes[MOST_NODES + 1], others[MOST_NODES + 1];
+static char text[4097], name[LONGEST_NAME + 1], expected[MOST_BYTES];
+static uint8_t told[MOST_BYTES];
 static bes_batch batch;
-static bes_operation listed[64];
+static bes_operation listed[LONGEST_BATCH];
 
-/* Writes the sizes between two bounds, ascending, and returns how many they are: each if they are few; otherwise ten by equal steps,
- * and halves of the greatest. */
-static size_t spread(uint64_t least, uint64_t most)
+/* The size that is tried, which a failed check ends with. */
+static uint64_t tried;
+
+#define AT_EACH_SIZE for (uint64_t at_ = 0, size; at_ < sizes_count && (tried = size = sizes[at_], true); at_++)
+
+static void print_size(void)
 {
-    size_t count = 0, i = 0;
-    uint64_t half = most;
-    if (most - least < 64) {
-        for (uint64_t size = least; size <= most; size++)
-            sizes[count++] = size;
-        return count;
-    }
-    for (; i <= 10; i++)
-        sizes[count++] = least + (most - least) * i / 10;
-    while ((half /= 2) > least)
-        sizes[count++] = half;
-    for (i = 1; i < count; i++)
-        for (size_t j = i; j > 0 && sizes[j] < sizes[j - 1]; j--) {
-            uint64_t size = sizes[j];
-            sizes[j] = sizes[j - 1];
-            sizes[j - 1] = size;
-        }
-    return count;
+    if (tried > 0)
+        fprintf(stderr, "at size %d\n", (int)tried);
 }
-
-#define AT_EACH_SIZE(least, most) for (size_t count_ = spread(least, most), at_ = 0, size; at_ < count_ && (size = sizes[at_], true); at_++)
 
 static uint64_t write_list(bes_pass *pass)
 {
@@ -112,36 +98,93 @@ static void explained(bes_pass *pass, uint64_t score)
 
 static const bes_item K = {BES_ITEM_ATTRIBUTE, 0, 1, 0}, EQ = {BES_ITEM_EQ, 0, 0, 0}, OR = {BES_ITEM_OR, 0, 0, 0};
 
+/* Opens a store in which node i has the attribute k with the number i, and the first node j with 1. So `k<=n` finds n nodes. */
+static void open_numbered(bes_pass *pass, uint64_t count)
+{
+    OK(bes_open(16384, 1, 2000, pass) || bes_make_index(pass, "k", BES_INT32_TYPE));
+    bes_batch_clear(&batch);
+    for (uint64_t node = 1; node <= count; node++) {
+        OK(bes_batch_new_node(&batch) || bes_batch_set_uint64(&batch, node, node == 1 ? "j" : "i", 1));
+        OK(bes_batch_set_int32(&batch, node, "k", (int32_t)node));
+        if (batch.count > LONGEST_BATCH - 3 || node == count)
+            write_list(pass);
+    }
+}
+
+/* What a prepared query finds, also at its first refresh, and then loses in an empty store. */
+static void came_and_went(bes_pass *pass, bes_pass *empty, const char *query, uint64_t count)
+{
+    bes_prepared live = BES_PREPARED_INIT;
+    bes_updates updates = {7, 7};
+    uint64_t told_count = 7;
+    OK(bes_prepare_text(query, &live, &place) || bes_query_prepared(pass, &live, nodes, MOST_NODES, &told_count));
+    CHECK(told_count == count && are_from_one(nodes, count));
+    OK(bes_refresh(pass, &live, &updates));
+    CHECK(updates.created == count && updates.removed == 0);
+    OK(bes_changes(&live, nodes, MOST_NODES, others, 0) || bes_refresh(empty, &live, &updates));
+    CHECK(are_from_one(nodes, count) && updates.created == 0 && updates.removed == count);
+    OK(bes_changes(&live, nodes, 0, others, MOST_NODES) || bes_release(&live));
+    CHECK(are_from_one(others, count));
+}
+
 /* Nodes of a result, and what a live query finds and loses. */
 static void many_nodes(void)
 {
-    const bes_item items[] = {K, {BES_ITEM_INT64, 0, 0, 7}, EQ};
-    AT_EACH_SIZE(1, MOST_NODES) {
-        bes_pass pass = BES_PASS_INIT;
-        bes_prepared live = BES_PREPARED_INIT;
-        bes_updates updates = {7, 7};
-        uint64_t number = 0;
-        OK(bes_open(256 + size, 1, 1000, &pass));
-        OK(bes_make_index(&pass, "k", BES_INT32_TYPE));
-        bes_batch_clear(&batch);
-        for (uint64_t node = 1; node <= size; node++) {
-            OK(bes_batch_new_node(&batch));
-            OK(bes_batch_set_int32(&batch, node, "k", 7));
-            if (batch.count == 64 || node == size)
-                write_list(&pass);
-        }
-        found(&pass, "k==7", items, 3, size);
-        found(&pass, "k!=8||k==7", items, 0, size);
-        OK(bes_prepare_text("k>6&&k<8", &live, &place) || bes_pin(&pass, &number) || bes_refresh(&pass, &live, &updates));
-        CHECK(updates.created == size && updates.removed == 0);
-        OK(bes_unpin(&pass) || bes_batch_remove_index(&batch, "k") || bes_batch_make_index(&batch, "k", BES_INT32_TYPE));
-        write_list(&pass);
-        OK(bes_pin(&pass, &number) || bes_refresh(&pass, &live, &updates));
-        CHECK(updates.created == 0 && updates.removed == size);
-        OK(bes_changes(&live, nodes, 0, others, MOST_NODES));
-        CHECK(are_from_one(others, size));
-        OK(bes_release(&live) || bes_close(&pass));
+    bes_pass pass = BES_PASS_INIT, empty = BES_PASS_INIT;
+    uint64_t number = 0, count = 0;
+    open_numbered(&pass, MOST_NODES);
+    OK(bes_open(64, 1, 1, &empty) || bes_make_index(&empty, "k", BES_INT32_TYPE));
+    OK(bes_pin(&pass, &number) || bes_pin(&empty, &number));
+    AT_EACH_SIZE {
+        const bes_item items[] = {K, {BES_ITEM_INT64, 0, 0, size}, {BES_ITEM_LE, 0, 0, 0}};
+        snprintf(text, sizeof text, "k<=%d", (int)size);
+        OK(bes_find(&pass, text, nodes, MOST_NODES, &count));
+        CHECK(count == size && are_from_one(nodes, count));
+        OK(bes_query_items(&pass, items, 3, (const uint8_t *)"k", 1, nodes, MOST_NODES, &count));
+        CHECK(count == size && are_from_one(nodes, count));
+        came_and_went(&pass, &empty, text, size);
     }
+    OK(bes_close(&pass) || bes_close(&empty));
+}
+
+/* Nodes that two picks find, and those at which a look at another attribute leaves one or none. */
+static void many_candidates(void)
+{
+    bes_pass pass = BES_PASS_INIT;
+    uint64_t count = 0, number = 0;
+    open_numbered(&pass, MOST_NODES);
+    AT_EACH_SIZE {
+        snprintf(text, sizeof text, "k<=%d||k>0&&k<=%d", (int)size, (int)size);
+        found(&pass, text, NULL, 0, size);
+        snprintf(text, sizeof text, "k<=%d&&j==1", (int)size);
+        found(&pass, text, NULL, 0, 1);
+        snprintf(text, sizeof text, "k<=%d&&j==2", (int)size);
+        OK(bes_pin(&pass, &number) || bes_find(&pass, text, nodes, MOST_NODES, &count) || bes_unpin(&pass));
+        CHECK(count == 0);
+    }
+    OK(bes_close(&pass));
+}
+
+/* The list of the last nodes of a store, and of the first. */
+static void listed_nodes(void)
+{
+    bes_pass pass = BES_PASS_INIT;
+    uint64_t number = 0, count = 0;
+    OK(bes_open(16384, 1, MOST_NODES, &pass));
+    for (uint64_t node = 1; node <= MOST_NODES; node++)
+        OK(bes_new_node(&pass, &number));
+    OK(bes_pin(&pass, &number));
+    AT_EACH_SIZE {
+        /* Both lists are as long; so beyond the first sizes one of them is enough. */
+        uint64_t first = size > 1024 && size % 2 == 0 ? 1 : MOST_NODES + 1 - size;
+        OK(bes_nodes(&pass, first, nodes, size, &count));
+        CHECK(count == size && nodes[0] == first && nodes[count - 1] == first + size - 1);
+        if (size <= 1024) {
+            OK(bes_nodes(&pass, 0, nodes, size, &count));
+            CHECK(count == size && are_from_one(nodes, count));
+        }
+    }
+    OK(bes_close(&pass));
 }
 
 /* A name of three bytes, which stays in `name` until the next one. */
@@ -164,7 +207,7 @@ static void are_listed(const bes_counts *counts, uint32_t kind, char letter, uin
 /* Operations of a list, and attributes of a node. */
 static void many_operations(void)
 {
-    AT_EACH_SIZE(1, 64) {
+    AT_EACH_SIZE {
         bes_pass pass = BES_PASS_INIT;
         bes_counts counts = {7, 7};
         uint64_t number = 0, by = 7, made[64];
@@ -193,7 +236,7 @@ static void many_operations(void)
 static void many_comparisons(void)
 {
     static bes_item items[4 * 256];
-    AT_EACH_SIZE(1, 256) {
+    AT_EACH_SIZE {
         bes_pass pass = BES_PASS_INIT;
         uint64_t node = 0;
         size_t items_count = 0;
@@ -217,7 +260,7 @@ static void many_comparisons(void)
 /* Bytes of a query. */
 static void long_queries(void)
 {
-    AT_EACH_SIZE(4, 4096) {
+    AT_EACH_SIZE {
         bes_pass pass = BES_PASS_INIT;
         uint64_t node = 0;
         OK(bes_open(64, 1, 1000, &pass) || bes_make_index(&pass, "k", BES_STRING_TYPE) || bes_new_node(&pass, &node));
@@ -239,10 +282,31 @@ static void long_queries(void)
     }
 }
 
+/* Bytes of a text that is an item of a predicate: as what an attribute contains, begins with or ends with, and as a pattern. */
+static void long_items(void)
+{
+    const uint32_t kinds[] = {BES_ITEM_CONTAINS, BES_ITEM_BEGINS_WITH, BES_ITEM_ENDS_WITH, BES_ITEM_EQ};
+    bes_pass pass = BES_PASS_INIT;
+    uint64_t node = 0, number = 0, count = 7;
+    OK(bes_open(64, 1, 1000, &pass) || bes_make_index(&pass, "k", BES_STRING_TYPE) || bes_new_node(&pass, &node));
+    OK(bes_set_text(&pass, node, "k", "*") || bes_pin(&pass, &number));
+    memset(text, '*', sizeof text);
+    text[0] = 'k';
+    AT_EACH_SIZE {
+        for (size_t i = 0; i < sizeof kinds / sizeof *kinds; i++) {
+            const bes_item items[] = {K, {BES_ITEM_TEXT, 1, (uint32_t)size, 0}, {kinds[i], 0, 0, 0}};
+            bes_prepared prepared = BES_PREPARED_INIT;
+            OK(bes_query_items(&pass, items, 3, (const uint8_t *)text, sizeof text, nodes, MOST_NODES, &count));
+            OK(bes_prepare_items(items, 3, (const uint8_t *)text, sizeof text, &prepared, &place) || bes_release(&prepared));
+        }
+    }
+    OK(bes_close(&pass));
+}
+
 /* Bytes of a name. */
 static void long_names(void)
 {
-    AT_EACH_SIZE(1, 63) {
+    AT_EACH_SIZE {
         bes_pass pass = BES_PASS_INIT;
         bes_attribute attribute = {7, 7, 7};
         bes_counts counts = {7, 7};
@@ -267,7 +331,7 @@ static void long_names(void)
 /* Bytes of a value, of each kind that has bytes. */
 static void long_values(void)
 {
-    AT_EACH_SIZE(0, 255) {
+    AT_EACH_SIZE {
         bes_pass pass = BES_PASS_INIT;
         bes_attribute attribute = {7, 7, 7};
         bes_counts counts = {7, 7};
@@ -299,7 +363,7 @@ static void long_values(void)
 /* Indices, each of which is picked. */
 static void many_indices(void)
 {
-    AT_EACH_SIZE(1, 32) {
+    AT_EACH_SIZE {
         bes_pass pass = BES_PASS_INIT;
         bes_counts counts = {7, 7};
         uint64_t node = 0, number = 0;
@@ -343,7 +407,7 @@ static void take_all(bes_pass *passes, uint64_t size, bool are_unused, uint64_t 
 static void many_passes(void)
 {
     static bes_pass passes[64];
-    AT_EACH_SIZE(1, 64) {
+    AT_EACH_SIZE {
         uint64_t node = 0, written = 1, seen = 0;
         OK(bes_open(512, size, 10000, &passes[0]) || bes_new_node(&passes[0], &node));
         for (int round = 0; round < 3; round++) {
@@ -359,14 +423,146 @@ static void many_passes(void)
     }
 }
 
-/* The journal of many writes, as they come. */
+/* The number of bytes of `told`, each of which is `letter`. */
+static void are_all(const bes_operation *part, uint8_t letter, uint64_t length)
+{
+    CHECK(part->value_length == length);
+    for (uint64_t i = 0; i < length; i++)
+        CHECK(told[part->value_at + i] == letter);
+}
+
+/* Fills the batch with so many values of 255 bytes, under names of 63 bytes. */
+static void fill_batch(uint64_t size, uint8_t letter)
+{
+    uint8_t value[LONGEST_VALUE];
+    memset(value, letter, sizeof value);
+    bes_batch_clear(&batch);
+    for (uint64_t i = 0; i < size; i++) {
+        snprintf(name, sizeof name, "%063d", (int)i);
+        OK(bes_batch_set_raw(&batch, 1, name, value, sizeof value));
+    }
+}
+
+/* What a call wrote to `listed` and `told` are the values of fill_batch. */
+static void are_filled(const bes_counts *counts, uint64_t size, uint8_t letter)
+{
+    CHECK(counts->operations == size && counts->bytes == size * (LONGEST_NAME + LONGEST_VALUE));
+    for (uint64_t i = 0; i < size; i++)
+        are_all(&listed[i], letter, LONGEST_VALUE);
+}
+
+/* Reads the state of a pinned pass, which is a node with `size` long values. */
+static void state_is_filled(bes_pass *pass, uint64_t size)
+{
+    bes_place reading = BES_PLACE_INIT;
+    bes_counts counts = {7, 7};
+    uint64_t operations = 0, bytes = 0;
+    do {
+        OK(bes_state(pass, &reading, &counts, listed, LONGEST_BATCH, told, sizeof told));
+        operations += counts.operations;
+        bytes += counts.bytes;
+    } while (counts.operations > 0);
+    CHECK(operations == 1 + size && bytes == size * (LONGEST_NAME + LONGEST_VALUE));
+    OK(bes_leave(&reading));
+}
+
+/* A list of the longest names and values, in each call that takes or writes such: bes_apply, bes_apply_if, bes_attributes, bes_state,
+ * bes_journal_from and bes_journal, whose lines have up to 38 KB. */
+static void long_batches(void)
+{
+    AT_EACH_SIZE {
+        bes_pass pass = BES_PASS_INIT;
+        bes_counts counts = {7, 7};
+        uint64_t node = 0, number = 0, by = 7, count = 0, line = 0;
+        OK(bes_open(512, 1, 1000, &pass) || bes_new_node(&pass, &node));
+        fill_batch(size, 'x');
+        OK(bes_batch_apply(&pass, &batch, 1, nodes, 0, &number));
+        fill_batch(size, 'y');
+        OK(bes_batch_apply_if(&pass, 2, &batch, 1, nodes, 0, &number));
+        OK(bes_pin(&pass, &number) || bes_attributes(&pass, 1, &counts, listed, LONGEST_BATCH, told, sizeof told));
+        are_filled(&counts, size, 'y');
+        state_is_filled(&pass, size);
+        OK(bes_journal_from(&pass, 1, &by, &counts, listed, LONGEST_BATCH, told, sizeof told, &number));
+        CHECK(by == 0 && number == 3);
+        are_filled(&counts, size, 'x');
+        OK(bes_journal(&pass, told, sizeof told, &count));
+        /* 1 by 0 new -> node 1, and twice `set 1 "NAME" RAWT "HEX"` with `; ` between, `n by 0 `, ` -> ` and `ok; ok`. */
+        line = 7 + size * (6 + 65 + 6 + 2 + 2 * LONGEST_VALUE) + 2 * (size - 1) + 4 + 2 * size + 2 * (size - 1) + 1;
+        CHECK(count == 21 + 2 * line);
+        OK(bes_close(&pass));
+    }
+}
+
+/* Names of an index, of 63 bytes each. */
+static void long_index_names(void)
+{
+    AT_EACH_SIZE {
+        bes_pass pass = BES_PASS_INIT;
+        bes_counts counts = {7, 7};
+        uint64_t number = 0;
+        OK(bes_open(64, 1, 1000, &pass));
+        bes_batch_clear(&batch);
+        for (uint64_t i = 0; i < size; i++) {
+            snprintf(name, sizeof name, "%063d", (int)i);
+            OK(bes_batch_make_index(&batch, name, BES_STRING_TYPE));
+        }
+        write_list(&pass);
+        OK(bes_pin(&pass, &number) || bes_indices(&pass, &counts, listed, LONGEST_BATCH, told, sizeof told));
+        CHECK(counts.operations == size && counts.bytes == LONGEST_NAME * size);
+        OK(bes_close(&pass));
+    }
+}
+
+/* Pages of a store, and of one of 64 passes. */
+static void many_pages(void)
+{
+    AT_EACH_SIZE {
+        const uint64_t passes[] = {1, 64};
+        for (int i = 0; i < 2; i++) {
+            bes_pass pass = BES_PASS_INIT;
+            bes_usage usage;
+            uint64_t node = 0, number = 0;
+            OK(bes_open(size, passes[i], 1000, &pass) || bes_new_node(&pass, &node) || bes_status(&pass, &usage, &number));
+            CHECK(usage.pages == size && node == 1);
+            OK(bes_close(&pass));
+        }
+    }
+}
+
+/* Attributes of each node of a state, which is read whole. */
+static void many_states(void)
+{
+    AT_EACH_SIZE {
+        bes_pass pass = BES_PASS_INIT;
+        bes_place reading = BES_PLACE_INIT;
+        uint64_t node = 0, number = 0, operations = 0;
+        OK(bes_open(512, 1, 1000, &pass));
+        OK(bes_make_index(&pass, "a00", BES_UINT64_TYPE));
+        for (uint64_t i = 0; i < 70; i++) {
+            OK(bes_new_node(&pass, &node));
+            bes_batch_clear(&batch);
+            for (uint64_t attribute = 0; attribute < size; attribute++)
+                OK(bes_batch_set_uint64(&batch, node, name_of('a', attribute), attribute));
+            write_list(&pass);
+        }
+        OK(bes_pin(&pass, &number));
+        do {
+            OK(bes_batch_state(&pass, &reading, &batch));
+            operations += batch.count;
+        } while (batch.count > 0);
+        CHECK(operations == 1 + 70 * (1 + size));
+        OK(bes_leave(&reading) || bes_close(&pass));
+    }
+}
+
+/* The journal of many writes, as they come: its text, and each entry. */
 static void many_entries(void)
 {
     bes_pass pass = BES_PASS_INIT;
     uint64_t node = 0, written = 0, count = 0, by = 7;
     size_t length = 0;
     OK(bes_open(64, 1, MOST_ENTRIES, &pass));
-    AT_EACH_SIZE(1, MOST_ENTRIES) {
+    AT_EACH_SIZE {
         for (; written < size; written++) {
             char *end = expected + length;
             size_t room = sizeof expected - length;
@@ -377,45 +573,52 @@ static void many_entries(void)
                 OK(bes_set_uint64(&pass, node, "n", written));
                 length += (size_t)snprintf(end, room, "%d by 0 set 1 \"n\" ULLG %d -> ok\n", (int)written + 1, (int)written);
             }
+            OK(bes_batch_entry(&pass, written, &batch, &by, &count));
+            CHECK(count == written + 1 && by == 0 && batch.count == 1);
+            CHECK(written == 0 || (batch.operations[0].node == 1 && batch.operations[0].number == written));
         }
-        memset(told, 7, sizeof told);
+        memset(told, 7, length + 1);
         OK(bes_journal(&pass, told, sizeof told, &count));
         CHECK(count == length && memcmp(told, expected, length) == 0 && told[length] == 7);
-        OK(bes_batch_entry(&pass, size - 1, &batch, &by, &count));
-        CHECK(count == size && by == 0 && batch.count == 1 && batch.operations[0].node == 1 && batch.operations[0].number == size - 1);
     }
-    CHECK(bes_new_node(&pass, &node) == BES_COMMITS_SPENT);
+    CHECK(written < MOST_ENTRIES || bes_new_node(&pass, &node) == BES_COMMITS_SPENT);
     OK(bes_close(&pass));
 }
 
-static void many_commits(void)
+/* What grows, by the names that tools/growth.txt has. */
+static const struct row {
+    const char *name;
+    void (*run)(void);
+} rows[] = {
+    {"nodes", many_nodes}, {"candidates", many_candidates}, {"listed-nodes", listed_nodes}, {"operations", many_operations},
+    {"comparisons", many_comparisons}, {"query-bytes", long_queries}, {"item-bytes", long_items}, {"name-bytes", long_names}, {"value-bytes", long_values},
+    {"indices", many_indices}, {"index-names", long_index_names}, {"passes", many_passes}, {"pages", many_pages},
+    {"batches", long_batches}, {"state", many_states}, {"entries", many_entries}
+};
+
+/* Appends a size, or a range of them as 3-7, to `sizes`. */
+static void add_sizes(const char *word)
 {
-    bes_pass pass = BES_PASS_INIT;
-    bes_attribute attribute = {7, 7, 7};
-    uint8_t bytes[1];
-    uint64_t node = 0, written = 1, number = 0;
-    OK(bes_open(64, 1, MOST_COMMITS, &pass) || bes_new_node(&pass, &node));
-    AT_EACH_SIZE(2, MOST_COMMITS) {
-        while (written < size)
-            OK(bes_set_uint64(&pass, node, "n", ++written));
-        OK(bes_pin(&pass, &number) || bes_read(&pass, node, "n", &attribute, bytes, 0) || bes_unpin(&pass));
-        CHECK(number == size && attribute.number == size);
+    char *end = NULL;
+    uint64_t first = strtoull(word, &end, 10), last = *end == '-' ? strtoull(end + 1, &end, 10) : first;
+    CHECK(*end == 0 && first <= last);
+    for (; first <= last; first++) {
+        CHECK(sizes_count < sizeof sizes / sizeof *sizes);
+        sizes[sizes_count++] = first;
     }
-    CHECK(bes_new_node(&pass, &node) == BES_COMMITS_SPENT);
-    OK(bes_close(&pass));
 }
 
-int main(void)
+int main(int count, char **words)
 {
-    many_nodes();
-    many_operations();
-    many_comparisons();
-    long_queries();
-    long_names();
-    long_values();
-    many_indices();
-    many_passes();
-    many_entries();
-    many_commits();
-    return 0;
+    for (int i = 2; i < count; i++)
+        add_sizes(words[i]);
+    atexit(print_size);
+    for (size_t i = 0; count > 2 && i < sizeof rows / sizeof *rows; i++)
+        if (strcmp(rows[i].name, words[1]) == 0) {
+            rows[i].run();
+            tried = 0;
+            return 0;
+        }
+    fprintf(stderr, "usage: %s ROW SIZE...\n", words[0]);
+    return 2;
 }

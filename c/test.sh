@@ -55,7 +55,7 @@ build() { cc -std=c11 "${warn[@]}" -I../include "$@" libbestore.a -lpthread; }
 build_cpp() { c++ -std=c++17 "${warn[@]}" -I../include "$@" libbestore.a -lpthread; }
 
 # The tests, and those of them in which threads run.
-tests=(test threads helpers texts racing)
+tests=(test columns errors threads helpers texts racing)
 tests_cpp=(test helpers racing)
 with_threads=(threads helpers racing)
 
@@ -64,7 +64,7 @@ for test in "${tests[@]}"; do
     run "C, $test" "$work/$test"
 done
 build -O2 sizes.c -o "$work/sizes"
-run "C, sizes" "$work/sizes"
+run_if_there "C, sizes" python3 ../tools/try-sizes --c "$work/sizes"
 cc -std=c11 "${warn[@]}" -I../include test.c -L. -lbestore -lpthread -o "$work/shared"
 run "C, shared object" env LD_LIBRARY_PATH=. "$work/shared"
 
@@ -198,24 +198,15 @@ fi
 python3 manual.py | cmp - ../docs/bestore.3
 (cd ../python && run_if_there types mypy --cache-dir="$work/mypy")
 
-# The query window, on a display in memory, and what it uses.
-unset DISPLAY
+run "examples in Python" "${python[@]}" -m unittest discover -q -s ../examples/python
+
+# The query window, on a display in memory, and what it uses. Over a server it is tried by rust/test.sh.
 window="what the query window uses"
 if ! command -v Xvfb >/dev/null; then
     echo "the query window: skipped, there is no Xvfb"
 elif ! python3 -c 'import tkinter' 2>/dev/null; then
     echo "the query window: skipped, python3 has no Tk"
 else
-    : >"$work/display"
-    Xvfb -displayfd 3 -nolisten tcp 3>"$work/display" 2>/dev/null &
-    server=$!
-    trap 'kill $server 2>/dev/null; rm -rf "$work"' EXIT
-    for _ in {1..100}; do [ -s "$work/display" ] || sleep 0.1; done
-    if [ -s "$work/display" ]; then
-        export DISPLAY=":$(<"$work/display")"
-        window="the query window, and what it uses"
-    else
-        echo "the query window: skipped, Xvfb gives no display"
-    fi
+    window="the query window, and what it uses"
 fi
-run "$window" "${python[@]}" -m unittest discover -q -s ../examples/python
+run "$window" "${python[@]}" -m unittest discover -q -s ../python/window_tests

@@ -209,6 +209,31 @@ class Reading(WithServer):
         with _open(64, 1, 100) as store:
             self.assertEqual(columns(self.store), columns(store))
 
+    def test_rows(self):
+        """They are the same as in a store of this process, also if they come in several replies."""
+        names = ["b", "a", "none"]
+
+        def rows(store):
+            store.make_index("a", bestore.STRING)
+            for first in range(1, 9601, 16):
+                batch = bestore.Batch()
+                for node in range(first, first + 16):
+                    batch.new_node().set(node, "a", str(node)).set(node, "b", f"{node:0250}")
+                store.apply(batch)
+            with store.pin() as version, bestore.prepare("a==*7") as prepared:
+                with self.assertRaises(ValueError):
+                    version.rows("a==*", names, 0, -1)
+                for wrong, kind in [("a==", bestore.QuerySyntax), ("b>1", bestore.NotCovered)]:
+                    with self.assertRaises(kind):
+                        version.rows(wrong, names)
+                return [version.rows(prepared, iter(names), 17, 2), version.rows("a==*", names, 0, 30000), version.rows("a==*", names, 9599),
+                        version.rows("a==*", [], -5, 1), version.rows("a==*", names, 2**70), version.rows("a==*", names, 5, 0)]
+        with _open(4096, 1, 2**32 - 1) as store:
+            found = rows(self.store)
+            self.assertEqual(found, rows(store))
+        self.assertEqual(found[0], [(17, [f"{17:0250}", "17", None]), (27, [f"{27:0250}", "27", None])])
+        self.assertEqual([len(it) for it in found], [2, 9600, 2, 1, 0, 0])
+
     def test_the_journal_is_the_same_text(self):
         batches = [
             bestore.Batch().new_node().set(1, 'a"b\\\n\r\t', 'x"\\\n\r\t\x7fé漢'), bestore.Batch().set(1, "r", b""),
@@ -563,29 +588,34 @@ def main():
 main()
 """
 
-CATALOGUED = """
-import pathlib, sys, time
-from catalogue import Catalogue
-with Catalogue(sys.argv[1], pages=64, pause=0.01) as catalogue:
-    print(catalogue.ask('name=="*.txt" && size>2'))
-    names = {}
-    def follow(count):
-        until = time.monotonic() + 30
-        while len(names) != count and time.monotonic() < until:
-            came, went = catalogue.step(2)
-            names.update((hit.node, hit.attributes["name"]) for hit in came)
-            for node in went:
-                del names[node]
-        print(sorted(names.values()), catalogue.hits)
-    follow(3)
-    pathlib.Path(sys.argv[1], "d.txt").write_text("four")
-    follow(4)
-    pathlib.Path(sys.argv[1], "a.txt").write_text("1")
-    follow(3)
-    try:
-        catalogue.ask("nothing==5")
-    except Exception as error:
-        print(type(error), error)
+FOLDER_READ = """
+import os, pathlib, sys, time
+import bestore
+from bestore_queries.folder import INDICES, FolderReader
+store = bestore.open(64, 3)
+for name, kind in INDICES.items():
+    store.make_index(name, kind)
+reader = FolderReader(store.another(), sys.argv[1], 0.01)
+reader.start()
+query, names = bestore.prepare('name=="*.txt" && size>2'), {}
+def follow(count):
+    until = time.monotonic() + 30
+    while len(names) != count and time.monotonic() < until:
+        with store.pin() as version:
+            came, went = version.refresh(query)
+            names.update((node, version[node]["name"]) for node in came)
+        for node in went:
+            del names[node]
+    print(sorted(names.values()))
+follow(3)
+pathlib.Path(sys.argv[1], "d.txt").write_text("four")
+follow(4)
+pathlib.Path(sys.argv[1], "a.txt").write_text("1")
+follow(3)
+os.unlink(os.path.join(sys.argv[1], "b.txt"))
+follow(2)
+reader.end()
+print(reader.fault, reader.left_out)
 """
 
 
@@ -645,24 +675,21 @@ class Programs(unittest.TestCase):
             printed = self.run_program(folder, text)
             self.assertEqual(self.run_program(folder, self.changed(text, opened, server.path)), printed)
 
-    def test_catalogue(self):
+    def test_folder(self):
         """A live query over files that a second pass writes."""
-        with open(os.path.join(EXAMPLES, "catalogue.py"), encoding="utf-8") as file:
-            module = file.read()
         printed = []
         for is_changed in (False, True):
-            with tempfile.TemporaryDirectory() as folder, Server() as server:
+            with tempfile.TemporaryDirectory() as folder, Server("--pages", 64) as server:
                 server.connect().close()
                 files = os.path.join(folder, "files")
                 os.mkdir(files)
                 for name in ("a.txt", "b.txt", "c.txt", "c.c"):
                     with open(os.path.join(files, name), "w", encoding="utf-8") as file:
                         file.write("some text")
-                if is_changed:
-                    with open(os.path.join(folder, "catalogue.py"), "w", encoding="utf-8") as file:
-                        file.write(self.changed(module, "bestore.open(pages, 3)", server.path))
-                printed.append(self.run_program(folder, CATALOGUED, files))
+                text = self.changed(FOLDER_READ, "bestore.open(64, 3)", server.path) if is_changed else FOLDER_READ
+                printed.append(self.run_program(folder, text, files))
         self.assertEqual(printed[0], printed[1])
+        self.assertEqual(printed[0].splitlines()[-2:], ["['c.txt', 'd.txt']", "None 0"])
 
 
 if __name__ == "__main__":

@@ -47,14 +47,22 @@ run() {
     grep -h "skipped\|^killed\|^[0-9]* requests\|^[0-9]* runs" "$work/said" || true
 }
 
-# Cargo resolves the dependencies of all features, so without rusqlite it finds no way.
-if ! cargo metadata --format-version 1 "${options[@]}" >/dev/null 2>"$work/said"; then
-    skip "a package is missing: $(grep -m1 -o 'no matching package named.*' "$work/said" || tail -1 "$work/said")"
+# Cargo resolves the dependencies of all features, so without rusqlite it finds no way. Of those of the log there are empty ones.
+resolves() { cargo metadata --format-version 1 "${options[@]}" >/dev/null 2>"$work/said"; }
+missing() { grep -m1 -o 'no matching package named.*\|searched package name.*' "$work/said" || tail -1 "$work/said"; }
+features=saved,log
+if ! resolves; then
+    missing=$(missing)
+    options+=(--config 'patch.crates-io.tokio.path="absent/tokio"')
+    options+=(--config 'patch.crates-io.tokio-postgres.path="absent/tokio-postgres"')
+    features=saved
+    resolves || skip "a package is missing: $(missing)"
+    echo "Rust, a log in PostgreSQL: skipped, a package is missing: $missing"
 fi
 
-run "Rust" test --workspace --features saved -- --show-output
+run "Rust" test --workspace --features $features -- --show-output
 run "Rust, without features" test -p bestore-sys -p bestore --lib --tests
-for example in first mailbox; do
+for example in first mailbox shelf; do
     run "Rust, example $example" run -q -p bestore --example $example
 done
 for expected in "run 1" "run 2"; do
@@ -62,7 +70,8 @@ for expected in "run 1" "run 2"; do
     grep -qx "$expected" "$work/said" || { echo "Rust, example kept: failed, it doesn't say $expected" >&2; exit 1; }
 done
 if cargo clippy --version >/dev/null 2>&1; then
-    run "Rust, clippy" clippy --workspace --all-targets --features saved -- -D warnings
+    run "Rust, clippy" clippy --workspace --all-targets --features $features -- -D warnings
+    run "Rust, clippy without a log" clippy -p bestored --all-targets -- -D warnings
 else
     echo "Rust, clippy: skipped, there is no cargo clippy"
 fi
@@ -71,7 +80,7 @@ if cargo fmt --version >/dev/null 2>&1; then
 else
     echo "Rust, fmt: skipped, there is no cargo fmt"
 fi
-RUSTDOCFLAGS="-D warnings" run "Rust, documentation" doc --workspace --no-deps --features saved
+RUSTDOCFLAGS="-D warnings" run "Rust, documentation" doc --workspace --no-deps --features $features
 
 # The client for Python, by the server that was built above; and a kept file that Rust and Python open in turn.
 if ! command -v python3 >/dev/null; then
@@ -83,12 +92,23 @@ else
     BESTORED=$(realpath "$CARGO_TARGET_DIR/debug/bestored")
     export BESTORED
     if ! (cd ../python && timeout -k 10 600 env BESTORE_LIBRARY="$BESTORE_LIB_DIR/libbestore.so" PYTHONDONTWRITEBYTECODE=1 \
-        python3 -W error -m unittest test_connect test_saved.Processes.test_rust) >"$work/said" 2>&1; then
+        python3 -W error -m unittest test_connect test_shelf test_saved.Processes.test_rust) >"$work/said" 2>&1; then
         cat "$work/said" >&2
         echo "Python, over the server: failed, or not at its end after 600 seconds" >&2
         exit 1
     fi
     echo "Python, over the server: ok, $(sed -n 's/^Ran \([0-9]* tests\) in .*/\1/p' "$work/said")"
+    if ! command -v Xvfb >/dev/null || ! python3 -c 'import tkinter' 2>/dev/null; then
+        echo "the query window, over the server: skipped, there is no Xvfb or python3 has no Tk"
+    elif ! (cd ../python && timeout -k 10 600 env BESTORE_LIBRARY="$BESTORE_LIB_DIR/libbestore.so" PYTHONDONTWRITEBYTECODE=1 \
+        PYTHONPATH=.:window_tests python3 -W error -m unittest test_window.OverServer test_window.OverVolumes test_sixty_thousand.SixtyThousand.test_of_a_server) \
+        >"$work/said" 2>&1; then
+        cat "$work/said" >&2
+        echo "the query window, over the server: failed, or not at its end after 600 seconds" >&2
+        exit 1
+    else
+        echo "the query window, over the server: ok, $(sed -n 's/^Ran \([0-9]* tests\) in .*/\1/p' "$work/said")"
+    fi
 fi
 
 # How the library is found: by pkg-config, in an archive, and not at all.

@@ -17,6 +17,7 @@ is raised as an `Error`; each error number of the library has a class of its own
 
 `connect` takes the place of `open` for a store of the server bestored, which programs share: `help(bestore.connected)`. A
 function that takes a `Pass` or a `Version` takes that of either store. The module `bestore.saved` keeps a store in a file.
+`open_shelf` opens several stores that one query searches: `help(bestore.shelf)`.
 
 A store belongs to the process that opened it. In a forked child its passes, versions and prepared queries are dead:
 their calls raise `Forked`, closing them does nothing, and the parent's stay as they were. The child may open stores of
@@ -33,18 +34,21 @@ from ._connected_errors import (
 from .changes import Change, ChangedAttributes
 from .connected import connect
 from .errors import (
-    BadBytes, BadCount, BadItems, BadLimits, BadPart, BadPattern, Busy, Closed, CommitsSpent, Conflict, DataLength,
+    BadBytes, BadCount, BadItems, BadLimits, BadPart, BadPattern, Behind, Busy, Closed, CommitsSpent, Conflict, DataLength,
     Error, ErrorNumber, Forked, Full, HasNul, IndexExists, NameLength, Nested, NoAttribute, NoIndex, NoItem, NoKind,
-    NoMemory, NoNode, NoOperation, NoPass, NotCovered, NotIndexable, NotPinned, NotUTF8, NoValue, Opened, Pinned,
-    QueryError, QueryNotUTF8, QuerySyntax, Refusal, TooDeep, TooLong, TooMany, TooManyAttempts, TooManyAttributes,
+    NoMemory, NoNode, NoOperation, NoPass, NotCovered, NotIndexable, NotPinned, NotUTF8, NoValue, NoVolume, Opened,
+    OtherVolume, PartialIndex, Pinned, QueryError, QueryNotUTF8, QuerySyntax, Refusal, TooDeep, TooLong, TooMany, TooManyAttempts, TooManyAttributes,
     TooManyIndices, WrongKind,
 )
 from .language import Comparison, Hint, any_case, escape
 from .local import open
+from .nodes import node_in, number_of, volume_of
 from .operations import (
     MOST_OPERATIONS, Batch, MakeIndex, NewNode, Operation, RemoveIndex, RemoveNode, SetAttribute, UnsetAttribute,
 )
 from .queries import Item, Name, Operator, Prepared, prepare, prepare_items
+from .shelf import Shelf, ShelfVersion
+from .shelf import open as open_shelf
 from .store import Entry, Held, Pass, Status
 from .values import Int32, Int64, Integer, Kind, Typed, UInt32, UInt64, Value
 from .versions import Attributes, Version
@@ -53,16 +57,17 @@ STRING, INT32, INT64, MIME, RAW, UINT32, UINT64 = (
     Kind.STRING, Kind.INT32, Kind.INT64, Kind.MIME, Kind.RAW, Kind.UINT32, Kind.UINT64)
 
 __all__ = [
-    "Attributes", "BadBytes", "BadCount", "BadItems", "BadLimits", "BadPart", "BadPattern", "Batch", "BrokenConnection",
-    "Busy", "Change", "ChangedAttributes", "Closed", "CommitsSpent", "Comparison", "Conflict", "DataLength",
-    "Disconnected", "Entry", "Error", "ErrorNumber", "Expired", "Forked", "Full", "HasNul", "Held", "Hint", "INT32",
-    "INT64", "IndexExists", "Int32", "Int64", "Integer", "Item", "Kind", "LineTooLong", "MIME", "MOST_OPERATIONS",
-    "MakeIndex", "Name", "NameLength", "Nested", "NewNode", "NoAttribute", "NoIndex", "NoItem", "NoKind", "NoMemory",
-    "NoNode", "NoOperation", "NoPass", "NoServer", "NoValue", "NoWatch", "NotAllowed", "NotCovered", "NotIndexable",
-    "NotKept", "NotPinned", "NotUTF8", "Opened", "Operation", "Operator", "Pass", "Pinned", "Prepared", "ProtocolError",
-    "QueryError", "QueryNotUTF8", "QuerySyntax", "RAW", "Refusal", "RemoveIndex", "RemoveNode", "STRING", "ServerError",
-    "ServerRefusal", "SetAttribute", "Status", "TimedOut", "TooDeep", "TooLong", "TooMany", "TooManyAttempts",
-    "TooManyAttributes", "TooManyIndices", "TooManyWatches", "Typed", "UINT32", "UINT64", "UInt32", "UInt64",
-    "Unavailable", "UnsetAttribute", "Value", "Version", "WrongKind", "any_case", "connect", "escape", "open",
-    "prepare", "prepare_items",
+    "Attributes", "BadBytes", "BadCount", "BadItems", "BadLimits", "BadPart", "BadPattern", "Batch", "Behind",
+    "BrokenConnection", "Busy", "Change", "ChangedAttributes", "Closed", "CommitsSpent", "Comparison", "Conflict",
+    "DataLength", "Disconnected", "Entry", "Error", "ErrorNumber", "Expired", "Forked", "Full", "HasNul", "Held",
+    "Hint", "INT32", "INT64", "IndexExists", "Int32", "Int64", "Integer", "Item", "Kind", "LineTooLong", "MIME",
+    "MOST_OPERATIONS", "MakeIndex", "Name", "NameLength", "Nested", "NewNode", "NoAttribute", "NoIndex", "NoItem",
+    "NoKind", "NoMemory", "NoNode", "NoOperation", "NoPass", "NoServer", "NoValue", "NoVolume", "NoWatch", "NotAllowed",
+    "NotCovered", "NotIndexable", "NotKept", "NotPinned", "NotUTF8", "Opened", "Operation", "Operator", "OtherVolume",
+    "PartialIndex", "Pass", "Pinned", "Prepared", "ProtocolError", "QueryError", "QueryNotUTF8", "QuerySyntax", "RAW",
+    "Refusal", "RemoveIndex", "RemoveNode", "STRING", "ServerError", "ServerRefusal", "SetAttribute", "Shelf",
+    "ShelfVersion", "Status", "TimedOut", "TooDeep", "TooLong", "TooMany", "TooManyAttempts", "TooManyAttributes",
+    "TooManyIndices", "TooManyWatches", "Typed", "UINT32", "UINT64", "UInt32", "UInt64", "Unavailable",
+    "UnsetAttribute", "Value", "Version", "WrongKind", "any_case", "connect", "escape", "node_in", "number_of", "open",
+    "open_shelf", "prepare", "prepare_items", "volume_of",
 ]

@@ -2,10 +2,10 @@
 
 from __future__ import annotations
 
-from typing import Dict, Optional, Tuple
+from typing import Callable, Dict, List, Optional, Tuple
 
 from . import _saved_errors
-from .errors import Error, ErrorNumber, Refusal, refusal
+from .errors import Behind, Error, ErrorNumber, NoVolume, OtherVolume, PartialIndex, Refusal, refusal
 
 
 class ServerError(Error):
@@ -134,11 +134,32 @@ _CARRIED: Dict[int, Tuple[str, Optional[str]]] = {
 }
 
 
+def _number(details: Dict[str, object], key: str) -> Optional[int]:
+    """A number that goes with an error."""
+    found = details.get(key)
+    return found if isinstance(found, int) else None
+
+
+def _numbers(details: Dict[str, object], key: str) -> List[int]:
+    found = details.get(key)
+    return [found] if isinstance(found, int) else list(found) if isinstance(found, list) else []
+
+
+_OF_VOLUMES: Dict[str, Callable[[Dict[str, object]], Error]] = {
+    "NoVolume": lambda details: NoVolume(_number(details, "volume"), _number(details, "volumes") or 0),
+    "OtherVolume": lambda details: OtherVolume(_number(details, "volume") or 0, _number(details, "operation")),
+    "PartialIndex": lambda details: PartialIndex(_number(details, "operation")),
+    "Behind": lambda details: Behind(_numbers(details, "expected"), _numbers(details, "found")),
+}
+
+
 def _of_library(number: int, details: Dict[str, object], query: Optional[str]) -> Refusal:
     """The error of the library with this number."""
     key, listed = _CARRIED.get(number, ("", None))
     carried = details.get(key)
-    return refusal(number, carried if isinstance(carried, int) else None, query, listed)
+    refused = refusal(number, carried if isinstance(carried, int) else None, query, listed)
+    refused.volume = _number(details, "volume")
+    return refused
 
 
 def error_of(path: str, details: Dict[str, object], query: Optional[str] = None) -> Error:
@@ -146,6 +167,8 @@ def error_of(path: str, details: Dict[str, object], query: Optional[str] = None)
     number, name, message = details.get("number"), str(details.get("name")), str(details.get("message"))
     if isinstance(number, int):
         return _of_library(number, details, query)
+    if name in _OF_VOLUMES:
+        return _OF_VOLUMES[name](details)
     if name == "Protocol":
         return ProtocolError(path, f"{message}; it knows {details.get('known')}")
     refused = _REFUSALS.get(name, ServerRefusal)(path, name, message)

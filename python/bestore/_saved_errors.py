@@ -73,6 +73,31 @@ class DiskFull(SavedError):
         return "the disk is full"
 
 
+class NoFile(SavedError):
+    """The file of a volume is missing, and that of a later one is there."""
+
+    @property
+    def summary(self) -> str:
+        return "the file of this volume is missing"
+
+
+class Fewer(SavedError):
+    """A shelf can't be opened with fewer volumes than its folder has, nor with none."""
+
+    def __init__(self, path: str, found: int, wanted: int) -> None:
+        super().__init__(path, found, wanted)
+        self.found = found
+        """How many the folder has."""
+        self.wanted = wanted
+        """How many were asked for, or `found` if no number was."""
+
+    @property
+    def summary(self) -> str:
+        if self.found == 0:
+            return "the folder has no volumes, and it isn't said how many to make"
+        return f"the folder has {self.found} volumes, and can't be opened with {self.wanted}"
+
+
 class SqliteError(SavedError):
     """Another error of SQLite, which is the `__cause__`."""
 

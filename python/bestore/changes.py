@@ -4,7 +4,8 @@ from __future__ import annotations
 
 from typing import TYPE_CHECKING, ClassVar, Dict, Iterator, List, MutableMapping, Optional, Set, Tuple
 
-from .errors import BadCount, NoAttribute, NoNode, NotPinned, WrongKind, encoded
+from .errors import BadCount, NoAttribute, NoNode, NotPinned, OtherVolume, WrongKind, encoded
+from .nodes import volume_of
 from .operations import MOST_OPERATIONS, SET, Batch
 from .queries import Prepared
 from .values import KIND_OF, RANGES, Encoded, Kind, Typed, Value, encode_value, typed_value
@@ -25,8 +26,10 @@ class Change(Version):
 
     _shown: ClassVar[str] = "change"
 
-    def __init__(self, user: Pass, check_kinds: bool = True) -> None:
+    def __init__(self, user: Pass, check_kinds: bool = True, volume: Optional[int] = None) -> None:
         self._snapshot = user.pin()
+        self._volume = volume  # of all operations, once it is known
+        self._has_volumes = user.volumes > 1
         self._batch, self._check_kinds = Batch(), check_kinds
         self._next: Optional[int] = None
         self._kinds: Optional[Dict[str, int]] = None
@@ -39,19 +42,34 @@ class Change(Version):
         """How many operations may still be collected."""
         return MOST_OPERATIONS - len(self._batch)
 
-    def _collecting(self) -> Batch:
-        """The batch, which takes one more operation."""
+    def _collecting(self, node: Optional[int] = None) -> Batch:
+        """The batch, which takes one more operation, and that on a node, if one is given. `OtherVolume` if it is in another
+        volume than the operations before it."""
         if not self._snapshot._is_pinned:
             raise NotPinned()
         if len(self._batch) >= MOST_OPERATIONS:
             raise BadCount()
+        if self._has_volumes and node is not None:
+            if self._volume is None:
+                self._volume = volume_of(node)
+            if volume_of(node) != self._volume:
+                raise OtherVolume(self._volume, len(self._batch))
         return self._batch
 
+    def _first_new(self) -> int:
+        """The first node that the change makes."""
+        if self._volume is not None:
+            return self._snapshot._next_in(self._volume)
+        node = self.next_node
+        if self._has_volumes:
+            self._volume = volume_of(node)
+        return node
+
     def new(self) -> int:
-        """Makes a node, and returns its number."""
+        """Makes a node, and returns its number. Of several volumes it is in that of the change: `Pass.change`."""
         batch = self._collecting()
         if self._next is None:
-            self._next = self.next_node
+            self._next = self._first_new()
         node, self._next = self._next, self._next + 1
         batch.new_node()
         self._made.add(node)
@@ -59,7 +77,7 @@ class Change(Version):
 
     def remove(self, node: int) -> None:
         """Removes a node and all its attributes."""
-        self._collecting().remove_node(node)
+        self._collecting(node).remove_node(node)
         self._made.discard(node)
         self._set.pop(node, None)
         self._removed.add(node)
@@ -68,7 +86,7 @@ class Change(Version):
         """Sets an attribute, with the kind that `Batch.set` gives it. `WrongKind` if it is an integer of another
         kind than the index of that name, unless the change was made with check_kinds=False."""
         code, number, taken = encode_value(value, kind)
-        batch = self._collecting()
+        batch = self._collecting(node)
         self._check_kind(name, code)
         batch._add_encoded(SET, node, encoded(name), code, number, taken)
         self._set.setdefault(node, {})[name] = code, number, taken
@@ -88,7 +106,7 @@ class Change(Version):
 
     def unset(self, node: int, name: str) -> None:
         """Removes an attribute."""
-        self._collecting().unset(node, name)
+        self._collecting(node).unset(node, name)
         self._set.setdefault(node, {})[name] = None
 
     def make_index(self, name: str, kind: int) -> None:
@@ -139,6 +157,10 @@ class Change(Version):
         return self._snapshot.number
 
     @property
+    def numbers(self) -> Tuple[int, ...]:
+        return self._snapshot.numbers
+
+    @property
     def _is_pinned(self) -> bool:
         return self._snapshot._is_pinned
 
@@ -167,8 +189,11 @@ class Change(Version):
     def indices(self) -> Dict[str, Kind]:
         return self._snapshot.indices()
 
-    def state(self) -> Iterator[Batch]:
-        return self._snapshot.state()
+    def partial_indices(self) -> Dict[str, List[int]]:
+        return self._snapshot.partial_indices()
+
+    def state(self, volume: Optional[int] = None) -> Iterator[Batch]:
+        return self._snapshot.state(volume)
 
 
 class ChangedAttributes(Attributes, MutableMapping[str, Value]):

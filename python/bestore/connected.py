@@ -22,11 +22,10 @@ from __future__ import annotations
 
 import operator
 import os
-import threading
 import time
 from contextlib import suppress
 from functools import partial
-from typing import Any, Callable, Dict, Iterator, List, NamedTuple, Optional, Set, Tuple, TypeVar, Union
+from typing import Any, Callable, Dict, Iterator, List, NamedTuple, Optional, Sequence, Set, Tuple, TypeVar, Union
 from weakref import WeakValueDictionary
 
 from ._connected_errors import (
@@ -37,15 +36,16 @@ from ._journal import line_of
 from ._wire import (
     JSON, PROTOCOL, operations_of, read_entry, read_kind, read_nodes, read_operation, read_value)
 from .errors import (
-    BadCount, Closed, Error, Forked, NameLength, NoAttribute, NoNode, NotCovered, NotPinned, Pinned, TooLong, encoded,
-    encoded_query)
+    BadCount, Closed, Error, Forked, NameLength, NoAttribute, NoNode, NotCovered, NotPinned, NoVolume, Pinned, TooLong,
+    encoded, encoded_query)
 from .handles import LockOwner
-from .local import seen_in_library
+from .local import refreshed
+from .nodes import within
 from .operations import MOST_OPERATIONS, NEW, Batch
 from .queries import Prepared, prepare_items
-from .store import TRIES, Entry, Held, Pass, Status
+from .store import TRIES, Entry, Held, Status, ThreadPass
 from .values import RANGES, Kind, Typed, plain
-from .versions import Query, Version, not_covered
+from .versions import Query, Row, Version, not_covered
 
 __all__ = [
     "BrokenConnection", "Changes", "ConnectedPass", "ConnectedVersion", "Disconnected", "Expired", "LineTooLong",
@@ -76,6 +76,8 @@ class Server(NamedTuple):
     commits: int
     watches: int
     """How many watches a pass may have."""
+    volumes: int = 1
+    """How many volumes there are. `pages` and `commits` are of each."""
 
 
 def _read_server(hello: JSON) -> Tuple[Server, int]:
@@ -83,7 +85,7 @@ def _read_server(hello: JSON) -> Tuple[Server, int]:
     limits = hello["limits"]
     server = Server(
         hello["server"], hello["library"], hello["run"], hello["kept"], limits["pages"], limits["passes"], limits["commits"],
-        limits["watches"])
+        limits["watches"], hello.get("volumes", 1))
     return server, hello["pass"]
 
 
@@ -94,12 +96,16 @@ class ConnectedVersion(Version):
 
     def __init__(self, user: ConnectedPass) -> None:
         self._user = user
-        self._number, self._next = user._pin()
+        self._number, self._next, self._numbers, self._nexts = user._pin()
         self._is_pinned = True
 
     @property
     def number(self) -> int:
         return self._number
+
+    @property
+    def numbers(self) -> Tuple[int, ...]:
+        return self._numbers
 
     def __del__(self) -> None:
         if self._is_pinned:
@@ -129,12 +135,19 @@ class ConnectedVersion(Version):
         self._user._check_process()
         return self._next
 
+    def _next_in(self, volume: int) -> int:
+        if not 0 <= volume < len(self._nexts):
+            raise NoVolume(volume, len(self._nexts))
+        return self._nexts[volume]
+
     def _ask_query(self, command: str, asked: Query, text: str, others: JSON, read: Callable[[JSON], _Result]) -> _Result:
         """Asks something of a query. `text` is what is sent for it."""
         try:
             return self._ask(command, {"query": text, **others}, read, asked if isinstance(asked, str) else None)
-        except NotCovered:
-            raise self._not_covered(asked) from None
+        except NotCovered as error:
+            named = self._not_covered(asked)
+            named.volume = error.volume
+            raise named from None
         except LineTooLong:
             raise TooLong(query=text) from None
 
@@ -149,6 +162,17 @@ class ConnectedVersion(Version):
     def _count_of(self, asked: Query) -> int:
         return self._ask_query("query", asked, _text_of(asked), {"count": True}, lambda ok: int(ok["count"]))
 
+    def _rows_of(self, query: Union[str, Prepared], names: List[str], first: int, most: int) -> List[Row]:
+        for name in names:
+            encoded(name)
+        text, rows = _text_of(query), []  # type: str, List[Row]
+        more: Optional[int] = first
+        while more is not None and more < 2**64 and len(rows) < most:
+            others: JSON = {"columns": names, "from": more, "limit": most - len(rows)}
+            page, more = self._ask_query("query", query, text, others, _read_rows)
+            rows += page
+        return rows
+
     def explain(self, text: str) -> str:
         encoded_query(text)
         return self._ask_query("explain", text, text, {}, lambda ok: str(ok["text"]))
@@ -156,22 +180,18 @@ class ConnectedVersion(Version):
     def refresh(self, prepared: Prepared) -> Tuple[List[int], List[int]]:
         """As in a version of a store in this process, up to this version. All nodes of the query come through the socket,
         and the program's memory has them until the query is closed. By `ConnectedPass.watch` only the changes come."""
-        prepared._check_process()
-        with prepared._refreshing:
-            found = set(self._nodes_of(prepared))
-            seen = prepared._seen
-            if seen is None:
-                seen = seen_in_library(prepared) if prepared._is_in_library else set()
-            prepared._seen, prepared._is_in_library = found, False
-        return sorted(found - seen), sorted(seen - found)
+        return refreshed(prepared, self)
 
     def indices(self) -> Dict[str, Kind]:
         return self._ask("indices", {}, _read_indices)
 
-    def state(self) -> Iterator[Batch]:
+    def partial_indices(self) -> Dict[str, List[int]]:
+        return self._ask("indices", {}, lambda ok: dict(ok.get("partial", {})))
+
+    def state(self, volume: Optional[int] = None) -> Iterator[Batch]:
         more: Optional[int] = 0
         while more is not None:
-            batches, more = self._ask("state", {"from": more}, _read_state)
+            batches, more = self._ask("state", {"from": more, **_in_volume(volume)}, _read_state)
             for batch in batches:
                 if not self._is_pinned:
                     raise NotPinned()
@@ -219,6 +239,11 @@ def _read_page(ok: JSON) -> Tuple[List[int], Optional[int]]:
     return read_nodes(ok["nodes"]), ok.get("more")
 
 
+def _read_rows(ok: JSON) -> Tuple[List[Row], Optional[int]]:
+    rows = [[None if value is None else read_value(value).value for value in row] for row in ok["rows"]]
+    return list(zip(read_nodes(ok["nodes"]), rows)), ok.get("more")
+
+
 def _read_state(ok: JSON) -> Tuple[List[Batch], Optional[int]]:
     return [Batch(map(read_operation, batch)) for batch in ok["batches"]], ok.get("more")
 
@@ -234,6 +259,22 @@ def _read_attribute(ok: JSON) -> Optional[Typed]:
 
 def _read_attributes(ok: JSON) -> Dict[str, Typed]:
     return {name: read_value(value) for name, value in ok["attributes"].items()}
+
+
+def _in_volume(volume: Optional[int]) -> JSON:
+    """The parameter of a volume, if one is said. `NoVolume` if it can't be one."""
+    if volume is not None and volume not in RANGES[Kind.UINT32]:
+        raise NoVolume(volume, 0)
+    return {} if volume is None else {"volume": volume}
+
+
+def _read_pin(ok: JSON) -> Tuple[int, int, Tuple[int, ...], Tuple[int, ...]]:
+    commit, following = int(ok["commit"]), int(ok["next"])
+    return commit, following, tuple(ok.get("commits", (commit,))), tuple(ok.get("nexts", (following,)))
+
+
+def _read_statuses(ok: JSON) -> List[Status]:
+    return [_read_status(volume) for volume in ok.get("volumes", [ok])]
 
 
 def _read_status(ok: JSON) -> Status:
@@ -254,14 +295,13 @@ def _take_push(watches: "WeakValueDictionary[int, Watch]", push: JSON) -> None:
         watch._take(push)
 
 
-class ConnectedPass(LockOwner, Pass):
+class ConnectedPass(LockOwner, ThreadPass):
     """A pass of a server's store: a connection. The calls of several threads on it wait for one another, so each thread has a
     pass of its own."""
 
     def __init__(self, path: str, timeout: Optional[float], run: Optional[str] = None) -> None:
         self._connection: Optional[Connection] = None
         super().__init__()
-        self._changing: Optional[int] = None  # the thread that runs the function of a change
         self._committed = 0
         self._is_asking = self._has_pin = self._is_left = False
         self._watches: "WeakValueDictionary[int, Watch]" = WeakValueDictionary()
@@ -309,26 +349,18 @@ class ConnectedPass(LockOwner, Pass):
             self._unpin_left()
 
     @property
-    def _is_changing(self) -> bool:
-        return self._changing == threading.get_ident()
-
-    @_is_changing.setter
-    def _is_changing(self, is_changing: bool) -> None:
-        self._changing = threading.get_ident() if is_changing else None
-
-    @property
     def _is_open(self) -> bool:
         """Whether calls can be made."""
         return self._connection is not None and self._connection.is_open
 
-    def _pin(self) -> Tuple[int, int]:
-        """Pins. Returns the commit number, and the next node."""
+    def _pin(self) -> Tuple[int, int, Tuple[int, ...], Tuple[int, ...]]:
+        """Pins. Returns the commit number, the next node, and both of each volume."""
         self._check_process()
         with self._lock:
             self._unpin_left()
             if self._has_pin and self._is_open:
                 raise Pinned()
-            pinned = self._ask("pin", {}, lambda ok: (int(ok["commit"]), int(ok["next"])))
+            pinned = self._ask("pin", {}, _read_pin)
             self._has_pin = True
             return pinned
 
@@ -362,6 +394,10 @@ class ConnectedPass(LockOwner, Pass):
         self._check_process()
         return self._number
 
+    @property
+    def volumes(self) -> int:
+        return self.server.volumes
+
     def another(self) -> ConnectedPass:
         """A pass of the same store for another thread: a new connection. It may be called in any thread. `NoPass` if there
         are as many clients as the server takes; `NoServer`, or `Disconnected` if the server was started anew since."""
@@ -384,9 +420,20 @@ class ConnectedPass(LockOwner, Pass):
         return ConnectedVersion(self)
 
     def _write(self, batch: Batch, tries: int, expected: Optional[int]) -> Tuple[int, List[int]]:
+        if expected is None or self.server.volumes == 1:
+            return self._write_batch(batch, expected)
+        volume, _ = within(batch)
+        if volume is None:
+            raise NoVolume(None, self.server.volumes)
+        return self._write_batch(batch, expected, volume)
+
+    def _write_in(self, volume: int, batch: Batch, tries: int, expected: Optional[int]) -> Tuple[int, List[int]]:
+        return self._write_batch(batch, expected, volume)
+
+    def _write_batch(self, batch: Batch, expected: Optional[int], volume: Optional[int] = None) -> Tuple[int, List[int]]:
         if not 1 <= len(batch) <= MOST_OPERATIONS:
             raise BadCount()
-        parameters: JSON = {"operations": operations_of(batch)}
+        parameters: JSON = {"operations": operations_of(batch), **_in_volume(volume)}
         if expected is not None:
             parameters["expected"] = expected if expected in RANGES[Kind.UINT64] else 2**64 - 1  # which no journal has
 
@@ -402,17 +449,26 @@ class ConnectedPass(LockOwner, Pass):
     def journal(self, tries: int = TRIES) -> str:
         return "".join(map(line_of, self.journal_from()))
 
-    def journal_from(self, number: int = 0, tries: int = TRIES) -> Iterator[Entry]:
+    def journal_from(self, number: int = 0, tries: int = TRIES, volume: Optional[int] = None) -> Iterator[Entry]:
         """The entries of the journal after the first `number`, up to those that are there when the last page is read. So
         `store.journal_from(version.number)` has what was written after a snapshot. A round trip reads a page of some
         thousand entries."""
         more: Optional[int] = max(operator.index(number), 0)
         while more is not None and more < 2**64:
-            entries, more = self._ask("journal", {"from": more}, _read_journal)
+            entries, more = self._ask("journal", {"from": more, **_in_volume(volume)}, _read_journal)
             yield from entries
 
     def status(self, tries: int = TRIES) -> Status:
         return self._ask("status", {}, _read_status)
+
+    def statuses(self, tries: int = TRIES) -> List[Status]:
+        return self._ask("status", {}, _read_statuses)
+
+    def reach(self, numbers: Union[int, Sequence[int]], within: float = 5) -> Tuple[int, ...]:
+        """As in a store of this process. The server waits, up to a minute."""
+        wanted = numbers if isinstance(numbers, int) else list(numbers)
+        parameters = {"commit": wanted, "within": max(int(within * 1000), 0)}
+        return self._ask("reach", parameters, lambda ok: tuple(ok.get("commits", (ok["commit"],))))
 
     def flush(self) -> None:
         """Returns when all that was written before the call is in the server's file. `NotKept` if it keeps none;

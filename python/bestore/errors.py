@@ -4,7 +4,7 @@ from __future__ import annotations
 
 import enum
 import unicodedata
-from typing import ClassVar, Dict, Optional, Tuple, Type
+from typing import ClassVar, Dict, Optional, Sequence, Tuple, Type
 
 
 class ErrorNumber(enum.IntEnum):
@@ -96,6 +96,62 @@ class WrongKind(Error, TypeError):
                 f"set it as {self.index_kind}, or no query finds it")
 
 
+class NoVolume(Error):
+    """The store has no such volume, or the call has to say one because there are several."""
+
+    def __init__(self, volume: Optional[int], volumes: int) -> None:
+        super().__init__(volume, volumes)
+        self.volume = volume
+        """The volume, or None if the call says none."""
+        self.volumes = volumes
+        """How many there are."""
+
+    def __str__(self) -> str:
+        if self.volume is None:
+            return f"there are {self.volumes} volumes, and the call says none"
+        return f"there is no volume {self.volume}: there are {self.volumes}, counted from 0"
+
+
+class OtherVolume(Error, ValueError):
+    """An operation names a node of another volume than the one that is written. A write is in one volume."""
+
+    def __init__(self, volume: int, operation: Optional[int]) -> None:
+        super().__init__(volume, operation)
+        self.volume = volume
+        """The volume that is written."""
+        self.operation = operation
+        """The operation, from 0."""
+
+    def __str__(self) -> str:
+        return f"a node isn't in volume {self.volume}, which is written (operation {self.operation}, counted from 0)"
+
+
+class PartialIndex(Error, ValueError):
+    """An index is made in all volumes, by a batch that has no other operations. A batch that says a volume may make it there."""
+
+    def __init__(self, operation: Optional[int]) -> None:
+        super().__init__(operation)
+        self.operation = operation
+        """The first operation that makes or removes an index, from 0."""
+
+    def __str__(self) -> str:
+        return f"an index is made in all volumes, in a batch of its own (operation {self.operation}, counted from 0)"
+
+
+class Behind(Error):
+    """The journals did not get so long in time."""
+
+    def __init__(self, expected: Sequence[int], found: Sequence[int]) -> None:
+        super().__init__(expected, found)
+        self.expected = tuple(expected)
+        """How many entries the journal of each volume should have had."""
+        self.found = tuple(found)
+        """How many it had."""
+
+    def __str__(self) -> str:
+        return f"the journals have {list(self.found)} entries, and not {list(self.expected)} yet"
+
+
 class BadBytes(Error, ValueError):
     """Bytes that aren't those of a batch."""
 
@@ -138,6 +194,8 @@ class Refusal(Error):
         """Of items that can't be read or build no query: the item, from 0, at which that shows."""
         self.operation: Optional[int] = None
         """Of a batch that can't be read: the first operation, from 0, that can't."""
+        self.volume: Optional[int] = None
+        """The volume whose error it is, if the store has several."""
         self._carry(carried, listed)
 
     def _carry(self, carried: Optional[int], listed: Optional[str]) -> None:
@@ -148,8 +206,13 @@ class Refusal(Error):
         """What went wrong, in one line."""
         return self.meaning
 
+    @property
+    def _shown(self) -> str:
+        """The summary, with the volume if there is one."""
+        return self.summary if self.volume is None else f"volume {self.volume}: {self.summary}"
+
     def __str__(self) -> str:
-        return self.summary
+        return self._shown
 
 
 def refusal(number: int, carried: Optional[int] = None, query: Optional[str] = None, listed: Optional[str] = None) -> Refusal:
@@ -215,7 +278,7 @@ class QueryError(Refusal):
 
     def __str__(self) -> str:
         shown = self.shown()
-        return self.summary if shown is None else f"{self.summary}\n  " + shown.replace("\n", "\n  ")
+        return self._shown if shown is None else f"{self._shown}\n  " + shown.replace("\n", "\n  ")
 
 
 class _AtPlace(QueryError, _OfList):

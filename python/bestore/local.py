@@ -9,7 +9,7 @@ from typing import Any, Callable, Dict, Iterator, List, Optional, Set, Tuple, Ty
 
 from . import _native
 from ._library import Usage, calls, check
-from .errors import BadLimits, ErrorNumber, NotCovered, Refusal, encoded_query, refusal
+from .errors import BadLimits, ErrorNumber, NotCovered, NoVolume, Refusal, encoded_query, refusal
 from .handles import CURSOR, PASS, HandleOwner
 from .operations import Batch
 from .queries import Prepared, encode_items
@@ -20,6 +20,12 @@ from .versions import Query, Version
 _Answered = TypeVar("_Answered", bound=Tuple[Any, ...])
 
 _BUSY, _FULL = int(ErrorNumber.BUSY), int(ErrorNumber.FULL)
+
+
+def check_one_volume(volume: Optional[int]) -> None:
+    """`NoVolume` if a call says another volume than the only one."""
+    if volume:
+        raise NoVolume(volume, 1)
 
 
 class _Cursor(HandleOwner):
@@ -95,7 +101,8 @@ class LocalVersion(_native.Reader, Version):
     def _listed(self, node: int) -> Dict[str, Typed]:
         return self.attributes(node, True)
 
-    def state(self) -> Iterator[Batch]:
+    def state(self, volume: Optional[int] = None) -> Iterator[Batch]:
+        check_one_volume(volume)
         with _Cursor() as cursor:
             while True:
                 batch = self._state(cursor)
@@ -117,6 +124,19 @@ def seen_in_library(prepared: Prepared) -> Set[int]:
                         raise
                     missing = error.missing
             store.make_index(missing, Kind.STRING)
+
+
+def refreshed(prepared: Prepared, version: Version) -> Tuple[List[int], List[int]]:
+    """Which nodes came and which went since a query was refreshed last, by all that it finds in this version. Python keeps these
+    nodes, and not the library."""
+    prepared._check_process()
+    with prepared._refreshing:
+        found = set(version._nodes_of(prepared))
+        seen = prepared._seen
+        if seen is None:
+            seen = seen_in_library(prepared) if prepared._is_in_library else set()
+        prepared._seen, prepared._is_in_library = found, False
+    return sorted(found - seen), sorted(seen - found)
 
 
 class LocalPass(HandleOwner, Pass):
@@ -219,7 +239,8 @@ class LocalPass(HandleOwner, Pass):
                 return written.raw[:count.value].decode()
             room = 2 * count.value
 
-    def journal_from(self, number: int = 0, tries: int = TRIES) -> Iterator[Entry]:
+    def journal_from(self, number: int = 0, tries: int = TRIES, volume: Optional[int] = None) -> Iterator[Entry]:
+        check_one_volume(volume)
         number = max(operator.index(number), 0)
         while number < 2**64:
             answer, carried, by, batch = self._repeated(tries, self._journal_entry, number)

@@ -26,13 +26,15 @@ import operator
 import os
 import threading
 from contextlib import ExitStack, suppress
+from functools import partial
 from types import TracebackType
-from typing import Any, Dict, List, Optional, Tuple, Type, Union
+from typing import Any, Dict, List, Optional, Sequence, Tuple, Type, Union
 
 from . import local as _local
+from . import shelf as _shelf
 from ._library import calls, check
 from ._saved_errors import (
-    Differs, DiskFull, Foreign, Held, Newer, NotSaved, SavedError, SqliteError, Stopped, TooLarge, refused)
+    Differs, DiskFull, Fewer, Foreign, Held, Newer, NoFile, NotSaved, SavedError, SqliteError, Stopped, TooLarge, refused)
 from ._saved_file import File, Row
 from ._saved_line import Line, Turn
 from ._saved_rows import Repeater
@@ -40,9 +42,11 @@ from .errors import BadLimits, Error
 from .operations import Batch
 
 __all__ = [
-    "Differs", "DiskFull", "Foreign", "Held", "Newer", "NotSaved", "Saved", "SavedError", "SavedPass", "SqliteError",
-    "Stopped", "TooLarge", "open",
+    "Differs", "DiskFull", "Fewer", "Foreign", "Held", "Newer", "NoFile", "NotSaved", "Saved", "SavedError", "SavedPass",
+    "SavedShelf", "SqliteError", "Stopped", "TooLarge", "open", "open_shelf",
 ]
+
+_ENDING = ".bestore"  # of the name of a volume's file
 
 _MOST_ROWS = 1024  # how many entries a commit has at most
 _TRIES = 2**63 - 1  # for as long as other passes write: an entry that can't be read would end all saving
@@ -322,6 +326,83 @@ def open(path: Union[str, bytes, "os.PathLike[Any]"], pages: int = 4096, passes:
                 saver.compact()
         store = Saved(saver)
         opened.pop_all()
+    return store
+
+
+class SavedShelf(_shelf.Shelf):
+    """A pass of a shelf whose volumes are kept in files. With the first one the files are closed."""
+
+    def __init__(self, passes: Sequence[SavedPass]) -> None:
+        super().__init__(passes)
+        self._saved = tuple(passes)
+
+    def another(self) -> SavedShelf:
+        """A pass of the same shelf for another thread, by any pass and in any thread. `NoPass` if there is none."""
+        return SavedShelf(_shelf.taken(user.another for user in self._saved))
+
+    def flush(self) -> None:
+        """Returns when all that was written before the call is in the files. `Stopped`, of the first volume that can't be saved;
+        the others are saved."""
+        with ExitStack() as calls_of_all:
+            for user in reversed(self._saved):
+                calls_of_all.callback(user.flush)
+
+    def compact(self) -> None:
+        """Puts the current snapshots into the files, as `SavedPass.compact` of each volume."""
+        with ExitStack() as calls_of_all:
+            for user in reversed(self._saved):
+                calls_of_all.callback(user.compact)
+
+    def _index_new(self) -> None:
+        """Makes the indices that all other volumes have in those that never had a node."""
+        new, common = [], None
+        for user in self._saved:
+            with user.pin() as version:
+                if version.next_node == 1:
+                    new.append((user, version.indices()))
+                elif common is None:
+                    common = set(version.indices().items())
+                else:
+                    common &= set(version.indices().items())
+        for user, indices in new:
+            for name, kind in sorted((common or set()) - set(indices.items())):
+                user.make_index(name, kind)
+
+
+def _volumes_in(folder: str) -> int:
+    """How many volumes a folder has. `NoFile` if one before another is missing."""
+    names = [name[:-len(_ENDING)] for name in os.listdir(folder) if name.endswith(_ENDING)]
+    found = sorted(int(name) for name in names if name.isdecimal() and str(int(name)) == name)
+    for expected, volume in enumerate(found):
+        if volume != expected:
+            raise NoFile(_file_of(folder, expected))
+    return len(found)
+
+
+def _file_of(folder: str, volume: int) -> str:
+    return os.path.join(folder, f"{volume}{_ENDING}")
+
+
+def open_shelf(folder: Union[str, bytes, "os.PathLike[Any]"], volumes: Optional[int] = None, pages: int = 4096, passes: int = 8,
+               commits: int = 2**32 - 1, every: Optional[float] = None) -> SavedShelf:
+    """Opens the volumes that the folder has, each in a file of its own: `0.bestore`, `1.bestore` and so on. With a number of
+    `volumes`, 1 to 64, it makes the folder, and those that are missing; one that is new gets the indices that the others have.
+    The other parameters are those of `open`, for each volume. The crate for Rust and bestored share the folder.
+
+    Raises what `open` raises; `Fewer` if the folder has more volumes than `volumes`, or none and no number is given; `NoFile` if
+    one before another is missing; an OSError if the folder can't be read or made."""
+    path = os.fsdecode(folder)
+    if volumes is not None:
+        if not 1 <= volumes <= _shelf.MOST_VOLUMES:
+            raise BadLimits()
+        os.makedirs(path, 0o700, exist_ok=True)
+    found = _volumes_in(path)
+    wanted = found if volumes is None else volumes
+    if found > wanted or wanted == 0:
+        raise Fewer(path, found, wanted)
+    files = (_file_of(path, volume) for volume in range(wanted))
+    store = SavedShelf(_shelf.taken(partial(open, file, pages, passes, commits, every) for file in files))
+    store._index_new()
     return store
 
 

@@ -2,15 +2,19 @@
 
 from __future__ import annotations
 
+import operator
 import random
+import threading
 import time
 from abc import ABC, abstractmethod
 from functools import partial
-from typing import Callable, Iterator, List, NamedTuple, Optional, Tuple, TypeVar
+from itertools import groupby
+from typing import Callable, Iterator, List, NamedTuple, Optional, Sequence, Tuple, TypeVar, Union
 
 from .changes import Change
-from .errors import Conflict, Nested, NoIndex, TooManyAttempts
+from .errors import Behind, Conflict, Nested, NoIndex, NoVolume, PartialIndex, TooManyAttempts
 from .handles import Owner
+from .nodes import volume_of
 from .operations import MOST_OPERATIONS, Batch, Operation
 from .values import Kind, Value
 from .versions import Version
@@ -90,13 +94,19 @@ class Pass(Owner, ABC):
 
     @property
     def committed(self) -> int:
-        """The commit number of the last write that this pass made, or 0 before the first."""
+        """The commit number of the last write that this pass made, or 0 before the first. Of several volumes it is the number in
+        the volume that was written."""
         return self._committed
 
     @property
     @abstractmethod
     def number(self) -> int:
-        """The pass's number, as `Busy`, `Status` and the journal have it."""
+        """The pass's number, as `Busy`, `Status` and the journal have it. Of several volumes that in the first."""
+
+    @property
+    def volumes(self) -> int:
+        """How many volumes the store has: 1, but for a shelf. `help(bestore.shelf)` says what a shelf promises."""
+        return 1
 
     @abstractmethod
     def another(self) -> Pass:
@@ -130,19 +140,44 @@ class Pass(Owner, ABC):
         the pass that wrote it, its operations and their outcomes. Takes memory for all of it, and other writes are
         `Busy` meanwhile."""
 
+    def _write_in(self, volume: int, batch: Batch, tries: int, expected: Optional[int]) -> Tuple[int, List[int]]:
+        """The same in this volume. `NoVolume` if it isn't there."""
+        if volume != 0:
+            raise NoVolume(volume, 1)
+        return self._write(batch, tries, expected)
+
     @abstractmethod
-    def journal_from(self, number: int = 0, tries: int = TRIES) -> Iterator[Entry]:
+    def journal_from(self, number: int = 0, tries: int = TRIES, volume: Optional[int] = None) -> Iterator[Entry]:
         """The entries of the journal after the first `number`, until there are no more. So
         `store.journal_from(version.number)` has what was written after a snapshot. Each entry is read by a call of
-        its own, which is tried up to so many times while another pass is writing, and then is `Busy`."""
+        its own, which is tried up to so many times while another pass is writing, and then is `Busy`.
+
+        If there are several volumes, the journal of this one; `NoVolume` without one."""
 
     @abstractmethod
     def status(self, tries: int = TRIES) -> Status:
         """How full the store is, and who is the oldest active reader, with up to so many tries while another pass is
-        writing."""
+        writing. Of several volumes the numbers are sums, and the reader is that of the first volume that has one."""
+
+    def statuses(self, tries: int = TRIES) -> List[Status]:
+        """How full each volume is."""
+        return [self.status(tries)]
+
+    def reach(self, numbers: Union[int, Sequence[int]], within: float = 5) -> Tuple[int, ...]:
+        """Waits until the journal has at least so many entries, or that of each volume, up to so many seconds. Returns how many
+        they have. Versions that the pass pins then have them. `Behind` if they aren't there in time."""
+        wanted = _numbers(numbers, self.volumes)
+        until = time.monotonic() + within
+        while True:
+            found = tuple(status.entries for status in self.statuses())
+            if all(map(operator.le, wanted, found)):
+                return found
+            if time.monotonic() >= until:
+                raise Behind(wanted, found)
+            time.sleep(0.002)
 
     def change(self, function: Callable[[Change], _Result], attempts: int = ATTEMPTS, *, check_kinds: bool = True,
-               tries: int = TRIES) -> _Result:
+               tries: int = TRIES, volume: Optional[int] = None) -> _Result:
         """Writes on what was read. Runs the function on a new snapshot, and commits the operations that it collected,
         but only if nothing else was written since. Otherwise it runs the function again, on a newer snapshot.
 
@@ -157,23 +192,36 @@ class Pass(Owner, ABC):
         operation, nothing is written. The function may run up to `attempts` times, so it should do nothing else that
         can't be done twice. If it raises, nothing is written. The snapshot is given up before the commit.
 
+        Of several volumes it reads all and writes one: the given one, otherwise that of its first operation. A new node
+        is made in the volume with the most free pages if the volume isn't known by then. It is committed if nothing else
+        was written to that volume; what it read of others may have changed. `OtherVolume` if it writes to another.
+
         Raises `TooManyAttempts` if other writes came between each time; `Pinned` if this pass is pinned; `Nested` if
         the function writes by this pass; and the errors of `apply`. `Change.set` says what `check_kinds` does;
         `tries` is as in `apply`."""
         back = StandingBack()
         conflict: Optional[Conflict] = None
         for _ in range(max(attempts, 1)):
-            change = Change(self, check_kinds)
+            change = Change(self, check_kinds, volume)
             result = self._run(function, change)
             if change.room == MOST_OPERATIONS:
                 return result
             try:
-                self.apply_if(change.number, change._batch, tries)
+                self._commit(change, tries)
                 return result
             except Conflict as error:
                 conflict = error
             back.wait_by_chance()
         raise TooManyAttempts(max(attempts, 1)) from conflict
+
+    def _commit(self, change: Change, tries: int) -> None:
+        """Writes what a change has collected, if nothing was written to its volume since."""
+        if self.volumes == 1:
+            self.apply_if(change.number, change._batch, tries)
+        elif change._volume is None:
+            raise PartialIndex(0)
+        else:
+            self.apply_if(change.numbers[change._volume], change._batch, tries, change._volume)
 
     def _run(self, function: Callable[[Change], _Result], change: Change) -> _Result:
         """Runs the function of a change, and gives the snapshot up."""
@@ -184,7 +232,7 @@ class Pass(Owner, ABC):
             finally:
                 self._is_changing = False
 
-    def apply(self, batch: Batch, tries: int = TRIES) -> Tuple[int, List[int]]:
+    def apply(self, batch: Batch, tries: int = TRIES, volume: Optional[int] = None) -> Tuple[int, List[int]]:
         """Applies a batch, all or none, whatever other passes have written meanwhile. Returns the commit number, and
         for each operation the new node's number or 0. A write that rests on what was read is made by `change`.
 
@@ -192,24 +240,35 @@ class Pass(Owner, ABC):
         some five seconds at `Full` while another pass has the oldest snapshot. Takes memory for the operations, and new
         pages on the way to each change of a tree.
 
+        Of several volumes the batch is in one: the given one, otherwise that of the nodes which it names, otherwise the
+        one with the most free pages. The commit number is that of the volume. A batch of `make_index` and `remove_index`
+        alone is written in each volume that lacks the index, or has it, one after another. If one refuses, those before
+        it are written, and the same batch writes the others; the number then is the sum.
+
         Raises `Busy`, `BadCount`, `NoMemory`; `NameLength`, `DataLength`, `HasNul`, `NotUTF8`, `NoKind` and
         `NoValue` with the first operation that can't be read; `NoNode`, `NoAttribute`, `TooManyAttributes`,
-        `IndexExists`, `NoIndex`, `TooManyIndices` and `NotIndexable`; `CommitsSpent`, `Full`."""
-        return self._written(batch, tries)
+        `IndexExists`, `NoIndex`, `TooManyIndices` and `NotIndexable`; `CommitsSpent`, `Full`. Of several volumes also
+        `NoVolume`, `OtherVolume`, `PartialIndex`."""
+        return self._written(batch, tries, volume=volume)
 
-    def apply_if(self, number: int, batch: Batch, tries: int = TRIES) -> Tuple[int, List[int]]:
+    def apply_if(self, number: int, batch: Batch, tries: int = TRIES, volume: Optional[int] = None) -> Tuple[int, List[int]]:
         """Applies a batch as `apply` does, if the journal has exactly so many entries: no write came after the
-        snapshot of this number. Otherwise raises `Conflict`, and nothing is written."""
+        snapshot of this number. Otherwise raises `Conflict`, and nothing is written. Of several volumes the journal is
+        that of the batch's volume, and a batch that names no node has to say one, or is `NoVolume`."""
         try:
-            return self._written(batch, tries, number)
+            return self._written(batch, tries, number, volume)
         except Conflict as conflict:
             conflict.expected = number
             raise
 
-    def _written(self, batch: Batch, tries: int, expected: Optional[int] = None) -> Tuple[int, List[int]]:
+    def _written(self, batch: Batch, tries: int, expected: Optional[int] = None,
+                 volume: Optional[int] = None) -> Tuple[int, List[int]]:
         if self._is_changing:
             raise Nested()
-        written = self._write(batch, tries, expected)
+        if volume is None:
+            written = self._write(batch, tries, expected)
+        else:
+            written = self._write_in(volume, batch, tries, expected)
         self._committed = written[0]
         return written
 
@@ -261,8 +320,31 @@ class Pass(Owner, ABC):
                 raise NoIndex()
             held = set(version.query_items(*version._all_in(name, kind)))
             lacking = [node for node in version if node not in held and version.kind(node, name) == kind]
-        parts = [lacking[first:first + MOST_OPERATIONS] for first in range(0, len(lacking), MOST_OPERATIONS)]
+        volumes = (list(nodes) for _, nodes in groupby(lacking, volume_of))
+        parts = [nodes[first:first + MOST_OPERATIONS] for nodes in volumes for first in range(0, len(nodes), MOST_OPERATIONS)]
         return sum(self.change(partial(_set_again, name, kind, part)) for part in parts)
+
+
+class ThreadPass(Pass):
+    """A pass that isn't a handle of the library. It keeps for itself which thread runs the function of a change."""
+
+    _changing: Optional[int] = None  # the thread that runs it
+
+    @property
+    def _is_changing(self) -> bool:
+        return self._changing == threading.get_ident()
+
+    @_is_changing.setter
+    def _is_changing(self, is_changing: bool) -> None:
+        self._changing = threading.get_ident() if is_changing else None
+
+
+def _numbers(numbers: Union[int, Sequence[int]], volumes: int) -> Tuple[int, ...]:
+    """The commit number of each volume. A ValueError if there are others."""
+    found = (numbers,) if isinstance(numbers, int) else tuple(numbers)
+    if len(found) != volumes:
+        raise ValueError(f"{len(found)} commit numbers for {volumes} volumes")
+    return found
 
 
 def _set_again(name: str, kind: Kind, nodes: List[int], change: Change) -> int:

@@ -4,10 +4,11 @@ from __future__ import annotations
 
 import operator
 from abc import ABC, abstractmethod
+from bisect import bisect_left
 from types import TracebackType
 from typing import ClassVar, Dict, Iterable, Iterator, List, Literal, Mapping, Optional, Tuple, Type, TypeVar, Union, overload
 
-from .errors import NoAttribute, NoIndex, NoNode, NotCovered
+from .errors import NoAttribute, NoIndex, NoNode, NotCovered, NoVolume
 from .language import Hint, comparisons, hint
 from .operations import Batch
 from .queries import Item, Name, Operator, Prepared, prepare
@@ -15,6 +16,8 @@ from .values import RANGES, Kind, Typed, Value
 
 _Self = TypeVar("_Self", bound="Version")
 Query = Union[str, Prepared, Tuple[Item, ...]]  # as it was asked
+Row = Tuple[int, List[Optional[Value]]]
+"""A node, and values of its attributes."""
 
 
 def not_covered(asked: Query, indices: Iterable[str]) -> NotCovered:
@@ -50,6 +53,11 @@ class Version(ABC):
         """The commit number of the last write that it has: how many writes it contains."""
 
     @property
+    def numbers(self) -> Tuple[int, ...]:
+        """The commit number of each volume, whose sum is `number`. A store without volumes has one."""
+        return (self.number,)
+
+    @property
     @abstractmethod
     def _is_pinned(self) -> bool:
         """Whether the pin is there."""
@@ -72,6 +80,12 @@ class Version(ABC):
     @abstractmethod
     def next_node(self) -> int:
         """The number of the next node that is made, if no other write comes before."""
+
+    def _next_in(self, volume: int) -> int:
+        """The next node of a volume. `NoVolume` if it isn't there."""
+        if volume != 0:
+            raise NoVolume(volume, 1)
+        return self.next_node
 
     @abstractmethod
     def _nodes_of(self, asked: Query) -> List[int]:
@@ -177,16 +191,22 @@ class Version(ABC):
 
     @abstractmethod
     def indices(self) -> Dict[str, Kind]:
-        """The indices: a dict of names and kinds, by ascending names."""
+        """The indices: a dict of names and kinds, by ascending names. Of several volumes those that each one has, with one
+        kind."""
+
+    def partial_indices(self) -> Dict[str, List[int]]:
+        """The indices that some volumes lack, or have with another kind: a dict of names and the volumes that have them."""
+        return {}
 
     @abstractmethod
-    def state(self) -> Iterator[Batch]:
+    def state(self, volume: Optional[int] = None) -> Iterator[Batch]:
         """The operations that make the version again on an empty store, as batches of 1 to 64, each for one
         `Pass.apply`:
 
             for batch in version.state():
                 other.apply(batch)
-        """
+
+        If there are several volumes, the batches of this one, for `apply` with the same `volume`; `NoVolume` without one."""
 
     def typed(self, node: int, name: str) -> Optional[Typed]:
         """A node's attribute with its kind, or None if it isn't there. Takes one search in a tree."""
@@ -216,6 +236,21 @@ class Version(ABC):
         process it takes less time than a `column` for each name, since it reads node by node."""
         read = list(nodes)
         return [self.column(read, name) for name in names]
+
+    def rows(self, query: Union[str, Prepared], names: Iterable[str], first: int = 0, most: int = 1024) -> List[Row]:
+        """Nodes that meet the query, ascending and from the number `first` on, up to `most` of them, each with its attributes of
+        these names: pairs of a node and a list of values, None where it has none. Takes the query and a search in a tree for each
+        value. In a version of a server it takes a round trip for some thousand rows, and no more than 64 names."""
+        if most < 0:
+            raise ValueError(f"{most} rows are asked for")
+        return self._rows_of(query, list(names), max(operator.index(first), 0), most)
+
+    def _rows_of(self, query: Union[str, Prepared], names: List[str], first: int, most: int) -> List[Row]:
+        nodes = self._nodes_of(query)
+        begin = bisect_left(nodes, first)
+        nodes = nodes[begin:begin + most]
+        found = self.columns(nodes, names)
+        return [(node, [column[place] for column in found]) for place, node in enumerate(nodes)]
 
     def __getitem__(self, node: int) -> Attributes:
         """A node's attributes, each of which is read when it is asked for."""

@@ -51,6 +51,19 @@ pub(crate) fn known_index<L: Look>(
     find_to_know(look, page, name, known)
 }
 
+/// The index at a place of a version page, if there is one.
+pub(crate) fn index_there<L: Look>(look: &mut L, page: u64, place: usize) -> Option<FoundIndex>
+    requires version { (volume : State) × IsVersion (L.standing look.old) (L.words look.old) page volume }
+    ensures known { IsKnown (contents_of (L.words look.new page)).entries result }
+    ensures unchanged { IsUnchanged L.kept L.standing L.words look.old look.new }
+{
+    let count = look.word(page, 1);
+    if place as u64 >= count {
+        return None;
+    }
+    Some(index_at(look, page, place))
+}
+
 /// Finds the index of a name, and keeps it for the next time.
 #[inline(never)]
 fn find_to_know<L: Look>(

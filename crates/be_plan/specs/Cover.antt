@@ -6,6 +6,8 @@ use Rattle.std.specs.declared.option.Option.{Option}
 use Rattle.std.specs.declared.result.Result.{Result}
 use Rattle.std.specs.declared.result.Result.TheVariants.{Ok, Err}
 use Rattle.be_value.specs.declared.refusals.Refusal.{Refusal}
+use Rattle.be_value.specs.declared.values.Kind.{Kind}
+use Rattle.std.specs.Cmp.Lexicographic.{pointwise}
 use Rattle.be_value.specs.declared.refusals.Refusal.TheVariants.{NotCovered}
 use Rattle.be_pattern.specs.Match.{Part, Run, One, Among, Only}
 use Rattle.be_pattern.specs.Canonical.{is_plain}
@@ -39,6 +41,10 @@ abbrev pub covers_part : List ℕ → ℕ → Formula → Bool
 covers_part picks at (Leaf name op literal) = list_any (nat_eq at) picks
 covers_part picks at (And a b) = covers_part picks at a || covers_part picks (at + comparisons a) b
 covers_part picks at (Or a b) = covers_part picks at a && covers_part picks (at + comparisons a) b
+
+-- the list has an index of that name
+abbrev pub is_listed : List (List ℕ × Kind) → List ℕ → Bool
+is_listed indices name = list_any (λ index. pointwise nat_eq index.0 name) indices
 
 -- the pick is the place of a comparison whose name has an index
 abbrev pub rests_on : (List ℕ → Bool) → Formula → ℕ → Bool

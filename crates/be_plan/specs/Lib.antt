@@ -3,6 +3,7 @@ pub mod Explain
 pub mod Marks
 pub mod Narrow
 pub mod Picked
+pub mod Prepared
 pub mod Sources
 pub mod Spine
 pub mod Walk

@@ -20,7 +20,7 @@ use crate::choosing::choose_by_source;
 use crate::narrowing::narrow_alone;
 use crate::ranges::Range;
 use crate::running::walk_picks;
-use crate::sorting::in_order;
+use crate::sorting::put_in_order;
 use crate::walks::{ROOM, walk};
 use be_query::{Query, Tree};
 use be_value::{Name, Refusal};
@@ -38,7 +38,7 @@ fn are_all_on(tree: &Tree, name: &Name) -> bool
 }
 
 /// The name that each comparison is on, if it is one, and none stands under `||`.
-fn only_name(tree: &Tree) -> Option<&Name>
+pub(crate) fn only_name(tree: &Tree) -> Option<&Name>
     ensures { IfSome (option_copied result) (λ name. AreAllOn (formula tree.now) name) }
 {
     match tree {
@@ -161,10 +161,31 @@ fn collect<S: Source>(
     collect_side(alloc, source, range, rest, found)
 }
 
-/// The nodes of which the query is true, ascending, from comparisons that the source's own indices choose; `explain` of the cover that
-/// `choose_from` gives tells which. A query that rests on no index is refused by `NotCovered`. It asks for the index of each comparison
-/// once, or once for all of one name under `&&`, and of others under `&&` a second time for each pick. After `OutOfMemory` the source still
-/// answers for the volume.
+/// Puts the nodes of which the query is true into a list, ascending, in place of what it had. They come from comparisons that the source's own
+/// indices choose; `explain` of the cover that `choose_from` gives tells which. A query that rests on no index is refused by `NotCovered`. It asks
+/// for the index of each comparison once, or once for all of one name under `&&`, and of others under `&&` a second time for each pick. A list with
+/// room for the nodes takes no memory. After an error the source still answers for the volume, and the list has any numbers.
+pub fn answer_into<S: Source>(
+    alloc: Global,
+    query: &Query,
+    source: &mut S,
+    found: &mut Vec<u64>,
+) -> Result<(), Refusal>
+    ghost volume: { State }
+    requires { S.answers_for source.old volume }
+    ensures answer { Answers (λ _. found.new.items) result (scan volume query.now) }
+    ensures rising { OnOk result (IsStrictlyIncreasing found.new.items) }
+    ensures stays { S.kept source.new ≡ S.kept source.old }
+    ensures answers { S.answers_for source.new volume }
+{
+    found.clear();
+    let mut range = Range::whole();
+    collect(alloc, source, &mut range, query.tree(), found)?;
+    put_in_order(alloc, found)?;
+    Ok(())
+}
+
+/// The nodes that `answer_into` puts into a list, in a list of their own.
 pub fn answer<S: Source>(alloc: Global, query: &Query, source: &mut S) -> Result<Vec<u64>, Refusal>
     ghost volume: { State }
     requires { S.answers_for source.old volume }
@@ -174,7 +195,6 @@ pub fn answer<S: Source>(alloc: Global, query: &Query, source: &mut S) -> Result
     ensures answers { S.answers_for source.new volume }
 {
     let mut found = Vec::with_capacity(alloc, ROOM)?;
-    let mut range = Range::whole();
-    collect(alloc, source, &mut range, query.tree(), &mut found)?;
-    Ok(in_order(alloc, found))
+    answer_into(alloc, query, source, &mut found)?;
+    Ok(found)
 }

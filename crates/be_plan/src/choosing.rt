@@ -73,9 +73,9 @@ pub(crate) fn count(tree: &Tree) -> usize
 
 /// What is chosen for a part of a query, and the place behind its last comparison.
 #[derive(Drop)]
-struct PartChoice {
-    cover: Option<Cover>,
-    end: usize,
+pub(crate) struct PartChoice {
+    pub(crate) cover: Option<Cover>,
+    pub(crate) end: usize,
 }
 
 /// The choice for a part of a query whose first comparison has the place `at`. The source is asked once for each comparison.
@@ -122,7 +122,7 @@ fn choose_part<S: Source>(
 }
 
 /// The choice for a comparison at a place, if its name has an index. It takes no memory.
-fn choose_leaf(comparison: &Comparison, at: usize, indexed: bool) -> PartChoice
+pub(crate) fn choose_leaf(comparison: &Comparison, at: usize, indexed: bool) -> PartChoice
     requires { at < 256 }
     ensures cover { result.cover ≡ if indexed
         then Some (record { picks = at ∷ []; score = score_of comparison.now.op (literal comparison.now.literal) })
@@ -145,7 +145,7 @@ fn choose_leaf(comparison: &Comparison, at: usize, indexed: bool) -> PartChoice
 }
 
 /// The one with the smaller score, the left one at a tie.
-fn cheaper(left: Option<Cover>, right: Option<Cover>) -> Option<Cover>
+pub(crate) fn cheaper(left: Option<Cover>, right: Option<Cover>) -> Option<Cover>
     ensures { result ≡ cheaper left right }
 {
     match (left, right) {
@@ -160,7 +160,7 @@ fn cheaper(left: Option<Cover>, right: Option<Cover>) -> Option<Cover>
 }
 
 /// The picks of both.
-fn join(alloc: Global, left: Cover, right: Cover) -> Result<Cover, AllocError>
+pub(crate) fn join(alloc: Global, left: Cover, right: Cover) -> Result<Cover, AllocError>
     requires { left.score + right.score ≤ 1280 }
     ensures { IfOk result (λ c. c ≡ record { picks = left.picks ++ right.picks; score = left.score + right.score }) }
 {

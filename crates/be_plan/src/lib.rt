@@ -5,7 +5,8 @@
 //! escape these walks; of an `&&` one side is enough, of an `||` both are needed. The answer depends on no plan: any picks that cover give
 //! the ascending list of all nodes of which the query is true.
 //!
-//! `choose_from` picks, `run` walks, `explain` says what was picked, and `answer` does all of a query. `Source` is what is walked: a plain volume, or a reader of pages.
+//! `choose_from` picks, and `choose` from a list of indices. `run` walks, `explain` says what was picked, and `answer` does all of a query,
+//! as does `answer_into` for a caller's list. `Source` is what is walked: a plain volume, or a reader of pages.
 #![tactic(auto)]
 
 mod asking;
@@ -13,9 +14,11 @@ mod choosing;
 mod coverage;
 mod evaluating;
 mod explaining;
+mod listing;
 mod narrowing;
 mod plain;
 mod plans;
+mod prepared;
 mod ranges;
 mod running;
 mod sorting;
@@ -23,11 +26,14 @@ mod source;
 mod spine;
 mod walks;
 
-pub use asking::answer;
+pub use asking::{answer, answer_into};
 pub use choosing::choose_from;
 pub use coverage::covers;
 pub use explaining::explain;
+pub use listing::choose;
 pub use plain::{VolumeSource, volume_source};
 pub use plans::{Cover, Picks};
+pub use prepared::PreparedQuery;
 pub use running::run;
+pub use sorting::put_in_order;
 pub use source::{KeyRange, Source};

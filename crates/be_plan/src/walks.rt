@@ -20,7 +20,7 @@ ghost use Rattle.be_plan.specs.Walk.{IsNodeWithin, Keeps, HasWithin};
 
 use crate::evaluating::{asks_name, is_true, satisfies};
 use crate::ranges::Range;
-use crate::sorting::in_order;
+use crate::sorting::put_in_order;
 use crate::{KeyRange, Source};
 use be_query::Tree;
 use be_value::{Kind, Name, Refusal, read_key};
@@ -134,14 +134,14 @@ fn ask_each<S: Source>(
     ensures has { OnOk result (HasWithin volume (formula tree.now) name.now range.now.low.items
         (high_of range.now) found.new.items) }
 {
-    let mut unordered = Vec::with_capacity(alloc, ROOM)?;
+    let mut nodes = Vec::with_capacity(alloc, ROOM)?;
     let keys = KeyRange {
         name,
         low: range.low(),
         high: range.high(),
     };
-    source.nodes_within(keys, &mut unordered)?;
-    let nodes = in_order(alloc, unordered);
+    source.nodes_within(keys, &mut nodes)?;
+    put_in_order(alloc, &mut nodes)?;
     for i in 0..nodes.len() {
         add_if_true(source, tree, nodes[i], found)?;
     }

@@ -3,20 +3,22 @@
 //! A volume is made by lines of a script, such as `set 1 n LONG 5`; `6 times new` is six of them, and `each n LONG: 5 7` sets
 //! the attribute of nodes 1, 2, .. to one of these values each. What is asked of it stands
 //! in lines `COMMAND QUERY => REPLY`. The command `explain` asks what the query is answered from, and `query` for its nodes
-//! by these picks. Digits are a command too: the nodes by these picks, a digit for each. Behind the nodes stands of which
-//! indices a key was asked, the first letter of the name for each call, and for a range that is asked for whole, one for each
-//! key that lies in it and one for its end: `nodes 2 3 asks nnn`. The commands `keys`, `looks` and `kinds` count what is
-//! asked for where the source tells the kinds, and `ranges` counts the ranges that answer a query whole.
+//! by these picks; `list` explains what the list of the indices chooses. Digits are a command too: the nodes by these picks, a
+//! digit for each. Behind the nodes stands of which indices a key was asked, the first letter of the name for each call, and for a
+//! range that is asked for whole, one for each key that lies in it and one for its end: `nodes 2 3 asks nnn`. The commands `keys`,
+//! `looks` and `kinds` count what is asked for where the source tells the kinds, and `ranges` counts the ranges that answer a query
+//! whole.
 
 mod counting;
 mod ranges;
+mod sizes;
 
 ghost use Rattle.std.specs.Prelude.{◌≡◌, true, IfOk};
 ghost use Rattle.be_volume.specs.Volume.{State};
 ghost use Rattle.be_plan.specs.Explain.{are_places};
 
 use crate::tests::counting::{nodes_by, nodes_chosen};
-use be_plan::{Cover, Picks, Source, choose_from, explain, volume_source};
+use be_plan::{Cover, Picks, Source, choose, choose_from, explain, volume_source};
 use be_query::{Query, parse};
 use be_testing::{Answers, check_lines, list_of};
 use be_value::{Kind, Name, Refusal, word_of};
@@ -181,10 +183,34 @@ fn chosen(alloc: Global, volume: &Volume, query: &Query) -> Result<Cover, Refusa
     choose_from(alloc, query, &mut source)
 }
 
-/// The text of the same.
-fn explained(alloc: Global, volume: &Volume, query: &Query) -> Result<String, Refusal> {
+/// What is chosen by the list of the volume's indices.
+fn listed(alloc: Global, volume: &Volume, query: &Query) -> Result<Cover, Refusal>
+    ensures places { IfOk result (λ cover. are_places query.now cover.picks ≡ true) }
+{
+    let indices = volume.indices()?;
+    choose(alloc, query, indices.as_slice())
+}
+
+/// The text of what is chosen by the list.
+fn listed_text(alloc: Global, volume: &Volume, query: &Query) -> Result<String, Refusal> {
+    let cover = listed(alloc, volume, query)?;
+    explain(alloc, query, &cover)
+}
+
+/// The text of what is chosen by the volume's indices.
+fn chosen_text(alloc: Global, volume: &Volume, query: &Query) -> Result<String, Refusal> {
     let cover = chosen(alloc, volume, query)?;
     explain(alloc, query, &cover)
+}
+
+/// The same, if what is chosen by the list is the same; otherwise BadLimits.
+fn explained(alloc: Global, volume: &Volume, query: &Query) -> Result<String, Refusal> {
+    let text = chosen_text(alloc, volume, query)?;
+    let other = listed_text(alloc, volume, query)?;
+    if text.as_str() != other.as_str() {
+        return Err(Refusal::BadLimits);
+    }
+    Ok(text)
 }
 
 /// The picks of digits.
@@ -199,6 +225,7 @@ fn picked(alloc: Global, digits: &str) -> Result<Cover, Refusal> {
 fn answer(alloc: Global, volume: &Volume, command: &str, query: &Query) -> Result<String, Refusal> {
     match command {
         "explain" => explained(alloc, volume, query),
+        "list" => listed_text(alloc, volume, query),
         "keys" | "looks" | "kinds" => counted(alloc, volume, command, query),
         "ranges" => count_ranges(alloc, volume, query, &chosen(alloc, volume, query)?),
         "query" => found(alloc, volume, query, &chosen(alloc, volume, query)?),
@@ -271,6 +298,8 @@ query b==2 => refused 17
 query !(a==1||b==3) => nodes asks aa
 explain !(a==2||b==3) => \"a\"!=\"2\" score 5
 explain b==2 => refused 17
+list b==2 => refused 17
+list a==1||b==2 => refused 17
 0 b==2 => not covered";
     replies_of(rt.alloc(), lines, requests)
 }
@@ -293,7 +322,8 @@ explain a==1 || b>2 => \"a\"==\"1\" || \"b\">\"2\" score 4
 explain (a==1 || b==2) && t==\"x*\" => \"a\"==\"1\" || \"b\"==\"2\" score 2
 explain (a==1 || b>2) && t==\"x*\" => \"t\"==\"x*\" score 2
 explain a==1 && (b==2 || z==3) => \"a\"==\"1\" score 1
-explain z==1 && (b==2 || z==3) => refused 17";
+explain z==1 && (b==2 || z==3) => refused 17
+list z==1 && (b==2 || z==3) => refused 17";
     replies_of(rt.alloc(), lines, requests)
 }
 

@@ -1,6 +1,6 @@
 //! Queries on a version, over any reader of its pages.
 ghost use Rattle.std.specs.List.Sorted.{IsStrictlyIncreasing};
-ghost use Rattle.std.specs.Prelude.{◌≡◌, ◌⊎◌, true, false, IfOk, IfErr};
+ghost use Rattle.std.specs.Prelude.{◌≡◌, ◌⊎◌, true, false, IfOk, IfErr, OnOk};
 ghost use Rattle.be_value.specs.Refusal.{Answers};
 ghost use Rattle.be_value.specs.declared.refusals.Refusal.TheVariants.{OutOfMemory, NotCovered};
 ghost use Rattle.be_volume.specs.Query.{scan, has_index, covered};
@@ -9,9 +9,9 @@ ghost use Rattle.be_plan.specs.Cover.{chosen, covers};
 ghost use Rattle.be_plan.specs.Explain.{are_places};
 ghost use Rattle.be_paged.specs.Version.{IsVersion};
 
-use be_paged::source;
+use be_paged::{answer_decided, source};
 use be_pages::Look;
-use be_plan::{Cover, answer, choose_from};
+use be_plan::{Cover, PreparedQuery, answer, answer_into, choose_from};
 use be_query::Query;
 use be_value::Refusal;
 use std::alloc::Global;
@@ -32,6 +32,50 @@ pub(crate) fn ask<L: Look>(
     let mut source = source(look, version_page);
     let nodes = answer(alloc, query, &mut source);
     (source.into_look(), nodes)
+}
+
+/// Puts the nodes of which the query is true into a list, ascending, in place of what it had, and gives the reader back.
+#[inline(never)]
+pub(crate) fn ask_into<L: Look>(
+    alloc: Global,
+    look: L,
+    version_page: u64,
+    query: &Query,
+    found: &mut Vec<u64>,
+) -> (L, Result<(), Refusal>)
+    ghost volume: { State }
+    requires version { IsVersion (L.standing look) (L.words look) version_page volume }
+    ensures answer { Answers (λ _. found.new.items) result.1 (scan volume query.now) }
+    ensures rising { OnOk result.1 (IsStrictlyIncreasing found.new.items) }
+    ensures kept { L.kept result.0 ≡ L.kept look }
+{
+    let mut source = source(look, version_page);
+    let answer = answer_into(alloc, query, &mut source, found);
+    (source.into_look(), answer)
+}
+
+/// The same by a prepared query.
+#[inline(always)]
+pub(crate) fn ask_prepared<L: Look>(
+    alloc: Global,
+    look: L,
+    version_page: u64,
+    prepared: &mut PreparedQuery,
+    found: &mut Vec<u64>,
+) -> (L, Result<(), Refusal>)
+    ghost volume: { State }
+    requires version { IsVersion (L.standing look) (L.words look) version_page volume }
+    ensures answer { Answers (λ _. found.new.items) result.1 (scan volume prepared.old) }
+    ensures rising { OnOk result.1 (IsStrictlyIncreasing found.new.items) }
+    ensures same { prepared.new ≡ prepared.old }
+    ensures kept { L.kept result.0 ≡ L.kept look }
+{
+    let mut look = look;
+    match answer_decided(alloc, &mut look, version_page, prepared, found) {
+        Ok(true) => (look, Ok(())),
+        Ok(false) => ask_into(alloc, look, version_page, prepared.query(), found),
+        Err(refusal) => (look, Err(refusal)),
+    }
 }
 
 /// The comparisons that the version's own indices choose for the query, and the reader back.

@@ -1,13 +1,15 @@
 //! Live queries: what changed in an answer since it was asked last.
 ghost use Rattle.std.specs.List.Sorted.{IsStrictlyIncreasing};
-ghost use Rattle.std.specs.Prelude.{◌≡◌, ◌≢◌, ◌⊎◌, ◌<◌, ◌≤◌, ℕ, [], IfOk, IfErr, Err, false, get_or, length, true};
+ghost use Rattle.std.specs.Prelude.{◌≡◌, ◌≢◌, ◌⊎◌, ◌<◌, ◌≤◌, ℕ, [], IfOk, IfErr, OnOk, Err, false, get_or, length, true};
 ghost use Rattle.be_value.specs.declared.refusals.Refusal.TheVariants.{OutOfMemory};
+ghost use Rattle.be_value.specs.Refusal.{Answers};
 ghost use Rattle.be_volume.specs.Query.{scan};
 ghost use Rattle.be_store.specs.Live.{Refreshes, without};
 ghost use Rattle.be_store.specs.Passes.{IsPassOf, IsPinnedTo, HasRead, volume_pinned};
 
 use crate::answers::Updates;
 use crate::{Pass, Store};
+use be_plan::PreparedQuery;
 use be_query::Query;
 use be_value::Refusal;
 use std::alloc::Global;
@@ -17,7 +19,7 @@ use std::marker::Model;
 #[derive(Drop)]
 pub struct Live {
     alloc: Global,
-    query: Query,
+    query: PreparedQuery,
     last: Vec<u64>,
 }
 
@@ -41,7 +43,7 @@ impl Live {
     {
         Live {
             alloc,
-            query,
+            query: PreparedQuery::new(query),
             last: Vec::new(alloc),
         }
     }
@@ -50,7 +52,26 @@ impl Live {
     pub fn query(&self) -> &Query
         ensures { result.now ≡ self.now.query }
     {
-        &self.query
+        self.query.query()
+    }
+
+    /// Asks the query in the pinned version, as `Store::query_prepared` does. What the last refresh found stays.
+    #[inline(always)]
+    pub fn query_into(
+        &mut self,
+        store: &Store,
+        pass: &mut Pass,
+        nodes: &mut Vec<u64>,
+    ) -> Result<u64, Refusal>
+        requires pass { IsPassOf store.now pass.old }
+        requires pinned { (n : ℕ) × IsPinnedTo pass.old.knows n }
+        ensures pass { IsPassOf store.now pass.new × HasRead pass.old.knows pass.new.knows }
+        ensures nodes { Answers (λ _. nodes.new.items) result (scan (volume_pinned pass.old.knows) self.old.query) }
+        ensures rising { OnOk result (IsStrictlyIncreasing nodes.new.items) }
+        ensures pin { IfOk result (λ pin. IsPinnedTo pass.old.knows pin) }
+        ensures same { self.new ≡ self.old }
+    {
+        store.query_prepared(self.alloc, pass, &mut self.query, nodes)
     }
 
     /// Takes the query's nodes as of now, wherever they were found, and returns which nodes came and which went since the
@@ -71,7 +92,7 @@ impl Live {
 
     /// Asks the query in the pinned version, and returns which nodes came and which went since the last refresh.
     ///
-    /// NotCovered and OutOfMemory leave it as it was. It costs what `Store::query` and `update` cost.
+    /// NotCovered and OutOfMemory leave it as it was. It costs what `Store::query_prepared` and `update` cost.
     pub fn refresh(&mut self, store: &Store, pass: &mut Pass) -> Result<Updates, Refusal>
         requires pass { IsPassOf store.now pass.old }
         requires pinned { (n : ℕ) × IsPinnedTo pass.old.knows n }
@@ -79,8 +100,9 @@ impl Live {
         ensures ok { IfOk result (λ u. Refreshes (volume_pinned pass.old.knows) self.old self.new u.created.items u.removed.items) }
         ensures err { IfErr result (λ e. (self.new ≡ self.old) × ((e ≡ OutOfMemory) ⊎ (scan (volume_pinned pass.old.knows) self.old.query ≡ Err e))) }
     {
-        let answer = store.query(self.alloc, pass, &self.query)?;
-        self.update(answer.nodes)
+        let mut nodes = Vec::with_capacity(self.alloc, self.last.len())?;
+        store.query_prepared(self.alloc, pass, &mut self.query, &mut nodes)?;
+        self.update(nodes)
     }
 }
 

@@ -4,7 +4,7 @@ ghost use Rattle.be_store.specs.History.{Accepts, Learns, IsReason, IsLastReason
 ghost use Rattle.be_store.specs.Passes.{IsPassOf, IsPinnedTo, HasRead, volume_pinned};
 
 use crate::answers::Answer;
-use crate::asking::{ask, choose_at};
+use crate::asking::{ask, ask_into, ask_prepared, choose_at};
 use crate::entries::entries_from;
 use crate::states::read_on;
 use crate::tries::{longer, stand_back, was_busy};
@@ -13,7 +13,7 @@ use crate::{Limits, Pass};
 use arrayvec::ArrayVec;
 use be_journal::{Entry, Journal};
 use be_paged::{attrs, first_page, get, indices, next, nodes};
-use be_plan::Cover;
+use be_plan::{Cover, PreparedQuery};
 use be_query::Query;
 use be_state::Place;
 use be_table::{PinnedLook, Status, VersionTable, Writing};
@@ -200,7 +200,7 @@ impl Store {
     }
 
     /// A reader of the pinned version, and its version page. The pass is blank until the reader's seat is back.
-    fn reader(&self, pass: &mut Pass) -> (PinnedLook<'_>, u64)
+    pub(crate) fn reader(&self, pass: &mut Pass) -> (PinnedLook<'_>, u64)
         requires pass { IsPassOf self.now pass.old }
         requires pinned { (n : ℕ) × IsPinnedTo pass.old.knows n }
         ensures look { (result.0.table ≡ self.now) × (result.0.knows ≡ pass.old.knows) }
@@ -245,6 +245,64 @@ impl Store {
         let (look, nodes) = ask(alloc, look, page, query);
         *pass = look.into_seat();
         Ok(Answer { pin, nodes: nodes? })
+    }
+
+    /// Puts the nodes of which the query is true in the pinned version into a list, ascending, in place of what it had, and returns the pin's
+    /// number. A list that has room for the nodes takes no memory, and keeps its room.
+    ///
+    /// Errors and cost are those of `query`. After an error the list has any numbers.
+    pub fn query_into(
+        &self,
+        alloc: Global,
+        pass: &mut Pass,
+        query: &Query,
+        nodes: &mut Vec<u64>,
+    ) -> Result<u64, Refusal>
+        requires pass { IsPassOf self.now pass.old }
+        requires pinned { (n : ℕ) × IsPinnedTo pass.old.knows n }
+        ensures pass { IsPassOf self.now pass.new × HasRead pass.old.knows pass.new.knows }
+        ensures nodes { Answers (λ _. nodes.new.items) result (scan (volume_pinned pass.old.knows) query.now) }
+        ensures rising { OnOk result (IsStrictlyIncreasing nodes.new.items) }
+        ensures pin { IfOk result (λ pin. IsPinnedTo pass.old.knows pin) }
+    {
+        let Some(pin) = pass.pinned() else {
+            unreachable!()
+        };
+        let (look, page) = self.reader(pass);
+        let (look, answer) = ask_into(alloc, look, page, query, nodes);
+        *pass = look.into_seat();
+        answer?;
+        Ok(pin)
+    }
+
+    /// As `query_into`, by a query that was prepared. What depends on the query alone was made at its first asking: if all its comparisons are on
+    /// one name and none stands under `||`, that is the range of keys in the name's index. Such a query costs one descent and a walk over
+    /// the range; the index is looked for only if another stands where it stood at the last asking, and the range is made again if the index
+    /// has another kind. Any other query costs what `query` costs.
+    #[inline(always)]
+    pub fn query_prepared(
+        &self,
+        alloc: Global,
+        pass: &mut Pass,
+        query: &mut PreparedQuery,
+        nodes: &mut Vec<u64>,
+    ) -> Result<u64, Refusal>
+        requires pass { IsPassOf self.now pass.old }
+        requires pinned { (n : ℕ) × IsPinnedTo pass.old.knows n }
+        ensures pass { IsPassOf self.now pass.new × HasRead pass.old.knows pass.new.knows }
+        ensures nodes { Answers (λ _. nodes.new.items) result (scan (volume_pinned pass.old.knows) query.old) }
+        ensures rising { OnOk result (IsStrictlyIncreasing nodes.new.items) }
+        ensures pin { IfOk result (λ pin. IsPinnedTo pass.old.knows pin) }
+        ensures same { query.new ≡ query.old }
+    {
+        let Some(pin) = pass.pinned() else {
+            unreachable!()
+        };
+        let (look, page) = self.reader(pass);
+        let (look, answer) = ask_prepared(alloc, look, page, query, nodes);
+        *pass = look.into_seat();
+        answer?;
+        Ok(pin)
     }
 
     /// What the query would be answered from in the pinned version: the comparisons whose indices are chosen, and their

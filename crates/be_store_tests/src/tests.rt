@@ -96,6 +96,18 @@ fn live_query(rt: HostRuntime) -> Result<(), Fail> {
     check_lines(rt.alloc(), &mut for_one(rt.alloc(), 64, 100)?, lines)
 }
 
+/// A prepared query follows the index of its name: to another place, to another kind, and away.
+#[test]
+fn prepared_query(rt: HostRuntime) -> Result<(), Fail> {
+    let lines =
+        "live k>=5 / 0 mkindex k LONG / 0 new;set 1 k LONG 5;new;set 2 k LONG 4 => ok / commit 1 / ok / commit 2 / node 1 / ok / node 2 / ok
+0 pin / again / 0 unpin / again => pin 2 / pin 2 / nodes 1 / ok / not pinned
+0 mkindex a LONG;set 2 k LONG 7 / 0 pin / again / 0 unpin => commit 3 / ok / ok / pin 3 / pin 3 / nodes 1 2 / ok
+0 rmindex k / 0 mkindex k CSTR / 0 set 2 k CSTR 50 => commit 4 / ok / commit 5 / ok / commit 6 / ok
+0 pin / again / 0 unpin / 0 rmindex k / 0 pin / again => pin 6 / pin 6 / nodes 2 / ok / commit 7 / ok / pin 7 / refused 17 NotCovered";
+    check_lines(rt.alloc(), &mut for_one(rt.alloc(), 64, 100)?, lines)
+}
+
 /// A pass that isn't pinned reads at a pin that goes with the read, also where the read is refused.
 #[test]
 fn pinned_for_a_read(rt: HostRuntime) -> Result<(), Fail> {

@@ -9,9 +9,13 @@
 //! Replies go through a buffer, which is written before the program ends; a shell writes each reply when it has it.
 #![tactic(auto)]
 
-ghost use Rattle.std.specs.Prelude.{IfOk, IfSome};
+ghost use Rattle.std.specs.Prelude.{◌≡◌, IfOk, IfSome};
 ghost use Rattle.be_journal.specs.Journal.{IsLegal};
+ghost use Rattle.bestore.specs.declared.outcomes.Outcome.TheVariants.{Failed};
 
+mod outcomes;
+
+use crate::outcomes::{Outcome, status_of};
 use be_script::{
     Breaking, Ends, Finding, Journal, Limits, OpenGate, Peer, RefusedLine, RunFault, Screen, Task,
     Terminal, check, dump, dump_state, journal_told, put_result, race, read_files, run,
@@ -28,23 +32,26 @@ use std::sync::Wait;
 use std::thread::Threads;
 use std::{env, fs, io};
 
-/// The status where a command line says nothing that can be done.
-const MISUSED: u8 = 2;
-
-/// Ends with status 1 and one line on standard error.
-fn fail(rt: &impl Eprint, why: &str) -> io::Result<ExitCode> {
+/// One line on standard error says why.
+fn fail(rt: &impl Eprint, why: &str) -> io::Result<Outcome>
+    ensures { IfOk result (λ outcome. outcome ≡ Failed) }
+{
     eprintln!(rt; "bestore: {why}")?;
-    Ok(ExitCode::FAILURE)
+    Ok(Outcome::Failed)
 }
 
-fn fail_to_read(rt: &impl Eprint, file: &str) -> io::Result<ExitCode> {
+fn fail_to_read(rt: &impl Eprint, file: &str) -> io::Result<Outcome>
+    ensures { IfOk result (λ outcome. outcome ≡ Failed) }
+{
     eprintln!(rt; "bestore: cannot read {file}")?;
-    Ok(ExitCode::FAILURE)
+    Ok(Outcome::Failed)
 }
 
-fn fail_to_write(rt: &impl Eprint, file: &str) -> io::Result<ExitCode> {
+fn fail_to_write(rt: &impl Eprint, file: &str) -> io::Result<Outcome>
+    ensures { IfOk result (λ outcome. outcome ≡ Failed) }
+{
     eprintln!(rt; "bestore: cannot write {file}")?;
-    Ok(ExitCode::FAILURE)
+    Ok(Outcome::Failed)
 }
 
 /// Why a run or a race stopped.
@@ -99,18 +106,18 @@ fn run_strictly_into<I: Read, W: Write>(
     Ok(refused)
 }
 
-/// The status of a strict run, and which line was refused, if one was.
+/// How a strict run ended, and which line was refused, if one was.
 fn end_strictly(
     rt: &impl Eprint,
     file: &str,
     refused: &Option<RefusedLine>,
-) -> io::Result<ExitCode> {
+) -> io::Result<Outcome> {
     let Some(line) = refused else {
-        return Ok(ExitCode::SUCCESS);
+        return Ok(Outcome::Done);
     };
     let (number, reply) = (line.number, line.reply.as_str());
     eprint!(rt; "bestore: line {number} of {file}: {reply}")?;
-    Ok(ExitCode::FAILURE)
+    Ok(Outcome::Refused)
 }
 
 /// Runs a script that comes from a reader up to the first line that is refused.
@@ -120,7 +127,7 @@ fn run_strictly_from<R: Runtime + AllocGlobal, I: Read>(
     script: &mut I,
     limits: Limits,
     tells: bool,
-) -> io::Result<ExitCode> {
+) -> io::Result<Outcome> {
     let Ok(mut writer) = BufWriter::new(rt.alloc(), io::writer(rt)) else {
         return fail(rt, reason(RunFault::Memory));
     };
@@ -142,7 +149,7 @@ fn run_whole_from<R: Runtime + AllocGlobal, I: Read>(
     script: &mut I,
     limits: Limits,
     tells: bool,
-) -> io::Result<ExitCode> {
+) -> io::Result<Outcome> {
     let Ok(mut writer) = BufWriter::new(rt.alloc(), io::writer(rt)) else {
         return fail(rt, reason(RunFault::Memory));
     };
@@ -155,8 +162,8 @@ fn run_whole_from<R: Runtime + AllocGlobal, I: Read>(
         (true, run(rt.alloc(), script, &mut writer, limits))
     };
     match finish(writer, ran) {
-        Ok(()) if legal => Ok(ExitCode::SUCCESS),
-        Ok(()) => Ok(ExitCode::FAILURE),
+        Ok(()) if legal => Ok(Outcome::Done),
+        Ok(()) => Ok(Outcome::Wrong),
         Err(RunFault::Read) => fail_to_read(rt, file),
         Err(fault) => fail(rt, reason(fault)),
     }
@@ -168,7 +175,7 @@ fn run_from<R: Runtime + AllocGlobal, I: Read>(
     script: &mut I,
     limits: Limits,
     running: Running,
-) -> io::Result<ExitCode> {
+) -> io::Result<Outcome> {
     match running {
         Running::Plainly => run_whole_from(rt, file, script, limits, false),
         Running::Telling => run_whole_from(rt, file, script, limits, true),
@@ -182,7 +189,7 @@ fn run_file<R: Runtime + AllocGlobal>(
     file: &str,
     limits: Limits,
     running: Running,
-) -> io::Result<ExitCode> {
+) -> io::Result<Outcome> {
     if file == STANDARD_INPUT {
         return run_from(rt, file, &mut rt.reader(), limits, running);
     }
@@ -197,10 +204,10 @@ fn race_files<R: Runtime + AllocGlobal + Threads + Wait + Sync>(
     rt: &R,
     files: &[String],
     limits: Limits,
-) -> io::Result<ExitCode> {
+) -> io::Result<Outcome> {
     if files.len() < 2 || files.len() > 4 {
         eprintln!(rt; "bestore: race takes two to four scripts")?;
-        return Ok(ExitCode::from(MISUSED));
+        return Ok(Outcome::Misused);
     }
     if files
         .iter()
@@ -209,7 +216,7 @@ fn race_files<R: Runtime + AllocGlobal + Threads + Wait + Sync>(
         > 1
     {
         eprintln!(rt; "bestore: - may stand for one script")?;
-        return Ok(ExitCode::from(MISUSED));
+        return Ok(Outcome::Misused);
     }
     let scripts = match read_files(rt, rt.alloc(), files) {
         Ok(scripts) => scripts,
@@ -228,8 +235,8 @@ fn race_files<R: Runtime + AllocGlobal + Threads + Wait + Sync>(
         Err(fault) => (false, Err(fault)),
     };
     match finish(writer, raced) {
-        Ok(()) if legal => Ok(ExitCode::SUCCESS),
-        Ok(()) => Ok(ExitCode::FAILURE),
+        Ok(()) if legal => Ok(Outcome::Done),
+        Ok(()) => Ok(Outcome::Wrong),
         Err(fault) => fail(rt, reason(fault)),
     }
 }
@@ -240,7 +247,7 @@ fn write_journal<R: Runtime + AllocGlobal>(
     file: &str,
     opened: R::File,
     journal: &Journal,
-) -> io::Result<ExitCode>
+) -> io::Result<Outcome>
     requires { IsLegal journal.now.entries }
 {
     let Ok(mut writer) = BufWriter::new(rt.alloc(), opened) else {
@@ -251,7 +258,7 @@ fn write_journal<R: Runtime + AllocGlobal>(
         Err(fault) => Err(fault),
     };
     match finish(writer, put) {
-        Ok(()) => Ok(ExitCode::SUCCESS),
+        Ok(()) => Ok(Outcome::Done),
         Err(RunFault::Write) => fail_to_write(rt, file),
         Err(fault) => fail(rt, reason(fault)),
     }
@@ -331,10 +338,10 @@ fn talk<R: Runtime + AllocGlobal, F: Peer>(
     Ok(shell_and_close(rt.alloc(), first, &mut ends, limits))
 }
 
-/// The status of a talk that ended so.
-fn end_talk(rt: &impl Eprint, talked: Result<(), RunFault>) -> io::Result<ExitCode> {
+/// How the program ends after a talk that ended so.
+fn end_talk(rt: &impl Eprint, talked: Result<(), RunFault>) -> io::Result<Outcome> {
     match talked {
-        Ok(()) => Ok(ExitCode::SUCCESS),
+        Ok(()) => Ok(Outcome::Done),
         Err(RunFault::Read) => fail(rt, "cannot read a line"),
         Err(fault) => fail(rt, reason(fault)),
     }
@@ -348,13 +355,13 @@ fn talk_for_journal<R: Runtime + AllocGlobal, F: Peer>(
     file: &str,
     limits: Limits,
     sides: Sides,
-) -> io::Result<ExitCode> {
+) -> io::Result<Outcome> {
     let opened = match open_for_journal(rt, file) {
         Ok(opened) => opened,
         Err(Unopened::Unwritable) => return fail_to_write(rt, file),
         Err(Unopened::Filled) => {
             eprintln!(rt; "bestore: {file} isn't empty")?;
-            return Ok(ExitCode::FAILURE);
+            return Ok(Outcome::Failed);
         }
     };
     let (talked, journal) = talk(rt, first, limits, sides)?;
@@ -375,7 +382,7 @@ fn talk_behind<R: Runtime + AllocGlobal, F: Peer>(
     journal: Option<&str>,
     limits: Limits,
     sides: Sides,
-) -> io::Result<ExitCode> {
+) -> io::Result<Outcome> {
     match journal {
         Some(file) => talk_for_journal(rt, first, file, limits, sides),
         None => end_talk(rt, talk(rt, first, limits, sides)?.0),
@@ -389,7 +396,7 @@ fn open_shell<R: Runtime + AllocGlobal>(
     journal: Option<&str>,
     limits: Limits,
     sides: Sides,
-) -> io::Result<ExitCode> {
+) -> io::Result<Outcome> {
     let Some(file) = file else {
         let mut nothing = Ends::new(b"".as_slice(), io::writer(rt));
         return talk_behind(rt, &mut nothing, journal, limits, sides);
@@ -421,23 +428,25 @@ fn read_whole<R: Runtime + AllocGlobal>(rt: &R, file: &str) -> io::Result<Vec<u8
 }
 
 /// Why a file wasn't read whole.
-fn fail_whole(rt: &impl Eprint, file: &str, error: &io::Error) -> io::Result<ExitCode> {
+fn fail_whole(rt: &impl Eprint, file: &str, error: &io::Error) -> io::Result<Outcome> {
     if matches!(error.kind(), io::ErrorKind::OutOfMemory) {
         return fail(rt, reason(RunFault::Memory));
     }
     fail_to_read(rt, file)
 }
 
-fn fail_without_journal(rt: &impl Eprint, file: &str) -> io::Result<ExitCode> {
+fn fail_without_journal(rt: &impl Eprint, file: &str) -> io::Result<Outcome>
+    ensures { IfOk result (λ outcome. outcome ≡ Failed) }
+{
     eprintln!(rt; "bestore: no journal in {file}")?;
-    Ok(ExitCode::FAILURE)
+    Ok(Outcome::Failed)
 }
 
-/// Prints a text, and ends with this status.
-fn print_text<R: Runtime>(rt: &R, text: &str, status: ExitCode) -> io::Result<ExitCode> {
+/// Prints a text, and ends so.
+fn print_text<R: Runtime>(rt: &R, text: &str, outcome: Outcome) -> io::Result<Outcome> {
     let mut writer = io::writer(rt);
     match writer.write_all(text.as_bytes()) {
-        Ok(()) => Ok(status),
+        Ok(()) => Ok(outcome),
         Err(_) => fail(rt, reason(RunFault::Write)),
     }
 }
@@ -447,22 +456,22 @@ fn print_finding<R: Runtime>(
     rt: &R,
     text: &str,
     count: u64,
-    status: ExitCode,
-) -> io::Result<ExitCode> {
+    outcome: Outcome,
+) -> io::Result<Outcome> {
     let mut writer = io::writer(rt);
     if writer.write_all(text.as_bytes()).is_err() {
         return fail(rt, reason(RunFault::Write));
     }
     let _ = eprintln!(rt; "bestore: entries read: {count}");
-    Ok(status)
+    Ok(outcome)
 }
 
 /// Checks the journal that a text tells, and prints that it is right, or the first line that isn't.
-fn check_text<R: Runtime + AllocGlobal>(rt: &R, file: &str, text: &[u8]) -> io::Result<ExitCode> {
+fn check_text<R: Runtime + AllocGlobal>(rt: &R, file: &str, text: &[u8]) -> io::Result<Outcome> {
     match check(rt.alloc(), text) {
-        Ok(Finding::Right(count)) => print_finding(rt, "replay ok\n", count, ExitCode::SUCCESS),
+        Ok(Finding::Right(count)) => print_finding(rt, "replay ok\n", count, Outcome::Done),
         Ok(Finding::Wrong(line, count)) => {
-            print_finding(rt, line.as_str(), count, ExitCode::FAILURE)
+            print_finding(rt, line.as_str(), count, Outcome::Wrong)
         }
         Ok(Finding::NoJournal) => fail_without_journal(rt, file),
         Err(_) => fail(rt, reason(RunFault::Memory)),
@@ -470,14 +479,14 @@ fn check_text<R: Runtime + AllocGlobal>(rt: &R, file: &str, text: &[u8]) -> io::
 }
 
 /// Prints the script that makes the writes of the journal again that a text tells.
-fn dump_text<R: Runtime + AllocGlobal>(rt: &R, file: &str, text: &[u8]) -> io::Result<ExitCode> {
+fn dump_text<R: Runtime + AllocGlobal>(rt: &R, file: &str, text: &[u8]) -> io::Result<Outcome> {
     let entries = match journal_told(rt.alloc(), text) {
         Ok(Some(entries)) => entries,
         Ok(None) => return fail_without_journal(rt, file),
         Err(_) => return fail(rt, reason(RunFault::Memory)),
     };
     match dump(rt.alloc(), &entries) {
-        Ok(script) => print_text(rt, script.as_str(), ExitCode::SUCCESS),
+        Ok(script) => print_text(rt, script.as_str(), Outcome::Done),
         Err(_) => fail(rt, reason(RunFault::Memory)),
     }
 }
@@ -487,9 +496,9 @@ fn dump_state_of_text<R: Runtime + AllocGlobal>(
     rt: &R,
     file: &str,
     text: &[u8],
-) -> io::Result<ExitCode> {
+) -> io::Result<Outcome> {
     match dump_state(rt.alloc(), text) {
-        Ok(Some(script)) => print_text(rt, script.as_str(), ExitCode::SUCCESS),
+        Ok(Some(script)) => print_text(rt, script.as_str(), Outcome::Done),
         Ok(None) => fail_without_journal(rt, file),
         Err(_) => fail(rt, reason(RunFault::Memory)),
     }
@@ -508,7 +517,7 @@ fn tell_of_file<R: Runtime + AllocGlobal>(
     rt: &R,
     file: &str,
     telling: Telling,
-) -> io::Result<ExitCode> {
+) -> io::Result<Outcome> {
     let text = match read_whole(rt, file) {
         Ok(text) => text,
         Err(error) => return fail_whole(rt, file, &error),
@@ -524,7 +533,7 @@ fn run_task<R: Runtime + AllocGlobal + Threads + Wait + Sync>(
     rt: &R,
     task: &Task,
     sides: Sides,
-) -> io::Result<ExitCode> {
+) -> io::Result<Outcome> {
     match task {
         Task::Run(file, limits) => run_file(rt, file.as_str(), *limits, Running::Plainly),
         Task::RunAndTell(file, limits) => run_file(rt, file.as_str(), *limits, Running::Telling),
@@ -544,10 +553,11 @@ fn run_task<R: Runtime + AllocGlobal + Threads + Wait + Sync>(
 }
 
 /// Help and the version go to standard output, what is wrong with a command line to standard error.
-fn tell<R: Print + Eprint>(rt: &R, error: &Error) -> io::Result<ExitCode> {
+fn tell<R: Print + Eprint>(rt: &R, error: &Error) -> io::Result<Outcome> {
     match error.print(rt) {
         Err(_) if error.exit_code() == 0 => fail(rt, "write failed"),
-        _ => Ok(ExitCode::from(error.exit_code() as u8)),
+        _ if error.exit_code() == 0 => Ok(Outcome::Done),
+        _ => Ok(Outcome::Misused),
     }
 }
 
@@ -555,7 +565,7 @@ fn obey<R: Runtime + AllocGlobal + Threads + Wait + Sync>(
     rt: &R,
     given: &[String],
     sides: Sides,
-) -> io::Result<ExitCode> {
+) -> io::Result<Outcome> {
     let alloc = rt.alloc();
     let mut words = Vec::new(alloc);
     for word in given {
@@ -575,18 +585,19 @@ fn read_words(rt: &HostRuntime) -> io::Result<Vec<String>> {
 }
 
 fn main(rt: HostRuntime) -> io::Result<ExitCode> {
-    match read_words(&rt) {
+    let outcome = match read_words(&rt) {
         Ok(given) => {
             let sides = Sides {
                 is_typed: rt.stdin().is_terminal(),
                 is_shown: rt.stdout().is_terminal(),
             };
-            obey(&rt, &given, sides)
+            obey(&rt, &given, sides)?
         }
         Err(error) if matches!(error.kind(), io::ErrorKind::InvalidData) => {
             eprintln!(rt; "bestore: a word of the command line isn't UTF-8")?;
-            Ok(ExitCode::from(MISUSED))
+            Outcome::Misused
         }
-        Err(_) => fail(&rt, "out of memory"),
-    }
+        Err(_) => fail(&rt, "out of memory")?,
+    };
+    Ok(status_of(outcome))
 }

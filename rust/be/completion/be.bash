@@ -28,11 +28,12 @@ _be_command() {
 _be_options() {
     case $1 in
     "") echo --version ;;
-    query) printf '%s\n' --columns --limit --count --watch --escape --json ;;
+    query) printf '%s\n' --columns --limit --count --watch --escape --json --path --null ;;
     addattr) printf '%s\n' --type --file --new ;;
     catattr) printf '%s\n' --raw --json ;;
     listattr) printf '%s\n' --long --hexdump --json ;;
     mkindex) echo --type ;;
+    import) printf '%s\n' --follow --xattr --one-file-system --reread --verbose --json ;;
     lsindex) printf '%s\n' --long --verbose --json ;;
     status) echo --json ;;
     esac
@@ -61,8 +62,9 @@ _be() {
     *)
         case $command:$cur in
         *:-*) _be_offer < <(_be_options "$command") ;;
-        :*) _be_offer < <(printf '%s\n' query addattr catattr listattr rmattr rmnode mkindex lsindex rmindex status) ;;
+        :*) _be_offer < <(printf '%s\n' query addattr catattr listattr rmattr rmnode import mkindex lsindex rmindex status) ;;
         query:* | addattr:* | catattr:* | rmattr:* | rmindex:*) _be_offer < <(_be_indices) ;;
+        import:*) compopt -o dirnames ;;
         esac
         ;;
     esac

@@ -4,6 +4,7 @@ use crate::command_line::{AddAttribute, ListAttributes, RemoveAttribute, RemoveN
 use crate::failure::{complain, Failure};
 use crate::kind::{kind_name, size};
 use crate::output::Output;
+use crate::paths::{nodes_of, Place};
 use crate::server::{self, all_done, pinned, report};
 use crate::text::{escaped, hexadecimal};
 use bestore::{Batch, Value};
@@ -24,7 +25,7 @@ const READ: u64 = 1 << 16;
 pub struct Added {
     name: String,
     value: Value,
-    nodes: Vec<u64>,
+    places: Vec<Place>,
     new: bool,
 }
 
@@ -43,13 +44,8 @@ impl Added {
             Some(_) => None,
             None => Some(rest.next().ok_or("the value is missing")?),
         };
-        let nodes: Vec<u64> = rest
-            .map(|word| {
-                let number = word.to_str().and_then(|text| text.parse().ok());
-                number.ok_or_else(|| format!("{} is no node", escaped(&word.to_string_lossy())))
-            })
-            .collect::<Result<_, _>>()?;
-        match (new, nodes.is_empty()) {
+        let places: Vec<Place> = rest.map(Place::from).collect();
+        match (new, places.is_empty()) {
             (true, false) => return Err("--new makes the node, so none can be given".into()),
             (false, true) => return Err("the nodes are missing".into()),
             _ => {}
@@ -62,7 +58,7 @@ impl Added {
         Ok(value.map(|value| Self {
             name,
             value,
-            nodes,
+            places,
             new,
         }))
     }
@@ -85,12 +81,13 @@ pub fn add(client: &mut Client, added: &Added, output: &mut Output) -> Result<()
     let Added {
         name,
         value,
-        nodes,
+        places,
         new,
     } = added;
     warn_of_index(client, name, value)?;
     if !*new {
-        return server::apply_each(client, nodes, |batch, node| {
+        let nodes = nodes_of(client, places)?;
+        return server::apply_each(client, &nodes, |batch, node| {
             batch.set(node, name, value.clone());
         });
     }
@@ -122,13 +119,15 @@ fn warn_of_index(client: &mut Client, name: &str, value: &Value) -> Result<(), F
 }
 
 pub fn remove(client: &mut Client, line: &RemoveAttribute) -> Result<(), Failure> {
-    server::apply_each(client, &line.nodes, |batch: &mut Batch, node| {
+    let nodes = nodes_of(client, &line.nodes)?;
+    server::apply_each(client, &nodes, |batch: &mut Batch, node| {
         batch.unset(node, &line.name);
     })
 }
 
 pub fn remove_nodes(client: &mut Client, line: &RemoveNode) -> Result<(), Failure> {
-    server::apply_each(client, &line.nodes, |batch: &mut Batch, node| {
+    let nodes = nodes_of(client, &line.nodes)?;
+    server::apply_each(client, &nodes, |batch: &mut Batch, node| {
         batch.remove_node(node);
     })
 }
@@ -142,11 +141,9 @@ struct Attribute<'a> {
 }
 
 pub fn show(client: &mut Client, line: &ShowAttribute, output: &mut Output) -> Result<(), Failure> {
+    let nodes = nodes_of(client, &line.nodes)?;
     let values = pinned(client, |client| {
-        let values = line
-            .nodes
-            .iter()
-            .map(|node| Ok((*node, client.get(*node, &line.name)?)));
+        let values = nodes.iter().map(|node| Ok((*node, client.get(*node, &line.name)?)));
         values.collect::<Result<Vec<_>, Failure>>()
     })?;
     let mut all = true;
@@ -193,8 +190,9 @@ struct Attributes<'a> {
 }
 
 pub fn list(client: &mut Client, line: &ListAttributes, output: &mut Output) -> Result<(), Failure> {
+    let nodes = nodes_of(client, &line.nodes)?;
     let read = pinned(client, |client| {
-        let read = line.nodes.iter().map(|node| match client.attributes(*node) {
+        let read = nodes.iter().map(|node| match client.attributes(*node) {
             Err(error) if error.is("NoNode") => Ok((*node, None)),
             answer => Ok((*node, Some(answer?))),
         });

@@ -1,6 +1,8 @@
 //! The words of the command line. `docs/be.1` describes them.
 
 use crate::kind::Type;
+use crate::paths::Place;
+use clap::builder::{OsStringValueParser, TypedValueParser};
 use clap::{Args, Parser, Subcommand};
 use std::ffi::OsString;
 use std::path::PathBuf;
@@ -24,6 +26,7 @@ pub enum Command {
     Listattr(ListAttributes),
     Rmattr(RemoveAttribute),
     Rmnode(RemoveNode),
+    Import(Import),
     Mkindex(MakeIndex),
     Lsindex(ListIndices),
     Rmindex(RemoveIndex),
@@ -51,6 +54,12 @@ pub struct Query {
     /// Print JSON
     #[arg(long)]
     pub json: bool,
+    /// Print the paths of files in place of their nodes
+    #[arg(short, long, conflicts_with = "json")]
+    pub path: bool,
+    /// End each line with a zero byte, for names with line feeds
+    #[arg(short = '0', long, conflicts_with = "json")]
+    pub null: bool,
     /// The query, such as 'name=="*.txt" && size>=100'
     pub text: String,
 }
@@ -79,7 +88,7 @@ pub struct AddAttribute {
     pub new: bool,
     /// The name of the attribute
     pub name: String,
-    /// The value, if it isn't in a file, and the nodes
+    /// The value, if it isn't in a file, and the nodes or files
     #[arg(value_name = "VALUE NODE", allow_negative_numbers = true)]
     pub rest: Vec<OsString>,
 }
@@ -95,9 +104,9 @@ pub struct ShowAttribute {
     pub json: bool,
     /// The name of the attribute
     pub name: String,
-    /// The nodes
-    #[arg(required = true, value_name = "NODE")]
-    pub nodes: Vec<u64>,
+    /// The nodes, or files by their paths
+    #[arg(required = true, value_name = "NODE", value_parser = places())]
+    pub nodes: Vec<Place>,
 }
 
 /// List the attributes of nodes
@@ -112,9 +121,9 @@ pub struct ListAttributes {
     /// Print a line of JSON for each node
     #[arg(long, conflicts_with_all = ["long", "hexdump"])]
     pub json: bool,
-    /// The nodes
-    #[arg(required = true, value_name = "NODE")]
-    pub nodes: Vec<u64>,
+    /// The nodes, or files by their paths
+    #[arg(required = true, value_name = "NODE", value_parser = places())]
+    pub nodes: Vec<Place>,
 }
 
 /// Remove an attribute
@@ -122,17 +131,42 @@ pub struct ListAttributes {
 pub struct RemoveAttribute {
     /// The name of the attribute
     pub name: String,
-    /// The nodes
-    #[arg(required = true, value_name = "NODE")]
-    pub nodes: Vec<u64>,
+    /// The nodes, or files by their paths
+    #[arg(required = true, value_name = "NODE", value_parser = places())]
+    pub nodes: Vec<Place>,
 }
 
 /// Remove nodes with their attributes
 #[derive(Debug, Args)]
 pub struct RemoveNode {
-    /// The nodes
-    #[arg(required = true, value_name = "NODE")]
-    pub nodes: Vec<u64>,
+    /// The nodes, or files by their paths
+    #[arg(required = true, value_name = "NODE", value_parser = places())]
+    pub nodes: Vec<Place>,
+}
+
+/// Make a node for each file of a folder
+#[derive(Debug, Args)]
+pub struct Import {
+    /// Go on, and write what changes in the folder
+    #[arg(short, long)]
+    pub follow: bool,
+    /// Write attributes that were set at nodes into their files, as extended attributes
+    #[arg(short = 'a', long)]
+    pub xattr: bool,
+    /// Don't read folders of other file systems
+    #[arg(short = 'x', long)]
+    pub one_file_system: bool,
+    /// Read each file again, also those that were not changed
+    #[arg(long)]
+    pub reread: bool,
+    /// Print each file that came, changed or went
+    #[arg(short, long)]
+    pub verbose: bool,
+    /// Print the counts as JSON
+    #[arg(long)]
+    pub json: bool,
+    /// The folder
+    pub folder: PathBuf,
 }
 
 /// Make an index, which takes attributes that are set from then on
@@ -178,4 +212,9 @@ pub struct Status {
     /// Print JSON
     #[arg(long)]
     pub json: bool,
+}
+
+/// Reads what names a node: digits are a number, and other words a path.
+fn places() -> impl TypedValueParser<Value = Place> {
+    OsStringValueParser::new().map(Place::from)
 }

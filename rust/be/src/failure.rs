@@ -1,12 +1,13 @@
 //! Why a command failed, and how that is reported.
 
+use crate::import::follow;
 use crate::kind::shown_name;
 use crate::text::{escaped, excerpt};
 use bestore_client::wire::Refusal;
 use bestore_client::Error;
 use std::collections::BTreeMap;
 use std::io::Write as _;
-use std::path::PathBuf;
+use std::path::{Path, PathBuf};
 use std::process::ExitCode;
 use std::{fmt, io};
 
@@ -23,6 +24,16 @@ pub enum Failure {
     Value(&'static str),
     /// A file can't be read.
     File(PathBuf, io::Error),
+    /// A file has no node.
+    NotImported(PathBuf),
+    /// The path of a folder is too long to be imported by itself.
+    LongPath(PathBuf),
+    /// A folder can't be watched.
+    Watch(PathBuf, io::Error),
+    /// The folder that is imported is gone.
+    Gone(PathBuf),
+    /// The folder is another one than before, and has no files.
+    Another(PathBuf),
     /// The output can't be written.
     Output(io::Error),
     /// Something failed for some nodes, and was reported.
@@ -69,14 +80,27 @@ impl fmt::Display for Failure {
     fn fmt(&self, f: &mut fmt::Formatter<'_>) -> fmt::Result {
         match self {
             Failure::NoServer(path, error) => {
-                let path = path.to_string_lossy();
-                writeln!(f, "no server answers at {}: {error}", escaped(&path))?;
+                writeln!(f, "no server answers at {}: {error}", shown(path))?;
                 write!(f, "  bestored --socket PATH starts one")
             }
             Failure::Server(error) => f.write_str(&message(error)),
             Failure::Query(refused) => refused.fmt(f),
             Failure::Value(kind) => write!(f, "the value is no {kind}"),
-            Failure::File(path, error) => write!(f, "{}: {error}", escaped(&path.to_string_lossy())),
+            Failure::File(path, error) => write!(f, "{}: {error}", shown(path)),
+            Failure::NotImported(path) => {
+                writeln!(f, "{}: the file has no node", shown(path))?;
+                write!(f, "  be import FOLDER makes one for each file of a folder")
+            }
+            Failure::LongPath(path) => write!(f, "{}: the path has more than 255 bytes", shown(path)),
+            Failure::Watch(folder, error) => f.write_str(&follow::shown(folder, error)),
+            Failure::Gone(folder) => write!(f, "{} is gone, and nothing was removed from the store", shown(folder)),
+            Failure::Another(folder) => {
+                writeln!(f, "{} is another folder than before, and is empty", shown(folder))?;
+                write!(
+                    f,
+                    "  nothing was removed from the store; be import --reread removes the nodes of its files"
+                )
+            }
             Failure::Output(error) => write!(f, "the output can't be written: {error}"),
             Failure::Reported => Ok(()),
         }
@@ -103,6 +127,10 @@ impl fmt::Display for QueryRefused {
             None => Ok(()),
         }
     }
+}
+
+fn shown(path: &Path) -> String {
+    escaped(&path.to_string_lossy())
 }
 
 /// Prints on standard error. There is nothing to be done if that fails.

@@ -4,9 +4,11 @@
 mod attributes;
 mod command_line;
 mod failure;
+mod import;
 mod indices;
 mod kind;
 mod output;
+mod paths;
 mod query;
 mod server;
 mod status;
@@ -24,18 +26,14 @@ use std::process::ExitCode;
 fn main() -> ExitCode {
     let CommandLine { socket, command } = CommandLine::parse();
     let mut output = Output::standard();
-    let connect = || server::connect(socket);
-    match run(command, connect, &mut output).and_then(|()| output.flush()) {
+    let connect = || server::connect(socket.clone());
+    match run(command, &connect, &mut output).and_then(|()| output.flush()) {
         Ok(()) => ExitCode::SUCCESS,
         Err(failure) => failure.report(),
     }
 }
 
-fn run(
-    command: Command,
-    connect: impl FnOnce() -> Result<Client, Failure>,
-    output: &mut Output,
-) -> Result<(), Failure> {
+fn run(command: Command, connect: &dyn Fn() -> Result<Client, Failure>, output: &mut Output) -> Result<(), Failure> {
     match command {
         Command::Query(line) => query::run(&mut connect()?, &line, output),
         Command::Addattr(line) => {
@@ -46,6 +44,7 @@ fn run(
         Command::Listattr(line) => attributes::list(&mut connect()?, &line, output),
         Command::Rmattr(line) => attributes::remove(&mut connect()?, &line),
         Command::Rmnode(line) => attributes::remove_nodes(&mut connect()?, &line),
+        Command::Import(line) => import::run(connect, &line, output),
         Command::Mkindex(line) => indices::make(&mut connect()?, &line),
         Command::Lsindex(line) => indices::list(&mut connect()?, &line, output),
         Command::Rmindex(line) => indices::remove(&mut connect()?, &line),

@@ -6,6 +6,8 @@ use bestore::Value;
 use serde::Serialize;
 use std::borrow::Cow;
 use std::io::{self, BufWriter, StdoutLock, Write};
+use std::os::unix::ffi::OsStrExt;
+use std::path::Path;
 
 /// Standard output.
 #[derive(Debug)]
@@ -107,6 +109,22 @@ impl Output {
             self.line(text.trim_end_matches(' ').as_bytes())?;
         }
         Ok(())
+    }
+
+    /// Prints a path on a line.
+    pub fn path(&mut self, path: &Path) -> Result<(), Failure> {
+        let path = self.path_bytes(path);
+        self.line(&path)
+    }
+
+    /// The path as it is printed.
+    pub fn path_bytes(&self, path: &Path) -> Vec<u8> {
+        let bytes = path.as_os_str().as_bytes();
+        match (self.escapes, path.to_str()) {
+            (false, _) => bytes.to_vec(),
+            (true, Some(text)) => escaped(text).into_bytes(),
+            (true, None) => escaped_bytes(bytes).into_bytes(),
+        }
     }
 
     /// Hands on all that was printed.

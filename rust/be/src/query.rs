@@ -3,11 +3,13 @@
 use crate::command_line::Query as Line;
 use crate::failure::{Failure, QueryRefused};
 use crate::output::Output;
+use crate::paths::paths_of;
 use crate::server::{self, pinned};
 use bestore::Value;
 use bestore_client::wire::{self, Command, Hits, Json, Push};
 use bestore_client::{Client, Error, Query};
 use serde::Serialize;
+use std::path::PathBuf;
 use std::time::Duration;
 
 /// The values of a node's columns.
@@ -66,11 +68,17 @@ fn find(client: &mut Client, line: &Line, output: &mut Output) -> Result<(), Fai
     let nodes = hits.nodes.unwrap_or_default();
     let mut found = hits.rows.unwrap_or_default();
     found.resize(nodes.len(), Row::new());
-    let rows: Vec<_> = nodes
-        .iter()
+    let names = names_of(client, &nodes, line, output)?;
+    let rows: Vec<_> = names
+        .into_iter()
         .zip(&found)
-        .map(|(node, row)| cells(node.to_string(), row, output))
+        .map(|(name, row)| cells(name, row, output))
         .collect();
+    if line.null {
+        return rows
+            .iter()
+            .try_for_each(|row| output.bytes(&[&row.join(&b'\t')[..], b"\0"].concat()));
+    }
     output.rows(&headings(line), &rows)
 }
 
@@ -103,17 +111,31 @@ fn all_pages(client: &mut Client, line: &Line) -> Result<Hits, Failure> {
     Ok(all)
 }
 
+/// What the first column has: the numbers of the nodes, or the paths of their files. A node that is no file has its number.
+fn names_of(client: &mut Client, nodes: &[u64], line: &Line, output: &Output) -> Result<Vec<Vec<u8>>, Failure> {
+    let number = |node: &u64| node.to_string().into_bytes();
+    if !line.path {
+        return Ok(nodes.iter().map(number).collect());
+    }
+    let paths = paths_of(client, nodes)?;
+    let name = |(node, path): (&u64, &Option<_>)| {
+        path.as_ref()
+            .map_or_else(|| number(node), |path: &PathBuf| output.path_bytes(path))
+    };
+    Ok(nodes.iter().zip(&paths).map(name).collect())
+}
+
 fn headings(line: &Line) -> Vec<&str> {
-    std::iter::once("Node")
+    std::iter::once(if line.path { "Path" } else { "Node" })
         .chain(line.columns.iter().map(String::as_str))
         .collect()
 }
 
-fn cells(node: String, row: &Row, output: &Output) -> Vec<Vec<u8>> {
+fn cells(node: Vec<u8>, row: &Row, output: &Output) -> Vec<Vec<u8>> {
     let values = row
         .iter()
         .map(|value| value.as_ref().map_or_else(Vec::new, |Json(value)| output.value(value)));
-    std::iter::once(node.into_bytes()).chain(values).collect()
+    std::iter::once(node).chain(values).collect()
 }
 
 /// A push as a line of JSON, with the columns of the nodes that came.
@@ -178,9 +200,12 @@ fn show_change(client: &mut Client, push: &Push, line: &Line, output: &mut Outpu
         output.line(format!("-{node}").as_bytes())?;
     }
     let none = Row::new();
-    for (index, node) in push.created.iter().enumerate() {
+    let names = names_of(client, &push.created, line, output)?;
+    for (index, name) in names.iter().enumerate() {
         let row = rows.as_ref().map_or(&none, |rows| &rows[index]);
-        let cells = cells(format!("+{node}"), row, output);
+        let mut shown = vec![b'+'];
+        shown.extend(name);
+        let cells = cells(shown, row, output);
         output.line(&cells.join(&b'\t'))?;
     }
     Ok(())

@@ -14,7 +14,7 @@ pub fn show(client: &mut Client, line: &Line, output: &mut Output) -> Result<(),
         || "none".into(),
         |oldest| format!("{}, by pass {}", oldest.snapshot, oldest.pass),
     );
-    let lines = [
+    let lines = vec![
         ("pages", status.pages.to_string()),
         ("free", status.free.to_string()),
         ("retired", status.retired.to_string()),
@@ -23,5 +23,10 @@ pub fn show(client: &mut Client, line: &Line, output: &mut Output) -> Result<(),
         ("clients", status.clients.to_string()),
         ("live queries", status.watches.to_string()),
     ];
-    output.aligned(&lines.map(|(name, value)| vec![name.into(), value]))
+    let lines = lines.into_iter().map(|(name, value)| vec![name.into(), value]);
+    let volumes = (0..).zip(&status.volumes).map(|(volume, full)| {
+        let value = format!("{} pages, {} free, {} entries", full.pages, full.free, full.entries);
+        vec![format!("volume {volume}"), value]
+    });
+    output.aligned(&lines.chain(volumes).collect::<Vec<_>>())
 }

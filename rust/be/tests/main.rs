@@ -3,6 +3,9 @@
 #[macro_use]
 mod common;
 mod broken;
+mod follow;
+mod guide;
+mod import;
 mod page;
 mod queries;
 mod tools;

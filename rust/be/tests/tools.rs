@@ -286,14 +286,12 @@ fn exit_statuses_are_those_of_the_page() {
         &["query", "--watch", "--limit", "5", "a==1"],
         &["addattr", "name"],
         &["addattr", "name", "value"],
-        &["addattr", "name", "value", "node"],
         &["addattr", "--new", "name", "value", "1"],
         &["addattr", "-t", "float", "name", "value", "1"],
         &["catattr", "name"],
         &["catattr", "name", "-1"],
         &["rmindex", "a", "b"],
         &["rmnode"],
-        &["rmnode", "node"],
         &["status", "--table"],
     ] {
         let said = none(words);
@@ -303,4 +301,29 @@ fn exit_statuses_are_those_of_the_page() {
     assert_eq!((none(&["--help"]).status, none(&["--version"]).status), (0, 0));
     let server = server!(Server::start());
     refused(&server, &["rmattr", "name", "7"], "be: node 7: no such node\n");
+}
+
+#[test]
+fn the_tools_work_over_volumes() {
+    let server = server!(Server::start_with(&["--pages", "1024", "--volumes", "2"]));
+    server.done(&["mkindex", "-t", "int64", "size"]);
+    let mut nodes: Vec<String> = (0..20)
+        .map(|_| {
+            server
+                .done(&["addattr", "-t", "int64", "--new", "size", "5"])
+                .trim()
+                .to_owned()
+        })
+        .collect();
+    nodes.sort_by_key(|node| node.parse::<u64>().unwrap());
+    assert_eq!((nodes[0].as_str(), nodes[19].len()), ("1", "100000000000001".len()));
+    assert_eq!(server.done(&["query", "size==5"]), nodes.join("\n") + "\n");
+    let status = server.done(&["status"]);
+    let volumes: Vec<&str> = status.lines().filter(|line| line.starts_with("volume")).collect();
+    assert_eq!(volumes.len(), 2, "{status}");
+    assert!(volumes[1].contains("1024 pages, "), "{status}");
+    // These are in two volumes, so they are no single transaction.
+    server.done(&["rmattr", "size", &nodes[0], &nodes[19]]);
+    server.done(&["rmnode", &nodes[1], &nodes[18]]);
+    assert_eq!(server.done(&["query", "--count", "size==5"]), "16\n");
 }

@@ -1,7 +1,8 @@
 //! Changes: reading and writing as one.
 
+use crate::wire::Numbers;
 use crate::{Client, Result};
-use bestore::Batch;
+use bestore::{Batch, Node};
 
 /// What the closure of [`Client::change`] reads by, and the operations that it collects.
 ///
@@ -11,6 +12,10 @@ pub struct Change<'a> {
     client: &'a mut Client,
     batch: Batch,
     next: u64,
+    /// The next node of each volume, if there are several.
+    nexts: Vec<u64>,
+    /// The volume that the batch has to be in, if it is known.
+    volume: Option<u32>,
 }
 
 impl Change<'_> {
@@ -24,10 +29,23 @@ impl Change<'_> {
         &mut self.batch
     }
 
+    /// Makes nodes from now on in this volume, and no longer in the one with the most free pages. A batch has one volume, so this is
+    /// called before the first [`new_node`](Self::new_node). A volume that isn't there is refused when the change is written.
+    pub fn in_volume(&mut self, volume: u32) -> &mut Self {
+        if let Some(next) = self.nexts.get(volume as usize) {
+            self.next = *next;
+        }
+        self.volume = Some(volume);
+        self
+    }
+
     /// Makes a node, and returns the number that it will have.
     pub fn new_node(&mut self) -> u64 {
         let node = self.next;
         self.next += 1;
+        if !self.nexts.is_empty() && self.volume.is_none() {
+            self.volume = Some(Node::from(node).volume);
+        }
         self.batch.new_node();
         node
     }
@@ -36,6 +54,9 @@ impl Change<'_> {
 impl Client {
     /// Reads and writes as one: runs the closure on the current snapshot, and writes the operations that it collects if no
     /// other write came between. Otherwise it runs the closure again, up to 1,000 times.
+    ///
+    /// If the server has several volumes, the operations are in one of them, and no other write came between there. What the closure
+    /// reads of other volumes may have changed.
     ///
     /// # Errors
     /// Those of the closure; [`Error::Refused`](crate::Error::Refused).
@@ -55,11 +76,17 @@ impl Client {
             client: self,
             batch: Batch::new(),
             next: snapshot.next,
+            nexts: snapshot.nexts,
+            volume: None,
         };
         let value = change(&mut collected);
-        let batch = collected.batch;
+        let Change { batch, volume, .. } = collected;
+        let expected = match snapshot.commits {
+            one if one.is_empty() => Numbers::One(snapshot.commit),
+            each => Numbers::Each(each),
+        };
         let written = match &value {
-            Ok(_) if !batch.is_empty() => self.apply_if(snapshot.commit, &batch).map(drop),
+            Ok(_) if !batch.is_empty() => self.write(&batch, Some(expected), volume).map(drop),
             _ => Ok(()),
         };
         self.unpin_quietly()?;

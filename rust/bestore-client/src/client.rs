@@ -1,6 +1,6 @@
 //! A connection to the server.
 
-use crate::wire::{self, Command, Json, Nothing, Push, Refusal, Request};
+use crate::wire::{self, Command, Json, Nothing, Numbers, Push, Refusal, Request};
 use crate::{Error, Result};
 use bestore::{Batch, Value, Written};
 use serde::de::DeserializeOwned;
@@ -213,7 +213,7 @@ impl Client {
     /// # Errors
     /// As `call`.
     pub fn apply(&mut self, batch: &Batch) -> Result<Written> {
-        self.write(batch, None)
+        self.write(batch, None, None)
     }
 
     /// Writes as [`apply`](Self::apply), if the journal has exactly `expected` entries. Otherwise the error is `Conflict`.
@@ -221,16 +221,51 @@ impl Client {
     /// # Errors
     /// As `call`.
     pub fn apply_if(&mut self, expected: u64, batch: &Batch) -> Result<Written> {
-        self.write(batch, Some(expected))
+        self.write(batch, Some(Numbers::One(expected)), None)
     }
 
-    fn write(&mut self, batch: &Batch, expected: Option<u64>) -> Result<Written> {
-        let operations = batch.clone().into();
-        let written: wire::Written = self.call(Command::Batch(wire::Write { operations, expected }))?;
+    /// Writes as [`apply`](Self::apply), in this volume of a server that has several. Without a volume it is the one of the nodes that
+    /// the batch names, or the one with the most free pages. The number of what was written is the one in the volume.
+    ///
+    /// # Errors
+    /// As `call`.
+    pub fn apply_in(&mut self, volume: u32, batch: &Batch) -> Result<Written> {
+        self.write(batch, None, Some(volume))
+    }
+
+    /// Writes as [`apply_in`](Self::apply_in), if the journal of the volume has exactly `expected` entries.
+    ///
+    /// # Errors
+    /// As `call`.
+    pub fn apply_in_if(&mut self, volume: u32, expected: u64, batch: &Batch) -> Result<Written> {
+        self.write(batch, Some(Numbers::One(expected)), Some(volume))
+    }
+
+    pub(crate) fn write(&mut self, batch: &Batch, expected: Option<Numbers>, volume: Option<u32>) -> Result<Written> {
+        let written: wire::Written = self.call(Command::Batch(wire::Write {
+            operations: batch.clone().into(),
+            expected,
+            volume,
+        }))?;
         Ok(Written {
             number: written.commit,
             nodes: written.nodes,
         })
+    }
+
+    /// Waits up to this time until the journal of each volume has at least so many entries: one number for a server with one volume.
+    /// Later reads of the current snapshot have them. Otherwise the error is `Behind`.
+    ///
+    /// # Errors
+    /// As `call`.
+    pub fn reach(&mut self, numbers: &[u64], within: Duration) -> Result<wire::Commit> {
+        self.call(Command::Reach(wire::Reach {
+            commit: match numbers {
+                [number] => Numbers::One(*number),
+                numbers => Numbers::Each(numbers.into()),
+            },
+            within: Some(u64::try_from(within.as_millis()).unwrap_or(u64::MAX)),
+        }))
     }
 
     /// Keeps the current snapshot for reads, until [`unpin`](Self::unpin).
@@ -352,12 +387,46 @@ impl Client {
         self.call(Command::Status(Nothing {}))
     }
 
+    /// What the server does in the log that machines share.
+    ///
+    /// # Errors
+    /// As `call`; `NoLog` if there is no such log.
+    pub fn log(&mut self) -> Result<wire::LogStatus> {
+        self.call(Command::Log(wire::OfLog::default()))
+    }
+
+    /// Waits until the server has this entry of the log that machines share. Reads after it see at least that entry.
+    ///
+    /// # Errors
+    /// As `call`; `Behind` at the end of the time, of which a minute is the most; `NoLog`; `Pinned`.
+    pub fn wait_for_entry(&mut self, entry: u64, within: Duration) -> Result<wire::LogStatus> {
+        self.call(Command::Log(wire::OfLog {
+            entry: Some(entry),
+            within: Some(u64::try_from(within.as_millis()).unwrap_or(u64::MAX)),
+        }))
+    }
+
     /// A page of the journal, from the entry with this index on.
     ///
     /// # Errors
     /// As `call`.
     pub fn journal_from(&mut self, from: u64) -> Result<wire::Journal> {
-        self.call(Command::Journal(wire::JournalFrom { from, limit: None }))
+        self.call(Command::Journal(wire::JournalFrom {
+            from,
+            ..wire::JournalFrom::default()
+        }))
+    }
+
+    /// The same of this volume, which has to be said if the server has several.
+    ///
+    /// # Errors
+    /// As `call`.
+    pub fn journal_of(&mut self, volume: u32, from: u64) -> Result<wire::Journal> {
+        self.call(Command::Journal(wire::JournalFrom {
+            from,
+            volume: Some(volume),
+            ..wire::JournalFrom::default()
+        }))
     }
 }
 

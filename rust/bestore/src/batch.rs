@@ -153,6 +153,19 @@ impl Batch {
         self
     }
 
+    /// The nodes that operations name, with the indices of these. An operation that makes a node names it in a batch of the journal
+    /// alone.
+    pub(crate) fn named_nodes(&mut self) -> impl Iterator<Item = (usize, &mut u64)> {
+        let operations = self.list.operations.iter_mut().enumerate();
+        operations.filter_map(|(index, operation)| match operation.kind {
+            sys::BES_NEW_NODE if operation.node == 0 => None,
+            sys::BES_NEW_NODE | sys::BES_REMOVE_NODE | sys::BES_SET | sys::BES_UNSET => {
+                Some((index, &mut operation.node))
+            }
+            _ => None,
+        })
+    }
+
     pub(crate) fn add(&mut self, kind: u32, node: u64, name: &str, code: u32, number: u64, value: &[u8]) -> &mut Self {
         let List { operations, bytes } = &mut self.list;
         let name_at = bytes.len();

@@ -16,7 +16,7 @@ pub struct Change<'a> {
 }
 
 impl<'a> Change<'a> {
-    fn new(snapshot: &'a Snapshot<'a>) -> Result<Self> {
+    pub(crate) fn new(snapshot: &'a Snapshot<'a>) -> Result<Self> {
         Ok(Self {
             snapshot,
             batch: Batch::new(),
@@ -41,6 +41,10 @@ impl<'a> Change<'a> {
     #[must_use]
     pub fn batch(&self) -> &Batch {
         &self.batch
+    }
+
+    pub(crate) fn into_batch(self) -> Batch {
+        self.batch
     }
 
     /// Makes a node, and returns the number that it will have.

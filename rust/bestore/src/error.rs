@@ -82,6 +82,34 @@ pub enum Error {
         /// The kind of the value.
         value: Kind,
     },
+    /// The shelf has no such volume.
+    NoVolume {
+        /// The volume.
+        volume: u32,
+        /// How many there are.
+        volumes: u32,
+    },
+    /// An operation names a node of another volume than the one that is written.
+    OtherVolume {
+        /// The volume that is written.
+        volume: u32,
+        /// Which operation of the batch, from 0. In a change it is the one that was to be added.
+        operation: Option<u64>,
+    },
+    /// An index is made or removed in all volumes of a shelf, by calls of its own, and not in the volume of a batch.
+    PartialIndex {
+        /// Which operation of the batch, from 0.
+        operation: u64,
+    },
+    /// The next node of the store is too great for a volume of a shelf.
+    NodesSpent,
+    /// The error of one volume of a shelf.
+    InVolume {
+        /// The volume.
+        volume: u32,
+        /// What is wrong there.
+        error: Box<Error>,
+    },
     /// Bytes that are no batch.
     BadBatch {
         /// The offset of the first byte that is wrong, or the length of the bytes if they end too soon.
@@ -114,6 +142,39 @@ impl Error {
         Error::Other(error.into())
     }
 
+    /// The same error, of this volume of a shelf, if it depends on the volume and not on the call alone.
+    #[must_use]
+    pub fn in_volume(self, volume: u32) -> Self {
+        match self {
+            Error::Query(QueryError { fault, .. }) if fault != QueryFault::NotCovered => self,
+            Error::NoNode | Error::NoAttribute | Error::NotIndexable | Error::Forked | Error::BadCount { .. } => self,
+            Error::NameLength { .. } | Error::DataLength { .. } | Error::HasNul { .. } => self,
+            Error::InVolume { .. } => self,
+            error => Error::InVolume {
+                volume,
+                error: Box::new(error),
+            },
+        }
+    }
+
+    /// The volume of a shelf whose error this is, if it is one of a volume.
+    #[must_use]
+    pub fn volume(&self) -> Option<u32> {
+        match self {
+            Error::InVolume { volume, .. } => Some(*volume),
+            _ => None,
+        }
+    }
+
+    /// The error without the volume that it is of.
+    #[must_use]
+    pub fn without_volume(self) -> Self {
+        match self {
+            Error::InVolume { error, .. } => *error,
+            error => error,
+        }
+    }
+
     /// The number of this error in `bestore.h`, if it has one.
     #[must_use]
     pub fn code(&self) -> Option<u32> {
@@ -138,6 +199,9 @@ impl Error {
             Error::BadCount { .. } => sys::BES_BAD_COUNT,
             Error::Conflict { .. } => sys::BES_CONFLICT,
             Error::Unexpected { code, .. } => *code,
+            Error::InVolume { error, .. } => return error.code(),
+            Error::NoVolume { .. } | Error::OtherVolume { .. } => return None,
+            Error::PartialIndex { .. } | Error::NodesSpent => return None,
             Error::KindMismatch { .. } | Error::BadBatch { .. } => return None,
             Error::Forked | Error::Other(_) => return None,
             #[cfg(feature = "saved")]
@@ -255,6 +319,7 @@ impl Error {
             Error::BadLimits => "a limit is out of its range",
             Error::NoPass => "each pass is in use",
             Error::Forked => "the handle belongs to the parent of this process",
+            Error::NodesSpent => "the next node is too great for a volume of a shelf",
             _ => "unknown error",
         }
     }
@@ -299,6 +364,18 @@ impl Error {
                 )
             }
             Error::BadBatch { offset, why } => write!(f, "{why} (byte {offset}, counted from 0)"),
+            Error::NoVolume { volume, volumes } => {
+                write!(f, "there is no volume {volume}: there are {volumes}, counted from 0")
+            }
+            Error::OtherVolume { volume, operation } => {
+                let what = format!("a node isn't in volume {volume}, which is written");
+                at_operation(f, &what, *operation)
+            }
+            Error::PartialIndex { operation } => {
+                let what = "an index is made in all volumes, and not beside other operations";
+                at_operation(f, what, Some(*operation))
+            }
+            Error::InVolume { volume, error } => write!(f, "volume {volume}: {error}"),
             _ => f.write_str(self.plain()),
         }
     }
@@ -311,6 +388,7 @@ impl std::error::Error for Error {
             #[cfg(feature = "saved")]
             Error::NotSaved(error) | Error::Stopped(error) => Some(error.as_ref()),
             Error::Other(error) => error.source(),
+            Error::InVolume { error, .. } => error.source(),
             _ => None,
         }
     }

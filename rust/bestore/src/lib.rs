@@ -53,6 +53,10 @@
 //!
 //! In a forked child each handle of the parent is dead: its calls return [`Error::Forked`], and its end does nothing.
 //!
+//! # More than one store
+//!
+//! A [`Shelf`] has several stores, which one query searches: see the module [`shelf`].
+//!
 //! # Features
 //!
 //! - `saved`: the module `saved`, a store whose writes are kept in a file of SQLite.
@@ -70,6 +74,7 @@ mod prepared;
 mod raw;
 #[cfg(feature = "saved")]
 pub mod saved;
+pub mod shelf;
 mod snapshot;
 mod store;
 mod text;
@@ -79,9 +84,12 @@ pub use batch::{Batch, Operation, Operations};
 pub use change::Change;
 pub use error::{Error, QueryError, QueryFault, Result};
 pub use journal::{Entries, Entry};
-pub use pass::{Oldest, Pass, Retry, Status, Written};
+pub use pass::{Keeper, Oldest, Pass, Retry, Status, Written};
 pub use predicate::{attribute, Attribute, Operand, Predicate};
 pub use prepared::{Live, Prepared, Updates};
+pub use shelf::{
+    Node, Shelf, ShelfChange, ShelfLive, ShelfNodes, ShelfPass, ShelfSnapshot, ShelfWritten, MOST_VOLUMES,
+};
 pub use snapshot::{Nodes, Snapshot, State};
 pub use store::{Limits, Store};
 pub use text::{any_case, escape};

@@ -104,12 +104,21 @@ pub struct Pass {
     keeper: Option<Arc<dyn Keeper>>,
 }
 
-/// What keeps the writes of a store elsewhere too.
-pub(crate) trait Keeper: Send + Sync + fmt::Debug {
-    /// Makes a write of the batch by the pass with this number, while no other write is made. Returns its number for `wait`.
+/// What keeps the writes of a store elsewhere too, such as in a log. [`Pass::kept_by`] makes the writes of a pass go by it.
+///
+/// A write is made in memory by `keep`, and its call returns after `wait`. So a snapshot may show a write that isn't kept yet.
+pub trait Keeper: Send + Sync + fmt::Debug {
+    /// Makes a write of the batch by the pass with this number: calls `write` once, while no other write is made, and returns
+    /// what it returned, with a number for [`wait`](Self::wait). The order of these calls is that of the journal.
+    ///
+    /// # Errors
+    /// Those of `write`, and [`Error::Other`] of the keeper's own, before `write` is called or after.
     fn keep(&self, pass: u64, batch: &Batch, write: &mut dyn FnMut() -> Result<Written>) -> Result<(Written, u64)>;
 
-    /// Returns when the write is kept.
+    /// Returns when the write with this number is kept.
+    ///
+    /// # Errors
+    /// [`Error::Other`] of the keeper's own: the write was made in memory, and may be kept or not.
     fn wait(&self, number: u64) -> Result<()>;
 }
 
@@ -123,8 +132,37 @@ impl Pass {
         }
     }
 
-    #[cfg(feature = "saved")]
-    pub(crate) fn kept_by(mut self, keeper: Arc<dyn Keeper>) -> Self {
+    /// The pass, whose writes go by the keeper from now on. All passes that write have to have the same one.
+    ///
+    /// ```
+    /// use bestore::{Batch, Keeper, Limits, Result, Store, Written};
+    /// use std::sync::{Arc, Mutex};
+    ///
+    /// /// Keeps the batches in a list.
+    /// #[derive(Debug, Default)]
+    /// struct List(Mutex<Vec<Batch>>);
+    ///
+    /// impl Keeper for List {
+    ///     fn keep(&self, _: u64, batch: &Batch, write: &mut dyn FnMut() -> Result<Written>) -> Result<(Written, u64)> {
+    ///         let mut list = self.0.lock().unwrap();
+    ///         let written = write()?;
+    ///         list.push(batch.clone());
+    ///         Ok((written, list.len() as u64))
+    ///     }
+    ///
+    ///     fn wait(&self, _: u64) -> Result<()> {
+    ///         Ok(())
+    ///     }
+    /// }
+    ///
+    /// let list = Arc::new(List::default());
+    /// let pass = Store::open(Limits::default())?.pass()?.kept_by(list.clone());
+    /// pass.new_node()?;
+    /// assert_eq!(list.0.lock().unwrap().len(), 1);
+    /// # Ok::<(), bestore::Error>(())
+    /// ```
+    #[must_use]
+    pub fn kept_by(mut self, keeper: Arc<dyn Keeper>) -> Self {
         self.keeper = Some(keeper);
         self
     }

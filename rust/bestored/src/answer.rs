@@ -2,10 +2,12 @@
 
 use crate::failure::Failure;
 use crate::outbox::Outbox;
-use crate::page::{self, rows_of, Room};
+use crate::page::{self, commits, rows_of, Reading, Room};
+use crate::reach;
 use crate::server::Shared;
+use crate::volumes;
 use crate::watcher::{self, Watch, Watches};
-use bestore::{Live, Pass, Snapshot, State, Updates};
+use bestore::{Error, Pass, ShelfLive, ShelfPass, ShelfSnapshot, Snapshot, Status, Updates};
 use bestore_client::wire::{self, Command};
 use serde::Serialize;
 use std::io::{self, Write};
@@ -22,20 +24,20 @@ const COLLECTED: usize = 1 << 16;
 #[derive(Debug)]
 pub enum View<'v, 'p> {
     /// For each read the current snapshot.
-    Current(&'v mut Pass),
+    Current(&'v mut ShelfPass),
     /// One snapshot, since this time.
     Kept {
-        snapshot: &'v Snapshot<'p>,
+        snapshot: &'v ShelfSnapshot<'p>,
         since: Instant,
-        /// How far `state` has been read, by the index of its next batch.
-        state: Option<(u64, State<'v>)>,
+        /// How far `state` has been read.
+        state: Option<Reading<'v>>,
     },
     /// Nothing, as the snapshot was taken back.
-    Expired(&'v Pass),
+    Expired(&'v ShelfPass),
 }
 
 impl<'v, 'p> View<'v, 'p> {
-    pub fn kept(snapshot: &'v Snapshot<'p>) -> Self {
+    pub fn kept(snapshot: &'v ShelfSnapshot<'p>) -> Self {
         View::Kept {
             snapshot,
             since: Instant::now(),
@@ -51,16 +53,52 @@ impl<'v, 'p> View<'v, 'p> {
         }
     }
 
-    fn pass(&self) -> &Pass {
+    /// How many volumes there are.
+    pub fn volumes(&self) -> usize {
         match self {
-            View::Current(pass) => pass,
-            View::Kept { snapshot, .. } => snapshot.pass(),
-            View::Expired(pass) => pass,
+            View::Current(pass) => pass.volumes().len(),
+            View::Kept { snapshot, .. } => snapshot.volumes().len(),
+            View::Expired(pass) => pass.volumes().len(),
+        }
+    }
+
+    /// The pass of a volume.
+    pub fn pass(&self, volume: u32) -> Result<&Pass, Error> {
+        match self {
+            View::Current(pass) => pass.volume(volume),
+            View::Kept { snapshot, .. } => snapshot.volume(volume).map(Snapshot::pass),
+            View::Expired(pass) => pass.volume(volume),
+        }
+    }
+
+    /// The volume with the most free pages.
+    pub fn roomiest(&self) -> Result<u32, Error> {
+        match self {
+            View::Current(pass) => pass.roomiest(),
+            View::Kept { snapshot, .. } => snapshot.roomiest(),
+            View::Expired(pass) => pass.roomiest(),
+        }
+    }
+
+    /// How full each volume is.
+    pub fn status(&self) -> Result<Vec<Status>, Error> {
+        match self {
+            View::Current(pass) => pass.status(),
+            View::Kept { snapshot, .. } => snapshot.status(),
+            View::Expired(pass) => pass.status(),
+        }
+    }
+
+    /// Refuses to wait for an entry while a snapshot is kept, which entries may need to be given back first.
+    fn check_waits(&self, wanted: &wire::OfLog) -> Result<(), Failure> {
+        match (self, wanted.entry) {
+            (View::Kept { .. }, Some(_)) => Err(Failure::pinned()),
+            _ => Ok(()),
         }
     }
 
     /// Reads in the snapshot that is kept, otherwise in the current one.
-    fn read<T>(&mut self, read: impl FnOnce(&Snapshot<'_>) -> Result<T, Failure>) -> Result<T, Failure> {
+    pub fn read<T>(&mut self, read: impl FnOnce(&ShelfSnapshot<'_>) -> Result<T, Failure>) -> Result<T, Failure> {
         match self {
             View::Current(pass) => read(&pass.pin()?),
             View::Kept { snapshot, .. } => read(snapshot),
@@ -147,9 +185,17 @@ impl<'a> Desk<'a> {
             Command::Unwatch(watching) => self.unwatch(id, &watching),
             Command::Hello(greeting) => self.hello(id, &greeting, view),
             Command::Status(_) => self.status(id, view),
-            Command::Journal(journal) => page::journal(view.pass(), &journal).map(|page| self.reply(id, &page)),
-            Command::State(from) => state(view, from.from).map(|page| self.reply(id, &page)),
+            Command::Journal(journal) => page::journal(view, &journal).map(|page| self.reply(id, &page)),
+            Command::State(from) => state(view, &from).map(|page| self.reply(id, &page)),
+            Command::Reach(reach) => reach::reach(view, &reach).map(|reached| self.reply(id, &reached)),
             Command::Flush(_) => self.shared.kept.flush().map(|()| self.reply(id, &wire::Nothing {})),
+            Command::Log(wanted) => {
+                // Earlier replies don't wait for an entry.
+                self.send()?;
+                let status = view.check_waits(&wanted);
+                let status = status.and_then(|()| self.shared.kept.log_status(&wanted));
+                status.map(|status| self.reply(id, &status))
+            }
             Command::Compact(_) => self.shared.kept.compact().map(|()| self.reply(id, &wire::Nothing {})),
             command => view.read(|snapshot| self.read(id, command, snapshot)),
         };
@@ -162,50 +208,48 @@ impl<'a> Desk<'a> {
         }
     }
 
-    fn write(&mut self, id: u64, write: &wire::Write, view: &View<'_, '_>) -> Result<(), Failure> {
+    fn write(&mut self, id: u64, write: &wire::Write, view: &mut View<'_, '_>) -> Result<(), Failure> {
         let wire::Operations { batch, count } = &write.operations;
         if *count > batch.len() {
-            return Err(bestore::Error::BadCount { count: *count }.into());
+            return Err(Error::BadCount { count: *count }.into());
         }
-        let written = self.shared.pressure.write(view.pass(), write.expected, batch)?;
-        self.shared.watcher.written();
-        let reply = wire::Written {
-            commit: written.number,
-            nodes: written.nodes,
+        let written = match volumes::is_for_all(write, view.volumes()) {
+            true => view.read(|snapshot| volumes::write_indices(snapshot, batch)),
+            false => volumes::write(&self.shared.pressure, view, write),
         };
-        self.reply(id, &reply);
+        // Some volumes may have been written before another one refused.
+        self.shared.watcher.written();
+        let mut written = written?;
+        written.entry = self.shared.kept.entry(written.commit);
+        self.reply(id, &written);
         Ok(())
     }
 
     /// Answers a command that reads in one snapshot.
-    fn read(&mut self, id: u64, command: Command<'_>, snapshot: &Snapshot<'_>) -> Result<(), Failure> {
-        let commit = snapshot.number();
+    fn read(&mut self, id: u64, command: Command<'_>, snapshot: &ShelfSnapshot<'_>) -> Result<(), Failure> {
+        let (commit, commits) = (snapshot.number(), commits(snapshot));
         match command {
             Command::Query(query) => self.reply(id, &hits(snapshot, &query)?),
             Command::Get(wire::Get { node, name }) => {
                 let value = snapshot.get(node, &name)?.map(wire::Json);
-                self.reply(id, &wire::Value { commit, value })
+                self.reply(id, &wire::Value { commit, commits, value })
             }
             Command::Attributes(wire::Node { node }) => {
                 let attributes = snapshot.attributes(node)?.into_iter();
                 let attributes = attributes.map(|(name, value)| (name, wire::Json(value))).collect();
-                self.reply(id, &wire::Attributes { commit, attributes })
+                let reply = wire::Attributes {
+                    commit,
+                    commits,
+                    attributes,
+                };
+                self.reply(id, &reply)
             }
-            Command::Indices(_) => {
-                let indices = snapshot.indices()?.into_iter();
-                let indices = indices
-                    .map(|(name, kind)| (name, wire::kind_name(kind).into()))
-                    .collect();
-                self.reply(id, &wire::Indices { commit, indices })
-            }
+            Command::Indices(_) => self.reply(id, &volumes::indices(snapshot)?),
             Command::Nodes(from) => self.reply(id, &page::nodes(snapshot, &from)?),
-            Command::Next(_) => {
-                let next = snapshot.next_node()?;
-                self.reply(id, &wire::Next { commit, next })
-            }
+            Command::Next(_) => self.reply(id, &volumes::next(snapshot)?),
             Command::Explain(wire::QueryText { query }) => {
                 let text = snapshot.explain(&query)?;
-                self.reply(id, &wire::Explained { commit, text })
+                self.reply(id, &wire::Explained { commit, commits, text })
             }
             _ => return Err(Failure::new("BadRequest", "the command reads nothing")),
         }
@@ -224,7 +268,7 @@ impl<'a> Desk<'a> {
             server: env!("CARGO_PKG_VERSION").into(),
             library: format!("{major}.{minor}.{patch}"),
             run: self.shared.run.clone(),
-            pass: view.pass().number()?,
+            pass: view.pass(0)?.number()?,
             kept: self.shared.kept.when().into(),
             limits: wire::Limits {
                 pages: options.pages,
@@ -234,25 +278,17 @@ impl<'a> Desk<'a> {
                 line: wire::LINE as u64,
                 watches: WATCHES as u64,
             },
+            volumes: view.volumes() as u32,
         };
         self.reply(id, &hello);
         Ok(())
     }
 
     fn status(&mut self, id: u64, view: &View<'_, '_>) -> Result<(), Failure> {
-        let status = view.pass().status()?;
         let status = wire::Status {
-            pages: status.pages,
-            free: status.free,
-            retired: status.retired,
-            entries: status.entries,
-            commits: status.commits,
-            oldest: status.oldest.map(|oldest| wire::HeldBy {
-                snapshot: oldest.snapshot,
-                pass: oldest.pass,
-            }),
             clients: self.shared.clients.count() as u64,
             watches: self.shared.watcher.count() as u64,
+            ..volumes::status(&view.status()?)
         };
         self.reply(id, &status);
         Ok(())
@@ -265,23 +301,24 @@ impl<'a> Desk<'a> {
             return Err(Failure::new("TooManyWatches", message));
         }
         let number = self.last_watch + 1;
-        let mut live = watch.query.map(|query| Live::new(&query)).transpose()?;
-        let (commit, mut found) = view.read(|snapshot| {
+        let mut live = watch.query.map(|query| ShelfLive::new(&query)).transpose()?;
+        let (numbers, mut found) = view.read(|snapshot| {
             let found = match &mut live {
                 Some(live) => live.refresh(snapshot)?,
                 None => Updates::default(),
             };
-            Ok((snapshot.number(), found))
+            Ok((snapshot.numbers().collect::<Vec<_>>(), found))
         })?;
         self.last_watch = number;
         let nodes = watcher::take(&mut found.created, watcher::NODES);
         let reply = wire::Watched {
             watch: number,
-            commit,
+            commit: numbers.iter().sum(),
+            commits: wire::several(&numbers),
             nodes: live.is_some().then_some(nodes),
             more: !found.created.is_empty(),
         };
-        Ok((reply, Watch::new(number, live, commit, found)))
+        Ok((reply, Watch::new(number, live, numbers, found)))
     }
 
     /// Asks a live query in what reads see. The watch is out of the list until the reply is sent.
@@ -320,12 +357,13 @@ impl<'a> Desk<'a> {
     }
 }
 
-fn hits(snapshot: &Snapshot<'_>, query: &wire::Query<'_>) -> Result<wire::Hits, Failure> {
+fn hits(snapshot: &ShelfSnapshot<'_>, query: &wire::Query<'_>) -> Result<wire::Hits, Failure> {
     let mut found = snapshot.query(&query.query)?;
     let before = found.partition_point(|node| *node < query.from);
     found.drain(..before);
     let mut hits = wire::Hits {
         commit: snapshot.number(),
+        commits: commits(snapshot),
         count: found.len() as u64,
         ..wire::Hits::default()
     };
@@ -346,7 +384,7 @@ fn hits(snapshot: &Snapshot<'_>, query: &wire::Query<'_>) -> Result<wire::Hits, 
 }
 
 /// A page of the batches that make the kept snapshot again.
-fn state(view: &mut View<'_, '_>, from: u64) -> Result<wire::State, Failure> {
+fn state(view: &mut View<'_, '_>, from: &wire::From) -> Result<wire::State, Failure> {
     match view {
         View::Kept { snapshot, state, .. } => page::state(snapshot, state, from),
         View::Current(_) => Err(Failure::not_pinned()),

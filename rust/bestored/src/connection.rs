@@ -6,8 +6,9 @@ use crate::lines::{Lines, Received};
 use crate::outbox::Outbox;
 use crate::pressure;
 use crate::server::Shared;
-use bestore::Pass;
-use bestore_client::wire::{id_of, Command, Next, Nothing, Request};
+use crate::volumes;
+use bestore::ShelfPass;
+use bestore_client::wire::{id_of, Command, Nothing, Request};
 use std::io;
 use std::os::unix::net::UnixStream;
 use std::sync::Arc;
@@ -39,7 +40,7 @@ impl<'a> Connection<'a> {
     }
 
     /// Answers the client's requests until it closes the connection.
-    pub fn run(&mut self, mut pass: Pass) -> io::Result<()> {
+    pub fn run(&mut self, mut pass: ShelfPass) -> io::Result<()> {
         let mut is_expired = false;
         loop {
             let turn = match is_expired {
@@ -60,7 +61,7 @@ impl<'a> Connection<'a> {
     }
 
     /// Keeps a snapshot, and answers requests until the client gives it back or it has to.
-    fn keep(&mut self, id: u64, pass: &mut Pass) -> io::Result<Turn> {
+    fn keep(&mut self, id: u64, pass: &mut ShelfPass) -> io::Result<Turn> {
         let snapshot = match pass.pin() {
             Ok(snapshot) => snapshot,
             Err(error) => {
@@ -68,10 +69,9 @@ impl<'a> Connection<'a> {
                 return Ok(Turn::Close);
             }
         };
-        let commit = snapshot.number();
-        match snapshot.next_node() {
-            Ok(next) => self.desk.reply(id, &Next { commit, next }),
-            Err(error) => self.desk.refuse(Some(id), error.into()),
+        match volumes::next(&snapshot) {
+            Ok(next) => self.desk.reply(id, &next),
+            Err(failure) => self.desk.refuse(Some(id), failure),
         }
         self.serve(&mut View::kept(&snapshot))
     }

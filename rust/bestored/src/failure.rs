@@ -1,5 +1,7 @@
 //! Errors as the protocol has them.
 
+#[cfg(feature = "log")]
+use crate::log::Refused;
 use bestore::{saved, Error, QueryError, QueryFault};
 use bestore_client::wire::Refusal;
 use serde_json::Value;
@@ -49,6 +51,34 @@ impl Failure {
         Self::new("Expired", "the snapshot was kept too long, and the server took it back")
     }
 
+    /// The server doesn't have an entry yet.
+    #[cfg(feature = "log")]
+    pub fn behind(expected: u64, found: u64) -> Self {
+        let message = format!("the server has {found} entries of the log");
+        let failure = Self::new("Behind", message).with("expected", expected);
+        failure.with("found", found)
+    }
+
+    /// A request that has to say a volume, and doesn't.
+    pub fn volume_missing(volumes: usize) -> Self {
+        let message = format!("the server has {volumes} volumes, and the request says none");
+        Self::new("NoVolume", message).with("volumes", volumes)
+    }
+
+    /// Commit numbers that aren't those of the volumes.
+    pub fn numbers(volumes: usize) -> Self {
+        match volumes {
+            1 => Self::bad_request("the server has one volume, and so one commit number"),
+            _ => Self::bad_request(&format!(
+                "the server has {volumes} volumes, and a list has the number of each"
+            )),
+        }
+    }
+
+    pub fn bad_request(why: &str) -> Self {
+        Self::new("BadRequest", why)
+    }
+
     pub fn no_watch() -> Self {
         Self::new("NoWatch", "the connection has no such live query")
     }
@@ -71,7 +101,17 @@ impl Failure {
 
 impl From<Error> for Failure {
     fn from(error: Error) -> Self {
+        if let Some(volume) = error.volume() {
+            let Failure(refusal) = error.without_volume().into();
+            let message = format!("volume {volume}: {}", refusal.message);
+            return Failure(Refusal { message, ..refusal }).with("volume", volume);
+        }
         let failure = match &error {
+            #[cfg(feature = "log")]
+            Error::Other(other) => match other.downcast_ref::<Refused>() {
+                Some(refused) => refused.clone().into(),
+                None => Failure::new("Unexpected", other.to_string()),
+            },
             Error::Query(query) => Failure::of_query(query),
             _ => Failure::new(name(&error), error.to_string()),
         };
@@ -87,6 +127,11 @@ impl From<Error> for Failure {
             }
             Error::BadCount { count } => failure.with("count", count),
             Error::Conflict { expected, found } => failure.with("expected", expected).with("found", found),
+            Error::PartialIndex { operation } => failure.with("operation", operation),
+            Error::NoVolume { volume, volumes } => failure.with("volume", volume).with("volumes", volumes),
+            Error::OtherVolume { volume, operation } => {
+                failure.with("volume", volume).with_some("operation", operation)
+            }
             _ => failure,
         }
     }
@@ -111,6 +156,9 @@ fn name(error: &Error) -> &'static str {
         Error::NoPass => "NoPass",
         Error::BadCount { .. } => "BadCount",
         Error::Conflict { .. } => "Conflict",
+        Error::PartialIndex { .. } => "PartialIndex",
+        Error::NoVolume { .. } => "NoVolume",
+        Error::OtherVolume { .. } => "OtherVolume",
         Error::NotSaved(_) => "NotSaved",
         Error::Stopped(_) => "Stopped",
         _ => "Unexpected",
@@ -121,8 +169,25 @@ impl From<saved::Error> for Failure {
     fn from(error: saved::Error) -> Self {
         match error {
             saved::Error::Store(error) => error.into(),
+            saved::Error::OfVolume { volume, error } => {
+                let Failure(refusal) = (*error).into();
+                let message = format!("volume {volume}: {}", refusal.message);
+                Failure(Refusal { message, ..refusal }).with("volume", volume)
+            }
             saved::Error::Stopped(_) | saved::Error::Closed => Failure::new("Stopped", error.to_string()),
             error => Failure::new("NotSaved", error.to_string()),
+        }
+    }
+}
+
+#[cfg(feature = "log")]
+impl From<Refused> for Failure {
+    fn from(refused: Refused) -> Self {
+        let message = refused.to_string();
+        match refused {
+            Refused::NotLeader { leader } => Failure::new("NotLeader", message).with("leader", leader),
+            Refused::NotSaved(_) => Failure::new("NotSaved", message),
+            Refused::Stopped(_) => Failure::new("Stopped", message),
         }
     }
 }

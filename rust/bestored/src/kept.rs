@@ -1,78 +1,165 @@
-//! The store of the server, in memory alone or kept in a file.
+//! The volumes of the server: in memory alone, kept in files, or one in a log that machines share.
 
 use crate::failure::Failure;
+#[cfg(feature = "log")]
+use crate::log::Log;
 use crate::options::Options;
-use bestore::saved::{self, Saved};
-use bestore::{Pass, Store};
+use crate::server::Shared;
+use bestore::saved::{self, SavedShelf};
+use bestore::{Shelf, ShelfPass};
+use bestore_client::wire;
+use std::error::Error;
+use std::io;
+use std::path::Path;
+use std::sync::Arc;
 
-/// The store.
+/// The volumes.
 #[derive(Debug)]
 pub enum Kept {
-    Memory(Store),
-    File { saved: Saved, each: bool },
+    Memory(Shelf),
+    File {
+        saved: SavedShelf,
+        each: bool,
+    },
+    #[cfg(feature = "log")]
+    Log(Box<Log>),
+}
+
+/// Starts what the store does by itself.
+#[cfg(feature = "log")]
+pub fn start(shared: &Arc<Shared>) -> io::Result<()> {
+    match &shared.kept {
+        Kept::Log(_) => Log::start(shared),
+        _ => Ok(()),
+    }
+}
+
+#[cfg(not(feature = "log"))]
+pub fn start(_: &Arc<Shared>) -> io::Result<()> {
+    Ok(())
 }
 
 impl Kept {
-    pub fn open(options: &Options) -> saved::Result<Self> {
+    /// Opens the volumes of a server with this text of its run.
+    pub fn open(options: &Options, run: &str) -> Result<Self, Box<dyn Error>> {
+        if options.log.is_some() {
+            return Self::open_log(options, run);
+        }
         let path = match &options.keep {
-            None => return Ok(Kept::Memory(Store::open(options.limits())?)),
+            None => {
+                let volumes = options.volumes.unwrap_or(1);
+                return Ok(Kept::Memory(Shelf::open(volumes, options.limits())?));
+            }
             Some(path) => path,
         };
-        let mut opened = saved::Options::new();
-        opened.limits(options.limits());
-        if let Some(time) = options.every {
-            opened.every(time);
-        }
         Ok(Kept::File {
-            saved: opened.open(path)?,
+            saved: open_files(options, path)?,
             each: options.every.is_none(),
         })
     }
 
-    pub fn pass(&self) -> bestore::Result<Pass> {
+    #[cfg(feature = "log")]
+    fn open_log(options: &Options, run: &str) -> Result<Self, Box<dyn Error>> {
+        Ok(Kept::Log(Box::new(Log::open(options, run)?)))
+    }
+
+    #[cfg(not(feature = "log"))]
+    fn open_log(_: &Options, _: &str) -> Result<Self, Box<dyn Error>> {
+        Err("this program is built without the feature log".into())
+    }
+
+    pub fn pass(&self) -> bestore::Result<ShelfPass> {
         match self {
-            Kept::Memory(store) => store.pass(),
+            Kept::Memory(shelf) => shelf.pass(),
             Kept::File { saved, .. } => saved.pass(),
+            #[cfg(feature = "log")]
+            Kept::Log(log) => log.pass(),
         }
     }
 
-    /// When a write is in the file, as `hello` says it.
+    /// When a write is in the file or the log, as `hello` says it.
     pub fn when(&self) -> &'static str {
         match self {
             Kept::Memory(_) => "no",
-            Kept::File { each: true, .. } => "each",
             Kept::File { each: false, .. } => "every",
+            _ => "each",
         }
     }
 
-    /// Waits until all that was written is in the file, if the replies to writes wait for that.
+    /// Waits until all that was written is kept, if the replies to writes wait for that.
     pub fn flush_if_each(&self) -> Result<(), Failure> {
         match self {
-            Kept::File { saved, each: true } => Ok(saved.flush()?),
-            _ => Ok(()),
+            Kept::Memory(_) | Kept::File { each: false, .. } => Ok(()),
+            _ => self.flush(),
         }
     }
 
     pub fn flush(&self) -> Result<(), Failure> {
-        Ok(self.saved()?.flush()?)
+        match self {
+            Kept::Memory(_) => Err(not_kept()),
+            Kept::File { saved, .. } => Ok(saved.flush()?),
+            #[cfg(feature = "log")]
+            Kept::Log(log) => Ok(log.flush()?),
+        }
     }
 
     pub fn compact(&self) -> Result<(), Failure> {
-        Ok(self.saved()?.compact()?)
-    }
-
-    fn saved(&self) -> Result<&Saved, Failure> {
         match self {
-            Kept::Memory(_) => Err(Failure::new("NotKept", "the server keeps no file")),
-            Kept::File { saved, .. } => Ok(saved),
+            Kept::Memory(_) => Err(not_kept()),
+            Kept::File { saved, .. } => Ok(saved.compact()?),
+            #[cfg(feature = "log")]
+            Kept::Log(log) => Ok(log.compact()?),
         }
     }
 
-    /// Saves what was written. The file is closed when the store is dropped.
-    pub fn finish(&self) -> saved::Result<()> {
+    /// The number in the log of the entry with this commit number, if there is a log.
+    pub fn entry(&self, commit: u64) -> Option<u64> {
+        match self {
+            #[cfg(feature = "log")]
+            Kept::Log(log) => Some(log.entry(commit)),
+            _ => {
+                let _ = commit;
+                None
+            }
+        }
+    }
+
+    /// What the server does in the log, after it has the entry that is wanted.
+    pub fn log_status(&self, wanted: &wire::OfLog) -> Result<wire::LogStatus, Failure> {
+        match self {
+            #[cfg(feature = "log")]
+            Kept::Log(log) => log.status(wanted),
+            _ => {
+                let _ = wanted;
+                Err(Failure::new("NoLog", "the server is in no log"))
+            }
+        }
+    }
+
+    /// Saves what was written. The files are closed when the store is dropped.
+    pub fn finish(&self) -> Result<(), Box<dyn Error>> {
         match self {
             Kept::Memory(_) => Ok(()),
-            Kept::File { saved, .. } => saved.flush(),
+            Kept::File { saved, .. } => Ok(saved.flush()?),
+            #[cfg(feature = "log")]
+            Kept::Log(log) => Ok(log.finish()?),
         }
+    }
+}
+
+fn not_kept() -> Failure {
+    Failure::new("NotKept", "the server keeps no file")
+}
+
+/// Opens the file of one store, or the folder of several volumes.
+fn open_files(options: &Options, path: &Path) -> saved::Result<SavedShelf> {
+    let mut opened = saved::Options::new();
+    opened.limits(options.limits());
+    if let Some(time) = options.every {
+        opened.every(time);
+    }
+    match options.volumes {
+        None | Some(1) if !path.is_dir() => SavedShelf::of_volumes(vec![opened.open(path)?]),
+        volumes => opened.open_shelf(path, volumes),
     }
 }

@@ -7,13 +7,17 @@ mod connection;
 mod failure;
 mod kept;
 mod lines;
+#[cfg(feature = "log")]
+mod log;
 mod options;
 mod os;
 mod outbox;
 mod page;
 mod pressure;
+mod reach;
 mod server;
 mod socket;
+mod volumes;
 mod watcher;
 
 use kept::Kept;
@@ -42,15 +46,16 @@ fn start(options: Options) -> Result<(), Box<dyn Error>> {
         Some(listener) => Socket::passed(listener)?,
         None => Socket::make(&options.socket())?,
     };
-    let kept = Kept::open(&options)?;
+    let run = server::run_text()?;
+    let kept = Kept::open(&options, &run)?;
     let own = kept.pass()?;
     let shared = Shared {
         kept,
         watcher: Default::default(),
         pressure: Pressure::new(options.hold),
         clients: Default::default(),
-        run: server::run_text()?,
+        run,
         options,
     };
-    Ok(server::run(socket, &signals, shared, own)?)
+    server::run(socket, &signals, shared, own)
 }

@@ -1,13 +1,27 @@
 //! The options of the command line.
 
 use crate::socket;
-use bestore::Limits;
+use bestore::{Limits, MOST_VOLUMES};
 use clap::{value_parser, Arg, Command};
 use std::path::PathBuf;
 use std::time::Duration;
 
+/// The most passes of a store.
+const MOST_PASSES: u64 = 63;
+
 /// Passes of the store that are the server's own.
 const OWN_PASSES: u64 = 1;
+
+/// Passes of the store that a log of machines takes.
+const LOG_PASSES: u64 = 2;
+
+/// The log that machines share, and what this one begins with.
+#[derive(Clone, Debug)]
+#[cfg_attr(not(feature = "log"), allow(dead_code))]
+pub struct InLog {
+    pub url: String,
+    pub leads: bool,
+}
 
 /// How the server runs.
 #[derive(Clone, Debug)]
@@ -16,6 +30,9 @@ pub struct Options {
     pub socket: Option<PathBuf>,
     pub keep: Option<PathBuf>,
     pub every: Option<Duration>,
+    /// The log, if machines share one.
+    pub log: Option<InLog>,
+    pub volumes: Option<u32>,
     pub pages: u64,
     pub passes: u64,
     pub commits: u64,
@@ -37,6 +54,7 @@ fn command() -> Command {
             .value_name(shown)
             .value_parser(value_parser!(PathBuf))
     };
+    let url = |name, others: &[&'static str]| Arg::new(name).long(name).value_name("URL").conflicts_with_all(others);
     Command::new("bestored")
         .version(env!("CARGO_PKG_VERSION"))
         .about("Shares a store of attributes between the programs of a user")
@@ -44,7 +62,7 @@ fn command() -> Command {
             path("socket", "PATH")
                 .help("The socket; otherwise bestore/socket in $XDG_RUNTIME_DIR, or in /tmp/bestore-UID"),
         )
-        .arg(path("keep", "FILE").help("The file in which the writes are kept"))
+        .arg(path("keep", "FILE").help("The file in which the writes are kept, or the folder of several volumes"))
         .arg(
             Arg::new("every")
                 .long("every")
@@ -53,9 +71,18 @@ fn command() -> Command {
                 .requires("keep")
                 .help("Replies to writes don't wait for the file, which has them after this time"),
         )
-        .arg(number("pages", "N", 8..=16_384, "4096").help("Pages of 4 KiB"))
+        .arg(url("log", &["keep", "follow", "volumes"]).help("Leads a log in PostgreSQL that several machines share"))
+        .arg(url("follow", &["keep", "volumes"]).help("Follows such a log, and leads once nobody does"))
+        .arg(
+            Arg::new("volumes")
+                .long("volumes")
+                .value_name("N")
+                .value_parser(value_parser!(u32).range(1..=i64::from(MOST_VOLUMES)))
+                .help("Stores that one query searches; otherwise those of the folder, or 1"),
+        )
+        .arg(number("pages", "N", 8..=16_384, "4096").help("Pages of 4 KiB, of each volume"))
         .arg(number("passes", "N", 1..=62, "62").help("Clients at the same time"))
-        .arg(number("commits", "N", 1..=u32::MAX.into(), "4294967295").help("Entries of the journal"))
+        .arg(number("commits", "N", 1..=u32::MAX.into(), "4294967295").help("Entries of the journal, of each volume"))
         .arg(number("hold", "SECONDS", 1..=86_400, "60").help("How long a client may keep a snapshot"))
 }
 
@@ -63,23 +90,31 @@ impl Options {
     /// Reads the command line. Ends the program at `--help`, `--version` and at errors.
     pub fn read() -> Self {
         let read = command().get_matches();
-        let number = |name| read.get_one(name).copied().unwrap_or_default();
+        let number = |name| read.get_one::<u64>(name).copied().unwrap_or_default();
+        let in_log = |name, leads| {
+            let url = read.get_one::<String>(name).cloned();
+            url.map(|url| InLog { url, leads })
+        };
+        let log = in_log("log", true).or_else(|| in_log("follow", false));
+        let most = MOST_PASSES - OWN_PASSES - log.as_ref().map_or(0, |_| LOG_PASSES);
         Self {
             socket: read.get_one("socket").cloned(),
             keep: read.get_one("keep").cloned(),
             every: read.get_one("every").copied().map(Duration::from_millis),
+            log,
+            volumes: read.get_one("volumes").copied(),
             pages: number("pages"),
-            passes: number("passes"),
+            passes: number("passes").min(most),
             commits: number("commits"),
             hold: Duration::from_secs(number("hold")),
         }
     }
 
-    /// The limits of the store.
+    /// The limits of each volume.
     pub fn limits(&self) -> Limits {
         Limits {
             pages: self.pages,
-            passes: self.passes + OWN_PASSES,
+            passes: self.passes + OWN_PASSES + self.log.as_ref().map_or(0, |_| LOG_PASSES),
             commits: self.commits,
         }
     }
@@ -101,7 +136,28 @@ mod tests {
 
     #[test]
     fn numbers_out_of_range_are_refused() {
-        for arguments in [["--pages", "7"], ["--passes", "63"], ["--every", "5"], ["--hold", "0"]] {
+        for arguments in [
+            ["--pages", "7"],
+            ["--passes", "63"],
+            ["--every", "5"],
+            ["--hold", "0"],
+            ["--volumes", "0"],
+            ["--volumes", "65"],
+        ] {
+            let read = command().try_get_matches_from([&["bestored"][..], &arguments[..]].concat());
+            assert!(read.is_err(), "{arguments:?}");
+        }
+    }
+
+    #[test]
+    fn writes_are_kept_in_one_place() {
+        for arguments in [
+            ["--log=a", "--keep=b"],
+            ["--follow=a", "--keep=b"],
+            ["--log=a", "--follow=b"],
+            ["--log=a", "--volumes=2"],
+            ["--follow=a", "--volumes=1"],
+        ] {
             let read = command().try_get_matches_from([&["bestored"][..], &arguments[..]].concat());
             assert!(read.is_err(), "{arguments:?}");
         }

@@ -87,6 +87,13 @@ pub fn ending_signals() -> io::Result<File> {
     }
 }
 
+/// Ends the program as a signal does.
+#[cfg(feature = "log")]
+pub fn end_program() {
+    // SAFETY: the call takes numbers alone.
+    unsafe { libc::kill(libc::getpid(), libc::SIGTERM) };
+}
+
 /// Runs `make` so that the files that it makes have no rights in this mask. To be called while there is one thread.
 pub fn with_mask<T>(mask: libc::mode_t, make: impl FnOnce() -> T) -> T {
     // SAFETY: the call always succeeds.

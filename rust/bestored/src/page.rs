@@ -1,8 +1,9 @@
 //! Replies in pages: as much as a line may have.
 
+use crate::answer::View;
 use crate::failure::Failure;
 use crate::watcher;
-use bestore::{Pass, Snapshot, State};
+use bestore::{ShelfSnapshot, State};
 use bestore_client::wire::{self, Json, ShownOperations};
 
 /// How many bytes of JSON a page has, except that its last item goes beyond.
@@ -33,7 +34,7 @@ impl Room {
 
 /// The values of the columns for each node, as far as there is room.
 pub fn rows_of(
-    snapshot: &Snapshot<'_>,
+    snapshot: &ShelfSnapshot<'_>,
     nodes: &[u64],
     columns: &wire::Columns<'_>,
     room: &mut Room,
@@ -56,31 +57,51 @@ pub fn rows_of(
     Ok(rows)
 }
 
+/// The numbers of the volumes' snapshots, if there are several.
+pub fn commits(snapshot: &ShelfSnapshot<'_>) -> Vec<u64> {
+    match snapshot.volumes() {
+        [_] => Vec::new(),
+        _ => snapshot.numbers().collect(),
+    }
+}
+
+/// The volume that a request says, which has to be there if there are several.
+pub fn volume(asked: Option<u32>, volumes: usize) -> Result<u32, Failure> {
+    match asked {
+        None if volumes > 1 => Err(Failure::volume_missing(volumes)),
+        asked => Ok(asked.unwrap_or(0)),
+    }
+}
+
 /// A page of the nodes.
-pub fn nodes(snapshot: &Snapshot<'_>, from: &wire::NodesFrom) -> Result<wire::Nodes, Failure> {
+pub fn nodes(snapshot: &ShelfSnapshot<'_>, from: &wire::NodesFrom) -> Result<wire::Nodes, Failure> {
     let room = Room::new(from.limit);
     let mut listed = snapshot.nodes_from(from.from);
     let nodes = listed.by_ref().take(room.nodes).collect::<Result<_, _>>()?;
     Ok(wire::Nodes {
         commit: snapshot.number(),
+        commits: commits(snapshot),
         nodes,
         more: listed.next().transpose()?,
     })
 }
 
-/// A page of the journal.
-pub fn journal(pass: &Pass, from: &wire::JournalFrom) -> Result<wire::Journal, Failure> {
+/// A page of the journal of a volume.
+pub fn journal(view: &View<'_, '_>, from: &wire::JournalFrom) -> Result<wire::Journal, Failure> {
+    let volume = volume(from.volume, view.volumes())?;
+    let pass = view.pass(volume)?;
     let mut room = Room::new(from.limit);
     let mut page = wire::Journal::default();
     let mut next = from.from;
     for entry in pass.journal_from(from.from).take(room.nodes) {
         let entry = entry?;
-        let length = ShownOperations(&entry.batch).length();
+        let batch = entry.batch.of_volume(volume);
+        let length = ShownOperations(&batch).length();
         next = entry.number;
         page.entries.push(wire::JournalEntry {
             commit: entry.number,
             pass: entry.pass,
-            operations: entry.batch.into(),
+            operations: batch.into(),
         });
         if !room.take(64 + length) {
             break;
@@ -91,32 +112,47 @@ pub fn journal(pass: &Pass, from: &wire::JournalFrom) -> Result<wire::Journal, F
     Ok(page)
 }
 
-/// A page of the batches that make the snapshot again. `read` is how far they have been read.
+/// How far the batches of a volume have been read, by the index of the next one.
+#[derive(Debug)]
+pub struct Reading<'s> {
+    volume: u32,
+    next: u64,
+    batches: State<'s>,
+}
+
+/// A page of the batches that make the snapshot of a volume again. `read` is how far they have been read.
 pub fn state<'s>(
-    snapshot: &'s Snapshot<'_>,
-    read: &mut Option<(u64, State<'s>)>,
-    from: u64,
+    snapshot: &'s ShelfSnapshot<'_>,
+    read: &mut Option<Reading<'s>>,
+    from: &wire::From,
 ) -> Result<wire::State, Failure> {
-    let (mut next, mut batches) = match read.take() {
-        Some((next, batches)) if next <= from => (next, batches),
-        _ => (0, snapshot.state()),
+    let volume = volume(from.volume, snapshot.volumes().len())?;
+    let of_volume = snapshot.volume(volume)?;
+    let mut reading = match read.take() {
+        Some(reading) if reading.volume == volume && reading.next <= from.from => reading,
+        _ => Reading {
+            volume,
+            next: 0,
+            batches: of_volume.state(),
+        },
     };
     let mut room = Room::new(None);
     let mut page = wire::State {
-        commit: snapshot.number(),
-        next: snapshot.next_node()?,
+        commit: of_volume.number(),
+        next: snapshot.next_node(volume)?,
         ..wire::State::default()
     };
-    while let Some(batch) = batches.next().transpose()? {
-        next += 1;
-        if next <= from {
+    while let Some(batch) = reading.batches.next().transpose()? {
+        reading.next += 1;
+        if reading.next <= from.from {
             continue;
         }
+        let batch = batch.of_volume(volume);
         let length = ShownOperations(&batch).length();
         page.batches.push(batch.into());
         if !room.take(8 + length) {
-            page.more = Some(next);
-            *read = Some((next, batches));
+            page.more = Some(reading.next);
+            *read = Some(reading);
             break;
         }
     }

@@ -2,13 +2,13 @@
 
 use crate::connection::Connection;
 use crate::failure::Failure;
-use crate::kept::Kept;
+use crate::kept::{self, Kept};
 use crate::options::Options;
 use crate::os;
 use crate::pressure::{self, Pressure};
 use crate::socket::Socket;
 use crate::watcher::Watcher;
-use bestore::{Error, Pass};
+use bestore::{Error, ShelfPass};
 use std::collections::BTreeMap;
 use std::fs::File;
 use std::io::{self, ErrorKind};
@@ -88,8 +88,9 @@ impl Clients {
 }
 
 /// Serves clients until a signal ends the program.
-pub fn run(socket: Socket, signals: &File, shared: Shared, own: Pass) -> bestore::saved::Result<()> {
+pub fn run(socket: Socket, signals: &File, shared: Shared, own: ShelfPass) -> Result<(), Box<dyn std::error::Error>> {
     let shared = Arc::new(shared);
+    kept::start(&shared)?;
     let watching = {
         let shared = shared.clone();
         thread::spawn(move || shared.watcher.run(own, &shared.kept))
@@ -182,10 +183,10 @@ fn serve(shared: &Shared, stream: Arc<UnixStream>) {
     let _ = Connection::new(shared, stream).and_then(|mut connection| connection.run(pass));
 }
 
-fn take_pass(shared: &Shared) -> bestore::Result<Pass> {
+fn take_pass(shared: &Shared) -> bestore::Result<ShelfPass> {
     let until = Instant::now() + FOR_PASS;
     loop {
-        match shared.kept.pass() {
+        match shared.kept.pass().map_err(Error::without_volume) {
             Err(Error::NoPass) if Instant::now() < until => thread::sleep(Duration::from_millis(5)),
             answer => {
                 let mut pass = answer?;

@@ -3,8 +3,8 @@
 use crate::failure::Failure;
 use crate::kept::Kept;
 use crate::outbox::{Outbox, Pusher};
-use bestore::{Error, Live, Pass, Snapshot, Updates};
-use bestore_client::wire::{Push, Refusal};
+use bestore::{Error, ShelfLive, ShelfPass, ShelfSnapshot, Updates};
+use bestore_client::wire::{self, Push, Refusal};
 use std::sync::atomic::{fence, AtomicUsize, Ordering};
 use std::sync::{Arc, Condvar, Mutex, MutexGuard, PoisonError};
 use std::thread;
@@ -28,9 +28,9 @@ fn lock<T>(mutex: &Mutex<T>) -> MutexGuard<'_, T> {
 pub struct Watch {
     pub number: u64,
     /// The query, or `None` if each commit is pushed.
-    pub live: Option<Live>,
-    /// The snapshot to which all that was found leads.
-    pub commit: u64,
+    pub live: Option<ShelfLive>,
+    /// The snapshot of each volume to which all that was found leads.
+    pub numbers: Vec<u64>,
     /// What wasn't pushed yet.
     pub rest: Updates,
     /// Whether all that was found was pushed.
@@ -40,12 +40,12 @@ pub struct Watch {
 }
 
 impl Watch {
-    /// A watch whose answer in the snapshot with this number was returned, except for the rest.
-    pub fn new(number: u64, live: Option<Live>, commit: u64, rest: Updates) -> Self {
+    /// A watch whose answer in the snapshot with these numbers was returned, except for the rest.
+    pub fn new(number: u64, live: Option<ShelfLive>, numbers: Vec<u64>, rest: Updates) -> Self {
         Self {
             number,
             live,
-            commit,
+            numbers,
             is_pushed: rest.created.is_empty(),
             rest,
             failed: None,
@@ -53,8 +53,20 @@ impl Watch {
         }
     }
 
-    fn ask(&mut self, snapshot: &Snapshot<'_>) {
-        if !self.is_pushed || self.is_over || self.commit >= snapshot.number() {
+    /// Whether the snapshot has all that was found, and more. One that has less of a volume was pinned before the watch, whose
+    /// first answer has begun another round already.
+    fn is_behind(&self, snapshot: &ShelfSnapshot<'_>) -> bool {
+        let mut both = self.numbers.iter().copied().zip(snapshot.numbers());
+        both.all(|(own, now)| own <= now) && snapshot.number() > self.commit()
+    }
+
+    /// The sum of the numbers.
+    fn commit(&self) -> u64 {
+        self.numbers.iter().sum()
+    }
+
+    fn ask(&mut self, snapshot: &ShelfSnapshot<'_>) {
+        if !self.is_pushed || self.is_over || !self.is_behind(snapshot) {
             return;
         }
         match self.live.as_mut().map(|live| live.refresh(snapshot)) {
@@ -67,24 +79,25 @@ impl Watch {
             Some(Err(Error::OutOfMemory)) => return,
             Some(Err(error)) => self.failed = Some(Failure::from(error).0),
         }
-        self.commit = snapshot.number();
+        self.numbers = snapshot.numbers().collect();
     }
 
     /// Asks the query in this snapshot, also if it is an older one, and returns what changed. What was found before and wasn't
     /// pushed comes first, and then there is `more`. An error leaves the watch as it was.
-    pub fn refresh(&mut self, snapshot: &Snapshot<'_>) -> Result<Push, Failure> {
+    pub fn refresh(&mut self, snapshot: &ShelfSnapshot<'_>) -> Result<Push, Failure> {
         let is_left = !self.is_pushed;
         if !is_left {
             if let Some(live) = &mut self.live {
                 self.rest = live.refresh(snapshot)?;
             }
             self.is_pushed = self.rest == Updates::default();
-            self.commit = snapshot.number();
+            self.numbers = snapshot.numbers().collect();
             self.failed = None;
         }
         let mut push = self.next_push().unwrap_or_else(|| Push {
             watch: self.number,
-            commit: self.commit,
+            commit: self.commit(),
+            commits: wire::several(&self.numbers),
             ..Push::default()
         });
         push.more |= is_left;
@@ -104,7 +117,8 @@ impl Watch {
         self.is_pushed = !more;
         Some(Push {
             watch: self.number,
-            commit: self.commit,
+            commit: self.commit(),
+            commits: wire::several(&self.numbers),
             created,
             removed,
             more,
@@ -146,7 +160,7 @@ impl Watches {
     }
 
     /// Asks the queries, and pushes what changed. Returns whether something is left to be pushed.
-    fn go_on(&self, snapshot: &Snapshot<'_>) -> bool {
+    fn go_on(&self, snapshot: &ShelfSnapshot<'_>) -> bool {
         let mut list = lock(&self.list);
         list.iter_mut().for_each(|watch| watch.ask(snapshot));
         let pusher = self.outbox.pusher();
@@ -235,7 +249,7 @@ impl Watcher {
     }
 
     /// Serves the watches until the end.
-    pub fn run(&self, mut pass: Pass, kept: &Kept) {
+    pub fn run(&self, mut pass: ShelfPass, kept: &Kept) {
         let mut is_left = false;
         while let Some(clients) = self.wait(is_left) {
             let started = Instant::now();
@@ -267,7 +281,7 @@ impl Watcher {
 }
 
 /// Serves each client once, in one snapshot. Returns whether something is left to be pushed.
-fn round(clients: &[Arc<Watches>], pass: &mut Pass, kept: &Kept) -> bool {
+fn round(clients: &[Arc<Watches>], pass: &mut ShelfPass, kept: &Kept) -> bool {
     let snapshot = match pass.pin() {
         Ok(snapshot) => snapshot,
         Err(error) => {

@@ -1,10 +1,10 @@
 //! Servers are killed at any moment, while clients write to stores that are kept.
 
 use crate::common::writers::{check_history, Writers};
-use crate::common::{Folder, Server};
+use crate::common::{Folder, Random, Server};
 use std::sync::atomic::{AtomicU64, Ordering::Relaxed};
 use std::thread;
-use std::time::{Duration, Instant, SystemTime};
+use std::time::{Duration, Instant};
 
 /// How long servers are killed. `BESTORED_KILLS` says how often within that time.
 const TIME: Duration = Duration::from_secs(40);
@@ -39,28 +39,10 @@ impl Tally {
     }
 }
 
-/// Numbers that differ from run to run.
-struct Random(u64);
-
-impl Random {
-    fn new(number: u64) -> Self {
-        let now = SystemTime::UNIX_EPOCH.elapsed().unwrap();
-        Self((now.as_nanos() as u64).wrapping_mul(2 * number + 1))
-    }
-
-    fn below(&mut self, bound: u64) -> u64 {
-        self.0 = self
-            .0
-            .wrapping_mul(6_364_136_223_846_793_005)
-            .wrapping_add(1_442_695_040_888_963_407);
-        (self.0 >> 33) % bound
-    }
-
-    /// Up to `LIFE`, and more often short.
-    fn life(&mut self) -> Duration {
-        let most = self.below(LIFE) + 1;
-        Duration::from_micros(self.below(most))
-    }
+/// How long a server lives: up to `LIFE`, and more often short.
+fn life(random: &mut Random) -> Duration {
+    let most = random.below(LIFE) + 1;
+    Duration::from_micros(random.below(most))
 }
 
 /// A file, and the clients that write to its servers.
@@ -104,7 +86,7 @@ impl Kept {
 
     /// Starts a server and kills it. Returns whether clients were writing.
     fn kill(&mut self) -> bool {
-        let life = self.random.life();
+        let life = life(&mut self.random);
         if self.random.below(STARTING) == 0 {
             let server = self.start_only();
             thread::sleep(life);

@@ -304,6 +304,7 @@ fn what_is_pushed_is_in_the_file() {
         for _ in 0..20 {
             let operations = Batch::new().new_node().clone().into();
             let write = wire::Write {
+                volume: None,
                 operations,
                 expected: None,
             };

@@ -5,7 +5,10 @@ mod crowd;
 mod full;
 mod killed;
 mod live;
+#[cfg(feature = "log")]
+mod log;
 mod memory;
 mod pages;
 mod protocol;
 mod socket;
+mod volumes;

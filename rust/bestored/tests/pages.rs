@@ -27,6 +27,7 @@ fn fill(client: &mut Client, nodes: u64) {
         }
         let operations = batch.into();
         let write = bestore_client::wire::Write {
+            volume: None,
             operations,
             expected: None,
         };
@@ -110,7 +111,12 @@ fn long_rows_come_in_pages() {
 fn carry_state(from: &mut Client, to: &mut Client) -> u64 {
     let mut index = 0;
     loop {
-        let page: State = from.call(Command::State(From { from: index })).unwrap();
+        let page: State = from
+            .call(Command::State(From {
+                from: index,
+                volume: None,
+            }))
+            .unwrap();
         for batch in page.batches {
             to.apply(&batch.batch).unwrap();
         }
@@ -126,6 +132,7 @@ fn carry_journal(from: &mut Client, to: &mut Client) {
     let mut index = 0;
     loop {
         let journal = JournalFrom {
+            volume: None,
             from: index,
             limit: None,
         };
@@ -153,7 +160,12 @@ fn the_state_and_the_journal_make_the_store_again() {
     client.pin().unwrap();
     let last = carry_state(&mut client, &mut by_state.client());
     assert!(last > 0);
-    let again: State = client.call(Command::State(From { from: last })).unwrap();
+    let again: State = client
+        .call(Command::State(From {
+            from: last,
+            volume: None,
+        }))
+        .unwrap();
     assert_eq!((again.more, again.next), (None, 20_001));
     client.unpin().unwrap();
     let (_folder, by_journal) = start();

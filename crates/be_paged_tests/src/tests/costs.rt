@@ -14,9 +14,9 @@ use crate::tests::run_lines;
 use crate::tests::sizes::{accepted, numbered};
 use arrayvec::ArrayVec;
 use be_language::Request;
-use be_paged::{apply_into, get, source};
+use be_paged::{answer_decided, apply_into, get, source};
 use be_pages::{Look, Room};
-use be_plan::answer;
+use be_plan::{PreparedQuery, answer};
 use be_query::Query;
 use be_testing::{Counted, list_of};
 use be_value::{Name, Refusal, Value, word_of};
@@ -114,6 +114,35 @@ fn query_cost(alloc: Global, text: &str) -> Result<Cost, Fail> {
     }
 }
 
+/// What a prepared query costs when it is asked again: the nodes, or none where a plan would be asked.
+fn count_again(alloc: Global, both: Both, query: Query) -> Result<Cost, Refusal> {
+    let Both {
+        plain: _plain,
+        room,
+        page,
+    } = both;
+    let mut look = Counted::new(room);
+    let mut prepared = PreparedQuery::new(query);
+    let mut nodes = Vec::new(alloc);
+    answer_decided(alloc, &mut look, page, &mut prepared, &mut nodes)?;
+    let before = look.reads;
+    answer_decided(alloc, &mut look, page, &mut prepared, &mut nodes)?;
+    Ok(Cost::Read {
+        found: nodes.len() as u64,
+        reads: look.reads.wrapping_sub(before),
+    })
+}
+
+/// The same by a query's text, of another volume where memory is refused.
+fn again_cost(alloc: Global, text: &str) -> Result<Cost, Fail> {
+    match count_again(alloc, filled(alloc)?, read_query(alloc, text)?) {
+        Err(Refusal::OutOfMemory) => {
+            Ok(count_again(alloc, filled(alloc)?, read_query(alloc, text)?)?)
+        }
+        cost => Ok(cost?),
+    }
+}
+
 /// Applies a list to the pages. The plain volume isn't asked: it tells which volume they spell.
 fn apply_counted<R: Room>(
     _plain: &Volume,
@@ -184,6 +213,9 @@ fn write_cost(alloc: Global, request: &str) -> Result<Cost, Fail> {
 }
 
 fn cost_of(alloc: Global, request: &str) -> Result<Cost, Fail> {
+    if let Some(("again", text)) = request.split_once(" ") {
+        return again_cost(alloc, text);
+    }
     match request_of(alloc, request)? {
         Request::Get(node, name) => Ok(count_get(filled(alloc)?, node, &name?)),
         Request::Query(text) => query_cost(alloc, text.as_str()),
@@ -240,6 +272,15 @@ query size==1500 => 1 found, 55 words read
 query size>=1000 && size<2000 => 100 found, 428 words read
 query name=="101*" => 100 found, 427 words read
 query name=="101*" && size>=1500 => 50 found, 6734 words read"#;
+    expect_rows(rt.alloc(), rows)
+}
+
+/// Prepared queries at their second asking. Each would grow by a search for its index, whose name is compared where it stood, or by a look at a node.
+#[test]
+fn prepared_costs(rt: HostRuntime) -> Result<(), Fail> {
+    let rows = r#"again name=="10150-document.txt" => 1 found, 40 words read
+again size==1500 => 1 found, 53 words read
+again size>=1000 && size<2000 => 100 found, 426 words read"#;
     expect_rows(rt.alloc(), rows)
 }
 

@@ -9,7 +9,8 @@ ghost use Rattle.be_store_tests.specs.Staying.{StaysPass};
 
 use be_language::{Reply, Request, read_line};
 use be_store::{
-    Answer, ArrayVec, Done, Kind, Live, Name, Op, Pass, Refusal, Store, Updates, Value, parse,
+    Answer, ArrayVec, Done, Kind, Live, Name, Op, Pass, Query, Refusal, Store, Updates, Value,
+    parse,
 };
 use be_testing::{list_of, reply_lines};
 use std::alloc::Global;
@@ -93,8 +94,53 @@ fn find(store: &Store, alloc: Global, pass: &mut Pass, text: &str) -> Text
     ensures { StaysPass store.now pass.old pass.new }
 {
     match parse(alloc, text) {
-        Ok(query) => nodes_text(alloc, store.query(alloc, pass, &query)),
+        Ok(query) => nodes_text(alloc, find_into(store, alloc, pass, &query)),
         Err(refusal) => Err(refusal),
+    }
+}
+
+/// The answer in a list that had another node.
+fn find_into(
+    store: &Store,
+    alloc: Global,
+    pass: &mut Pass,
+    query: &Query,
+) -> Result<Answer, Refusal>
+    requires pass { IsPassOf store.now pass.old }
+    requires pinned { (n : ℕ) × IsPinnedTo pass.old.knows n }
+    ensures { StaysPass store.now pass.old pass.new }
+{
+    let mut nodes = Vec::new(alloc);
+    nodes.push(1_000)?;
+    let pin = store.query_into(alloc, pass, query, &mut nodes)?;
+    Ok(Answer { pin, nodes })
+}
+
+/// The answer to a live query that is asked twice, in one list.
+fn find_again(
+    store: &Store,
+    alloc: Global,
+    pass: &mut Pass,
+    live: &mut Live,
+) -> Result<Answer, Refusal>
+    requires pass { IsPassOf store.now pass.old }
+    requires pinned { (n : ℕ) × IsPinnedTo pass.old.knows n }
+    ensures { StaysPass store.now pass.old pass.new }
+{
+    let mut nodes = Vec::new(alloc);
+    live.query_into(store, pass, &mut nodes)?;
+    let pin = live.query_into(store, pass, &mut nodes)?;
+    Ok(Answer { pin, nodes })
+}
+
+/// What a live query finds that isn't refreshed.
+pub(crate) fn ask_again(store: &Store, alloc: Global, pass: &mut Pass, live: &mut Live) -> Text
+    requires { IsPassOf store.now pass.old }
+    ensures { StaysPass store.now pass.old pass.new }
+{
+    match pass.pinned() {
+        Some(_) => nodes_text(alloc, find_again(store, alloc, pass, live)),
+        None => text_of(alloc, Reply::NotPinned),
     }
 }
 

@@ -1,11 +1,11 @@
 //! A store with its passes, which replies to requests. What is known of them is its invariant, so that no method has a
 //! clause.
 
-use crate::tests::calls::{Text, answer, write};
+use crate::tests::calls::{Text, answer, ask_again, write};
 use crate::tests::carrying::carry_meanwhile;
 use crate::tests::conditional::answer_beside;
 use crate::tests::races::{closed, journal_of, make_both};
-use crate::tests::states::state_text;
+use crate::tests::states::{nodes_from, state_text};
 use be_store::{Journal, Limits, Live, Op, Pass, Refusal, Store, parse};
 use be_testing::{Answers, answer_lines, both_of};
 use std::alloc::Global;
@@ -193,9 +193,27 @@ impl Room {
         }
     }
 
+    /// So many nodes from a number on, at most.
+    pub(crate) fn nodes(
+        &mut self,
+        alloc: Global,
+        from: u64,
+        most: usize,
+    ) -> Result<Vec<u64>, Refusal> {
+        nodes_from(&self.store, alloc, &mut self.first, from, most)
+    }
+
     fn watch(&mut self, alloc: Global, text: &str) -> Text {
         self.live = Some(Live::new(alloc, parse(alloc, text)?));
         Ok(String::from_str(alloc, "ok")?)
+    }
+
+    /// What the live query finds at the pin of pass 0.
+    fn again(&mut self, alloc: Global) -> Text {
+        match &mut self.live {
+            Some(live) => ask_again(&self.store, alloc, &mut self.first, live),
+            None => Err(Refusal::BadLimits),
+        }
     }
 
     fn answer(&mut self, alloc: Global, request: &str) -> Text {
@@ -205,6 +223,7 @@ impl Room {
             "1" => self.answer_second(alloc, words),
             "head" => first_line(alloc, self.answer_first(alloc, words)),
             "live" => self.watch(alloc, words),
+            "again" => self.again(alloc),
             "seen" => seen_text(alloc, self.seen()),
             "meet" => met_text(alloc, self.meet()),
             "state" => self.state(alloc),

@@ -39,6 +39,9 @@ head indices / 0 pin / head indices => indices @ / pin 1 / indices @
 0 mkindex k CSTR;new;set 1 k CSTR x{x};set 1 r MIMS x{x} => commit 1 / ok / node 1 / ok / ok
 0 get 1 k / 0 query k==x{x} / 0 pin / 0 get 1 r => CSTR \"x{x}\" / pin 1 / nodes 1 / pin 1 / MIMS \"x{x}\"";
 
+/// The powers of two below the greatest size of a row.
+const POWERS: [u64; 12] = [2, 4, 8, 16, 32, 64, 128, 256, 512, 1024, 2048, 4096];
+
 /// Appends a part once for each number from 2 to the size.
 fn push_each(alloc: Global, text: &mut String, part: &str, size: u64) -> Result<(), AllocError> {
     for number in 2..=size {
@@ -71,19 +74,24 @@ fn check_size(alloc: Global, row: &str, size: u64) -> Result<(), Fail> {
     check_lines(alloc, &mut for_one(alloc, pages, 20_000)?, lines.as_str())
 }
 
-/// The same at ten sizes by equal steps, and at halves of the greatest, and halves of these.
+/// The same at one less than a power of two, at it and at one more.
+fn check_around(alloc: Global, row: &str, power: u64) -> Result<(), Fail> {
+    check_size(alloc, row, power.saturating_sub(1).max(1))?;
+    check_size(alloc, row, power)?;
+    check_size(alloc, row, power.saturating_add(1))
+}
+
+/// The same around each power of two below the greatest size, and at that.
 fn check_row(alloc: Global, row: &str) -> Result<(), Fail> {
     let (most, row) = row.split_once("\n").unwrap_or(("", row));
     let most = word_of(most.as_bytes()).unwrap_or(1);
-    for step in 1..=10u64 {
-        check_size(alloc, row, most.saturating_mul(step) / 10)?;
+    for power in POWERS {
+        if power < most {
+            check_around(alloc, row, power)?;
+        }
     }
-    let mut size = most;
-    for _ in 0..13 {
-        size /= 2;
-        check_size(alloc, row, size.max(1))?;
-    }
-    Ok(())
+    check_size(alloc, row, most.saturating_sub(1).max(1))?;
+    check_size(alloc, row, most)
 }
 
 /// Each row at each of its sizes.
@@ -95,9 +103,10 @@ fn sizes(rt: HostRuntime) -> Result<(), Fail> {
     Ok(())
 }
 
-/// How many nodes there are when a query and a live one are asked.
+/// How many nodes there are when a query and a live one are asked: around each power of two, and the bound.
 const COUNTS: &str =
-    "1 3 6 16 40 100 251 631 1000 1585 2000 3000 3981 5000 6000 7000 8000 9000 10000";
+    "1 2 3 4 5 7 8 9 15 16 17 31 32 33 63 64 65 127 128 129 255 256 257 511 512 513 1023 1024 1025 2047 2048 \
+2049 4095 4096 4097 8191 8192 8193 16383 16384 16385 26000";
 
 /// What finds all of so many nodes, by the version after this many writes.
 fn found_lines(alloc: Global, count: u64, pin: u64) -> Result<String, AllocError> {
@@ -145,5 +154,35 @@ fn find_growing(alloc: Global, room: &mut Room) -> Result<(), Fail> {
 /// Nodes of an answer and of a live query.
 #[test]
 fn many_nodes(rt: HostRuntime) -> Result<(), Fail> {
-    find_growing(rt.alloc(), &mut for_one(rt.alloc(), 16384, 30_000)?)
+    find_growing(rt.alloc(), &mut for_one(rt.alloc(), 16384, 60_000)?)
+}
+
+/// The list of the first nodes, asked for again where memory is refused.
+fn list_first(alloc: Global, room: &mut Room, count: u64) -> Result<Vec<u64>, Refusal> {
+    let most = usize::try_from(count).unwrap_or(0);
+    match room.nodes(alloc, 1, most) {
+        Err(Refusal::OutOfMemory) => room.nodes(alloc, 1, most),
+        nodes => nodes,
+    }
+}
+
+/// Fails unless as many nodes are listed as are asked for, up to each count.
+fn list_growing(alloc: Global, room: &mut Room) -> Result<(), Fail> {
+    for _ in 0..26_000u64 {
+        room.write(Op::New)?;
+    }
+    for count in COUNTS.split(' ') {
+        let count = word_of(count.as_bytes()).unwrap_or(0);
+        let nodes = list_first(alloc, room, count)?;
+        if nodes.len() as u64 != count || nodes.last() != Some(&count) {
+            return Err(Fail::new("another list of nodes"));
+        }
+    }
+    Ok(())
+}
+
+/// Nodes that are listed.
+#[test]
+fn listed_nodes(rt: HostRuntime) -> Result<(), Fail> {
+    list_growing(rt.alloc(), &mut for_one(rt.alloc(), 16384, 30_000)?)
 }

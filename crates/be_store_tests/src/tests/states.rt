@@ -65,3 +65,36 @@ pub(crate) fn state_text(store: &Store, alloc: Global, pass: &mut Pass) -> Text
     }
     Ok(text)
 }
+
+/// So many nodes from a number on, at a pin that goes with the read.
+fn nodes_once(
+    store: &Store,
+    alloc: Global,
+    pass: &mut Pass,
+    from: u64,
+    most: usize,
+) -> Result<Vec<u64>, Refusal>
+    requires pass { IsPassOf store.now pass.old }
+    requires unpinned { pinned_number pass.old.knows.phase ≡ None }
+    ensures { StaysPass store.now pass.old pass.new }
+{
+    let mut version = store.pinned(pass);
+    version.nodes(alloc, from, most)
+}
+
+/// So many nodes from a number on, of the version of the pin, or at a pin that goes with the read.
+pub(crate) fn nodes_from(
+    store: &Store,
+    alloc: Global,
+    pass: &mut Pass,
+    from: u64,
+    most: usize,
+) -> Result<Vec<u64>, Refusal>
+    requires { IsPassOf store.now pass.old }
+    ensures { StaysPass store.now pass.old pass.new }
+{
+    match pass.pinned() {
+        Some(_) => store.nodes(alloc, pass, from, most),
+        None => nodes_once(store, alloc, pass, from, most),
+    }
+}

@@ -134,3 +134,15 @@ machine 1 1 1 => yes
 machine 16384 64 4294967295 => yes";
     replies(rt.alloc(), lines)
 }
+
+/// Machines of each number of pages, around each power of two, and of passes.
+#[test]
+fn machine_sizes(rt: HostRuntime) -> Result<(), Fail> {
+    for power in 3..15u32 {
+        let pages = 1u64 << power;
+        let _machine = machine(rt.alloc(), pages, 64, 4_294_967_295)?;
+        let _machine = machine(rt.alloc(), pages.saturating_sub(1).max(8), 1, 1)?;
+        let _machine = machine(rt.alloc(), pages.saturating_add(1).min(16_384), 2, 1)?;
+    }
+    Ok(())
+}

@@ -67,3 +67,20 @@ fn page_given_up(rt: HostRuntime) -> Result<(), Fail> {
     assert!(rt; matches!(take_again(rt.alloc())?, (8, true)));
     Ok(())
 }
+
+/// The numbers of pages of a room, around each power of two to the most that a store has.
+const SIZES: [u64; 32] = [
+    8, 9, 15, 16, 17, 31, 32, 33, 63, 64, 65, 127, 128, 129, 255, 256, 257, 511, 512, 513, 1023,
+    1024, 1025, 2047, 2048, 2049, 4095, 4096, 8191, 8192, 16383, 16384,
+];
+
+/// Rooms of each size, all of whose pages are free.
+#[test]
+fn room_sizes(rt: HostRuntime) -> Result<(), Fail> {
+    for pages in SIZES {
+        if room_of(rt.alloc(), pages)?.free() != pages {
+            return Err(Fail::new(pages));
+        }
+    }
+    Ok(())
+}

@@ -1,6 +1,8 @@
 //! A server of its own for each test, and the tool as a process. Not every test uses all of it.
 #![allow(dead_code, unused_macros)]
 
+pub mod files;
+
 use bestore_client::Client;
 use std::ffi::OsStr;
 use std::io::Write;
@@ -60,6 +62,11 @@ fn server_program() -> Option<PathBuf> {
 impl Server {
     /// Starts a server. `None`, and a line that says so, if it isn't built.
     pub fn start() -> Option<Self> {
+        Self::start_with(&["--pages", "1024"])
+    }
+
+    /// Starts a server with these options.
+    pub fn start_with(options: &[&str]) -> Option<Self> {
         static STARTED: AtomicU32 = AtomicU32::new(0);
         let program = match server_program() {
             Some(program) => program,
@@ -75,7 +82,7 @@ impl Server {
         let child = Command::new(program)
             .arg("--socket")
             .arg(folder.join("socket"))
-            .args(["--pages", "1024"])
+            .args(options)
             .spawn()
             .unwrap();
         let server = Self { child, folder };

@@ -7,14 +7,23 @@ mod value;
 
 pub use operation::{Operations, ShownOperations};
 pub use reply::{
-    Attributes, Commit, Explained, HeldBy, Hello, Hits, Indices, Journal, JournalEntry, Limits, Next, Nodes, Push,
-    Refusal, State, Status, Value, Watched, Written,
+    Attributes, Commit, Explained, HeldBy, Hello, Hits, Indices, Journal, JournalEntry, Limits, LogStatus, Next, Nodes,
+    Push, Refusal, State, Status, Value, VolumeStatus, Watched, Written,
 };
 pub use request::{
-    id_of, Columns, Command, From, Get, Greeting, JournalFrom, Node, NodesFrom, Nothing, Query, QueryText, Request,
-    Watch, Watching, Write,
+    id_of, Columns, Command, From, Get, Greeting, JournalFrom, Node, NodesFrom, Nothing, Numbers, OfLog, Query,
+    QueryText, Reach, Request, Watch, Watching, Write,
 };
 pub use value::{kind_name, kind_named, Json};
+
+/// The numbers of the volumes as replies have them: none if there is one volume.
+#[must_use]
+pub fn several(numbers: &[u64]) -> Vec<u64> {
+    match numbers {
+        [_] => Vec::new(),
+        _ => numbers.to_vec(),
+    }
+}
 
 /// The version of the protocol.
 pub const PROTOCOL: u64 = 1;

@@ -30,6 +30,9 @@ replies! {
         pub kept: String,
         /// The limits.
         pub limits: Limits,
+        /// How many volumes the server has.
+        #[serde(default = "one", skip_serializing_if = "is_one")]
+        pub volumes: u32,
     }
 
     /// How large the store may grow, and a connection's requests.
@@ -50,24 +53,60 @@ replies! {
 
     /// Of `batch`.
     Written {
-        /// The commit number.
+        /// The volume that was written, if there are several.
+        #[serde(default, skip_serializing_if = "Option::is_none")]
+        pub volume: Option<u32>,
+        /// The commit number, in the volume that was written.
         pub commit: u64,
+        /// The number of each volume, if all were written.
+        #[serde(default, skip_serializing_if = "Vec::is_empty")]
+        pub commits: Vec<u64>,
         /// The nodes that were made.
         pub nodes: Vec<u64>,
+        /// The number of the entry in the log, if the server has one.
+        #[serde(default, skip_serializing_if = "Option::is_none")]
+        pub entry: Option<u64>,
+    }
+
+    /// Of `log`.
+    LogStatus {
+        /// `leader` or `follower`.
+        pub role: String,
+        /// Who leads, as far as the server knows: its machine and its socket.
+        pub leader: String,
+        /// Which leader the server is, counted from the first one, if it is one.
+        #[serde(default, skip_serializing_if = "Option::is_none")]
+        pub term: Option<u64>,
+        /// The last entry of the log that is in the store.
+        pub entry: u64,
+        /// Its commit number in the store.
+        pub commit: u64,
+        /// Why the log can't be reached now, if it can't.
+        #[serde(default, skip_serializing_if = "Option::is_none")]
+        pub trouble: Option<String>,
     }
 
     /// A snapshot, and the number that the next node will have: of `pin` and `next`.
     Next {
         /// The snapshot.
         pub commit: u64,
+        /// The snapshot of each volume, if there are several.
+        #[serde(default, skip_serializing_if = "Vec::is_empty")]
+        pub commits: Vec<u64>,
         /// The next node.
         pub next: u64,
+        /// The next node of each volume, if there are several. `next` is that of the volume with the most free pages.
+        #[serde(default, skip_serializing_if = "Vec::is_empty")]
+        pub nexts: Vec<u64>,
     }
 
     /// Of `query`.
     Hits {
         /// The snapshot.
         pub commit: u64,
+        /// The snapshot of each volume, if there are several.
+        #[serde(default, skip_serializing_if = "Vec::is_empty")]
+        pub commits: Vec<u64>,
         /// How many nodes the query finds.
         pub count: u64,
         /// The nodes of this page. Missing if the count alone was asked for.
@@ -85,6 +124,9 @@ replies! {
     Value {
         /// The snapshot.
         pub commit: u64,
+        /// The snapshot of each volume, if there are several.
+        #[serde(default, skip_serializing_if = "Vec::is_empty")]
+        pub commits: Vec<u64>,
         /// The value, if there is one.
         pub value: Option<Json>,
     }
@@ -93,6 +135,9 @@ replies! {
     Attributes {
         /// The snapshot.
         pub commit: u64,
+        /// The snapshot of each volume, if there are several.
+        #[serde(default, skip_serializing_if = "Vec::is_empty")]
+        pub commits: Vec<u64>,
         /// The attributes by their names.
         pub attributes: BTreeMap<String, Json>,
     }
@@ -101,14 +146,23 @@ replies! {
     Indices {
         /// The snapshot.
         pub commit: u64,
+        /// The snapshot of each volume, if there are several.
+        #[serde(default, skip_serializing_if = "Vec::is_empty")]
+        pub commits: Vec<u64>,
         /// The names of kinds by the names of the indices.
         pub indices: BTreeMap<String, String>,
+        /// The indices that some volumes lack or have with another kind, and the volumes that have them.
+        #[serde(default, skip_serializing_if = "BTreeMap::is_empty")]
+        pub partial: BTreeMap<String, Vec<u32>>,
     }
 
     /// Of `nodes`.
     Nodes {
         /// The snapshot.
         pub commit: u64,
+        /// The snapshot of each volume, if there are several.
+        #[serde(default, skip_serializing_if = "Vec::is_empty")]
+        pub commits: Vec<u64>,
         /// The nodes of this page.
         pub nodes: Vec<u64>,
         /// Where the next page begins.
@@ -120,6 +174,9 @@ replies! {
     Explained {
         /// The snapshot.
         pub commit: u64,
+        /// The snapshot of each volume, if there are several.
+        #[serde(default, skip_serializing_if = "Vec::is_empty")]
+        pub commits: Vec<u64>,
         /// The chosen indices and the cost.
         pub text: String,
     }
@@ -130,6 +187,9 @@ replies! {
         pub watch: u64,
         /// The snapshot.
         pub commit: u64,
+        /// The snapshot of each volume, if there are several.
+        #[serde(default, skip_serializing_if = "Vec::is_empty")]
+        pub commits: Vec<u64>,
         /// The nodes that the query finds.
         #[serde(default, skip_serializing_if = "Option::is_none")]
         pub nodes: Option<Vec<u64>>,
@@ -156,6 +216,25 @@ replies! {
         pub clients: u64,
         /// How many live queries they have.
         pub watches: u64,
+        /// Each volume, if there are several. The numbers above are their sums.
+        #[serde(default, skip_serializing_if = "Vec::is_empty")]
+        pub volumes: Vec<VolumeStatus>,
+    }
+
+    /// How full a volume is.
+    VolumeStatus {
+        /// All pages.
+        pub pages: u64,
+        /// Those that a write may take.
+        pub free: u64,
+        /// Those of older snapshots.
+        pub retired: u64,
+        /// How many entries the journal has.
+        pub entries: u64,
+        /// How many it may have.
+        pub commits: u64,
+        /// The oldest active reader.
+        pub oldest: Option<HeldBy>,
     }
 
     /// The oldest active reader of a store.
@@ -164,6 +243,9 @@ replies! {
         pub snapshot: u64,
         /// The number of its pass.
         pub pass: u64,
+        /// The volume whose snapshot it is, if there are several.
+        #[serde(default, skip_serializing_if = "Option::is_none")]
+        pub volume: Option<u32>,
     }
 
     /// Of `journal`.
@@ -204,6 +286,9 @@ replies! {
     Commit {
         /// Its number.
         pub commit: u64,
+        /// The snapshot of each volume, if there are several.
+        #[serde(default, skip_serializing_if = "Vec::is_empty")]
+        pub commits: Vec<u64>,
     }
 
     /// A line that the server pushes for a watch, and the reply of `refresh`.
@@ -212,6 +297,9 @@ replies! {
         pub watch: u64,
         /// The snapshot to which the changes lead.
         pub commit: u64,
+        /// The snapshot of each volume, if there are several.
+        #[serde(default, skip_serializing_if = "Vec::is_empty")]
+        pub commits: Vec<u64>,
         /// The nodes that came into the answer.
         #[serde(default)]
         pub created: Vec<u64>,
@@ -243,6 +331,14 @@ replies! {
 
 fn is_false(value: &bool) -> bool {
     !value
+}
+
+fn one() -> u32 {
+    1
+}
+
+fn is_one(value: &u32) -> bool {
+    *value == 1
 }
 
 impl Refusal {

@@ -41,7 +41,10 @@ parameters! {
         pub operations: Operations,
         /// How many entries the journal has to have.
         #[serde(default, skip_serializing_if = "Option::is_none")]
-        pub expected: Option<u64>,
+        pub expected: Option<Numbers>,
+        /// The volume that is written.
+        #[serde(default, skip_serializing_if = "Option::is_none")]
+        pub volume: Option<u32>,
     }
 
     /// Of `attributes`.
@@ -74,6 +77,19 @@ parameters! {
         /// The most entries.
         #[serde(default, skip_serializing_if = "Option::is_none")]
         pub limit: Option<u64>,
+        /// The volume, if there are several.
+        #[serde(default, skip_serializing_if = "Option::is_none")]
+        pub volume: Option<u32>,
+    }
+
+    /// Of `log`.
+    OfLog {
+        /// The entry of the log that the server has to have.
+        #[serde(default, skip_serializing_if = "Option::is_none")]
+        pub entry: Option<u64>,
+        /// For how many milliseconds it is waited for.
+        #[serde(default, skip_serializing_if = "Option::is_none")]
+        pub within: Option<u64>,
     }
 
     /// Of `state`.
@@ -81,6 +97,68 @@ parameters! {
         /// The index of the first batch.
         #[serde(default)]
         pub from: u64,
+        /// The volume, if there are several.
+        #[serde(default, skip_serializing_if = "Option::is_none")]
+        pub volume: Option<u32>,
+    }
+
+    /// Of `reach`.
+    Reach {
+        /// How many entries the journal has to have.
+        pub commit: Numbers,
+        /// How many milliseconds may pass.
+        #[serde(default, skip_serializing_if = "Option::is_none")]
+        pub within: Option<u64>,
+    }
+}
+
+/// The most numbers of a list.
+const NUMBERS: usize = 64;
+
+/// A commit number, or that of each volume.
+#[derive(Clone, Debug, PartialEq, Eq, serde::Serialize)]
+#[serde(untagged)]
+pub enum Numbers {
+    /// The number, of a store or of one volume.
+    One(u64),
+    /// The number of each volume.
+    Each(Vec<u64>),
+}
+
+impl Default for Numbers {
+    fn default() -> Self {
+        Numbers::One(0)
+    }
+}
+
+impl<'de> Deserialize<'de> for Numbers {
+    fn deserialize<D: Deserializer<'de>>(from: D) -> Result<Self, D::Error> {
+        from.deserialize_any(NumbersVisitor)
+    }
+}
+
+struct NumbersVisitor;
+
+impl<'de> Visitor<'de> for NumbersVisitor {
+    type Value = Numbers;
+
+    fn expecting(&self, f: &mut fmt::Formatter<'_>) -> fmt::Result {
+        f.write_str("a commit number, or a list with that of each volume")
+    }
+
+    fn visit_u64<E: de::Error>(self, number: u64) -> Result<Numbers, E> {
+        Ok(Numbers::One(number))
+    }
+
+    fn visit_seq<A: de::SeqAccess<'de>>(self, mut list: A) -> Result<Numbers, A::Error> {
+        let mut numbers = Vec::new();
+        while let Some(number) = list.next_element()? {
+            if numbers.len() == NUMBERS {
+                return Err(de::Error::custom("the list has more than 64 numbers"));
+            }
+            numbers.push(number);
+        }
+        Ok(Numbers::Each(numbers))
     }
 }
 
@@ -226,10 +304,14 @@ commands! {
     Journal(JournalFrom) = "journal";
     /// The batches that make the snapshot again.
     State(From) = "state";
+    /// Waits for the journal.
+    Reach(Reach) = "reach";
     /// Waits for the file.
     Flush(Nothing) = "flush";
     /// Writes the state into the file anew.
     Compact(Nothing) = "compact";
+    /// What the server does in the log that machines share. Waits for an entry.
+    Log(OfLog) = "log";
 }
 
 /// A request.
@@ -331,6 +413,9 @@ mod tests {
             r#"{"id":0,"batch":{"operations":[["new"]],"expected":3}}"#,
             r#"{"id":2,"query":{"query":"size>=5","columns":["size"],"limit":3,"from":0,"count":false}}"#,
             r#"{"id":3,"watch":{}}"#,
+            r#"{"id":3,"log":{"entry":7,"within":0}}"#,
+            r#"{"id":4,"batch":{"operations":[["new"]],"expected":[3,0],"volume":1}}"#,
+            r#"{"id":5,"reach":{"commit":[3,0],"within":5}}"#,
             r#"{"id":3,"get":{"node":1,"name":"a\"b"}}"#,
         ] {
             let request: Request<'_> = serde_json::from_str(line).unwrap();
@@ -358,6 +443,9 @@ mod tests {
             (r#"{"id":9007199254740992,"pin":{}}"#, None),
             (r#"{"id":"a","pin":{}}"#, None),
             (r#"{"get":{"node":1},"id":4}"#, Some(4)),
+            (r#"{"id":5,"reach":{"commit":-1}}"#, Some(5)),
+            (r#"{"id":5,"reach":{"commit":["a"]}}"#, Some(5)),
+            (r#"{"id":5,"batch":{"operations":[],"volume":-1}}"#, Some(5)),
             (r#"[1]"#, None),
             ("", None),
         ] {

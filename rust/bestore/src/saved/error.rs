@@ -74,6 +74,34 @@ pub enum Error {
     },
     /// The thread that saves could not be started.
     Thread(std::io::Error),
+    /// The folder of a shelf can't be read or made.
+    Folder {
+        /// The folder.
+        path: PathBuf,
+        /// The error.
+        error: std::io::Error,
+    },
+    /// The folder of a shelf has the file of a later volume, and not this one.
+    NoFile {
+        /// The file.
+        path: PathBuf,
+    },
+    /// A shelf can't be opened with fewer volumes than its folder has, nor with none.
+    Fewer {
+        /// The folder.
+        folder: PathBuf,
+        /// How many it has.
+        found: u32,
+        /// How many were asked for, or `found` if no number was.
+        wanted: u32,
+    },
+    /// The error of one volume of a shelf.
+    OfVolume {
+        /// The volume.
+        volume: u32,
+        /// What is wrong there.
+        error: Box<Error>,
+    },
     /// An error of the store.
     Store(crate::Error),
     /// Saving has failed before.
@@ -95,6 +123,16 @@ impl Error {
             }
             error => Error::differs(place, error),
         }
+    }
+
+    pub(super) fn folder(path: &Path, error: std::io::Error) -> Self {
+        let path = path.to_owned();
+        Error::Folder { path, error }
+    }
+
+    pub(super) fn of_volume(self, volume: u32) -> Self {
+        let error = Box::new(self);
+        Error::OfVolume { volume, error }
     }
 
     pub(super) fn of_sqlite(path: &Path, error: rusqlite::Error) -> Self {
@@ -135,6 +173,21 @@ impl fmt::Display for Error {
             }
             Error::Sqlite { path, error } => write!(f, "{}: {error}", path.display()),
             Error::Thread(error) => write!(f, "the thread that saves can't be started: {error}"),
+            Error::Folder { path, error } => write!(f, "{}: {error}", path.display()),
+            Error::NoFile { path } => write!(f, "{}: the file of this volume is missing", path.display()),
+            Error::Fewer { folder, found: 0, .. } => {
+                write!(
+                    f,
+                    "{}: the folder has no volumes, and it isn't said how many to make",
+                    folder.display()
+                )
+            }
+            Error::Fewer { folder, found, wanted } => write!(
+                f,
+                "{}: the folder has {found} volumes, and can't be opened with {wanted}",
+                folder.display()
+            ),
+            Error::OfVolume { volume, error } => write!(f, "volume {volume}: {error}"),
             Error::Store(error) => error.fmt(f),
             Error::Stopped(error) => write!(f, "saving has failed: {error}"),
             Error::Closed => f.write_str("the file is closed"),
@@ -150,6 +203,8 @@ impl std::error::Error for Error {
             Error::Sqlite { error, .. } => Some(error),
             Error::Thread(error) => Some(error),
             Error::Stopped(error) => Some(error.as_ref()),
+            Error::Folder { error, .. } => Some(error),
+            Error::OfVolume { error, .. } => error.source(),
             _ => None,
         }
     }

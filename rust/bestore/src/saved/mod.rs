@@ -33,8 +33,10 @@
 mod error;
 mod file;
 mod queue;
+mod shelf;
 
 pub use error::{Error, Place};
+pub use shelf::SavedShelf;
 
 use crate::{Batch, Limits, Pass, Snapshot, Store};
 use file::File;

@@ -2,6 +2,10 @@
 #![allow(dead_code)]
 
 pub mod disk;
+#[cfg(feature = "log")]
+pub mod postgres;
+#[cfg(feature = "log")]
+pub mod proxy;
 pub mod writers;
 
 use bestore_client::Client;
@@ -14,7 +18,7 @@ use std::process::{Child, Command, ExitStatus, Stdio};
 use std::sync::atomic::{AtomicU32, Ordering};
 use std::sync::{Mutex, MutexGuard, PoisonError};
 use std::thread;
-use std::time::{Duration, Instant};
+use std::time::{Duration, Instant, SystemTime};
 
 /// How long a server may take for anything. Under memcheck, and beside other work, it takes long.
 pub const PATIENCE: Duration = Duration::from_secs(300);
@@ -56,6 +60,25 @@ impl Folder {
 impl Drop for Folder {
     fn drop(&mut self) {
         let _ = fs::remove_dir_all(&self.0);
+    }
+}
+
+/// Numbers that differ from run to run.
+#[derive(Debug)]
+pub struct Random(u64);
+
+impl Random {
+    pub fn new(number: u64) -> Self {
+        let now = SystemTime::UNIX_EPOCH.elapsed().unwrap();
+        Self((now.as_nanos() as u64).wrapping_mul(2 * number + 1))
+    }
+
+    pub fn below(&mut self, bound: u64) -> u64 {
+        self.0 = self
+            .0
+            .wrapping_mul(6_364_136_223_846_793_005)
+            .wrapping_add(1_442_695_040_888_963_407);
+        (self.0 >> 33) % bound
     }
 }
 
@@ -171,9 +194,27 @@ impl Server {
         assert!(sent.unwrap().success());
     }
 
+    /// Stops the server, and waits until none of its threads runs. The signal CONT lets it go on.
+    pub fn stop(&self) {
+        self.signal("STOP");
+        let tasks = format!("/proc/{}/task", self.child().id());
+        wait_until("the server stops", || {
+            let mut tasks = fs::read_dir(&tasks).unwrap().flatten();
+            tasks.all(|task| {
+                let said = fs::read_to_string(task.path().join("stat")).unwrap_or_default();
+                said.rsplit(") ").next().map_or(false, |rest| rest.starts_with('T'))
+            })
+        });
+    }
+
     /// Sends a signal, and waits for the end.
     pub fn end_by(&self, signal: &str) -> ExitStatus {
         self.signal(signal);
+        self.wait_end()
+    }
+
+    /// Waits for the end.
+    pub fn wait_end(&self) -> ExitStatus {
         wait_until("the server ends", || self.has_ended());
         self.child().wait().unwrap()
     }

@@ -168,12 +168,17 @@ fn batches_of(snapshot: &Snapshot<'_>) -> (u64, Vec<Batch>) {
 }
 
 /// The next node and the batches of the snapshot that the client has pinned.
-fn state_of(client: &mut Client) -> (u64, Vec<Batch>) {
+pub fn state_of(client: &mut Client) -> (u64, Vec<Batch>) {
     let mut batches = Vec::new();
     let mut from = Some(0);
     let mut next = 0;
     while let Some(index) = from {
-        let page: wire::State = client.call(Command::State(wire::From { from: index })).unwrap();
+        let page: wire::State = client
+            .call(Command::State(wire::From {
+                from: index,
+                volume: None,
+            }))
+            .unwrap();
         batches.extend(page.batches.into_iter().map(|operations| operations.batch));
         (from, next) = (page.more, page.next);
     }

@@ -28,7 +28,7 @@ loop-i-init g c = record {
 pub loop-i-preserved : goal.loop-i-preserved
 loop-i-preserved g c =
     let f = formula c.args.tree.now in
-    let nodes = c.in_order-nodes.result.items in
+    let nodes = c.put_in_order.new.numbers.items in
     let i = c.loop-i.i in
     let inv = c.loop-i.invariant in
     let found = c.add_if_true.new.found.items in
@@ -54,7 +54,7 @@ returns-in_err-add_if_true-clause-keeps g c = λ n h. c.add_if_true.ensures.keep
 pub returns-in_err-add_if_true-clause-only : goal.returns-in_err-add_if_true-clause-only
 returns-in_err-add_if_true-clause-only g c = λ n h.
     let f = formula c.args.tree.now in
-    let nodes = c.in_order-nodes.result.items in
+    let nodes = c.put_in_order.new.numbers.items in
     let here : c.loop-i.i < length nodes = omega (arith, c.loop-i-test.true) in
     let at : c.index.result.now ≡ slice_index nodes c.loop-i.i = get_or_read nodes c.loop-i.i _ here c.index.ensures 0 in
     let P : ℕ → Type 0 = λ m. Contains nodes m in
@@ -63,12 +63,12 @@ returns-in_err-add_if_true-clause-only g c = λ n h.
       | inr is ↦ inr (subst P is.0 (subst P (sym at) (Contains-get_or nodes c.loop-i.i 0 here)), is.1)
     ] in
     added_within g.volume c.args.name.now _ c.args.range.now.low.items _ (high_of c.args.range.now) _ nodes c.args.found.now.items (λ m. sat g.volume f m ≡ true)
-    c.low.ensures c.high.ensures c.in_ok-unordered.ensures.items (λ m there. c.nodes_within.ensures.only g.volume c.requires.1 m (c.in_order-nodes.ensures.only m there)) n there
+    c.low.ensures c.high.ensures c.in_ok-nodes.ensures.items (λ m there. c.nodes_within.ensures.only g.volume c.requires.1 m (c.in_ok-put_in_order.ensures.only m there)) n there
 
 pub returns-clause-only : goal.returns-clause-only
 returns-clause-only g c = λ n h.
-    added_within g.volume c.args.name.now _ c.args.range.now.low.items _ (high_of c.args.range.now) _ c.in_order-nodes.result.items c.args.found.now.items
-    (λ m. sat g.volume (formula c.args.tree.now) m ≡ true) c.low.ensures c.high.ensures c.in_ok-unordered.ensures.items (λ m there. c.nodes_within.ensures.only g.volume c.requires.1 m (c.in_order-nodes.ensures.only m there)) n
+    added_within g.volume c.args.name.now _ c.args.range.now.low.items _ (high_of c.args.range.now) _ c.put_in_order.new.numbers.items c.args.found.now.items
+    (λ m. sat g.volume (formula c.args.tree.now) m ≡ true) c.low.ensures c.high.ensures c.in_ok-nodes.ensures.items (λ m there. c.nodes_within.ensures.only g.volume c.requires.1 m (c.in_ok-put_in_order.ensures.only m there)) n
     (c.loop-i.invariant.only n h)
 
 pub returns-clause-has : goal.returns-clause-has
@@ -80,5 +80,5 @@ returns-clause-has g c = λ k h w holds.
     let L : List ℕ → Type 0 = λ l. HasNodes g.volume name l (option_copied c.high.result) nodes in
     let H : Option (List ℕ) → Type 0 = λ b. HasNodes g.volume name low b nodes in
     let has : HasNodes g.volume name low (high_of c.args.range.now) nodes = subst H c.high.ensures (subst L c.low.ensures (c.in_ok-nodes_within.ensures.has g.volume c.requires.1)) in
-    each_contained (λ n. sat g.volume f n ≡ true → Contains c.loop-i.found.items n) c.in_order-nodes.result.items (λ i lt. c.loop-i.invariant.has i (omega (arith, lt, c.loop-i-test.false)))
-    h.node (c.in_order-nodes.ensures.keeps h.node (has k h w)) holds
+    each_contained (λ n. sat g.volume f n ≡ true → Contains c.loop-i.found.items n) c.put_in_order.new.numbers.items (λ i lt. c.loop-i.invariant.has i (omega (arith, lt, c.loop-i-test.false)))
+    h.node (c.in_ok-put_in_order.ensures.keeps h.node (has k h w)) holds

@@ -1,0 +1,159 @@
+/* Which error a call returns if two hold at once: the one that the header names first. Each line has two reasons to be refused, and each
+ * reason alone is tried in test.c. */
+#include "tests.h"
+
+#define RETURNS(error, call) CHECK((call) == (error))
+
+enum { LONG_TEXT = 4097 };
+
+static bes_pass closed, pass, single;
+static bes_prepared unprepared, prepared;
+static bes_place not_begun, begun;
+static uint64_t number, count, nodes[4];
+static bes_attribute attribute;
+static bes_counts counts;
+static bes_updates updates;
+static bes_operation listed[64];
+static uint8_t bytes[64 * 318];
+static const bes_item no_item = {99, 0, 0, 0};
+
+/* A text of so many bytes that is no UTF-8, and one that has a zero byte. */
+static uint8_t no_text[LONG_TEXT], zero_text[LONG_TEXT];
+
+#define NAME(text) (const uint8_t *)(text), strlen(text)
+
+/* A write of one operation with this name and value, both from `parts`, which has 4097 bytes. */
+static uint32_t write_one(uint32_t kind, uint32_t code, const uint8_t *parts, uint32_t name_length, uint32_t value_length,
+                          uint64_t integer)
+{
+    bes_operation one = {0, 0, 0, 0, 0, 0, 0, 0};
+    one.kind = kind;
+    one.code = code;
+    one.node = 9;
+    one.number = integer;
+    one.name_length = name_length;
+    one.value_length = value_length;
+    return bes_apply(&pass, &one, 1, parts, LONG_TEXT, nodes, 0, &number);
+}
+
+/* The handles. */
+static void of_handles(void)
+{
+    RETURNS(BES_OPEN, bes_open(7, 1, 1, &pass));
+    RETURNS(BES_CLOSED, bes_another(&closed, &pass));
+    RETURNS(BES_OPEN, bes_another(&pass, &single));
+    RETURNS(BES_CLOSED, bes_move(&closed, &pass));
+    RETURNS(BES_CLOSED, bes_move_prepared(&unprepared, &prepared));
+    RETURNS(BES_CLOSED, bes_move_place(&not_begun, &begun));
+    RETURNS(BES_OPEN, bes_prepare(no_text, 1, &prepared, &count));
+    RETURNS(BES_OPEN, bes_prepare(NAME("=="), &prepared, &count));
+    RETURNS(BES_OPEN, bes_prepare_items(&no_item, 0, bytes, 0, &prepared, &count));
+}
+
+/* Writes: the number of operations, then what is wrong with one of them by its parts, and then what the store refuses. */
+static void of_writes(void)
+{
+    static bes_operation many[65];
+    bes_operation two[2] = {{0, 0, 0, 0, 0, 0, 0, 0}, {0, 0, 0, 0, 0, 0, 0, 0}};
+    many[0].kind = 99;
+    RETURNS(BES_CLOSED, bes_apply(&closed, many, 65, bytes, 0, nodes, 0, &number));
+    RETURNS(BES_BAD_COUNT, bes_apply(&pass, many, 65, bytes, 0, nodes, 0, &number));
+    RETURNS(BES_BAD_PART, write_one(99, 0, no_text, LONG_TEXT + 1, 0, 0));
+    RETURNS(BES_NO_OPERATION, write_one(99, 0, no_text, 64, 0, 0));
+    RETURNS(BES_NOT_UTF8, write_one(BES_SET, 99, no_text, 64, 0, 0));
+    RETURNS(BES_NAME_LENGTH, write_one(BES_SET, 99, zero_text, 64, 0, 0));
+    RETURNS(BES_HAS_NUL, write_one(BES_SET, 99, zero_text, 2, 0, 0));
+    RETURNS(BES_NO_KIND, write_one(BES_SET, 99, (const uint8_t *)memset(bytes, 'a', LONG_TEXT), 2, 256, 0));
+    no_text[0] = zero_text[0] = 'a';
+    RETURNS(BES_NOT_UTF8, write_one(BES_SET, BES_STRING_TYPE, no_text, 1, 256, 0));
+    RETURNS(BES_DATA_LENGTH, write_one(BES_SET, BES_STRING_TYPE, zero_text, 1, 256, 0));
+    RETURNS(BES_HAS_NUL, write_one(BES_SET, BES_STRING_TYPE, zero_text, 1, 2, 0));
+    RETURNS(BES_NO_VALUE, write_one(BES_SET, BES_INT32_TYPE, bytes, 1, 0, 1ull << 40));
+    no_text[0] = 0xff;
+    zero_text[0] = 0;
+    /* Of two operations the first, and what is invalid before what the store refuses. */
+    two[0].kind = BES_REMOVE_NODE;
+    two[0].node = 9;
+    two[1].kind = 99;
+    RETURNS(BES_NO_OPERATION, bes_apply(&pass, two, 2, bytes, 1, nodes, 0, &number));
+    CHECK(number == 1);
+    two[1].kind = BES_UNSET;
+    two[1].node = 1;
+    two[1].name_length = 1;
+    RETURNS(BES_NO_NODE, bes_apply(&pass, two, 2, bytes, 1, nodes, 0, &number));
+    /* BES_CONFLICT after what is invalid, and before what the store refuses. */
+    RETURNS(BES_CONFLICT, bes_apply_if(&pass, 7, two, 2, bytes, 1, nodes, 0, &number));
+    two[1].kind = 99;
+    RETURNS(BES_NO_OPERATION, bes_apply_if(&pass, 7, two, 2, bytes, 1, nodes, 0, &number));
+    RETURNS(BES_BAD_COUNT, bes_apply_if(&pass, 7, two, 0, bytes, 1, nodes, 0, &number));
+    RETURNS(BES_CLOSED, bes_apply_if(&closed, 7, two, 0, bytes, 1, nodes, 0, &number));
+    /* The store's limits come last, that of the journal before that of the pages. */
+    RETURNS(BES_NO_NODE, bes_remove_node(&single, 9));
+    RETURNS(BES_COMMITS_SPENT, bes_new_node(&single, &number));
+}
+
+/* Queries: their text, then the pin, then what serves them. */
+static void of_queries(void)
+{
+    const bes_item alone = {BES_ITEM_ATTRIBUTE, 0, 1, 0};
+    const bes_item no_part[] = {{BES_ITEM_ATTRIBUTE, 9, 9, 0}, no_item}, lone_and_bad[] = {alone, alone, no_item};
+    const bes_item uncovered[] = {alone, {BES_ITEM_INT64, 0, 0, 1}, {BES_ITEM_EQ, 0, 0, 0}};
+    RETURNS(BES_CLOSED, bes_query(&closed, no_text, 1, nodes, 4, &count));
+    RETURNS(BES_NOT_UTF8, bes_query(&pass, no_text, LONG_TEXT, nodes, 4, &count));
+    RETURNS(BES_TOO_LONG, bes_query(&pass, zero_text, LONG_TEXT, nodes, 4, &count));
+    RETURNS(BES_SYNTAX, bes_query(&pass, NAME("a=="), nodes, 4, &count));
+    RETURNS(BES_BAD_PATTERN, bes_query(&pass, NAME("a==\"[\" && &&"), nodes, 4, &count));
+    RETURNS(BES_NOT_PINNED, bes_query(&pass, NAME("a==1"), nodes, 4, &count));
+    RETURNS(BES_CLOSED, bes_explain(&closed, no_text, 1, bytes, 4, &count));
+    RETURNS(BES_NOT_UTF8, bes_explain(&pass, no_text, LONG_TEXT, bytes, 4, &count));
+    RETURNS(BES_TOO_LONG, bes_explain(&pass, zero_text, LONG_TEXT, bytes, 4, &count));
+    RETURNS(BES_SYNTAX, bes_explain(&pass, NAME("a=="), bytes, 4, &count));
+    RETURNS(BES_NOT_PINNED, bes_explain(&pass, NAME("a==1"), bytes, 4, &count));
+    RETURNS(BES_CLOSED, bes_query_items(&closed, &no_item, 1, bytes, 0, nodes, 4, &count));
+    RETURNS(BES_BAD_PART, bes_query_items(&pass, no_part, 2, (const uint8_t *)"a", 1, nodes, 4, &count));
+    RETURNS(BES_NO_ITEM, bes_query_items(&pass, lone_and_bad, 3, (const uint8_t *)"a", 1, nodes, 4, &count));
+    CHECK(count == 2);
+    RETURNS(BES_BAD_RPN, bes_query_items(&pass, &alone, 1, (const uint8_t *)"a", 1, nodes, 4, &count));
+    RETURNS(BES_NOT_PINNED, bes_query_items(&pass, uncovered, 3, (const uint8_t *)"a", 1, nodes, 4, &count));
+    RETURNS(BES_CLOSED, bes_query_prepared(&pass, &unprepared, nodes, 4, &count));
+    RETURNS(BES_NOT_PINNED, bes_query_prepared(&pass, &prepared, nodes, 4, &count));
+    RETURNS(BES_CLOSED, bes_refresh(&pass, &unprepared, &updates));
+    RETURNS(BES_NOT_PINNED, bes_refresh(&pass, &prepared, &updates));
+}
+
+/* Reads: the name, then the pin, then what isn't there. */
+static void of_reads(void)
+{
+    RETURNS(BES_CLOSED, bes_get(&closed, 9, no_text, 1, &attribute, bytes, 0));
+    RETURNS(BES_NOT_UTF8, bes_get(&pass, 9, no_text, 64, &attribute, bytes, 0));
+    RETURNS(BES_NAME_LENGTH, bes_get(&pass, 9, zero_text, 64, &attribute, bytes, 0));
+    RETURNS(BES_HAS_NUL, bes_get(&pass, 9, zero_text, 1, &attribute, bytes, 0));
+    RETURNS(BES_NOT_PINNED, bes_get(&pass, 9, NAME("a"), &attribute, bytes, 0));
+    RETURNS(BES_CLOSED, bes_attributes(&closed, 9, &counts, listed, 64, bytes, sizeof bytes));
+    RETURNS(BES_NOT_PINNED, bes_attributes(&pass, 9, &counts, listed, 64, bytes, sizeof bytes));
+    RETURNS(BES_CLOSED, bes_indices(&closed, &counts, listed, 64, bytes, sizeof bytes));
+    RETURNS(BES_CLOSED, bes_state(&closed, &not_begun, &counts, listed, 64, bytes, sizeof bytes));
+    RETURNS(BES_NOT_PINNED, bes_state(&pass, &begun, &counts, listed, 64, bytes, sizeof bytes));
+}
+
+int main(void)
+{
+    bes_pass inits[] = {BES_PASS_INIT, BES_PASS_INIT, BES_PASS_INIT};
+    bes_prepared unprepared_inits[] = {BES_PREPARED_INIT, BES_PREPARED_INIT};
+    bes_place place_inits[] = {BES_PLACE_INIT, BES_PLACE_INIT};
+    closed = inits[0], pass = inits[1], single = inits[2];
+    unprepared = unprepared_inits[0], prepared = unprepared_inits[1];
+    not_begun = place_inits[0], begun = place_inits[1];
+    memset(no_text, 0xff, sizeof no_text);
+    CHECK(bes_open(64, 1, 10, &pass) == BES_OK && bes_open(8, 1, 1, &single) == BES_OK);
+    CHECK(bes_new_node(&pass, &number) == BES_OK && bes_new_node(&single, &number) == BES_OK);
+    CHECK(bes_prepare(NAME("a==1"), &prepared, &count) == BES_OK && bes_pin(&pass, &number) == BES_OK);
+    CHECK(bes_state(&pass, &begun, &counts, listed, 64, bytes, sizeof bytes) == BES_OK && bes_unpin(&pass) == BES_OK);
+    of_handles();
+    of_writes();
+    of_queries();
+    of_reads();
+    CHECK(bes_release(&prepared) == BES_OK && bes_leave(&begun) == BES_OK);
+    CHECK(bes_close(&pass) == BES_OK && bes_close(&single) == BES_OK);
+    return 0;
+}

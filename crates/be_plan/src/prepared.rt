@@ -1,0 +1,149 @@
+//! Queries that are asked again and again.
+//!
+//! Most queries have all their comparisons on one name, and then depend on the version only by the index of that name: what range of its keys they
+//! leave depends on the query and on the index's kind. So a prepared query keeps that range, and where the index stood at the last asking.
+ghost use Rattle.std.specs.Prelude.{◌≡◌, true, IfSome};
+ghost use Rattle.std.specs.Option.{option_copied};
+ghost use Rattle.be_plan.specs.Narrow.{high_of};
+ghost use Rattle.be_plan.specs.Prepared.{Decides};
+ghost use Rattle.be_plan.specs.Walk.{AreAllOn};
+
+use crate::KeyRange;
+use crate::asking::only_name;
+use crate::narrowing::narrow_alone;
+use crate::ranges::Range;
+use be_query::Query;
+use be_value::{Kind, Name};
+use std::marker::Model;
+
+/// A query with what its askings share: the name that all its comparisons are on, if it is one, and the range of keys by which they are
+/// decided in an index of the kind that was met last. It is asked of any versions of any stores, one after the other. A contract sees the query.
+#[derive(Drop)]
+pub struct PreparedQuery {
+    query: Query,
+    name: Option<Name>,
+    place: usize,
+    met: Option<Kind>,
+    decided: Option<Kind>,
+    range: Range,
+}
+
+impl Model for PreparedQuery {
+    ghost use Rattle.std.specs.Prelude.{IfSome};
+    ghost use Rattle.be_query.specs.Coded.{coded_formula};
+    ghost use Rattle.be_query.specs.Grammar.{Formula};
+    ghost use Rattle.be_plan.specs.Narrow.{high_of};
+    ghost use Rattle.be_plan.specs.Prepared.{DecidesIf};
+    ghost use Rattle.be_plan.specs.Walk.{AreAllOn};
+
+    ghost Value = { Formula };
+
+    ghost coded = { coded_formula };
+
+    ghost view = { λ p. p.query };
+
+    ghost invariant = { λ p. IfSome p.name (λ name. AreAllOn p.query name) × DecidesIf p.decided p.query p.range.low.items (high_of p.range) };
+}
+
+/// The name that all comparisons of the query are on, if it is one and none stands under `||`.
+fn name_asked(query: &Query) -> Option<Name>
+    ensures { IfSome result (λ name. AreAllOn query.now name) }
+{
+    match only_name(query.tree()) {
+        Some(name) => Some(name.copy()),
+        None => None,
+    }
+}
+
+/// Makes the range that comparisons on one name leave of its index. Whether it decides them.
+fn range_decides(range: &mut Range, query: &Query, kind: Kind) -> bool
+    ensures { result ≡ true → Decides query.now kind range.new.low.items (high_of range.new) }
+{
+    range.open();
+    match narrow_alone(range, query.tree(), kind) {
+        Some(_) => false,
+        None => true,
+    }
+}
+
+impl PreparedQuery {
+    /// The query, ready to be asked. It takes no memory, and makes the range when an index is met.
+    pub fn new(query: Query) -> PreparedQuery
+        ensures { result ≡ query }
+    {
+        let name = name_asked(&query);
+        PreparedQuery {
+            query,
+            name,
+            place: 0,
+            met: None,
+            decided: None,
+            range: Range::whole(),
+        }
+    }
+
+    /// The query.
+    pub fn query(&self) -> &Query
+        ensures { result.now ≡ self.now }
+    {
+        &self.query
+    }
+
+    /// The name that all comparisons are on, if it is one and none stands under `||`.
+    pub fn name(&self) -> Option<&Name>
+        ensures { IfSome (option_copied result) (λ name. AreAllOn self.now name) }
+    {
+        match &self.name {
+            Some(name) => Some(name),
+            None => None,
+        }
+    }
+
+    /// Where the index of that name stood at the last asking, as `meet` was told; 0 before the first.
+    pub fn place(&self) -> usize {
+        self.place
+    }
+
+    /// Makes the range for an index of the kind, unless it was made for this kind last, and keeps where the index stands.
+    #[inline(always)]
+    pub fn meet(&mut self, place: usize, kind: Kind)
+        ensures { self.new ≡ self.old }
+    {
+        self.place = place;
+        if self.met != Some(kind) {
+            self.make_range(kind);
+        }
+    }
+
+    /// Makes the range for an index of the kind.
+    #[inline(never)]
+    fn make_range(&mut self, kind: Kind)
+        ensures { self.new ≡ self.old }
+    {
+        self.met = Some(kind);
+        if range_decides(&mut self.range, &self.query, kind) {
+            self.decided = Some(kind);
+        } else {
+            self.decided = None;
+        }
+    }
+
+    /// The range that decides the query in an index of the kind; none if the range was made for another kind, or leaves something to ask.
+    #[inline(always)]
+    pub fn keys_for(&self, kind: Kind) -> Option<KeyRange<'_>>
+        ensures on { IfSome result (λ keys. AreAllOn self.now keys.name.now) }
+        ensures decides { IfSome result (λ keys. Decides self.now kind keys.low.now (option_copied keys.high)) }
+    {
+        if self.decided != Some(kind) {
+            return None;
+        }
+        match &self.name {
+            Some(name) => Some(KeyRange {
+                name,
+                low: self.range.low(),
+                high: self.range.high(),
+            }),
+            None => None,
+        }
+    }
+}

@@ -1,0 +1,90 @@
+//! As many nodes of a plain volume as a version may have, by each way to ask for them. No contract rules out a want of memory at one
+//! size alone.
+use super::write;
+use be_plan::{answer, choose_from, run, volume_source};
+use be_query::{Query, parse};
+use be_value::{Kind, Name, Refusal, Value, word_of};
+use be_volume::{Op, Volume};
+use std::alloc::Global;
+use std::test::Fail;
+
+/// How many nodes are asked for: around each power of two, and the bound.
+const COUNTS: &str =
+    "1 2 3 4 5 7 8 9 15 16 17 31 32 33 63 64 65 127 128 129 255 256 257 511 512 513 1023 1024 1025 2047 2048 \
+2049 4095 4096 4097 8191 8192 8193 16383 16384 16385 26000";
+
+/// Does a list of operations, again where it is refused memory.
+fn write_again(volume: &mut Volume, ops: &[Op]) -> Result<(), Refusal> {
+    match write(volume, ops) {
+        Err(Refusal::OutOfMemory) => write(volume, ops),
+        done => done,
+    }
+}
+
+/// A volume of so many nodes, each of which has its number in the attribute k.
+fn numbered(alloc: Global, count: u64) -> Result<Volume, Refusal> {
+    let mut volume = Volume::new(alloc);
+    write_again(&mut volume, &[Op::MkIndex(Name::new("k")?, Kind::Ullg)])?;
+    for node in 1..=count {
+        let set = Op::Set(node, Name::new("k")?, Value::uint64(node));
+        write_again(&mut volume, &[Op::New, set])?;
+    }
+    Ok(volume)
+}
+
+/// Whether these are the nodes from 1 to a number.
+fn are_from_one(nodes: &[u64], count: u64) -> bool {
+    nodes.len() as u64 == count && nodes.first() == Some(&1) && nodes.last() == Some(&count)
+}
+
+/// The nodes by what is chosen, as `run` walks it.
+fn by_plan(alloc: Global, volume: &Volume, query: &Query) -> Result<Vec<u64>, Refusal> {
+    let mut source = volume_source(volume);
+    let cover = choose_from(alloc, query, &mut source)?;
+    run(alloc, &cover, query, &mut source)
+}
+
+/// The nodes as `answer` finds them.
+fn by_answer(alloc: Global, volume: &Volume, query: &Query) -> Result<Vec<u64>, Refusal> {
+    let mut source = volume_source(volume);
+    answer(alloc, query, &mut source)
+}
+
+/// Whether each way finds the nodes up to this number.
+fn finds(alloc: Global, volume: &Volume, count: &str) -> Result<bool, Refusal> {
+    let text = format!(in alloc; "k<={count}")?;
+    let query = parse(alloc, text.as_str())?;
+    let count = word_of(count.as_bytes()).unwrap_or(0);
+    Ok(
+        are_from_one(&by_plan(alloc, volume, &query)?, count)
+            && are_from_one(&by_answer(alloc, volume, &query)?, count)
+            && are_from_one(&volume.query(&query)?, count),
+    )
+}
+
+/// Whether a copy has the same next number.
+fn copies(volume: &Volume) -> Result<bool, Refusal> {
+    Ok(volume.copy()?.next() == volume.next())
+}
+
+/// Nodes that a query finds, and a copy of all of them.
+#[test]
+fn many_nodes(rt: HostRuntime) -> Result<(), Fail> {
+    let alloc = rt.alloc();
+    let volume = numbered(alloc, 26_000)?;
+    for count in COUNTS.split(' ') {
+        let found = match finds(alloc, &volume, count) {
+            Err(Refusal::OutOfMemory) => finds(alloc, &volume, count)?,
+            found => found?,
+        };
+        if !found {
+            return Err(Fail::new(count));
+        }
+    }
+    let copied = match copies(&volume) {
+        Err(Refusal::OutOfMemory) => copies(&volume)?,
+        copied => copied?,
+    };
+    assert!(rt; copied);
+    Ok(())
+}

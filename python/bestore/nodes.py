@@ -1,0 +1,58 @@
+"""Nodes of a store that has several volumes: each is one integer, its volume * 10^14 + its number there."""
+
+from __future__ import annotations
+
+from typing import List, Optional, Tuple
+
+from .errors import OtherVolume
+from .operations import MAKE_INDEX, NEW, REMOVE, REMOVE_INDEX, SET, UNSET, Batch
+
+NUMBERS = 10**14
+"""How many numbers a volume has. A power of ten, so that people can read the volume in a node's digits."""
+MOST_VOLUMES = 64
+"""How many volumes there are at most. So a node is below 2^53, which JSON keeps exactly."""
+
+
+def volume_of(node: int) -> int:
+    """The volume of a node, from 0. A store without volumes has nodes of volume 0 alone."""
+    return node // NUMBERS
+
+
+def number_of(node: int) -> int:
+    """The number that a node has within its volume."""
+    return node % NUMBERS
+
+
+def node_in(volume: int, number: int) -> int:
+    """The node with this number within this volume."""
+    return volume * NUMBERS + number
+
+
+def within(batch: Batch, volume: Optional[int] = None) -> Tuple[Optional[int], Batch]:
+    """The volume in which a batch is written, and the batch with the numbers that its nodes have there. The volume is the given one,
+    otherwise that of the nodes which the operations name; None if they name none. `OtherVolume` if one names another."""
+    moved = Batch()
+    for place, (kind, code, node, number, name, value) in enumerate(batch._parts()):
+        if kind in (REMOVE, SET, UNSET) or kind == NEW and node != 0:
+            if volume is None:
+                volume = volume_of(node)
+            if volume_of(node) != volume:
+                raise OtherVolume(volume, place)
+            node = number_of(node)
+        moved._add_encoded(kind, node, name, code, number, value)
+    return volume, moved
+
+
+def of_volume(batch: Batch, volume: int) -> Batch:
+    """A batch of a volume with the nodes as they are in the whole."""
+    moved = Batch()
+    for kind, code, node, number, name, value in batch._parts():
+        if kind in (REMOVE, SET, UNSET) or kind == NEW and node != 0:
+            node = node_in(volume, node)
+        moved._add_encoded(kind, node, name, code, number, value)
+    return moved
+
+
+def indices_in(batch: Batch) -> List[int]:
+    """Which operations make or remove indices."""
+    return [place for place, parts in enumerate(batch._parts()) if parts[0] in (MAKE_INDEX, REMOVE_INDEX)]

@@ -1,0 +1,342 @@
+"""Shelves: stores that have several volumes, which one query searches.
+
+    with bestore.open_shelf(4) as store:
+        store.make_index("size", bestore.INT64)
+        node = store.new_node()
+        store.set(node, "size", 5)
+        with store.pin() as version:
+            version.query("size>=5")
+
+A shelf has 1 to 64 volumes, each a store of its own, and so room for more nodes than one store. It is a `Pass` as any other, and its
+versions are as any other: queries, counts and live queries are over all volumes. A node is one integer, its volume * 10^14 + its
+number there: `volume_of` and `number_of` take it apart, `node_in` makes it. A node never leaves its volume. A server may have
+volumes too: then the pass that `connect` returns is such a store.
+
+**What is promised.** Each volume keeps its own promise: its writes are serializable in its journal, and what is read of it is one
+snapshot. Across volumes there is no order. A version has a snapshot of each volume, pinned one after another, so it may have a later
+write to one volume and not an earlier one to another. A batch or a change writes one volume, and what a change has read of others
+may have changed meanwhile. Indices are made in one volume after another. A query that a volume doesn't cover is `NotCovered`, with
+that `volume`, so no answer is a part.
+"""
+
+from __future__ import annotations
+
+from contextlib import ExitStack
+from functools import partial
+from types import TracebackType
+from typing import Callable, Dict, Iterable, Iterator, List, Optional, Sequence, Tuple, Type, TypeVar, Union
+
+from . import local as _local
+from .errors import BadCount, BadLimits, IndexExists, NoIndex, NoNode, NotCovered, NoVolume, PartialIndex, Refusal
+from .local import refreshed
+from .nodes import MOST_VOLUMES, NUMBERS, indices_in, node_in, number_of, of_volume, volume_of, within
+from .operations import MOST_OPERATIONS, Batch, MakeIndex, Operation
+from .queries import Prepared
+from .store import TRIES, Entry, Pass, Status, ThreadPass
+from .values import Kind, Typed, Value
+from .versions import Query, Version
+
+__all__ = ["MOST_VOLUMES", "Shelf", "ShelfVersion", "node_in", "number_of", "open", "volume_of"]
+
+_Result = TypeVar("_Result")
+_Taken = TypeVar("_Taken", bound=Union[Pass, Version])
+
+
+class ShelfVersion(Version):
+    """A snapshot of each volume."""
+
+    def __init__(self, user: Shelf, versions: Sequence[Version]) -> None:
+        self._user = user
+        self.volumes = tuple(versions)
+        """The version of each volume, in which nodes have their numbers there."""
+
+    @property
+    def number(self) -> int:
+        return sum(self.numbers)
+
+    @property
+    def numbers(self) -> Tuple[int, ...]:
+        return tuple(version.number for version in self.volumes)
+
+    @property
+    def _is_pinned(self) -> bool:
+        return all(version._is_pinned for version in self.volumes)
+
+    def unpin(self) -> None:
+        for version in self.volumes:
+            version.unpin()
+
+    @property
+    def next_node(self) -> int:
+        """The number of the next node that is made in the volume with the most free pages, if no other write comes there before."""
+        return self._next_in(self._user._roomiest())
+
+    def _next_in(self, volume: int) -> int:
+        if not 0 <= volume < len(self.volumes):
+            raise NoVolume(volume, len(self.volumes))
+        return node_in(volume, self.volumes[volume].next_node)
+
+    def _each(self, read: Callable[[Version], _Result]) -> Iterator[Tuple[int, _Result]]:
+        """What is read of each volume. An error says of which, unless it is of the call alone."""
+        for volume, version in enumerate(self.volumes):
+            try:
+                yield volume, read(version)
+            except NotCovered as error:
+                error.volume = volume
+                raise
+
+    def _nodes_of(self, asked: Query) -> List[int]:
+        found: List[int] = []
+        for volume, numbers in self._each(lambda version: version._nodes_of(asked)):
+            found += _in_volume(volume, numbers)
+        return found
+
+    def _count_of(self, asked: Query) -> int:
+        return sum(count for _, count in self._each(lambda version: version._count_of(asked)))
+
+    def _of(self, node: int) -> Tuple[Version, int]:
+        """The version that may have a node, and the node's number there. In no volume there is a node 0."""
+        volume, number = divmod(node, NUMBERS)
+        if 0 <= volume < len(self.volumes):
+            return self.volumes[volume], number
+        return self.volumes[0], 0
+
+    def _read(self, node: int, name: str) -> Typed:
+        version, number = self._of(node)
+        return version._read(number, name)
+
+    def _listed(self, node: int) -> Dict[str, Typed]:
+        version, number = self._of(node)
+        return version._listed(number)
+
+    def get(self, node: int, name: str) -> Optional[Value]:
+        version, number = self._of(node)
+        return version.get(number, name)
+
+    def column(self, nodes: Iterable[int], name: str) -> List[Optional[Value]]:
+        return self.columns(nodes, [name])[0]
+
+    def columns(self, nodes: Iterable[int], names: Iterable[str]) -> List[List[Optional[Value]]]:
+        read, wanted = list(nodes), list(names)
+        places: Dict[int, List[int]] = {}
+        for place, node in enumerate(read):
+            places.setdefault(node // NUMBERS, []).append(place)
+        columns: List[List[Optional[Value]]] = [[None] * len(read) for _ in wanted]
+        for volume, those in places.items():
+            if 0 <= volume < len(self.volumes):
+                numbers = [read[place] % NUMBERS for place in those]
+                for column, part in zip(columns, self.volumes[volume].columns(numbers, wanted)):
+                    _put(column, those, part)
+        return columns
+
+    def _nodes_from(self, first: int, room: int) -> List[int]:
+        found: List[int] = []
+        volume, number = divmod(first, NUMBERS)
+        while volume < len(self.volumes) and len(found) < room:
+            found += _in_volume(volume, self.volumes[volume]._nodes_from(number, room - len(found)))
+            volume, number = volume + 1, 0
+        return found
+
+    def refresh(self, prepared: Prepared) -> Tuple[List[int], List[int]]:
+        """As in a version of one store. The program's memory has all nodes of the query until that is closed."""
+        return refreshed(prepared, self)
+
+    def explain(self, text: str) -> str:
+        """What the query would be answered from in the first volume. The others use the same if they have the same indices."""
+        return [explained for _, explained in self._each(lambda version: version.explain(text))][0]
+
+    def _indices_in(self) -> Dict[str, Dict[int, Kind]]:
+        """Of each index the volumes that have it, with its kind there."""
+        found: Dict[str, Dict[int, Kind]] = {}
+        for volume, indices in self._each(lambda version: version.indices()):
+            for name, kind in indices.items():
+                found.setdefault(name, {})[volume] = kind
+        return dict(sorted(found.items()))
+
+    def _is_common(self, kinds: Dict[int, Kind]) -> bool:
+        return len(kinds) == len(self.volumes) and len(set(kinds.values())) == 1
+
+    def indices(self) -> Dict[str, Kind]:
+        return {name: kinds[0] for name, kinds in self._indices_in().items() if self._is_common(kinds)}
+
+    def partial_indices(self) -> Dict[str, List[int]]:
+        return {name: list(kinds) for name, kinds in self._indices_in().items() if not self._is_common(kinds)}
+
+    def state(self, volume: Optional[int] = None) -> Iterator[Batch]:
+        user = self._user
+        asked = user._checked(volume)
+        for batch in self.volumes[asked].state():
+            yield of_volume(batch, asked)
+
+
+def _put(column: List[Optional[Value]], places: List[int], values: List[Optional[Value]]) -> None:
+    """Puts values at their places."""
+    for place, value in zip(places, values):
+        column[place] = value
+
+
+def _in_volume(volume: int, numbers: List[int]) -> List[int]:
+    """Nodes of a volume."""
+    before = node_in(volume, 0)
+    return [before + number for number in numbers] if before else numbers
+
+
+class Shelf(ThreadPass):
+    """A pass of a store that has several volumes: a pass of each. It may be made of passes that are open, and then owns them."""
+
+    _passes: Tuple[Pass, ...] = ()
+
+    def __init__(self, passes: Sequence[Pass]) -> None:
+        if not 1 <= len(passes) <= MOST_VOLUMES:
+            raise BadLimits()
+        self._passes, self._committed = tuple(passes), 0
+
+    def __repr__(self) -> str:
+        return f"<pass of {len(self._passes)} volumes>"
+
+    @property
+    def volumes(self) -> int:
+        return len(self._passes)
+
+    def volume(self, volume: int) -> Pass:
+        """The pass of a volume, which reads and writes nodes by their numbers there. `NoVolume` if it isn't there."""
+        return self._passes[self._checked(volume)]
+
+    def _checked(self, volume: Optional[int]) -> int:
+        """The volume that a call says, or the only one. `NoVolume` if it isn't there."""
+        if volume is None and len(self._passes) == 1:
+            return 0
+        if volume is None or not 0 <= volume < len(self._passes):
+            raise NoVolume(volume, len(self._passes))
+        return volume
+
+    @property
+    def number(self) -> int:
+        return self._passes[0].number
+
+    def another(self) -> Shelf:
+        return Shelf(taken(user.another for user in self._passes))
+
+    def close(self) -> None:
+        with ExitStack() as ends:
+            for user in self._passes:
+                ends.callback(user.close)
+
+    def __exit__(self, kind: Optional[Type[BaseException]], value: Optional[BaseException],
+                 trace: Optional[TracebackType]) -> None:
+        ends = ExitStack()
+        for user in self._passes:
+            ends.push(user)
+        ends.__exit__(kind, value, trace)
+
+    def __del__(self) -> None:
+        """Each pass ends with what names it."""
+
+    def meet(self) -> int:
+        """Meets a pass that was closed, of each volume. Returns how many entries both have seen together."""
+        return sum(user.meet() for user in self._passes)
+
+    def pin(self) -> ShelfVersion:
+        return ShelfVersion(self, taken(user.pin for user in self._passes))
+
+    def status(self, tries: int = TRIES) -> Status:
+        found = self.statuses(tries)
+        pages, free, retired, entries, commits = (sum(numbers) for numbers in zip(*(status[:5] for status in found)))
+        oldest = next((status.oldest for status in found if status.oldest is not None), None)
+        return Status(pages, free, retired, entries, commits, oldest)
+
+    def statuses(self, tries: int = TRIES) -> List[Status]:
+        return [user.status(tries) for user in self._passes]
+
+    def _roomiest(self) -> int:
+        """The volume with the most free pages, the first one of several."""
+        free = [status.free for status in self.statuses()]
+        return free.index(max(free))
+
+    def _write(self, batch: Batch, tries: int, expected: Optional[int]) -> Tuple[int, List[int]]:
+        if not 1 <= len(batch) <= MOST_OPERATIONS:
+            raise BadCount()
+        indices = indices_in(batch)
+        if indices and len(self._passes) > 1:
+            if len(indices) < len(batch) or expected is not None:
+                raise PartialIndex(indices[0])
+            return self._write_indices(batch, tries)
+        volume, moved = within(batch)
+        if volume is None:
+            volume = self._checked(None) if expected is not None else self._roomiest()
+        if not 0 <= volume < len(self._passes):
+            raise NoNode()
+        return self._write_moved(volume, moved, tries, expected)
+
+    def _write_in(self, volume: int, batch: Batch, tries: int, expected: Optional[int]) -> Tuple[int, List[int]]:
+        return self._write_moved(self._checked(volume), within(batch, volume)[1], tries, expected)
+
+    def _write_moved(self, volume: int, moved: Batch, tries: int, expected: Optional[int]) -> Tuple[int, List[int]]:
+        """Writes a batch in a volume, with the numbers that its nodes have there."""
+        user = self._passes[volume]
+        try:
+            written = user.apply(moved, tries) if expected is None else user.apply_if(expected, moved, tries)
+        except Refusal as error:
+            if len(self._passes) > 1:
+                error.volume = volume
+            raise
+        return written[0], [node and node_in(volume, node) for node in written[1]]
+
+    def _write_indices(self, batch: Batch, tries: int) -> Tuple[int, List[int]]:
+        """Makes and removes indices in each volume, one operation after another."""
+        for operation in batch:
+            if isinstance(operation, MakeIndex):
+                self._check_kind(operation)
+            self._write_each(operation, tries)
+        return sum(status.entries for status in self.statuses(tries)), [0] * len(batch)
+
+    def _check_kind(self, wanted: MakeIndex) -> None:
+        """`IndexExists` if a volume has the index with another kind, so that none is made in the others."""
+        for volume, user in enumerate(self._passes):
+            with user.pin() as version:
+                kind = version.indices().get(wanted.name)
+            if kind is not None and kind != wanted.kind:
+                error = IndexExists()
+                error.volume = volume
+                raise error
+
+    def _write_each(self, operation: Operation, tries: int) -> None:
+        """Makes an index in each volume that lacks it, or removes it from each that has it."""
+        done, last = 0, None
+        for volume in range(len(self._passes)):
+            try:
+                self._write_moved(volume, Batch([operation]), tries, None)
+                done += 1
+            except (IndexExists if isinstance(operation, MakeIndex) else NoIndex) as error:
+                last = error
+        if done == 0 and last is not None:
+            last.volume = None
+            raise last
+
+    def journal(self, tries: int = TRIES) -> str:
+        """The journals of all volumes, one after another."""
+        return "".join(user.journal(tries) for user in self._passes)
+
+    def journal_from(self, number: int = 0, tries: int = TRIES, volume: Optional[int] = None) -> Iterator[Entry]:
+        asked = self._checked(volume)
+        for entry in self._passes[asked].journal_from(number, tries):
+            yield entry._replace(operations=tuple(of_volume(Batch(entry.operations), asked)))
+
+
+def taken(takes: Iterable[Callable[[], _Taken]]) -> List[_Taken]:
+    """What these calls open: all, or none if one raises."""
+    opened: List[_Taken] = []
+    with ExitStack() as ends:
+        for take in takes:
+            opened.append(take())
+            ends.push(opened[-1])
+        ends.pop_all()
+    return opened
+
+
+def open(volumes: int, pages: int = 4096, passes: int = 8, commits: int = 2**32 - 1) -> Shelf:
+    """A new store in memory that has so many volumes, 1 to 64. The limits are those of each, as of `bestore.open`. `bestore.open_shelf`
+    is this function. `BadLimits` if one is out of its range, or `NoMemory`."""
+    if not 1 <= volumes <= MOST_VOLUMES:
+        raise BadLimits()
+    return Shelf(taken([partial(_local.open, pages, passes, commits)] * volumes))

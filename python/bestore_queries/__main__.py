@@ -1,0 +1,70 @@
+"""The command bestore-queries."""
+
+from __future__ import annotations
+
+import argparse
+import os
+import sys
+from typing import List, Optional
+
+import bestore
+
+from .mail import is_maildir
+from .own_server import CannotStart
+from .sources import FolderSource, ServerSource, Source
+
+def parser() -> argparse.ArgumentParser:
+    """What the command line may have."""
+    made = argparse.ArgumentParser(
+        prog="bestore-queries",
+        description="A window that finds files by their attributes, and follows them while they come and go.",
+        epilog="Without --socket and --folder it asks the server at BESTORE_SOCKET, otherwise at its usual socket. If none "
+        "listens there it starts bestored for itself.")
+    where = made.add_mutually_exclusive_group()
+    where.add_argument("--socket", metavar="PATH", help="the socket of the server whose store is asked")
+    where.add_argument("--folder", metavar="FOLDER", help="read this folder, or Maildir, into a store of the window's own")
+    made.add_argument("--geometry", default="940x560", metavar="WxH", help="the size in pixels, and the place as +X+Y after it")
+    made.add_argument("query", nargs="?", metavar="QUERY", help="the query that is asked first; docs/QUERIES.md has its language")
+    return made
+
+
+def source_of(options: argparse.Namespace) -> Source:
+    """The store that the command line names."""
+    if options.folder is None:
+        return ServerSource(options.socket)
+    if not os.path.isdir(options.folder):
+        raise CannotStart(f"{options.folder} is no folder")
+    return FolderSource(os.path.abspath(options.folder))
+
+
+def main(words: Optional[List[str]] = None) -> int:
+    """Shows the window, up to its end."""
+    options = parser().parse_args(words)
+    try:
+        import tkinter
+        from .pauses import short_pauses
+        from .window import Window
+    except ImportError as error:
+        print(f"bestore-queries: {error}. Debian has Tk for Python in python3-tk", file=sys.stderr)
+        return 1
+    try:
+        root = tkinter.Tk(className="bestore-queries")
+        root.geometry(options.geometry)
+        source = source_of(options)
+    except (tkinter.TclError, CannotStart, bestore.Error, OSError) as error:
+        print(f"bestore-queries: {error}", file=sys.stderr)
+        return 1
+    try:
+        window = Window(root, source, is_mail=options.folder is not None and is_maildir(options.folder))
+        if options.query is not None:
+            window.ask(options.query)
+        with short_pauses(root):
+            root.mainloop()
+        window.close()
+    finally:
+        source.close()
+    return 0
+
+
+if __name__ == "__main__":
+    sys.exit(main())

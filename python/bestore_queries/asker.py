@@ -1,0 +1,359 @@
+"""The thread that asks a store for a window, reads the hits, and writes attributes. The window sends it requests, and takes
+what it reports; neither waits for the other."""
+
+from __future__ import annotations
+
+import queue
+import threading
+import time
+from typing import Dict, Iterable, List, Mapping, NamedTuple, Optional, Sequence, Set, Tuple, Union
+
+import bestore
+
+from . import columns, find
+from .places import PLACE_NAMES, Places
+from .sorted_hits import Hit, Node
+from .sources import LiveAnswer, Numbers, Session, Source
+
+SLICE = 1_000   # hits that are read of one snapshot
+REPORTED = 100  # hits of one report, so that the window needs little time for it
+FEW = 100       # hits that are read by themselves, and not by asking the query again
+PAUSE = 0.2     # seconds between two looks for what was written
+RETRY = 1.0     # seconds between two tries to open the store
+NAMED = 20      # hits whose attributes are named
+COUNTING = 1.0  # seconds between two counts of all nodes
+ENDING = 5.0    # seconds that the end is waited for
+
+
+class Ask(NamedTuple):
+    """A request: ask this query, and follow it."""
+
+    turn: int
+    """A number that is in each report about it."""
+    text: str
+    names: Sequence[str]
+    """The attributes that are read of each hit."""
+
+
+class Write(NamedTuple):
+    """A request: set an attribute, or remove it if the text is empty."""
+
+    node: Node
+    name: str
+    text: str
+    shown: Optional[bestore.Value]
+    """What the window shows. If the store has another value by now, nothing is written."""
+
+
+class Opened(NamedTuple):
+    """A report: the store is open."""
+
+    indices: Mapping[str, bestore.Kind]
+
+
+class Lost(NamedTuple):
+    """A report: the store isn't there. It is opened again as soon as it is."""
+
+    reason: str
+
+
+class Accepted(NamedTuple):
+    """A report: the query is followed."""
+
+    turn: int
+    hints: List[bestore.Hint]
+
+
+class Refused(NamedTuple):
+    """A report: the query isn't followed, or no longer."""
+
+    turn: int
+    error: bestore.Error
+    indices: Mapping[str, bestore.Kind]
+
+
+class Named(NamedTuple):
+    """A report: the attributes that the first hits have."""
+
+    turn: int
+    names: List[str]
+
+
+class Came(NamedTuple):
+    """A report: hits that are new, or that have other attributes now."""
+
+    turn: int
+    hits: List[Hit]
+
+
+class Went(NamedTuple):
+    """A report: nodes that are no hits any more."""
+
+    turn: int
+    nodes: List[Node]
+
+
+class Counted(NamedTuple):
+    """A report: how many hits there are, how many of them are still to be read, and how many nodes there are to be found."""
+
+    turn: int
+    hits: int
+    waiting: int
+    all: int
+
+
+class Written(NamedTuple):
+    """A report: the write is done, or why it isn't."""
+
+    write: Write
+    fault: Optional[str]
+
+
+Report = Union[Opened, Lost, Accepted, Refused, Named, Came, Went, Counted, Written]
+
+
+class NotWritten(Exception):
+    """A write isn't made, as the text says."""
+
+
+class _Following:
+    """A query that is followed: its hits, those that are still to be read, and the snapshot up to which that is."""
+
+    def __init__(self, ask: Ask, live: LiveAnswer) -> None:
+        self.ask, self.live = ask, live
+        self.known: Set[Node] = set()
+        self.waiting: Dict[Node, None] = {}
+        self.gone: List[Node] = []  # those that went, and that isn't reported yet
+        self.seen: Optional[Numbers] = None
+        self.is_named = False
+
+    def refresh(self, version: bestore.Version, changed: Iterable[Node]) -> None:
+        """Goes on to a snapshot, in which these nodes may have other attributes."""
+        came, went = self.live.refresh(version)
+        self.seen = version.numbers
+        self.gone += [node for node in went if node not in self.waiting]
+        for node in went:
+            self.waiting.pop(node, None)
+        self.known.difference_update(went)
+        self.known.update(came)
+        self.waiting.update(dict.fromkeys(came))
+        self.waiting.update(dict.fromkeys(node for node in changed if node in self.known))
+
+    def reports(self, hits: List[Hit]) -> List[Report]:
+        """What there is to report once these hits were read. Those that went come first, since one may have come again."""
+        turn, gone, self.gone = self.ask.turn, self.gone, []
+        for hit in hits:
+            del self.waiting[hit.node]
+        parts = [hits[first:first + REPORTED] for first in range(0, len(hits), REPORTED)]
+        return [*([Went(turn, gone)] if gone else []), *(Came(turn, part) for part in parts)]
+
+    def read(self, version: bestore.Version, names: Sequence[str]) -> Dict[Node, List[Optional[bestore.Value]]]:
+        """These attributes of the next hits that wait."""
+        nodes = list(self.waiting)[:SLICE]
+        if len(nodes) <= FEW:
+            found = version.columns(nodes, names)
+            return {node: [column[place] for column in found] for place, node in enumerate(nodes)}
+        rows = version.rows(self.ask.text, names, nodes[0], SLICE)
+        return {node: values for node, values in rows if node in self.waiting}
+
+
+class _Requests:
+    """What the window asks for: the last query, and the writes that aren't done yet."""
+
+    def __init__(self) -> None:
+        self._came = threading.Condition()
+        self._ask: Optional[Ask] = None
+        self._writes: List[Write] = []
+        self._is_ended = False
+
+    def put(self, request: Union[Ask, Write, None]) -> None:
+        """Adds a request, or with None the end."""
+        with self._came:
+            if isinstance(request, Ask):
+                self._ask = request
+            elif request is not None:
+                self._writes.append(request)
+            else:
+                self._is_ended = True
+            self._came.notify()
+
+    def take(self, timeout: float) -> Tuple[Optional[Ask], List[Write]]:
+        """Takes what there is. If there is nothing, waits up to so many seconds."""
+        with self._came:
+            self._came.wait_for(lambda: self._ask or self._writes or self._is_ended, timeout)
+            ask, writes, self._ask, self._writes = self._ask, self._writes, None, []
+            return ask, writes
+
+
+class Asker(threading.Thread):
+    """Asks a source. The window calls `send`, and reads `reports`."""
+
+    def __init__(self, source: Source) -> None:
+        super().__init__(name="asker", daemon=True)
+        self._source = source
+        self._requests = _Requests()
+        self.reports: "queue.Queue[Report]" = queue.Queue(100)
+        self._ended = threading.Event()
+        self._following: Optional[_Following] = None
+        self._indices: Mapping[str, bestore.Kind] = {}
+        self._places = Places()
+        self._has_news = False
+        self._all, self._counted_at = 0, 0.0
+
+    def send(self, request: Union[Ask, Write]) -> None:
+        """Asks for something. A query takes the place of one that wasn't asked yet."""
+        self._requests.put(request)
+
+    def end(self) -> None:
+        """Ends the thread. It isn't waited for long if a server doesn't reply."""
+        self._ended.set()
+        self._requests.put(None)
+        if self.is_alive():
+            self.join(ENDING)
+
+    def run(self) -> None:
+        while not self._ended.is_set():
+            try:
+                session = self._source.open()
+            except bestore.Error as error:
+                self._report(Lost(str(error)))
+                self._ended.wait(RETRY)
+                continue
+            try:
+                self._serve(session)
+            except bestore.ServerError as error:
+                self._report(Lost(str(error)))
+                self._ended.wait(RETRY)
+            finally:
+                self._following = None
+                session.close()
+
+    def _report(self, *reports: Report) -> None:
+        """Reports to the window, as soon as it has taken what was reported before."""
+        for report in reports:
+            while not self._ended.is_set():
+                try:
+                    self.reports.put(report, timeout=0.1)
+                    break
+                except queue.Full:
+                    continue
+
+    def _serve(self, session: Session) -> None:
+        """Does what the window asks for, and follows the query."""
+        self._places, self._counted_at = Places(), 0.0
+        with session.user.pin() as version:
+            self._indices = version.indices()
+        self._report(Opened(self._indices))
+        while not self._ended.is_set():
+            is_busy = self._following is not None and (self._following.waiting or self._following.seen is None)
+            ask, writes = self._requests.take(0 if is_busy else PAUSE)
+            for write in writes:
+                self._write(session, write)
+            if ask is not None:
+                self._ask(session, ask)
+            if self._following is not None:
+                self._step(session, self._following)
+
+    def _ask(self, session: Session, ask: Ask) -> None:
+        """Follows a query instead of the one before."""
+        if self._following is not None:
+            self._following.live.close()
+            self._following = None
+        try:
+            live = session.begin(ask.text)
+            with session.user.pin() as version:
+                self._indices = version.indices()
+                hints = version.hints(ask.text)
+        except bestore.BrokenConnection:
+            raise
+        except bestore.Error as error:
+            self._report(Refused(ask.turn, error, self._indices))
+        else:
+            self._following = _Following(ask, live)
+            self._report(Accepted(ask.turn, hints))
+
+    def _step(self, session: Session, following: _Following) -> None:
+        """Goes on to the current snapshot, and reads hits of it."""
+        self._has_news = session.has_news() or self._has_news or following.seen is None
+        if not self._has_news and not following.waiting:
+            return
+        try:
+            with session.user.pin() as version:
+                reports = self._follow(session, following, version)
+        except bestore.Expired:
+            return  # the server took the snapshot back: the next step has another
+        except bestore.BrokenConnection:
+            raise
+        except bestore.Error as error:
+            self._following = None
+            following.live.close()
+            self._report(Refused(following.ask.turn, error, self._indices))
+        else:
+            self._report(*reports)
+
+    def _follow(self, session: Session, following: _Following, version: bestore.Version) -> List[Report]:
+        """What there is to report of a snapshot. If it raises, the next call reports it."""
+        turn = following.ask.turn
+        if version.numbers != following.seen:
+            following.refresh(version, self._changed(session, following, version))
+        hits = self._read(following, version) if following.waiting else []
+        reports: List[Report] = []
+        if hits and not following.is_named:
+            reports.append(Named(turn, sorted({name for hit in hits[:NAMED] for name in version.attributes(hit.node)})))
+        count = self._count(version)
+        following.is_named, self._has_news = bool(hits) or following.is_named, False
+        reports += following.reports(hits)
+        return [*reports, Counted(turn, len(following.known), len(following.waiting), count)]
+
+    def _changed(self, session: Session, following: _Following, version: bestore.Version) -> Iterable[Node]:
+        """The hits whose attributes were set since the last snapshot. If a folder's were, all hits may be in it."""
+        if following.seen is None or not following.known:
+            return []
+        written = session.written(following.seen, version)
+        if written is None or self._places.forget(written):
+            self._places = Places()
+            return list(following.known)
+        return written
+
+    def _read(self, following: _Following, version: bestore.Version) -> List[Hit]:
+        """The next hits that wait, with the attributes that the window needs."""
+        names = list(dict.fromkeys([*following.ask.names, *PLACE_NAMES]))
+        hits = []
+        for node, values in following.read(version, names).items():
+            attributes = {name: value for name, value in zip(names, values) if value is not None}
+            self._places.locate(version, attributes)
+            hits.append(Hit(node, attributes))
+        return hits
+
+    def _count(self, version: bestore.Version) -> int:
+        """How many nodes there are to be found. They are counted now and then."""
+        if time.monotonic() >= self._counted_at + COUNTING:
+            everything = find.everything(self._indices)
+            self._all = version.count(everything) if everything else 0
+            self._counted_at = time.monotonic()
+        return self._all
+
+    def _write(self, session: Session, write: Write) -> None:
+        fault: Optional[str] = None
+        try:
+            session.user.change(lambda change: self._set(change, write))
+        except bestore.BrokenConnection as error:
+            self._report(Written(write, f"{error}. It may be written all the same" if error.may_be_done else str(error)))
+            raise
+        except (NotWritten, columns.NotAValue, bestore.Error) as error:
+            fault = str(error)
+        self._report(Written(write, fault))
+
+    def _set(self, change: bestore.Change, write: Write) -> None:
+        """Writes an attribute, if it still has the value that the window shows."""
+        if write.node not in change:
+            raise NotWritten("it is gone")
+        typed = change.typed(write.node, write.name)
+        if (None if typed is None else typed.value) != write.shown:
+            now = "removed it" if typed is None else f"set it to “{columns.text_of(typed.value)}”"
+            raise NotWritten(f"another program has {now} meanwhile")
+        if write.text:
+            kind = self._indices.get(write.name) or (bestore.STRING if typed is None else typed.kind)
+            change.set(write.node, write.name, columns.typed_value(write.name, write.text, kind), kind)
+        elif typed is not None:
+            change.unset(write.node, write.name)

@@ -1,0 +1,79 @@
+"""An attribute that is edited at its place in the list."""
+
+from __future__ import annotations
+
+import tkinter as tk
+from tkinter import ttk
+from typing import Callable, NamedTuple, Optional, Tuple
+
+import bestore
+
+from .columns import Column
+from .sorted_hits import Node
+
+Box = Tuple[int, int, int, int]
+
+
+class Cell(NamedTuple):
+    """What is edited: an attribute of a node, and the value that the list had at the beginning."""
+
+    node: Node
+    column: Column
+    value: Optional[bestore.Value]
+
+
+class AttributeEditor:
+    """An entry over a cell of the list. Return takes the text, Escape doesn't, and a click elsewhere takes it too."""
+
+    def __init__(self, tree: ttk.Treeview, take: Callable[[Cell, str], None]) -> None:
+        self._tree, self._take = tree, take
+        self._entry: Optional[tk.Entry] = None
+        self._before = ""
+        self.cell: Optional[Cell] = None
+        """What is edited now."""
+
+    def begin(self, cell: Cell, before: str, text: str, box: Box) -> None:
+        """Shows an entry with a text over a cell. `before` is what the value is as a text."""
+        self.end()
+        self.cell, self._before = cell, before
+        entry = tk.Entry(self._tree, relief="flat", highlightthickness=1, highlightcolor="black", highlightbackground="black")
+        entry.insert(0, text)
+        entry.select_range(0, "end")
+        entry.icursor("end")
+        for key in ("<Return>", "<KP_Enter>"):
+            entry.bind(key, lambda _: self._finish(True))
+        entry.bind("<Escape>", lambda _: self._finish(False))
+        entry.bind("<FocusOut>", lambda _: self._finish(True, keeps_focus=True))
+        self._entry = entry
+        self.move(box)
+        entry.focus_set()
+
+    @property
+    def text(self) -> str:
+        """What is typed by now."""
+        return "" if self._entry is None else self._entry.get()
+
+    def move(self, box: Optional[Box]) -> None:
+        """Follows its cell, which isn't seen if there is no box."""
+        if self._entry is None:
+            return
+        if box is None:
+            self._entry.place_forget()
+        else:
+            x, y, width, height = box
+            self._entry.place(x=x, y=y, width=max(width, 60), height=height)
+
+    def _finish(self, takes: bool, keeps_focus: bool = False) -> str:
+        cell, text, before = self.cell, self.text, self._before
+        self.end()
+        if not keeps_focus:
+            self._tree.focus_set()
+        if takes and cell is not None and text != before:
+            self._take(cell, text)
+        return "break"
+
+    def end(self) -> None:
+        """Takes the entry away, and its text with it."""
+        entry, self._entry, self.cell = self._entry, None, None
+        if entry is not None:
+            entry.destroy()

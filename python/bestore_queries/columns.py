@@ -1,0 +1,170 @@
+"""Attributes as columns: how their values are shown, and how typed values are read."""
+
+from __future__ import annotations
+
+import re
+import time
+from typing import Callable, Dict, Iterable, List, Literal, Mapping, NamedTuple, Optional
+
+import bestore
+
+from . import dates
+
+MAIL_TYPE = "text/x-email"
+FOLDER_TYPE = "application/x-vnd.Be-directory"
+HIDDEN = frozenset({"FILE:parent", "FILE:root", "FILE:name", "FILE:stat", "FILE:xattrs"})
+"""By what an import knows files again. Nobody looks at it."""
+OF_FILES = HIDDEN | {"name", "size", "last_modified", "created", "folder", "path"}
+"""What a file itself says. The window doesn't edit it."""
+
+_TIME = re.compile(r"(?:.*[_:])?(?:modified|created|changed|when|date|time)", re.IGNORECASE)
+_NUMBERS = (bestore.INT32, bestore.INT64, bestore.UINT32, bestore.UINT64)
+_RANGES = {bestore.INT32: (-2**31, 2**31 - 1), bestore.INT64: (-2**63, 2**63 - 1), bestore.UINT32: (0, 2**32 - 1),
+           bestore.UINT64: (0, 2**64 - 1)}
+
+
+class NotAValue(ValueError):
+    """A typed text that is no value of its attribute. Its text says why."""
+
+
+def is_time(attribute: str) -> bool:
+    """Whether an attribute of this name is a time, in seconds since 1970, if it is an integer."""
+    return _TIME.fullmatch(attribute) is not None
+
+
+def is_number(kind: Optional[bestore.Kind]) -> bool:
+    """Whether values of this kind are integers."""
+    return kind in _NUMBERS
+
+
+def size_in_words(size: bestore.Value) -> str:
+    """A number of bytes, as people read it."""
+    if not isinstance(size, int):
+        return text_of(size)
+    number, unit = float(size), "byte" if size == 1 else "bytes"
+    for larger in ("KB", "MB", "GB", "TB"):
+        if number >= 1024:
+            number, unit = number / 1024, larger
+    return f"{number:.0f} {unit}" if unit.startswith("byte") else f"{number:.1f} {unit}"
+
+
+def time_in_words(seconds: bestore.Value) -> str:
+    """A time, as people read it. What the calendar doesn't have is shown as it is."""
+    if not isinstance(seconds, int):
+        return text_of(seconds)
+    try:
+        return time.strftime("%d %b %Y, %H:%M", time.localtime(seconds))
+    except (ValueError, OverflowError, OSError):
+        return text_of(seconds)
+
+
+def text_of(value: bestore.Value) -> str:
+    """A value in one line."""
+    if isinstance(value, bytes):
+        return f"{len(value)} bytes of data"
+    return "".join(it if it.isprintable() else "␣" if it.isspace() else "\ufffd" for it in str(value))
+
+
+class Column(NamedTuple):
+    """A column of the list: an attribute, and how it is shown."""
+
+    attribute: str
+    title: str
+    width: int
+    anchor: Literal["w", "e"] = "w"
+    in_words: Callable[[bestore.Value], str] = text_of
+
+    def shown(self, attributes: Mapping[str, bestore.Value]) -> str:
+        """What the list shows of a node's attributes."""
+        value = attributes.get(self.attribute)
+        return "" if value is None else self.in_words(value)
+
+    @property
+    def is_edited(self) -> bool:
+        """Whether the window writes this attribute."""
+        return self.attribute not in OF_FILES
+
+
+_KNOWN = {it.attribute: it for it in [
+    Column("name", "Name", 240), Column("size", "Size", 90, "e", size_in_words),
+    Column("last_modified", "Modified", 160, "w", time_in_words), Column("created", "Created", 160, "w", time_in_words),
+    Column("BEOS:TYPE", "Type", 150), Column("folder", "Folder", 270), Column("path", "Path", 330),
+    Column("MAIL:subject", "Subject", 330), Column("MAIL:from", "From", 230), Column("MAIL:to", "To", 200),
+    Column("MAIL:when", "When", 160, "w", time_in_words), Column("MAIL:status", "Status", 80),
+]}
+_FILE = ("name", "size", "last_modified", "BEOS:TYPE", "folder")
+_MAIL = ("MAIL:subject", "MAIL:from", "MAIL:when", "MAIL:status", "size")
+
+
+def column_of(attribute: str, kind: Optional[bestore.Kind] = None) -> Column:
+    """The column of an attribute."""
+    known = _KNOWN.get(attribute)
+    if known is not None:
+        return known
+    title = attribute.rpartition(":")[2].replace("_", " ") or attribute
+    title = title[:1].upper() + title[1:]
+    if is_time(attribute) and (kind is None or is_number(kind)):
+        return Column(attribute, title, 160, "w", time_in_words)
+    return Column(attribute, title, 110 if is_number(kind) else 160, "e" if is_number(kind) else "w")
+
+
+def default_columns(indices: Mapping[str, bestore.Kind], is_mail: bool = False) -> List[Column]:
+    """The columns of a store with these indices, if nothing else was chosen: of files or of mails, otherwise the first six."""
+    if "MAIL:subject" in indices and is_mail:
+        return [_KNOWN[it] for it in _MAIL if it in indices]
+    if "name" in indices:
+        return [_KNOWN[it] for it in _FILE if it in indices or it == "folder"]
+    return [column_of(name, kind) for name, kind in list(indices.items())[:6]] or [_KNOWN["name"]]
+
+
+def columns_of(attributes: Iterable[str], indices: Mapping[str, bestore.Kind]) -> List[Column]:
+    """The columns of these attributes."""
+    return [column_of(it, indices.get(it)) for it in attributes]
+
+
+def edited_text(attribute: str, value: Optional[bestore.Value]) -> str:
+    """An attribute's value as the text that is edited."""
+    if value is None:
+        return ""
+    if isinstance(value, bytes):
+        return value.hex()
+    if isinstance(value, int) and is_time(attribute):
+        return time.strftime("%Y-%m-%d %H:%M:%S", time.localtime(value))
+    return str(value)
+
+
+def typed_value(attribute: str, text: str, kind: bestore.Kind) -> bestore.Value:
+    """The value of a kind that was typed for an attribute. `NotAValue` if it is none."""
+    if kind == bestore.RAW:
+        try:
+            return bytes.fromhex(text)
+        except ValueError:
+            raise NotAValue(f"“{text}” isn't data: type two hexadecimal digits for each byte") from None
+    if kind not in _NUMBERS:
+        return _typed_text(text)
+    if re.fullmatch(r"[+-]?[0-9]{1,20}", text.strip(), re.ASCII):
+        least, greatest = _RANGES[kind]
+        if least <= int(text) <= greatest:
+            return int(text)
+        raise NotAValue(f"{text.strip()} is out of range: from {least} to {greatest}")
+    if is_time(attribute):
+        try:
+            return dates.span_of(text).begin
+        except dates.NotADate as error:
+            raise NotAValue(str(error)) from None
+    raise NotAValue(f"“{text}” isn't a whole number")
+
+
+def _typed_text(text: str) -> str:
+    if "\0" in text:
+        raise NotAValue("a text can't have a zero byte")
+    try:
+        length = len(text.encode())
+    except UnicodeEncodeError:
+        raise NotAValue("the text has half of a character") from None
+    if length > 255:
+        raise NotAValue(f"the text has {length} bytes, and 255 is the most")
+    return text
+
+
+Attributes = Dict[str, bestore.Value]

@@ -1,0 +1,76 @@
+"""The query of a Find row: an attribute, how it is compared, and what was typed."""
+
+from __future__ import annotations
+
+import enum
+from typing import List, Mapping, Optional
+
+import bestore
+
+from . import columns
+
+
+class Relation(enum.Enum):
+    """How an attribute is compared. The value is what the row shows."""
+
+    CONTAINS = "contains"
+    IS = "is"
+    BEGINS = "begins with"
+    ENDS = "ends with"
+    ISNT = "isn't"
+    LESS = "is less than"
+    GREATER = "is greater than"
+    BEFORE = "is before"
+    AFTER = "is after"
+    SINCE = "is since"
+    ON = "is on"
+
+
+_TEXT = [Relation.CONTAINS, Relation.IS, Relation.BEGINS, Relation.ENDS, Relation.ISNT]
+_NUMBER = [Relation.GREATER, Relation.LESS, Relation.IS, Relation.ISNT]
+_TIME = [Relation.SINCE, Relation.AFTER, Relation.BEFORE, Relation.ON]
+_LEAST = {bestore.INT32: -2**31, bestore.INT64: -2**63, bestore.UINT32: 0, bestore.UINT64: 0}
+_SIGNS = {Relation.LESS: "<", Relation.GREATER: ">", Relation.BEFORE: "<", Relation.AFTER: ">", Relation.SINCE: ">=",
+          Relation.ISNT: "!=", Relation.IS: "==", Relation.ON: "=="}
+
+
+def relations_of(attribute: str, kind: Optional[bestore.Kind]) -> List[Relation]:
+    """How an attribute with an index of this kind can be compared."""
+    if not columns.is_number(kind):
+        return _TEXT
+    return _TIME if columns.is_time(attribute) else _NUMBER
+
+
+def attributes_of(indices: Mapping[str, bestore.Kind]) -> List[str]:
+    """The attributes that can be asked, those that most people ask first."""
+    order = ["name", "MAIL:subject", "MAIL:from", "MAIL:to", "size", "last_modified", "MAIL:when", "BEOS:TYPE"]
+    return sorted(indices, key=lambda name: (order.index(name) if name in order else len(order), name))
+
+
+def everything(indices: Mapping[str, bestore.Kind]) -> Optional[str]:
+    """The query that finds all files, or the nodes that have another attribute. None if nothing has an index."""
+    for attribute in attributes_of(indices)[:1]:
+        least = _LEAST.get(indices[attribute])
+        return query_of(attribute, Relation.CONTAINS, "") if least is None else f"{_quoted(attribute)}>={least}"
+    return None
+
+
+def _quoted(attribute: str) -> str:
+    """An attribute's name as a query has it."""
+    is_word = attribute.replace("_", "").replace(":", "").isalnum()
+    return attribute if is_word else f'"{bestore.escape(attribute)}"'
+
+
+def query_of(attribute: str, relation: Relation, typed: str) -> str:
+    """The query of a row. Texts match in upper and lower case. An empty row finds all nodes that have the attribute."""
+    name, text = _quoted(attribute), typed.strip()
+    if relation in _TIME:
+        return f"{name}{_SIGNS[relation]}%{text}%" if text else f"{name}>=0"
+    if relation in (Relation.LESS, Relation.GREATER):
+        return f'{name}{_SIGNS[relation]}"{bestore.escape(text)}"' if not text.isdigit() else f"{name}{_SIGNS[relation]}{text}"
+    if not text:
+        return f'{name}=="*"'
+    pattern = bestore.any_case(text)
+    begin = "*" if relation in (Relation.CONTAINS, Relation.ENDS) else ""
+    end = "*" if relation in (Relation.CONTAINS, Relation.BEGINS) else ""
+    return f'{name}{_SIGNS.get(relation, "==")}"{begin}{pattern}{end}"'

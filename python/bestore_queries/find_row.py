@@ -1,0 +1,81 @@
+"""A row in which people say what they look for: an attribute, how it is compared, and with what."""
+
+from __future__ import annotations
+
+import tkinter as tk
+from tkinter import ttk
+from typing import Callable, Dict, Mapping
+
+import bestore
+
+from . import columns, find
+from .theme import FACE
+
+
+class FindRow(tk.Frame):
+    """The row. It calls `asks` with the query that it makes, as it is typed."""
+
+    def __init__(self, parent: tk.Misc, asks: Callable[[str], None]) -> None:
+        super().__init__(parent, background=FACE)
+        self._asks, self._is_filled = asks, True
+        self._indices: Mapping[str, bestore.Kind] = {}
+        self._attributes: Dict[str, str] = {}  # by what the row shows of them
+        self._attribute, self._relation, self._text = tk.StringVar(self), tk.StringVar(self), tk.StringVar(self)
+        tk.Label(self, text="Find", background=FACE, padx=2).pack(side="left")
+        self._attribute_box = ttk.Combobox(self, textvariable=self._attribute, state="readonly", width=13)
+        self._attribute_box.pack(side="left", padx=(4, 0))
+        self._relation_box = ttk.Combobox(self, textvariable=self._relation, state="readonly", width=14)
+        self._relation_box.pack(side="left", padx=6)
+        self.entry = ttk.Entry(self, textvariable=self._text)
+        self.entry.pack(side="left", fill="x", expand=True)
+        self._attribute_box.bind("<<ComboboxSelected>>", lambda _: self._attribute_chosen())
+        self._relation_box.bind("<<ComboboxSelected>>", lambda _: self._changed())
+        self._text.trace_add("write", lambda *_: self._changed())
+        self._is_filled = False
+
+    def take_indices(self, indices: Mapping[str, bestore.Kind]) -> None:
+        """Offers what can be asked of a store with these indices."""
+        if indices == self._indices:
+            return
+        self._indices = indices
+        titles: Dict[str, str] = {}
+        for attribute in find.attributes_of(indices):
+            title = columns.column_of(attribute).title
+            titles[attribute if title in titles else title] = attribute
+        chosen, self._attributes = self._attributes.get(self._attribute.get()), titles
+        self._attribute_box.configure(values=list(titles))
+        if chosen not in indices:
+            self._attribute.set(next(iter(titles), ""))
+        self._offer_relations()
+
+    def _offer_relations(self) -> None:
+        attribute = self._attributes.get(self._attribute.get())
+        offered = [] if attribute is None else [it.value for it in find.relations_of(attribute, self._indices[attribute])]
+        self._relation_box.configure(values=offered)
+        if self._relation.get() not in offered:
+            self._relation.set(offered[0] if offered else "")
+
+    def _attribute_chosen(self) -> None:
+        self._offer_relations()
+        self._changed()
+
+    def choose(self, attribute: str, relation: find.Relation, text: str) -> None:
+        """Fills the row as a user does."""
+        self._is_filled = True
+        self._attribute.set(next(title for title, name in self._attributes.items() if name == attribute))
+        self._offer_relations()
+        self._relation.set(relation.value)
+        self._text.set(text)
+        self._is_filled = False
+        self._changed()
+
+    def empty(self) -> None:
+        """Takes the text away, since another query was asked."""
+        self._is_filled = True
+        self._text.set("")
+        self._is_filled = False
+
+    def _changed(self) -> None:
+        attribute = self._attributes.get(self._attribute.get())
+        if not self._is_filled and attribute is not None:
+            self._asks(find.query_of(attribute, find.Relation(self._relation.get()), self._text.get()))

@@ -1,0 +1,205 @@
+"""The import of a folder of files, or of mails, into a store in this process, by a thread of its own that follows the folder."""
+
+from __future__ import annotations
+
+import mimetypes
+import os
+import threading
+from typing import Dict, Iterator, List, NamedTuple, Optional
+
+import bestore
+
+from .mail import cut, is_mailbox, mail_attributes
+
+INDICES = {
+    "name": bestore.STRING, "folder": bestore.STRING, "size": bestore.INT64, "last_modified": bestore.INT64,
+    "BEOS:TYPE": bestore.STRING, "MAIL:from": bestore.STRING, "MAIL:to": bestore.STRING, "MAIL:subject": bestore.STRING,
+    "MAIL:when": bestore.INT64, "MAIL:status": bestore.STRING,
+}
+RESERVE = 48
+"""Pages of a volume that no new file takes, so that files can still change and go."""
+
+
+def type_of(name: str) -> str:
+    """The MIME type of a file's name."""
+    found, encoding = mimetypes.guess_type(name)
+    return f"application/{encoding}" if encoding else found or "application/octet-stream"
+
+
+def files_below(folder: str) -> Iterator[os.DirEntry[str]]:
+    """The files of a folder and of those inside it. What goes meanwhile, or may not be read, is passed over."""
+    waiting = [folder]
+    while waiting:
+        try:
+            with os.scandir(waiting.pop()) as entries:
+                for entry in entries:
+                    if entry.is_dir(follow_symlinks=False):
+                        waiting.append(entry.path)
+                    elif entry.is_file(follow_symlinks=False):
+                        yield entry
+        except OSError:
+            continue
+
+
+class Known(NamedTuple):
+    """A file that has a node."""
+
+    node: int
+    size: int
+    changed: int
+    """In nanoseconds since 1970."""
+
+
+class Waiting(NamedTuple):
+    """A file that is to be written, or one that went."""
+
+    path: str
+    values: Dict[str, bestore.Value]
+    about: Optional[os.stat_result]
+    """None if it went."""
+
+    @property
+    def operations(self) -> int:
+        """How many operations it takes at most."""
+        return len(self.values) + 1
+
+
+class FolderReader(threading.Thread):
+    """Has a node for each file of a folder, and looks again and again for files that came, went or changed. A file that
+    changes keeps its node."""
+
+    def __init__(self, user: bestore.Pass, folder: str, pause: float) -> None:
+        super().__init__(name="folder", daemon=True)
+        self._user, self._folder, self._pause = user, folder, pause
+        self._known: Dict[str, Known] = {}
+        self._waiting: List[Waiting] = []
+        self._ended = threading.Event()
+        self._is_full = False  # whether a file didn't fit in this round
+        self._counted = 0
+        self.rounds = 0
+        """How often the folder was read to its end."""
+        self.left_out = 0
+        """How many files have no room in the store."""
+        self.is_gone = False
+        """Whether the folder can't be read. The nodes of its files stay."""
+        self.fault: Optional[BaseException] = None
+        """What has ended the thread, if anything has."""
+
+    def __len__(self) -> int:
+        return len(self._known)
+
+    def run(self) -> None:
+        try:
+            while not self._ended.is_set():
+                self._read_folder()
+                self._ended.wait(self._pause)
+        except (bestore.Error, OSError) as fault:
+            self.fault = fault
+
+    def end(self) -> None:
+        """Ends the thread, and gives its pass back."""
+        self._ended.set()
+        if self.is_alive():
+            self.join()
+        self._user.close()
+
+    def _read_folder(self) -> None:
+        try:
+            os.scandir(self._folder).close()
+        except OSError:
+            self.is_gone = True
+            return
+        gone, self.is_gone, self._is_full, self._counted = set(self._known), False, False, 0
+        for entry in files_below(self._folder):
+            if self._ended.is_set():
+                return
+            gone.discard(entry.path)
+            try:
+                self._read_file(entry)
+            except OSError:
+                gone.add(entry.path)  # it went meanwhile, or may not be read
+        for path in gone & self._known.keys():
+            self._wait(Waiting(path, {}, None))
+        self._write()
+        self.left_out = self._counted
+        self.rounds += 1
+
+    def _read_file(self, entry: os.DirEntry[str]) -> None:
+        about, known = entry.stat(follow_symlinks=False), self._known.get(entry.path)
+        if known is None and self._is_full:
+            self._leave_out()
+        elif known is None or (known.size, known.changed) != (about.st_size, about.st_mtime_ns):
+            self._wait(Waiting(entry.path, self._attributes(entry, about), about))
+
+    def _leave_out(self) -> None:
+        self._counted += 1
+        self.left_out = max(self.left_out, self._counted)
+
+    def _attributes(self, entry: os.DirEntry[str], about: os.stat_result) -> Dict[str, bestore.Value]:
+        folder = os.path.dirname(entry.path)
+        values: Dict[str, bestore.Value] = {
+            "name": cut(entry.name), "folder": cut(folder), "size": about.st_size,
+            "last_modified": int(about.st_mtime), "BEOS:TYPE": type_of(entry.name),
+        }
+        if is_mailbox(folder):
+            values.update(mail_attributes(entry.path))
+        return values
+
+    def _wait(self, file: Waiting) -> None:
+        """Keeps the file until as many wait as one change takes."""
+        if sum(it.operations for it in [*self._waiting, file]) > bestore.MOST_OPERATIONS:
+            self._write()
+        self._waiting.append(file)
+
+    def _write(self) -> None:
+        """Writes the files that wait. What doesn't fit is left out for this round."""
+        files, self._waiting = self._waiting, []
+        try:
+            self._commit(files)
+            self._is_full = all(it.free + it.retired < RESERVE for it in self._user.statuses())
+        except bestore.Full:
+            self._is_full = True
+            for file in files:
+                if file.about is not None and file.path not in self._known:
+                    self._leave_out()
+            self._remove([file for file in files if file.about is None])
+
+    def _remove(self, gone: List[Waiting]) -> None:
+        """Removes files of a full store. Since that takes pages too, fewer are removed at a time if need be, and one that can't
+        be is removed in a later round."""
+        try:
+            self._commit(gone)
+        except bestore.Full:
+            half = len(gone) // 2
+            if half:
+                self._remove(gone[:half])
+                self._remove(gone[half:])
+
+    def _commit(self, files: List[Waiting]) -> None:
+        """Writes files, each volume by a change of its own. New files go into the volume that has most room."""
+        parts: Dict[Optional[int], List[Waiting]] = {}
+        for file in files:
+            known = self._known.get(file.path)
+            parts.setdefault(None if known is None else bestore.volume_of(known.node), []).append(file)
+        for part in parts.values():
+            self._commit_part(part)
+
+    def _commit_part(self, files: List[Waiting]) -> None:
+        """Writes files of one volume."""
+        nodes = self._user.change(lambda change: [self._file(change, it) for it in files])
+        for file, node in zip(files, nodes):
+            if file.about is None:
+                self._known.pop(file.path, None)
+            else:
+                self._known[file.path] = Known(node, file.about.st_size, file.about.st_mtime_ns)
+
+    def _file(self, change: bestore.Change, file: Waiting) -> int:
+        """Writes a file, and returns its node."""
+        known = self._known.get(file.path)
+        if file.about is None:
+            if known is not None:
+                change.remove(known.node)
+            return 0
+        node = change.new() if known is None else known.node
+        change[node].update(file.values)
+        return node

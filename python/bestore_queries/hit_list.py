@@ -1,0 +1,292 @@
+"""The list of hits. The widget has the rows that are seen, and no others, so it takes the same time for ten hits and for a
+million."""
+
+from __future__ import annotations
+
+import tkinter as tk
+from tkinter import ttk
+from typing import Any, Callable, List, NamedTuple, Optional, Tuple
+
+from . import columns as columns_of_hits
+from .attribute_editor import AttributeEditor, Box, Cell
+from .columns import Column
+from .selection import Selection
+from .sorted_hits import Hit, Node, SortedHits
+from .theme import LINE, MARKED, ROW, STRIPE, Icons
+
+SHIFT, CONTROL = 0x1, 0x4     # in the state of an event
+SLOW_CLICK = 600              # milliseconds after which a click on a selected hit edits it, if no second one comes
+WHEEL = 3                     # rows by which a wheel turns
+MOST_OPENED = 20              # files that are opened at a time
+
+
+class Actions(NamedTuple):
+    """What the list calls."""
+
+    open: Callable[[List[Hit]], None]
+    write: Callable[[Cell, str], None]
+    sort: Callable[[Column], None]
+    warn: Callable[[str], None]
+
+
+class HitList(tk.Frame):
+    """The list, with its scroll bar, its selection and its editor."""
+
+    def __init__(self, parent: tk.Misc, hits: SortedHits, actions: Actions) -> None:
+        super().__init__(parent, background=LINE, padx=1, pady=1)
+        self._hits, self._actions, self._icons = hits, actions, Icons()
+        self.selection = Selection(hits)
+        self.columns: List[Column] = []
+        self._places: List[str] = []      # the columns by the widget's names
+        self._painted: List[Tuple[object, ...]] = []  # what its rows have
+        self._top, self._top_node = 0, -1
+        self._room, self._heading = 1, 26  # how many rows there is room for, and the height of the headings
+        self._clicked: Optional[Column] = None
+        self._edit_later = ""
+        self.tree = ttk.Treeview(self, selectmode="none")
+        self.tree.tag_configure("stripe", background=STRIPE)
+        self.tree.tag_configure("selected", background=MARKED)
+        self._bar = ttk.Scrollbar(self, command=self._scroll)
+        self._bar.pack(side="right", fill="y")
+        self.tree.pack(fill="both", expand=True)
+        self.editor = AttributeEditor(self.tree, actions.write)
+        self._bind_keys()
+
+    def _bind_keys(self) -> None:
+        tree = self.tree
+        tree.bind("<Configure>", lambda event: self._resized(event.height))
+        tree.bind("<Button-1>", self._pressed)
+        tree.bind("<Double-Button-1>", self._pressed_twice)
+        for key, steps in (("<Button-4>", -WHEEL), ("<Button-5>", WHEEL)):
+            tree.bind(key, lambda _, steps=steps: self._scroll_by(steps))  # type: ignore[misc]
+        tree.bind("<MouseWheel>", lambda event: self._scroll_by(-WHEEL if event.delta > 0 else WHEEL))
+        for name in ("Up", "Down", "Prior", "Next", "Home", "End"):
+            for shift in ("", "Shift-"):
+                tree.bind(f"<{shift}{name}>",
+                          lambda _, name=name, shift=shift: self._move(self._steps_of(name), bool(shift)))  # type: ignore[misc]
+        for name in ("Return", "KP_Enter"):
+            tree.bind(f"<{name}>", lambda _: self._open())
+        tree.bind("<F2>", lambda _: self.edit())
+        tree.bind("<Control-a>", lambda _: self._select_all())
+        for name in ("Left", "Right", "space"):
+            tree.bind(f"<{name}>", lambda _: "break")  # which would fold rows, or select by the widget's own rule
+
+    def destroy(self) -> None:
+        self._cancel_edit()
+        super().destroy()
+
+    def show_columns(self, shown: List[Column]) -> None:
+        """Shows these columns. The first one has the icon."""
+        self.editor.end()
+        self.columns, self._painted = shown, []
+        self.tree.delete(*self.tree.get_children())
+        self.tree.configure(columns=[it.attribute for it in shown[1:]])
+        self._places = ["#0", *(f"#{place}" for place in range(1, len(shown)))]
+        for place, column in zip(self._places, shown):
+            self.tree.column(place, width=column.width, minwidth=40, anchor=column.anchor, stretch=place == "#0")
+            self.tree.heading(place, anchor=column.anchor,
+                              command=lambda column=column: self._actions.sort(column))
+        self.show_order()
+
+    def show_order(self) -> None:
+        """Shows an arrow in the heading of the column by which the hits are sorted."""
+        for place, column in zip(self._places, self.columns):
+            arrow = "" if column.attribute != self._hits.attribute else " ▼" if self._hits.will_be_turned else " ▲"
+            self.tree.heading(place, text=column.title + arrow)
+
+    def clear(self) -> None:
+        """Shows no hits."""
+        self.selection.clear()
+        self.editor.end()
+        self._top, self._top_node = 0, -1
+        self.paint()
+
+    def hit_went(self, node: Node) -> None:
+        """A hit went."""
+        self.selection.forget(node)
+        cell = self.editor.cell
+        if cell is not None and cell.node == node:
+            self._actions.warn(f"What you were editing is no hit any more. You had typed: {self.editor.text}")
+            self.editor.end()
+
+    def paint(self) -> None:
+        """Shows the hits as they are now. If it isn't at its beginning the list stays at the hit that is on top."""
+        if self._top > 0:
+            place = self._hits.place_of(self._top_node)
+            self._top = self._top if place is None else place
+        self._paint_from(self._top)
+
+    def _paint_from(self, top: int) -> None:
+        self._top = max(min(top, len(self._hits) - self._room), 0)
+        count = min(self._room, len(self._hits) - self._top)
+        self._top_node = self._hits[self._top].node if count else -1
+        for row in range(count):
+            self._paint_row(row)
+        surplus = range(count, len(self._painted))
+        self.tree.delete(*map(str, surplus))
+        del self._painted[count:]
+        total = max(len(self._hits), 1)
+        self._bar.set(self._top / total, min((self._top + self._room) / total, 1))
+        self.editor.move(self._box_of_editor())
+
+    def _paint_row(self, row: int) -> None:
+        hit = self._hits[self._top + row]
+        first, *others = [it.shown(hit.attributes) for it in self.columns]
+        tag = "selected" if hit.node in self.selection else "stripe" if (self._top + row) % 2 else ""
+        shown = (first or f"node {hit.node}", tuple(others), str(hit.attributes.get("BEOS:TYPE", "")), tag)
+        if row < len(self._painted) and self._painted[row] == shown:
+            return
+        options: Any = {"text": f" {shown[0]}", "values": others, "image": self._icons.of(shown[2]), "tags": [tag] if tag else []}
+        if row < len(self._painted):
+            self.tree.item(str(row), **options)
+            self._painted[row] = shown
+        else:
+            self.tree.insert("", "end", iid=str(row), **options)
+            self._painted.append(shown)
+
+    def _resized(self, height: int) -> None:
+        if self._painted:
+            box = self.tree.bbox("0")
+            self._heading = int(box[1]) if box else self._heading
+        self._room = max((height - self._heading) // ROW, 1)
+        self._paint_from(self._top)
+
+    def shown(self) -> List[List[str]]:
+        """The texts of the rows that are seen."""
+        rows = self.tree.get_children()
+        return [[str(self.tree.item(it, "text"))[1:], *map(str, self.tree.item(it, "values"))] for it in rows]
+
+    def see(self, place: int) -> None:
+        """Scrolls as little as is needed to show a place."""
+        if place < self._top:
+            self._paint_from(place)
+        elif place >= self._top + self._room:
+            self._paint_from(place - self._room + 1)
+        else:
+            self._paint_from(self._top)
+
+    def _scroll(self, what: str, number: str, unit: str = "") -> None:
+        """What the scroll bar asks for."""
+        if what == "moveto":
+            self._paint_from(round(float(number) * len(self._hits)))
+        else:
+            self._scroll_by(int(number) * (self._room if unit.startswith("page") else 1))
+
+    def _scroll_by(self, rows: int) -> str:
+        self._paint_from(self._top + rows)
+        return "break"
+
+    def _place_at(self, event: "tk.Event[Any]") -> Optional[int]:
+        """The place in the list that is at the pointer, or None if there is none."""
+        row = self.tree.identify_row(event.y)
+        is_hit = self.tree.identify_region(event.x, event.y) in ("cell", "tree") and row
+        return self._top + int(row) if is_hit else None
+
+    def _pressed(self, event: "tk.Event[Any]") -> Optional[str]:
+        self._cancel_edit()
+        if self.tree.identify_region(event.x, event.y) in ("heading", "separator"):
+            return None
+        self.tree.focus_set()
+        place = self._place_at(event)
+        if place is None:
+            self.selection.clear()
+            self._paint_from(self._top)
+            return "break"
+        at = self._places.index(self.tree.identify_column(event.x))
+        was_alone = len(self.selection) == 1 and self._hits[place].node in self.selection
+        self._clicked = self.columns[at]
+        state = int(event.state)
+        if state & CONTROL:
+            self.selection.toggle(place)
+        elif state & SHIFT:
+            self.selection.extend(place)
+        else:
+            self.selection.choose(place)
+            if was_alone and self._clicked.is_edited:
+                self._edit_later = self.after(SLOW_CLICK, self.edit)
+        self._paint_from(self._top)
+        return "break"
+
+    def _pressed_twice(self, event: "tk.Event[Any]") -> Optional[str]:
+        self._cancel_edit()
+        if self.tree.identify_region(event.x, event.y) in ("heading", "separator"):
+            return None
+        place = self._place_at(event)
+        if place is not None:
+            self.selection.choose(place)
+            self._paint_from(self._top)
+            self._open()
+        return "break"
+
+    def _cancel_edit(self) -> None:
+        if self._edit_later:
+            self.after_cancel(self._edit_later)
+        self._edit_later = ""
+
+    def _steps_of(self, key: str) -> int:
+        """By how many places a key moves."""
+        return {"Up": -1, "Down": 1, "Prior": -self._room, "Next": self._room, "Home": -len(self._hits)}.get(key, len(self._hits))
+
+    def _move(self, steps: int, extends: bool) -> str:
+        self._cancel_edit()
+        place = self.selection.move(steps, extends)
+        if place is not None:
+            self.see(place)
+        return "break"
+
+    def _select_all(self) -> str:
+        self.selection.choose_all()
+        self._paint_from(self._top)
+        return "break"
+
+    def _open(self) -> str:
+        if len(self.selection) > MOST_OPENED:
+            self._actions.warn(f"{len(self.selection):,} files are selected, and {MOST_OPENED} is the most to open at a time")
+        else:
+            hits = [self._hits.get(node) for node in self.selection.nodes]
+            self._actions.open([hit for hit in hits if hit is not None])
+        return "break"
+
+    def edit(self) -> str:
+        """Edits the attribute that was clicked, otherwise the first that can be edited, of the hit that keys move from."""
+        self._cancel_edit()
+        place = self.selection.cursor
+        can = [column for column in self.columns if column.is_edited]
+        if place is None:
+            return "break"
+        if not can:
+            self._actions.warn("What these columns show is of the files themselves. Choose others by Attributes to edit them")
+            return "break"
+        column = self._clicked if self._clicked in can else can[0]
+        assert column is not None
+        hit = self._hits[place]
+        cell = Cell(hit.node, column, hit.attributes.get(column.attribute))
+        self.edit_cell(cell, columns_of_hits.edited_text(column.attribute, cell.value))
+        return "break"
+
+    def edit_cell(self, cell: Cell, text: str) -> None:
+        """Edits a cell, which begins with a text, if its hit is still there."""
+        place = self._hits.place_of(cell.node)
+        if place is None or cell.column not in self.columns:
+            return
+        self.see(place)
+        self.update_idletasks()
+        before = columns_of_hits.edited_text(cell.column.attribute, cell.value)
+        box = self._box(cell)
+        if box is not None:
+            self.editor.begin(cell, before, text, box)
+
+    def _box_of_editor(self) -> Optional[Box]:
+        return None if self.editor.cell is None else self._box(self.editor.cell)
+
+    def _box(self, cell: Cell) -> Optional[Box]:
+        """Where a cell is seen, or None."""
+        place = self._hits.place_of(cell.node)
+        if place is None or not self._top <= place < self._top + len(self._painted):
+            return None
+        at = self._places[self.columns.index(cell.column)]
+        box = self.tree.bbox(str(place - self._top), at)
+        if not box:
+            return None
+        x, y, width, height = (int(it) for it in box)
+        return (x, y, width, height) if at != "#0" else (x + 20, y, width - 20, height)

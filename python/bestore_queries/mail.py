@@ -1,0 +1,72 @@
+"""The attributes of a mail, by the names of BeOS."""
+
+from __future__ import annotations
+
+import email.errors
+import email.header
+import email.message
+import email.parser
+import email.utils
+import os
+import re
+from typing import Dict, Match
+
+import bestore
+
+from .columns import MAIL_TYPE
+
+_WORD = r"=\?[^?\s]+\?[bq]\?[^?]*\?="
+_ENCODED = re.compile(rf"{_WORD}(?:\s+{_WORD})*", re.IGNORECASE)  # words of a header that aren't ASCII
+
+
+def cut(text: str) -> str:
+    """As much of a text as a value holds."""
+    return text.replace("\0", "").encode(errors="replace")[:255].decode(errors="ignore")
+
+
+def is_mailbox(folder: str) -> bool:
+    """Whether a folder has the mails of a Maildir, of which it is one of two sides."""
+    maildir, side = os.path.split(folder)
+    return side in ("cur", "new") and is_maildir(maildir)
+
+
+def is_maildir(folder: str) -> bool:
+    """Whether a folder is a Maildir."""
+    return all(os.path.isdir(os.path.join(folder, name)) for name in ("cur", "new", "tmp"))
+
+
+def header_of(head: email.message.Message, name: str) -> str:
+    """A header in plain text. Bytes that aren't ASCII are UTF-8, and otherwise Windows-1252."""
+    raw = next((str(value) for key, value in head.raw_items() if key.lower() == name.lower()), "")
+    return _ENCODED.sub(_decoded_words, _decoded_bytes(raw.encode(errors="surrogateescape")))
+
+
+def _decoded_bytes(raw: bytes) -> str:
+    try:
+        return raw.decode()
+    except UnicodeDecodeError:
+        return raw.decode("cp1252", errors="replace")
+
+
+def _decoded_words(found: Match[str]) -> str:
+    """Encoded words of a header in plain text, or as they are if they can't be read."""
+    try:
+        return str(email.header.make_header(email.header.decode_header(found[0])))
+    except (LookupError, ValueError, email.errors.MessageError):
+        return found[0]
+
+
+def mail_attributes(path: str) -> Dict[str, bestore.Value]:
+    """What the head of a mail says."""
+    with open(path, "rb") as file:
+        head = email.parser.BytesHeaderParser().parse(file)
+    is_read = "S" in os.path.basename(path).rpartition(":2,")[2] and os.path.basename(os.path.dirname(path)) == "cur"
+    values: Dict[str, bestore.Value] = {
+        "BEOS:TYPE": MAIL_TYPE, "MAIL:from": cut(header_of(head, "From")), "MAIL:to": cut(header_of(head, "To")),
+        "MAIL:subject": cut(header_of(head, "Subject")), "MAIL:status": "Read" if is_read else "New",
+    }
+    try:
+        values["MAIL:when"] = int(email.utils.parsedate_to_datetime(str(head.get("Date"))).timestamp())
+    except (TypeError, ValueError, OverflowError, OSError):
+        pass  # no date, or none that can be read
+    return values

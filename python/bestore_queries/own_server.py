@@ -1,0 +1,82 @@
+"""A server that a window starts for itself, if none listens."""
+
+from __future__ import annotations
+
+import os
+import shutil
+import subprocess
+import tempfile
+import time
+
+import bestore
+from bestore import connected
+
+PATIENCE = 10.0
+"""How many seconds a server may take to listen."""
+
+
+class CannotStart(Exception):
+    """There is no server, and none can be started."""
+
+
+def default_path() -> str:
+    """The socket that BESTORE_SOCKET names, otherwise the one at which a server listens if nothing else is said."""
+    return os.environ.get("BESTORE_SOCKET") or connected.default_path()
+
+
+def kept_path() -> str:
+    """The file in which the units of systemd keep the store too."""
+    folder = os.environ.get("XDG_DATA_HOME") or os.path.join(os.path.expanduser("~"), ".local", "share")
+    return os.path.join(folder, "bestore", "store.bestore")
+
+
+def listens(path: str) -> bool:
+    """Whether a server listens at a socket. One that refuses this client does."""
+    try:
+        bestore.connect(path, PATIENCE).close()
+    except bestore.NoServer:
+        return False
+    except bestore.Error:
+        return True
+    return True
+
+
+class OwnServer:
+    """A server, up to `close`."""
+
+    def __init__(self, path: str) -> None:
+        program = shutil.which("bestored")
+        if program is None:
+            raise CannotStart(f"no server listens at {path}, and the program bestored isn't installed")
+        kept = kept_path()
+        os.makedirs(os.path.dirname(kept), exist_ok=True)
+        self._said = tempfile.TemporaryFile()
+        words = [program, "--socket", path, "--keep", kept, "--pages", "16384"]
+        self._process = subprocess.Popen(
+            words, stdin=subprocess.DEVNULL, stdout=subprocess.DEVNULL, stderr=self._said, start_new_session=True)
+        try:
+            self._await(path)
+        except BaseException:
+            self.close()
+            raise
+
+    def _await(self, path: str) -> None:
+        end = time.monotonic() + PATIENCE
+        while not listens(path):
+            if self._process.poll() is not None:
+                self._said.seek(0)
+                said = self._said.read().decode(errors="replace").strip()
+                raise CannotStart(f"bestored ended at once: {said or self._process.returncode}")
+            if time.monotonic() > end:
+                raise CannotStart(f"bestored doesn't listen at {path} after {PATIENCE:g} seconds")
+            time.sleep(0.02)
+
+    def close(self) -> None:
+        """Ends the server, which flushes its file."""
+        self._process.terminate()
+        try:
+            self._process.wait(PATIENCE)
+        except subprocess.TimeoutExpired:
+            self._process.kill()
+            self._process.wait()
+        self._said.close()

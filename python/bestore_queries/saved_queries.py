@@ -1,0 +1,105 @@
+"""The file of saved queries, which all windows of a user share."""
+
+from __future__ import annotations
+
+import contextlib
+import fcntl
+import json
+import os
+import tempfile
+from typing import Any, Iterator, List, NamedTuple, Optional, Tuple
+
+
+class Saved(NamedTuple):
+    """A saved query."""
+
+    name: str
+    query: str
+    """As it was typed, so that `yesterday` is another day each time."""
+    columns: Tuple[str, ...] = ()
+    """The attributes that were shown, or none if nobody chose any."""
+
+
+class BadFile(Exception):
+    """The file can't be read or written. It stays as it is."""
+
+    def __init__(self, path: str, reason: str) -> None:
+        super().__init__(path, reason)
+        self.path, self.reason = path, reason
+
+    def __str__(self) -> str:
+        return f"saved queries: {self.path}: {self.reason}"
+
+
+def default_path() -> str:
+    """The file, if nothing else is said."""
+    folder = os.environ.get("XDG_CONFIG_HOME") or os.path.join(os.path.expanduser("~"), ".config")
+    return os.path.join(folder, "bestore", "queries.json")
+
+
+class SavedQueries:
+    """The saved queries, by their names. Each call reads the file, since another window may have written it."""
+
+    def __init__(self, path: Optional[str] = None) -> None:
+        self.path = default_path() if path is None else path
+
+    def all(self) -> List[Saved]:
+        """The queries, in the order of their names. `BadFile`."""
+        return sorted(self._read(), key=lambda it: it.name.casefold())
+
+    def save(self, saved: Saved) -> None:
+        """Saves a query in the place of the one that has its name. `BadFile`, and then the file is as it was."""
+        with self._alone():
+            self._write([it for it in self._read() if it.name != saved.name] + [saved])
+
+    def remove(self, name: str) -> None:
+        """Removes a query, if it is there. `BadFile`."""
+        with self._alone():
+            self._write([it for it in self._read() if it.name != name])
+
+    @contextlib.contextmanager
+    def _alone(self) -> Iterator[None]:
+        """Keeps other windows from writing meanwhile."""
+        try:
+            os.makedirs(os.path.dirname(self.path), exist_ok=True)
+            with open(f"{self.path}.lock", "w", encoding="utf-8") as lock:
+                fcntl.flock(lock, fcntl.LOCK_EX)
+                yield
+        except OSError as error:
+            raise BadFile(self.path, error.strerror or str(error)) from error
+
+    def _read(self) -> List[Saved]:
+        try:
+            with open(self.path, encoding="utf-8") as file:
+                return [_read_one(it) for it in json.load(file)["queries"]]
+        except FileNotFoundError:
+            return []
+        except json.JSONDecodeError as error:
+            raise BadFile(self.path, f"line {error.lineno}, column {error.colno}: {error.msg}") from error
+        except OSError as error:
+            raise BadFile(self.path, error.strerror or str(error)) from error
+        except (KeyError, TypeError, ValueError, RecursionError) as error:
+            raise BadFile(self.path, f"it has no list of queries: {error}") from error
+
+    def _write(self, queries: List[Saved]) -> None:
+        """Writes the file anew: whoever reads it has the old one or the new one."""
+        text = json.dumps({"queries": [it._asdict() for it in queries]}, ensure_ascii=False, indent=1)
+        folder = os.path.dirname(self.path)
+        descriptor, path = tempfile.mkstemp(dir=folder, prefix=".queries-")
+        try:
+            with open(descriptor, "w", encoding="utf-8") as file:
+                file.write(text + "\n")
+                file.flush()
+                os.fsync(file.fileno())
+            os.replace(path, self.path)
+        except BaseException:
+            with contextlib.suppress(OSError):
+                os.unlink(path)
+            raise
+
+
+def _read_one(parts: Any) -> Saved:
+    name, query, columns = parts["name"], parts["query"], tuple(parts.get("columns", ()))
+    if not all(isinstance(it, str) for it in (name, query, *columns)):
+        raise ValueError("a name, a query or a column is no text")
+    return Saved(name, query, columns)

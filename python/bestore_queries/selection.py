@@ -1,0 +1,82 @@
+"""Which hits of a list are selected, by their nodes: it stays as the list changes."""
+
+from __future__ import annotations
+
+from typing import List, Optional, Set
+
+from .sorted_hits import Node, SortedHits
+
+
+class Selection:
+    """The selected hits, the one that keys move from, and the one that a range begins at."""
+
+    def __init__(self, hits: SortedHits) -> None:
+        self._hits = hits
+        self._nodes: Set[Node] = set()
+        self._cursor: Optional[Node] = None
+        self._anchor: Optional[Node] = None
+
+    def __contains__(self, node: object) -> bool:
+        return node in self._nodes
+
+    def __len__(self) -> int:
+        return len(self._nodes)
+
+    @property
+    def nodes(self) -> List[Node]:
+        """The selected hits that are there, in the list's order."""
+        places = [(self._hits.place_of(node), node) for node in self._nodes if node in self._hits]
+        return [node for _, node in sorted(places)]
+
+    @property
+    def cursor(self) -> Optional[int]:
+        """The place of the hit that keys move from."""
+        return None if self._cursor is None else self._hits.place_of(self._cursor)
+
+    def clear(self) -> None:
+        """Selects nothing."""
+        self._nodes, self._cursor, self._anchor = set(), None, None
+
+    def forget(self, node: Node) -> None:
+        """A hit went."""
+        self._nodes.discard(node)
+
+    def choose(self, place: int) -> None:
+        """Selects one hit alone."""
+        node = self._hits[place].node
+        self._nodes, self._cursor, self._anchor = {node}, node, node
+
+    def toggle(self, place: int) -> None:
+        """Adds a hit, or takes it away."""
+        node = self._hits[place].node
+        self._nodes ^= {node}
+        self._cursor = self._anchor = node
+
+    def extend(self, place: int) -> None:
+        """Selects from where the range begins up to a hit."""
+        begin = None if self._anchor is None else self._hits.place_of(self._anchor)
+        if begin is None:
+            self.choose(place)
+            return
+        first, last = sorted((begin, place))
+        self._nodes = {self._hits[it].node for it in range(first, last + 1)}
+        self._cursor = self._hits[place].node
+
+    def choose_all(self) -> None:
+        """Selects all hits."""
+        if len(self._hits):
+            self._nodes = {self._hits[it].node for it in range(len(self._hits))}
+            self._anchor = self._hits[0].node
+
+    def move(self, steps: int, extends: bool = False) -> Optional[int]:
+        """Moves by so many places, and selects what is there, or all up to there. Returns the place."""
+        if not len(self._hits):
+            return None
+        at = self.cursor
+        begin = at if at is not None else -1 if steps > 0 else 0
+        place = min(max(begin + steps, 0), len(self._hits) - 1)
+        if extends:
+            self.extend(place)
+        else:
+            self.choose(place)
+        return place

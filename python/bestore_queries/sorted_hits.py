@@ -1,0 +1,202 @@
+"""The hits of a query in their order. One that comes is put at its place, and the hits are sorted anew in steps, so that no step
+takes long however many there are."""
+
+from __future__ import annotations
+
+import heapq
+from bisect import bisect_left, insort
+from itertools import islice
+from typing import Any, Dict, Iterator, List, NamedTuple, Optional, Tuple
+
+import bestore
+
+Node = int
+CHUNK = 1_000
+"""How many hits a step sorts."""
+
+
+class Hit(NamedTuple):
+    """A node that meets the query, with the attributes that are shown."""
+
+    node: Node
+    attributes: Dict[str, bestore.Value]
+
+
+Entry = Tuple[int, Any, Any, Node]
+
+
+def entry_of(attribute: str, hit: Hit) -> Optional[Entry]:
+    """By what a hit is sorted, or None if it lacks the attribute: numbers before texts, and texts whatever their case."""
+    value = hit.attributes.get(attribute)
+    if value is None:
+        return None
+    if isinstance(value, str):
+        return 1, value.casefold(), value, hit.node
+    return (2, value, b"", hit.node) if isinstance(value, bytes) else (0, value, 0, hit.node)
+
+
+class _Listed:
+    """Hits in the order of an attribute, and those without it after them."""
+
+    def __init__(self, attribute: str, entries: Optional[List[Entry]] = None, lacking: Optional[List[Node]] = None) -> None:
+        self.attribute = attribute
+        self.entries: List[Entry] = [] if entries is None else entries
+        self.lacking: List[Node] = [] if lacking is None else lacking
+
+    def add(self, hit: Hit) -> None:
+        entry = entry_of(self.attribute, hit)
+        if entry is None:
+            insort(self.lacking, hit.node)
+        else:
+            insort(self.entries, entry)
+
+    def remove(self, hit: Hit) -> None:
+        entry = entry_of(self.attribute, hit)
+        if entry is None:
+            del self.lacking[bisect_left(self.lacking, hit.node)]
+        else:
+            del self.entries[bisect_left(self.entries, entry)]
+
+
+class _Sorting:
+    """Hits that are being sorted by another attribute: parts of them first, which then are merged."""
+
+    def __init__(self, attribute: str, hits: Iterator[Hit]) -> None:
+        self.attribute = attribute
+        self._hits = hits
+        self._runs: List[List[Entry]] = []
+        self._merged: Optional[Iterator[Entry]] = None
+        self._entries: List[Entry] = []
+        self._lacking: List[Node] = []
+        self._has_read_all = False
+        self.touched: Dict[Node, Optional[Hit]] = {}
+        """The hits that came, changed or went meanwhile, as they were at the beginning: None if they weren't there."""
+
+    def step(self) -> Optional[_Listed]:
+        """Goes on. Returns the hits once they are sorted."""
+        if not self._has_read_all:
+            self._read_some()
+            return None
+        if self._merged is None:
+            self._merged = iter(heapq.merge(*self._runs))
+        before = len(self._entries)
+        self._entries += islice(self._merged, CHUNK)
+        return None if len(self._entries) > before else _Listed(self.attribute, self._entries, sorted(self._lacking))
+
+    def _read_some(self) -> None:
+        run = []
+        for _ in range(CHUNK):
+            hit = next(self._hits, None)
+            if hit is None:
+                self._has_read_all = True
+                break
+            entry = entry_of(self.attribute, hit)
+            if entry is None:
+                self._lacking.append(hit.node)
+            else:
+                run.append(entry)
+        self._runs.append(sorted(run))
+
+
+class SortedHits:
+    """The hits by their place in the list."""
+
+    def __init__(self, attribute: str = "name") -> None:
+        self._hits: Dict[Node, Hit] = {}
+        self._listed = _Listed(attribute)
+        self._sorting: Optional[_Sorting] = None
+        self._sorted: Optional[_Listed] = None  # which still lacks what was touched
+        self.is_turned = self.will_be_turned = False
+        """Whether the greatest come first. Hits without the attribute come last all the same."""
+
+    def __len__(self) -> int:
+        return len(self._hits)
+
+    def __contains__(self, node: object) -> bool:
+        return node in self._hits
+
+    def __getitem__(self, place: int) -> Hit:
+        entries, lacking = self._listed.entries, self._listed.lacking
+        if place >= len(entries):
+            return self._hits[lacking[place - len(entries)]]
+        return self._hits[entries[len(entries) - 1 - place if self.is_turned else place][3]]
+
+    def get(self, node: Node) -> Optional[Hit]:
+        """The hit of a node."""
+        return self._hits.get(node)
+
+    def place_of(self, node: Node) -> Optional[int]:
+        """The place of a node, from 0, or None if it is no hit."""
+        hit = self._hits.get(node)
+        if hit is None:
+            return None
+        entries = self._listed.entries
+        entry = entry_of(self._listed.attribute, hit)
+        if entry is None:
+            return len(entries) + bisect_left(self._listed.lacking, node)
+        place = bisect_left(entries, entry)
+        return len(entries) - 1 - place if self.is_turned else place
+
+    def put(self, hit: Hit) -> None:
+        """Puts a hit at its place. If it is there already, with its attributes as they were, it takes the place of that."""
+        old = self._hits.get(hit.node)
+        self._touch(hit.node, old)
+        if old is not None:
+            self._listed.remove(old)
+        self._hits[hit.node] = hit
+        self._listed.add(hit)
+
+    def remove(self, node: Node) -> None:
+        """Takes a hit away, if it is there."""
+        old = self._hits.pop(node, None)
+        if old is not None:
+            self._touch(node, old)
+            self._listed.remove(old)
+
+    def clear(self) -> None:
+        """Takes all hits away. Their order stays."""
+        self._hits, self._listed = {}, _Listed(self.attribute)
+        self._sorting, self._sorted, self.is_turned = None, None, self.will_be_turned
+
+    def _touch(self, node: Node, old: Optional[Hit]) -> None:
+        if self._sorting is not None:
+            self._sorting.touched.setdefault(node, old)
+
+    @property
+    def attribute(self) -> str:
+        """By what the hits are sorted, or will be once `step` has done it."""
+        return self._listed.attribute if self._sorting is None else self._sorting.attribute
+
+    def sort(self, attribute: str, is_turned: bool = False) -> None:
+        """Sorts the hits by an attribute. Until `step` has done it they stay in the order that they have."""
+        if attribute == self._listed.attribute:
+            self._sorting = self._sorted = None
+            self.is_turned = is_turned
+        elif self._sorting is None or attribute != self._sorting.attribute:
+            self._sorting, self._sorted = _Sorting(attribute, iter(list(self._hits.values()))), None
+        self.will_be_turned = is_turned
+
+    @property
+    def is_sorting(self) -> bool:
+        """Whether `step` has something to do."""
+        return self._sorting is not None
+
+    def step(self) -> bool:
+        """Goes on with sorting. Returns whether the order is the new one now."""
+        sorting = self._sorting
+        if sorting is None:
+            return False
+        if self._sorted is None:
+            self._sorted = sorting.step()
+            return False
+        for _ in range(min(CHUNK // 2, len(sorting.touched))):
+            node, old = sorting.touched.popitem()
+            if old is not None:
+                self._sorted.remove(old)
+            if node in self._hits:
+                self._sorted.add(self._hits[node])
+        if sorting.touched:
+            return False
+        self._listed, self.is_turned = self._sorted, self.will_be_turned
+        self._sorting = self._sorted = None
+        return True

@@ -1,0 +1,228 @@
+"""The store that a window asks: that of a server, or one in this process with the files of a folder."""
+
+from __future__ import annotations
+
+import math
+from abc import ABC, abstractmethod
+from typing import Iterator, List, NamedTuple, Optional, Set, Tuple
+
+import bestore
+from bestore.connected import ConnectedPass, Watch
+from bestore.shelf import MOST_VOLUMES
+
+from . import own_server
+from .folder import INDICES, FolderReader, files_below
+from .sorted_hits import Node
+
+MANY = 5_000           # entries of the journal that are read for what they set
+MOST_PAGES = 16_384    # of a volume
+PAGES_OF_A_FILE = 1.1  # with five attributes, all indexed
+GROWTH = 1.3           # how many more files than there are at first have room
+
+
+class Condition(NamedTuple):
+    """How a source is: what the line below the list says."""
+
+    text: str
+    is_fault: bool = False
+
+
+Numbers = Tuple[int, ...]
+"""The commit number of each volume of a store."""
+
+
+class LiveAnswer(ABC):
+    """A query whose changes are read."""
+
+    @abstractmethod
+    def refresh(self, version: bestore.Version) -> Tuple[List[Node], List[Node]]:
+        """Which nodes came and which went, since the last call up to this version. At first all come."""
+
+    @abstractmethod
+    def close(self) -> None:
+        """Ends it."""
+
+
+class Session(ABC):
+    """A store that is open. Its calls are made by one thread."""
+
+    user: bestore.Pass
+
+    @abstractmethod
+    def begin(self, text: str) -> LiveAnswer:
+        """Asks a query. A `bestore.QueryError` if the store can't answer it."""
+
+    @abstractmethod
+    def has_news(self) -> bool:
+        """Whether something may have been written since the last call."""
+
+    def written(self, since: Numbers, version: bestore.Version) -> Optional[Set[Node]]:
+        """The nodes whose attributes were set after these commits and up to a snapshot. None if that is too much to be read."""
+        now = version.numbers
+        if len(now) != len(since) or sum(now) - sum(since) > MANY:
+            return None
+        nodes: Set[Node] = set()
+        for volume, (first, last) in enumerate(zip(since, now)):
+            for entry in self._entries(volume if len(now) > 1 else None, first, last):
+                nodes.update(it.node for it in entry.operations if isinstance(it, (bestore.SetAttribute, bestore.UnsetAttribute)))
+        return nodes
+
+    def _entries(self, volume: Optional[int], first: int, last: int) -> Iterator[bestore.Entry]:
+        """What was written to a volume from a commit to another one."""
+        for entry in self.user.journal_from(first, volume=volume) if first < last else ():
+            if entry.number > last:
+                break
+            yield entry
+
+    def close(self) -> None:
+        """Gives the store up."""
+        self.user.close()
+
+
+class Source(ABC):
+    """What a window opens: a store, which may have to be opened again."""
+
+    title: str
+    """What the window's title names."""
+
+    @abstractmethod
+    def open(self) -> Session:
+        """Opens the store. A `bestore.Error` if it isn't there."""
+
+    @property
+    @abstractmethod
+    def condition(self) -> Condition:
+        """How the source is now."""
+
+    def close(self) -> None:
+        """Ends what belongs to the window alone."""
+
+
+class _Prepared(LiveAnswer):
+    """A query of a store in this process."""
+
+    def __init__(self, user: bestore.Pass, text: str) -> None:
+        self._query = bestore.prepare(text)
+        with user.pin() as version:
+            version.explain(text)  # the errors that the query has at this store
+
+    def refresh(self, version: bestore.Version) -> Tuple[List[Node], List[Node]]:
+        return version.refresh(self._query)
+
+    def close(self) -> None:
+        self._query.close()
+
+
+class _Watched(LiveAnswer):
+    """A query of a server's store, which pushes what changes."""
+
+    def __init__(self, user: ConnectedPass, text: str) -> None:
+        bestore.prepare(text).close()
+        self._watch: Watch = user.watch(text)
+
+    def refresh(self, version: bestore.Version) -> Tuple[List[Node], List[Node]]:
+        return self._watch.refresh()
+
+    def close(self) -> None:
+        self._watch.close()
+
+
+class _FolderSession(Session):
+    def __init__(self, user: bestore.Pass) -> None:
+        self.user = user
+
+    def begin(self, text: str) -> LiveAnswer:
+        return _Prepared(self.user, text)
+
+    def has_news(self) -> bool:
+        return True
+
+
+class _ServerSession(Session):
+    def __init__(self, user: ConnectedPass) -> None:
+        self.user, self._connected = user, user
+        self._commits = user.watch()
+
+    def begin(self, text: str) -> LiveAnswer:
+        return _Watched(self._connected, text)
+
+    def has_news(self) -> bool:
+        return self._commits.wait(0) is not None
+
+
+def size_for(files: int) -> Tuple[int, int]:
+    """How many volumes a store needs for so many files and some more, and of how many pages each."""
+    pages = 4096 + math.ceil(files * PAGES_OF_A_FILE * GROWTH)
+    volumes = min(math.ceil(pages / MOST_PAGES), MOST_VOLUMES)
+    return volumes, min(math.ceil(pages / volumes), MOST_PAGES)
+
+
+class FolderSource(Source):
+    """A store in this process, with the files of a folder. It is made at the first opening, for as many files as there are
+    then."""
+
+    def __init__(self, folder: str, pages: Optional[int] = None, pause: float = 1.0) -> None:
+        self.title, self._folder, self._pages, self._pause = folder, folder, pages, pause
+        self._store: Optional[bestore.Pass] = None
+        self.reader: Optional[FolderReader] = None
+        """What reads the folder, once the store was opened."""
+
+    def open(self) -> Session:
+        if self._store is None:
+            volumes, pages = size_for(sum(1 for _ in files_below(self._folder))) if self._pages is None else (1, self._pages)
+            self._store = bestore.open_shelf(volumes, pages, 3)
+            for name, kind in INDICES.items():
+                self._store.make_index(name, kind)
+            self.reader = FolderReader(self._store.another(), self._folder, self._pause)
+            self.reader.start()
+        return _FolderSession(self._store.another())
+
+    @property
+    def condition(self) -> Condition:
+        reader = self.reader
+        if reader is None:
+            return Condition("reading the folder")
+        if reader.fault is not None:
+            return Condition(f"The folder is no longer followed: {reader.fault}", True)
+        if reader.is_gone:
+            return Condition(f"The folder {self._folder} can't be read: what is shown is what it had", True)
+        if reader.left_out:
+            return Condition(
+                f"The store is full: {len(reader):,} files are in, and {reader.left_out:,} aren't. Open the window again, and it "
+                "makes room for all", True)
+        return Condition("following the folder" if reader.rounds else "reading the folder")
+
+    def close(self) -> None:
+        if self.reader is not None:
+            self.reader.end()
+        if self._store is not None:
+            self._store.close()
+
+
+class ServerSource(Source):
+    """The store of a server. If none is named and none listens, it starts one."""
+
+    def __init__(self, path: Optional[str] = None) -> None:
+        self._server: Optional[own_server.OwnServer] = None
+        if path is None:
+            path = own_server.default_path()
+            if not own_server.listens(path):
+                self._server = own_server.OwnServer(path)
+        self.path, self.title = path, "files" if self._server is None else "files of a server of its own"
+
+    def open(self) -> Session:
+        user = bestore.connect(self.path)
+        assert isinstance(user, ConnectedPass)
+        try:
+            return _ServerSession(user)
+        except BaseException:
+            user.close()
+            raise
+
+    @property
+    def condition(self) -> Condition:
+        return Condition(f"following {self.path}")
+
+    def close(self) -> None:
+        if self._server is not None:
+            self._server.close()

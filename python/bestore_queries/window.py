@@ -1,0 +1,381 @@
+"""The window: a Find row, the query as a formula, what is wrong with it, the list, and the lines below."""
+
+from __future__ import annotations
+
+import queue
+import time
+import tkinter as tk
+import tkinter.font
+from tkinter import ttk
+from typing import List, Mapping, Optional, Sequence, Union
+
+import bestore
+
+from . import columns, find, theme, typed_query
+from .asker import Accepted, Ask, Asker, Came, Counted, Lost, Named, Opened, Refused, Report, Went, Write, Written
+from .attribute_editor import Cell
+from .columns import Column
+from .find_row import FindRow
+from .hit_list import Actions, HitList
+from .opening import CannotOpen, Opening
+from .places import path_of
+from .query_menu import AttributeMenu, NameRow, QueryMenu
+from .saved_queries import BadFile, Saved, SavedQueries
+from .sorted_hits import Hit, SortedHits
+from .sources import Source
+from .theme import DESKTOP, FACE, FAULT, FAULT_PAPER, QUIET, TAB
+
+BUDGET = 0.015      # seconds that the window takes for reports at a time
+BUSY_PAUSE = 5      # milliseconds to the next look for reports, if there were some
+IDLE_PAUSE = 50     # milliseconds to the next look, if there were none
+TYPING_PAUSE = 150  # milliseconds without a key before a query is asked
+LINES = 3           # below the query: what is wrong with it, and where
+
+
+class Window:
+    """The window over a source."""
+
+    def __init__(self, root: tk.Tk, source: Source, saved: Optional[SavedQueries] = None, is_mail: bool = False) -> None:
+        self.root, self._source, self._is_mail = root, source, is_mail
+        self._saved = SavedQueries() if saved is None else saved
+        self.hits = SortedHits()
+        self._indices: Mapping[str, bestore.Kind] = {}
+        self._attributes: List[str] = []  # that the first hits have
+        self._chosen: List[str] = []      # the attributes that the user has chosen to be shown
+        self._query, self._typing = tk.StringVar(root), ""
+        self._typed = typed_query.TypedQuery("", "", ())
+        self._fault: Optional[typed_query.Fault] = None
+        self._hints: List[bestore.Hint] = []
+        self._turn, self._is_answered = 0, False
+        self._count: Optional[Counted] = None
+        self._is_open, self._lost = False, ""
+        self._openings: List[Opening] = []
+        self._is_ended = False
+        theme.apply(root)
+        self._build_head()
+        self._build_foot()
+        self._build_list()
+        self._bind()
+        self.name(source.title)
+        self._asker = Asker(source)
+        self._asker.start()
+        self._step()
+
+    def _build_head(self) -> None:
+        strip = tk.Frame(self.root, background=DESKTOP)
+        self._tab = tk.Label(strip, background=TAB, padx=14, pady=4, font="TkCaptionFont")
+        self._tab.pack(side="left")
+        strip.pack(fill="x")
+        head = tk.Frame(self.root, background=FACE, padx=12, pady=10)
+        head.pack(fill="x")
+        row = tk.Frame(head, background=FACE)
+        row.pack(fill="x")
+        self.query_menu = QueryMenu(row, self._saved, self.ask_saved, self._name_query, self.warn)
+        self.attribute_menu = AttributeMenu(row, self.choose)
+        self.attribute_menu.pack(side="right")
+        self.query_menu.pack(side="right", padx=6)
+        self.find_row = FindRow(row, self._found)
+        self.find_row.pack(side="left", fill="x", expand=True)
+        self.name_row = NameRow(head, self.save)
+        self.entry = ttk.Entry(head, textvariable=self._query, font="TkFixedFont")
+        self.entry.pack(fill="x", pady=(8, 0))
+        self.message = tk.Label(head, background=FACE, anchor="nw", justify="left", font="TkFixedFont", padx=6, height=1)
+        self.message.pack(fill="x", pady=(4, 0))
+
+    def _build_foot(self) -> None:
+        self.state = tk.Label(self.root, background=FACE, foreground=QUIET, anchor="w", padx=12, pady=5)
+        self.state.pack(side="bottom", fill="x")
+        self.notice = tk.Label(self.root, background=FAULT_PAPER, foreground=FAULT, anchor="w", justify="left", padx=12, pady=5)
+        self._condition, self._warning = "", ""
+
+    def _build_list(self) -> None:
+        self.list = HitList(self.root, self.hits, Actions(self.open, self._write, self.sort, self.warn))
+        self.list.pack(fill="both", expand=True, padx=12)
+        self.list.show_columns([columns.column_of("name")])
+
+    def _bind(self) -> None:
+        self._query.trace_add("write", lambda *_: self._typed_something())
+        for key in ("<Return>", "<KP_Enter>"):
+            self.entry.bind(key, lambda _: self._ask())
+        self.entry.bind("<Down>", lambda _: self.list.tree.focus_set())
+        self.find_row.entry.bind("<Down>", lambda _: self.list.tree.focus_set())
+        self.entry.bind("<Key>", lambda _: self.find_row.empty())
+        self.root.bind("<Control-f>", lambda _: self.find_row.entry.focus_set())
+        self.root.bind("<Control-l>", lambda _: self.entry.focus_set())
+        self.root.bind("<Control-s>", lambda _: self._name_query())
+        self.root.bind("<Control-w>", lambda _: self.close())
+        self.root.protocol("WM_DELETE_WINDOW", self.close)
+        self.notice.bind("<Configure>", lambda event: self.notice.configure(wraplength=event.width - 24))
+        self.message.bind("<Configure>", lambda _: self._tell_query())
+
+    def close(self) -> None:
+        """Ends the window, and what belongs to it."""
+        if not self._is_ended:
+            self.end()
+            self.root.destroy()
+
+    def end(self) -> None:
+        """Ends the thread that asks."""
+        self._is_ended = True
+        for waiting in (self._next_step, self._typing):
+            if waiting:
+                self.root.after_cancel(waiting)
+        self._asker.end()
+
+    # What the user asks for.
+
+    def ask(self, text: str) -> None:
+        """Writes a query into the line, and asks it at once."""
+        self._query.set(text)
+        self._ask()
+
+    def ask_saved(self, saved: Saved) -> None:
+        """Asks a saved query, with the columns that it was saved with."""
+        self._chosen = list(saved.columns)
+        self.find_row.empty()
+        self.name(saved.name)
+        self.ask(saved.query)
+
+    def _found(self, query: str) -> None:
+        """The Find row has made a query."""
+        self._query.set(query)
+
+    def _typed_something(self) -> None:
+        if self._typing:
+            self.root.after_cancel(self._typing)
+        self._typing = self.root.after(TYPING_PAUSE, self._ask)
+
+    def _ask(self) -> None:
+        """Asks what is in the line. The old answer goes at once, also if nothing can be asked."""
+        if self._typing:
+            self.root.after_cancel(self._typing)
+        self._typing = ""
+        self._turn += 1
+        self._fault, self._hints, self._warning = None, [], ""
+        self._take_nothing()
+        text = self._query.get()
+        try:
+            self._typed = typed_query.read(text)
+        except typed_query.TypedFault as error:
+            self._typed, self._fault = typed_query.TypedQuery(text, "", ()), error.fault
+        self._show_columns()
+        if self._is_open and self._fault is None:
+            self._asker.send(Ask(self._turn, self._typed.sent, [it.attribute for it in self._columns()]))
+        self._tell_query()
+        self._tell_state()
+
+    def choose(self, attributes: Sequence[str]) -> None:
+        """Shows these attributes as columns, and reads them."""
+        self._chosen = list(attributes)
+        self._ask()
+
+    def sort(self, column: Column) -> None:
+        """Sorts the hits by a column from now on; at the second time the other way round."""
+        is_turned = self.hits.attribute == column.attribute and not self.hits.will_be_turned
+        self.hits.sort(column.attribute, is_turned)
+        self.list.show_order()
+        self.list.paint()
+
+    def open(self, hits: List[Hit]) -> None:
+        """Opens files by the programs that the desktop has for them."""
+        self._warning = ""
+        for hit in hits:
+            try:
+                self._openings.append(Opening(path_of(hit.attributes), str(hit.attributes.get("name", f"node {hit.node}"))))
+            except CannotOpen as error:
+                self.warn(str(error))
+        self._show_notice()
+
+    def _look_at_openings(self) -> None:
+        for opening in list(self._openings):
+            try:
+                has_ended = opening.has_ended()
+            except CannotOpen as error:
+                has_ended = True
+                self.warn(str(error))
+            if has_ended:
+                self._openings.remove(opening)
+
+    def _write(self, cell: Cell, text: str) -> None:
+        """An attribute was edited."""
+        self._warning = ""
+        self._show_notice()
+        self._asker.send(Write(cell.node, cell.column.attribute, text, cell.value))
+
+    def _name_query(self) -> None:
+        self.name_row.show("" if self._tab_text == self._source.title else self._tab_text)
+
+    def save(self, name: str) -> None:
+        """Saves the query and its columns."""
+        try:
+            self._saved.save(Saved(name, self._query.get(), tuple(it.attribute for it in self._columns())))
+        except BadFile as error:
+            self.warn(str(error))
+        else:
+            self.name(name)
+
+    def name(self, name: str) -> None:
+        """Names the window."""
+        self._tab_text = name
+        self._tab.configure(text=f"Query: {name}")
+        self.root.title(f"Query: {name}")
+
+    def warn(self, text: str) -> None:
+        """Shows that something couldn't be done, up to the next thing that the user does."""
+        self._warning = text
+        self._show_notice()
+
+    # What is reported.
+
+    def _step(self) -> None:
+        """Takes reports for a short time, and goes on as long as the window is there."""
+        end, is_busy, is_changed = time.monotonic() + BUDGET, self.hits.is_sorting, False
+        while time.monotonic() < end:
+            try:
+                report = self._asker.reports.get_nowait()
+            except queue.Empty:
+                break
+            self._take(report)
+            is_busy = is_changed = True
+        while self.hits.is_sorting and time.monotonic() < end:
+            is_changed = self.hits.step() or is_changed
+        if is_changed:
+            self.list.paint()
+            self._tell_state()
+        self._look_at_openings()
+        self._show_notice()
+        self._next_step = self.root.after(BUSY_PAUSE if is_busy else IDLE_PAUSE, self._step)
+
+    def _take(self, report: Report) -> None:
+        if isinstance(report, (Opened, Lost)):
+            self._take_source(report)
+        elif isinstance(report, Written):
+            self._take_written(report)
+        elif report.turn == self._turn:
+            self._take_answer(report)
+
+    def _take_source(self, report: Union[Opened, Lost]) -> None:
+        if isinstance(report, Opened):
+            self._is_open, self._lost = True, ""
+            self._take_indices(report.indices)
+            self.ask(self._query.get() or find.everything(self._indices) or "")
+        else:
+            self._is_open, self._lost = False, report.reason
+            self._take_nothing()
+
+    def _take_indices(self, indices: Mapping[str, bestore.Kind]) -> None:
+        self._indices = indices
+        self.find_row.take_indices(indices)
+        self._offer_attributes()
+
+    def _take_answer(self, report: Union[Accepted, Refused, Named, Came, Went, Counted]) -> None:
+        if isinstance(report, Came):
+            for hit in report.hits:
+                self.hits.put(hit)
+        elif isinstance(report, Went):
+            for node in report.nodes:
+                self.hits.remove(node)
+                self.list.hit_went(node)
+        elif isinstance(report, Counted):
+            self._count = report
+        elif isinstance(report, Named):
+            self._attributes = report.names
+            self._offer_attributes()
+        elif isinstance(report, Accepted):
+            self._is_answered, self._hints = True, report.hints
+            self._tell_query()
+        else:
+            self._refuse(report)
+
+    def _take_nothing(self) -> None:
+        """There is no answer, so nothing is shown."""
+        self._is_answered, self._count = False, None
+        self.hits.clear()
+        self.list.clear()
+
+    def _refuse(self, report: Refused) -> None:
+        """The query isn't followed: what is shown is no answer to it."""
+        self._take_nothing()
+        self._take_indices(report.indices)
+        self._fault = typed_query.fault_of(report.error, self._typed, report.indices)
+        self._tell_query()
+
+    def _take_written(self, report: Written) -> None:
+        if report.fault is None:
+            return
+        write = report.write
+        hit = self.hits.get(write.node)
+        self.warn(f"{write.name} isn't set: {report.fault}")
+        if hit is not None and self.list.editor.cell is None:
+            now = hit.attributes.get(write.name)
+            self.list.edit_cell(Cell(write.node, columns.column_of(write.name, self._indices.get(write.name)), now), write.text)
+
+    # What is shown.
+
+    def _columns(self) -> List[Column]:
+        if self._chosen:
+            return columns.columns_of(self._chosen, self._indices)
+        return columns.default_columns(self._indices, self._is_mail)
+
+    def _show_columns(self) -> None:
+        shown = self._columns()
+        if [it.attribute for it in shown] != [it.attribute for it in self.list.columns]:
+            self.list.show_columns(shown)
+            if self.hits.attribute not in {it.attribute for it in shown}:
+                self.hits.sort(shown[0].attribute)
+                self.list.show_order()
+        self._offer_attributes()
+
+    def _offer_attributes(self) -> None:
+        names = dict.fromkeys([*self._indices, *self._attributes])
+        self.attribute_menu.offer([it for it in names if it not in columns.HIDDEN], [it.attribute for it in self._columns()])
+
+    def _width(self) -> int:
+        """How many characters a line below the query has room for."""
+        room = self.message.winfo_width() - 2 * int(str(self.message["padx"]))
+        return max(room // tkinter.font.nametofont("TkFixedFont").measure("0"), 20)
+
+    def _tell_query(self) -> None:
+        """Shows what is wrong with the query, or what it can't find, otherwise which dates it has."""
+        width = self._width()
+        if self._fault is not None:
+            lines = typed_query.lines_of(self._fault, self._query.get(), width)
+        else:
+            lines = [typed_query.shortened(typed_query.hint_of(it), width) for it in self._hints[:LINES]]
+        colour = FAULT if lines else QUIET
+        lines = lines or [typed_query.shortened(self._typed.dates_in_words(), width)]
+        self.message.configure(text="\n".join(lines), foreground=colour, height=len(lines))
+
+    def _tell_state(self) -> None:
+        condition = self._source.condition
+        words = []
+        if self._count is not None and self._is_answered:
+            words.append(f"{self._count.hits:,} of {self._count.all:,}" if self._count.all else f"{self._count.hits:,}")
+            waiting = self._count.hits - len(self.hits)
+            if waiting > 0:
+                words.append(f"{waiting:,} to be shown")
+        elif self._fault is not None:
+            words.append("no answer")
+        if self.hits.is_sorting:
+            words.append("sorting")
+        if self._is_open and not condition.is_fault:
+            words.append(condition.text)
+        self.state.configure(text="   ·   ".join(words))
+
+    def _show_notice(self) -> None:
+        """Shows what is wrong with the source, and what couldn't be done. It is there as long as something is."""
+        condition = self._source.condition
+        faults = [self._warning] if self._warning else []
+        if self._lost:
+            faults.insert(0, f"The store isn't there: {self._lost}. It is looked for again each second")
+        elif condition.is_fault:
+            faults.insert(0, condition.text)
+        text = "\n".join(faults)
+        if text == str(self.notice["text"]):
+            return
+        self.notice.configure(text=text)
+        if text:
+            self.notice.pack(side="bottom", fill="x", before=self.list)
+        else:
+            self.notice.pack_forget()
+        self._tell_state()

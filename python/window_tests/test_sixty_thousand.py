@@ -1,0 +1,190 @@
+"""The window over 60,000 nodes: how long its event loop is away.
+
+    PYTHONPATH=python:python/window_tests python3 python/window_tests/test_sixty_thousand.py --print
+
+prints the longest time of each phase.
+"""
+
+from __future__ import annotations
+
+import os
+import sys
+import threading
+import time
+import unittest
+from typing import Callable, Dict, List
+
+import bestore
+from bestore.shelf import node_in
+from bestore_queries.sources import ServerSource, Source
+
+import servers
+from common import HAS_TK, MadeSource, OnDisplay
+
+if HAS_TK:
+    from bestore_queries.pauses import short_pauses
+    from bestore_queries.window import Window
+
+NODES = 60_000
+VOLUMES = 5
+STEP = 10      # nodes that a batch makes
+LONGEST = 0.1  # seconds
+TRIES = 3      # on a machine on which others run too
+PATIENCE = 120.0
+
+
+def make_nodes(store: bestore.Pass) -> None:
+    """Makes files of five attributes, three of them indexed, in all volumes."""
+    for name, kind in (("name", bestore.STRING), ("size", bestore.INT64), ("last_modified", bestore.INT64)):
+        store.make_index(name, kind)
+    for first in range(0, NODES, STEP):
+        volume, batch = first // STEP % store.volumes, bestore.Batch()
+        node = node_in(volume, first // STEP // store.volumes * STEP + 1)
+        for number in range(first, first + STEP):
+            set_attributes(batch.new_node(), node + number - first, number)
+        store.apply(batch, volume=volume)
+
+
+def set_attributes(batch: bestore.Batch, node: int, number: int) -> None:
+    """Sets the attributes of a file, most of which others have too."""
+    batch.set(node, "name", f"file {number * 7919 % 60_013}.txt").set(node, "size", number * 31 % 9973)
+    batch.set(node, "last_modified", 1_700_000_000 + number * 101 % 50_000).set(node, "BEOS:TYPE", f"type/{number % 101}")
+    batch.set(node, "folder", f"/home/somebody/folder {number % 307}")
+
+
+class Gaps:
+    """The longest time between two moments at which the event loop did what waited."""
+
+    def __init__(self, window: "Window") -> None:
+        self._root = window.root
+        self._last, self.longest = time.perf_counter(), 0.0
+        self._tick()
+
+    def _tick(self) -> None:
+        now = time.perf_counter()
+        self.longest, self._last = max(self.longest, now - self._last), now
+        self._next = self._root.after(1, self._tick)
+
+    def end(self) -> None:
+        self._root.after_cancel(self._next)
+
+
+def loop(window: "Window", is_done: Callable[[], bool]) -> float:
+    """Runs the event loop until something is so. Returns the longest time for which it was away."""
+    gaps, end = Gaps(window), time.monotonic() + PATIENCE
+
+    def look() -> None:
+        if is_done():
+            window.root.quit()
+        elif time.monotonic() > end:
+            raise TimeoutError(f"{len(window.hits)} hits after {PATIENCE:g} seconds: {window.message['text']}")
+        else:
+            window.root.after(20, look)
+    window.root.after(20, look)
+    window.root.mainloop()
+    gaps.end()
+    return gaps.longest
+
+
+def settle(window: "Window") -> bool:
+    return not window.hits.is_sorting and window._asker.reports.empty() and len(window.hits) == NODES
+
+
+class Writer(threading.Thread):
+    """Renames files, as another program does."""
+
+    def __init__(self, store: bestore.Pass, nodes: List[int], name: str) -> None:
+        super().__init__()
+        self._store, self._nodes, self._name = store.another(), nodes, name
+        self.start()
+
+    def run(self) -> None:
+        parts: Dict[int, List[int]] = {}
+        for node in self._nodes:
+            parts.setdefault(bestore.volume_of(node), []).append(node)
+        for nodes in parts.values():
+            for first in range(0, len(nodes), bestore.MOST_OPERATIONS):
+                batch = bestore.Batch()
+                for node in nodes[first:first + bestore.MOST_OPERATIONS]:
+                    batch.set(node, "name", self._name)
+                self._store.apply(batch)
+        self._store.close()
+
+
+def measure(window: "Window", store: bestore.Pass, name: str) -> Dict[str, float]:
+    """The longest time of each phase, in seconds."""
+    found = {"all hits come": loop(window, lambda: settle(window))}
+    every = [window.hits[place].node for place in range(NODES)]
+    for column in (1, 3, 0):
+        window.sort(window.list.columns[column])
+        found[f"sorting by {window.list.columns[column].title}"] = loop(window, lambda: settle(window))
+    window.sort(window.list.columns[0])
+    found["turning the order"] = loop(window, lambda: settle(window))
+    places = iter(range(0, NODES, NODES // 200))
+
+    def scroll() -> bool:
+        place = next(places, None)
+        if place is not None:
+            window.list._scroll("moveto", str(place / NODES))
+        return place is None
+    found["scrolling"] = loop(window, scroll)
+    for phase, nodes in (("6,000 are renamed", every[::10]), ("all are renamed", every)):
+        writer, new = Writer(store, nodes, name + phase), name + phase
+        found[phase] = loop(window, lambda: all(is_named(window, node, new) for node in nodes[-1:0:-500]) and settle(window))
+        writer.join()
+    window.list._select_all()
+    found["all are selected"] = loop(window, lambda: settle(window))
+    for query, count in (("size<997", NODES // 10), ("name==*", NODES)):
+        window.ask(query)
+        found[f"the query {query}"] = loop(window, lambda: window._count is not None and abs(len(window.hits) - count) < 100)
+    return found
+
+
+def is_named(window: "Window", node: int, name: str) -> bool:
+    hit = window.hits.get(node)
+    return hit is not None and hit.attributes["name"] == name
+
+
+COLUMNS = ["name", "size", "last_modified", "BEOS:TYPE", "folder"]
+
+
+class SixtyThousand(OnDisplay):
+    def longest(self, source: Callable[[], Source], store: bestore.Pass) -> Dict[str, float]:
+        """The shortest of the longest times of each phase, of some tries."""
+        best: Dict[str, float] = {}
+        for turn in range(TRIES):
+            window = self.show(source())
+            window.choose(COLUMNS)
+            with short_pauses(window.root):
+                for phase, seconds in measure(window, store, f"{turn} ").items():
+                    best[phase] = min(best.get(phase, seconds), seconds)
+            window.close()
+            if max(best.values()) < LONGEST:
+                break
+        return best
+
+    def check(self, source: Callable[[], Source], store: bestore.Pass) -> None:
+        best = self.longest(source, store)
+        if "--print" in PRINTS:
+            for phase, seconds in best.items():
+                print(f"{seconds * 1000:6.1f} ms  {phase}")
+        self.assertLess(max(best.values()), LONGEST, best)
+
+    def test_in_this_process(self) -> None:
+        with bestore.open_shelf(VOLUMES, 16384, 16) as store:
+            make_nodes(store)
+            self.check(lambda: MadeSource(store), store)
+
+    @unittest.skipUnless(servers.BESTORED, "BESTORED names no bestored")
+    def test_of_a_server(self) -> None:
+        with servers.Server("--pages", 16384, "--volumes", VOLUMES) as server, server.connect() as store:
+            make_nodes(store)
+            self.check(lambda: ServerSource(server.path), store)
+
+
+PRINTS: List[str] = []
+
+if __name__ == "__main__":
+    PRINTS += [it for it in sys.argv if it == "--print"]
+    print(f"load {os.getloadavg()[0]:.1f}")
+    unittest.main(argv=[it for it in sys.argv if it != "--print"])

@@ -1,0 +1,537 @@
+"""Tests of the window, on a display in memory."""
+
+from __future__ import annotations
+
+import os
+import stat
+import tempfile
+import unittest
+from typing import Dict, List
+from unittest import mock
+
+import bestore
+from bestore_queries.find import Relation
+from bestore_queries.folder import INDICES
+from bestore_queries.saved_queries import Saved, SavedQueries
+from bestore_queries.sources import Condition, FolderSource, ServerSource
+
+import servers
+from common import HAS_TK, MadeSource, OnDisplay, file_of, files_store, press, shown, write
+
+if HAS_TK:
+    from bestore_queries import theme
+    from bestore_queries.window import Window
+
+
+class OverStore(OnDisplay):
+    """A window over a store of the test."""
+
+    def setUp(self) -> None:
+        place = tempfile.TemporaryDirectory()
+        self.addCleanup(place.cleanup)
+        self.folder = place.name
+        self.store = files_store()
+        self.addCleanup(self.store.close)
+        self.source = MadeSource(self.store)
+        self.saved = SavedQueries(os.path.join(self.folder, "queries.json"))
+
+    def file(self, name: str, size: int = 1, kind: str = "text/plain", **others: bestore.Value) -> int:
+        return file_of(self.store, **{"name": name, "size": size, "last_modified": 1700000000, "BEOS:TYPE": kind, **others})
+
+    def window(self, *names: str) -> "Window":
+        """A window over files of these names, whose sizes are their places."""
+        for place, name in enumerate(names):
+            self.file(name, place, folder=self.folder)
+        window = self.show(self.source, saved=self.saved)
+        self.shows(window, *sorted(names, key=str.casefold))
+        return window
+
+
+class Faults(OverStore):
+    """What was wrong with the first window."""
+
+    def test_fault_beyond_the_right_edge(self) -> None:
+        """The part of the query with the fault is shown, within the window, and the character is marked."""
+        window = self.window("a")
+        window.ask(" || ".join(["size==1"] * 100) + " ||")
+        self.becomes(window, lambda: "missing" in str(window.message["text"]))
+        message, part, caret = str(window.message["text"]).splitlines()
+        self.assertEqual(message, "The name of an attribute is missing here")
+        self.assertEqual((part[0], part[len(caret) - 2], caret[-1]), ("…", "|", "^"))
+        self.assertLessEqual(window.message.winfo_reqwidth(), window.root.winfo_width())
+        self.assertEqual(str(window.message["foreground"]), theme.FAULT)
+
+    def test_fault_ends_the_old_answer(self) -> None:
+        """Whatever is wrong, the old hits and their number go with it, and come back with the next query."""
+        window = self.window("a", "b", "c")
+        for query in ("size<", 'name=="[a"', "none==1", "last_modified>soon", "name==\udcff"):
+            window.ask("size>0")
+            self.shows(window, "b", "c")
+            self.assertIn("2 of 3", str(window.state["text"]))
+            window.ask(query)
+            self.assertEqual((shown(window), len(window.hits)), ([], 0))
+            self.becomes(window, lambda: str(window.state["text"]).startswith("no answer"))
+            self.assertNotEqual(str(window.message["text"]), "")
+            self.assertNotRegex(str(window.message["text"]), "score|version|grammar")
+
+    def test_sorted_insertion(self) -> None:
+        """What comes and what changes is put at its place."""
+        window = self.window("b", "d", "f")
+        added = [self.file("c", 9), self.file("a", 8), self.file("g", 7)]
+        self.shows(window, "a", "b", "c", "d", "f", "g")
+        self.store.set(added[2], "name", "B2")
+        self.shows(window, "a", "b", "B2", "c", "d", "f")
+        window.sort(window.list.columns[1])
+        self.shows(window, "b", "d", "f", "B2", "a", "c")
+        self.store.remove_node(added[0])
+        self.store.set(added[1], "size", -1)
+        self.shows(window, "a", "b", "d", "f", "B2")
+
+    def test_sort_that_stays(self) -> None:
+        """The order and its arrow stay for the next queries."""
+        window = self.window("a", "b", "c")
+        for turned in ("▲", "▼"):
+            window.sort(window.list.columns[1])
+            self.assertEqual(window.list.tree.heading("#1", "text"), f"Size {turned}")
+            self.assertEqual(window.list.tree.heading("#0", "text"), "Name")
+        self.shows(window, "c", "b", "a")
+        window.ask("size<2")
+        self.shows(window, "b", "a")
+        self.file("aa", 1)
+        self.shows(window, "aa", "b", "a")
+        self.assertEqual(window.list.tree.heading("#1", "text"), "Size ▼")
+
+    def test_store_without_room(self) -> None:
+        """How many files aren't in is said in full view, and what helps."""
+        for number in range(500):
+            write(os.path.join(self.folder, f"{number}"), "")
+        window = self.show(FolderSource(self.folder, 128, pause=0.02), saved=self.saved)
+        self.becomes(window, lambda: "The store is full" in str(window.notice["text"]))
+        self.becomes(window, lambda: window.notice.winfo_viewable() == 1)
+        reader = window._source.reader  # type: ignore[attr-defined]
+        self.becomes(window, lambda: reader.rounds > 0 and str(window.notice["text"]).startswith(
+            f"The store is full: {len(reader):,} files are in, and {500 - len(reader):,} aren't. Open the window again"))
+        self.assertEqual((str(window.notice["background"]), str(window.notice["foreground"])), (theme.FAULT_PAPER, theme.FAULT))
+        self.assertNotIn("following", str(window.state["text"]))
+
+    def test_folder_that_went(self) -> None:
+        """It isn't called followed any more, until it is back."""
+        folder = os.path.join(self.folder, "files")
+        os.mkdir(folder)
+        write(os.path.join(folder, "a"), "")
+        window = self.show(FolderSource(folder, 1024, pause=0.02), saved=self.saved)
+        self.shows(window, "a")
+        self.becomes(window, lambda: "following the folder" in str(window.state["text"]))
+        os.rename(folder, folder + "-gone")
+        self.becomes(window, lambda: f"The folder {folder} can't be read" in str(window.notice["text"]))
+        self.becomes(window, lambda: "following" not in str(window.state["text"]))
+        os.rename(folder + "-gone", folder)
+        self.becomes(window, lambda: str(window.notice["text"]) == "" and "following" in str(window.state["text"]))
+        self.becomes(window, lambda: not window.notice.winfo_ismapped())
+
+    def test_raw_headers(self) -> None:
+        """A subject in raw UTF-8 is shown as it was written."""
+        for side in ("cur", "new", "tmp"):
+            os.mkdir(os.path.join(self.folder, side))
+        write(os.path.join(self.folder, "new", "1"), "Subject: Grüße ✉\nFrom: =?utf-8?q?M=C3=BCller?= <m@x>\n\n")
+        window = self.show(FolderSource(self.folder, 1024, pause=0.02), saved=self.saved, is_mail=True)
+        self.becomes(window, lambda: [row[:2] for row in window.list.shown()] == [["Grüße ✉", "Müller <m@x>"]])
+
+    def test_missing_index(self) -> None:
+        """The name without an index is named, and those that have one."""
+        window = self.window("a")
+        window.ask("size>0 || color==red")
+        self.becomes(window, lambda: str(window.message["text"]).startswith(
+            "“color” has no index. Those that have one: BEOS:TYPE, last_modified, name, size"))
+        self.assertEqual(str(window.message["text"]).splitlines()[1:], ["size>0 || color==red", "          ^"])
+
+
+class Asking(OverStore):
+    def test_dates(self) -> None:
+        window = self.window("a")
+        self.file("new", 1)
+        window.ask("last_modified>=%2023-11-14% && last_modified<2023-11-16")
+        self.shows(window, "a", "new")
+        self.assertIn("last_modified from 14 Nov 2023, 00:00 on", str(window.message["text"]))
+        window.ask("last_modified>yesterday")
+        self.shows(window)
+        window.ask("size>0 && last_modified>2023-13-01")
+        self.assertEqual(str(window.message["text"]).splitlines()[0], "“2023-13-01” isn't a date: a year has 12 months")
+        self.assertEqual(str(window.message["text"]).splitlines()[2].index("^"), 24)
+
+    def test_hints(self) -> None:
+        window = self.window("a")
+        window.ask("size<1.5")
+        self.becomes(window, lambda: str(window.message["text"]) == "Nothing has size “1.5”: it isn't a whole number.")
+
+    def test_find_row(self) -> None:
+        window = self.window("Report.txt", "other", "REPORT 2")
+        window.find_row.choose("name", Relation.CONTAINS, "report")
+        self.shows(window, "REPORT 2", "Report.txt")
+        self.assertEqual(window.entry.get(), 'name=="*[rR][eE][pP][oO][rR][tT]*"')
+        window.find_row.choose("size", Relation.GREATER, "1")
+        self.shows(window, "REPORT 2")
+        window.find_row.choose("last_modified", Relation.SINCE, "2023-11")
+        self.shows(window, "other", "REPORT 2", "Report.txt")
+
+    def test_find_row_by_keys(self) -> None:
+        window = self.window("one", "two")
+        window.root.update()
+        window.find_row.entry.focus_force()
+        window.root.update()
+        for key in "tw":
+            window.find_row.entry.event_generate(f"<Key-{key}>")
+        self.shows(window, "two")
+
+    def test_typing(self) -> None:
+        """A query is asked once nobody has typed for a moment, and of those that were asked the last one is shown."""
+        window = self.window("a", "b", "c")
+        for size in (0, 1, 2, 0, 1):
+            window.ask(f"size=={size}")
+        self.shows(window, "b")
+        window._query.set("size==2")
+        self.shows(window, "c")
+
+    def test_index_that_goes(self) -> None:
+        window = self.window("a")
+        window.ask("size>=0")
+        self.shows(window, "a")
+        self.store.remove_index("size")
+        self.becomes(window, lambda: "“size” has no index" in str(window.message["text"]))
+        self.assertEqual((shown(window), str(window.state["text"]).startswith("no answer")), ([], True))
+
+    def test_nothing_to_ask(self) -> None:
+        """A store without an index."""
+        store = bestore.open(64, 4)
+        self.addCleanup(store.close)
+        window = self.show(MadeSource(store), saved=self.saved)
+        self.becomes(window, lambda: "name of an attribute is missing" in str(window.message["text"]))
+
+    def test_source_with_a_fault(self) -> None:
+        window = self.window("a")
+        self.source.said = Condition("it is broken", True)
+        self.becomes(window, lambda: str(window.notice["text"]) == "it is broken")
+
+
+class SavedOnes(OverStore):
+    def test_saves_and_asks(self) -> None:
+        window = self.window("a", "b")
+        window.choose(["name", "size"])
+        window.ask("size==1")
+        window._name_query()
+        window.name_row.entry.insert("end", "Ones")
+        window.name_row.finish()
+        self.assertEqual(self.saved.all(), [Saved("Ones", "size==1", ("name", "size"))])
+        self.assertEqual(window.root.title(), "Query: Ones")
+        window.ask("size==0")
+        self.shows(window, "a")
+        window.choose(["name"])
+        window.query_menu.fill()
+        window.query_menu.menu.invoke("Ones")
+        self.shows(window, "b")
+        self.assertEqual([it.attribute for it in window.list.columns], ["name", "size"])
+        window.query_menu.fill()
+        removing = window.query_menu.menu.entrycget("end", "menu")
+        window.root.tk.call(removing, "invoke", 0)
+        self.assertEqual(self.saved.all(), [])
+
+    def test_bad_file(self) -> None:
+        write(self.saved.path, "{")
+        window = self.window("a")
+        window.query_menu.fill()
+        self.assertIn("line 1, column 2", str(window.notice["text"]))
+        window.save("x")
+        with open(self.saved.path, encoding="utf-8") as file:
+            self.assertEqual(file.read(), "{")
+
+
+class Editing(OverStore):
+    def edited(self, window: "Window", text: str) -> None:
+        """Types a text into the editor, and ends it by Return."""
+        window.root.update()
+        entry = window.list.editor._entry
+        assert entry is not None
+        entry.delete(0, "end")
+        entry.insert(0, text)
+        entry.focus_force()
+        window.root.update()
+        entry.event_generate("<Return>")
+
+    def begin(self, window: "Window", place: int, column: str) -> None:
+        """Edits an attribute of a place by F2."""
+        press(window, place, [it.attribute for it in window.list.columns].index(column))
+        window.list.tree.focus_force()
+        window.root.update()
+        window.list.tree.event_generate("<F2>")
+
+    def value(self, node: int, name: str) -> object:
+        with self.store.pin() as version:
+            return version.get(node, name)
+
+    def test_writes(self) -> None:
+        window = self.window("a", "b")
+        self.begin(window, 1, "BEOS:TYPE")
+        self.assertEqual(window.list.editor.text, "text/plain")
+        self.edited(window, "text/html")
+        self.becomes(window, lambda: window.list.shown()[1][3] == "text/html")
+        self.assertEqual((self.value(2, "BEOS:TYPE"), self.value(1, "BEOS:TYPE")), ("text/html", "text/plain"))
+        self.begin(window, 1, "BEOS:TYPE")
+        self.edited(window, "")
+        self.becomes(window, lambda: self.value(2, "BEOS:TYPE") is None)
+
+    def test_new_attribute(self) -> None:
+        """An attribute that no file has yet. Its kind is that of its index."""
+        self.store.make_index("rating", bestore.INT32)
+        window = self.window("a")
+        window.choose(["name", "rating"])
+        self.shows(window, "a")
+        self.begin(window, 0, "rating")
+        self.edited(window, "many")
+        self.becomes(window, lambda: "rating isn't set: “many” isn't a whole number" in str(window.notice["text"]))
+        self.becomes(window, lambda: window.list.editor.text == "many")  # what was typed isn't lost
+        self.edited(window, "5")
+        self.becomes(window, lambda: window.list.shown() == [["a", "5"]])
+        with self.store.pin() as version:
+            self.assertEqual(version.kind(1, "rating"), bestore.INT32)
+        self.assertEqual(str(window.notice["text"]), "")
+
+    def test_beside_another_program(self) -> None:
+        """What another program has set meanwhile isn't written over."""
+        window = self.window("a")
+        self.begin(window, 0, "BEOS:TYPE")
+        self.store.set(1, "BEOS:TYPE", "by another")
+        self.becomes(window, lambda: window.list.shown()[0][3] == "by another")
+        self.edited(window, "mine")
+        self.becomes(window, lambda: "another program has set it to “by another”" in str(window.notice["text"]))
+        self.assertEqual(self.value(1, "BEOS:TYPE"), "by another")
+        self.becomes(window, lambda: window.list.editor.text == "mine")
+        self.edited(window, "mine all the same")
+        self.becomes(window, lambda: self.value(1, "BEOS:TYPE") == "mine all the same")
+
+    def test_hit_that_goes(self) -> None:
+        window = self.window("a", "b")
+        self.begin(window, 0, "BEOS:TYPE")
+        window.root.update()
+        self.assertIsNotNone(window.list.editor.cell)
+        self.store.remove_node(1)
+        self.becomes(window, lambda: "no hit any more. You had typed: text/plain" in str(window.notice["text"]))
+        self.assertIsNone(window.list.editor.cell)
+
+    def test_not_of_files(self) -> None:
+        """What the files themselves say isn't edited."""
+        window = self.window("a")
+        window.choose(["name", "size"])
+        self.shows(window, "a")
+        self.begin(window, 0, "size")
+        self.assertIsNone(window.list.editor.cell)
+        self.assertIn("of the files themselves", str(window.notice["text"]))
+
+    def test_escape(self) -> None:
+        window = self.window("a")
+        self.begin(window, 0, "BEOS:TYPE")
+        window.root.update()
+        entry = window.list.editor._entry
+        assert entry is not None
+        entry.insert("end", "x")
+        entry.focus_force()
+        window.root.update()
+        entry.event_generate("<Escape>")
+        window.root.update()
+        self.assertEqual((window.list.editor.cell, self.value(1, "BEOS:TYPE")), (None, "text/plain"))
+
+
+class Opening(OverStore):
+    def setUp(self) -> None:
+        super().setUp()
+        program = os.path.join(self.folder, "xdg-open")
+        write(program, f'#!/bin/sh\nbasename "$1" >>{self.folder}/opened\nexit "$(cat "$1")"\n')
+        os.chmod(program, stat.S_IRWXU)
+        patched = mock.patch.dict(os.environ, {"PATH": f"{self.folder}:/usr/bin:/bin"})
+        patched.start()
+        self.addCleanup(patched.stop)
+
+    def opened(self) -> List[str]:
+        path = os.path.join(self.folder, "opened")
+        if not os.path.exists(path):
+            return []
+        with open(path, encoding="utf-8") as file:
+            return file.read().split()
+
+    def test_opens(self) -> None:
+        for name, code in (("a", "0"), ("b", "4")):
+            write(os.path.join(self.folder, name), code)
+        window = self.window("a", "b", "c")
+        press(window, 0, times=2)
+        self.becomes(window, lambda: self.opened() == ["a"])
+        window.list.tree.focus_force()
+        window.root.update()
+        window.list.tree.event_generate("<Down>")
+        window.list.tree.event_generate("<Return>")
+        self.becomes(window, lambda: self.opened() == ["a", "b"])
+        self.becomes(window, lambda: "no program opens a file of this type" in str(window.notice["text"]))
+        press(window, 2, times=2)
+        self.becomes(window, lambda: "it isn't there any more" in str(window.notice["text"]))
+        self.assertEqual(self.opened(), ["a", "b"])
+
+
+class Listing(OverStore):
+    def test_scrolls_and_selects(self) -> None:
+        """The widget has the rows that are seen alone."""
+        names = [f"{number:03}" for number in range(300)]
+        for name in names:
+            self.file(name)
+        window = self.show(self.source, saved=self.saved)
+        self.becomes(window, lambda: len(window.hits) == 300 and len(shown(window)) > 5)
+        room = len(shown(window))
+        self.assertLess(room, 40)
+        self.assertEqual(shown(window), names[:room])
+        tree = window.list.tree
+        tree.focus_force()
+        window.root.update()
+        tree.event_generate("<End>")
+        self.becomes(window, lambda: shown(window) == names[-room:])
+        tree.event_generate("<Shift-Prior>")
+        window.root.update()
+        self.assertEqual(len(window.list.selection), room + 1)
+        tree.event_generate("<Button-4>")
+        window.root.update()
+        self.assertEqual(shown(window)[0], names[-room - 4])
+        window.list._scroll("moveto", "0.5")
+        self.assertEqual(shown(window)[0], "150")
+        self.file("0000")
+        self.becomes(window, lambda: len(window.hits) == 301)
+        self.assertEqual(shown(window)[0], "150")  # the list stays where it was read
+        tree.event_generate("<Control-a>")
+        self.assertEqual(len(window.list.selection), 301)
+        tree.event_generate("<Return>")
+        self.assertIn("20 is the most to open", str(window.notice["text"]))
+
+    def test_icons_and_lines(self) -> None:
+        self.file("a\nb", kind="inode/directory")
+        self.store.set(self.store.new_node(), "size", 5)
+        window = self.show(self.source, saved=self.saved)
+        window.ask("size>=0")
+        self.shows(window, "a␣b", "node 2")
+
+    def test_resizing(self) -> None:
+        for number in range(50):
+            self.file(f"{number:02}")
+        window = self.show(self.source, saved=self.saved)
+        self.becomes(window, lambda: len(shown(window)) > 10)
+        before = len(shown(window))
+        window.root.geometry("940x300")
+        self.becomes(window, lambda: len(shown(window)) < before)
+        window.root.geometry("940x560")
+        self.becomes(window, lambda: len(shown(window)) == before)
+
+
+@unittest.skipUnless(servers.BESTORED, "BESTORED names no bestored")
+class OverServer(OnDisplay):
+    """A window over the store of a server."""
+
+    options: List[object] = []
+
+    def setUp(self) -> None:
+        self.server = servers.Server(*self.options)
+        self.addCleanup(self.server.close)
+        self.store = self.server.connect()
+        self.addCleanup(self.store.close)
+        self.saved = SavedQueries(os.path.join(self.server.folder, "queries.json"))
+
+    def make_files(self) -> None:
+        for name, kind in INDICES.items():
+            self.store.make_index(name, kind)
+        home: Dict[str, bestore.Value] = {"name": "home", "FILE:root": "/home", "BEOS:TYPE": "inode/directory"}
+        self.home = file_of(self.store, **home)
+        self.nodes = [self.make_file(name, 5) for name in ("b", "a")]
+
+    def make_file(self, name: str, size: int) -> int:
+        values: Dict[str, bestore.Value] = {"name": name, "size": size, "FILE:parent": self.home}
+        return file_of(self.store, **values)
+
+    def test_follows(self) -> None:
+        self.make_files()
+        window = self.show(ServerSource(self.server.path), saved=self.saved)
+        window.ask("size>=0")
+        self.becomes(window, lambda: [(row[0], row[4]) for row in window.list.shown()] == [("a", "/home"), ("b", "/home")])
+        self.assertIn("2 of 3", str(window.state["text"]))
+        added = self.make_file("c", 6)
+        self.shows(window, "a", "b", "c")
+        self.store.set(self.nodes[0], "name", "z")
+        self.shows(window, "a", "c", "z")
+        self.store.set(self.home, "FILE:root", "/house")  # the folder was renamed
+        self.becomes(window, lambda: {row[4] for row in window.list.shown()} == {"/house"})
+        self.store.remove_node(added)
+        self.shows(window, "a", "z")
+        self.assertNotRegex(str(window.state["text"]), "score|version")
+
+    def test_edits(self) -> None:
+        self.make_files()
+        window = self.show(ServerSource(self.server.path), saved=self.saved)
+        self.shows(window, "a", "b", "home")
+        press(window, 0, 3)
+        window.list.edit()
+        entry = window.list.editor._entry
+        assert entry is not None
+        entry.insert(0, "text/x")
+        window.list.editor._finish(True)
+        self.becomes(window, lambda: window.list.shown()[0][3] == "text/x")
+
+    def test_server_that_goes(self) -> None:
+        """It is said, the list goes, and all comes back with the server."""
+        self.make_files()
+        window = self.show(ServerSource(self.server.path), saved=self.saved)
+        window.ask("size>=0")
+        self.shows(window, "a", "b")
+        self.server.kill()
+        self.becomes(window, lambda: "The store isn't there" in str(window.notice["text"]))
+        self.assertEqual((shown(window), str(window.state["text"])), ([], ""))
+        self.server.start()
+        self.store = self.server.connect()
+        self.make_files()
+        self.shows(window, "a", "b")
+        self.becomes(window, lambda: str(window.notice["text"]) == "")
+
+    def test_own_server(self) -> None:
+        """If none listens the window starts one, which keeps its store, and ends it."""
+        folder = tempfile.mkdtemp(prefix="own-", dir=servers.MEMORY)
+        self.addCleanup(lambda: __import__("shutil").rmtree(folder))
+        program = os.path.join(folder, "bestored")
+        os.symlink(str(servers.BESTORED), program)
+        socket = os.path.join(folder, "run", "socket")
+        os.mkdir(os.path.dirname(socket), 0o700)
+        changed = {"PATH": folder, "BESTORE_SOCKET": socket, "XDG_DATA_HOME": os.path.join(folder, "data")}
+        for kept in (0, 1):
+            with mock.patch.dict(os.environ, changed):
+                source = ServerSource()
+            with bestore.connect(socket) as store, store.pin() as version:
+                self.assertEqual(len(version.indices()), kept)
+            with bestore.connect(socket) as store:
+                if not kept:
+                    store.make_index("name", bestore.STRING)
+            source.close()
+            with self.assertRaises(bestore.NoServer):
+                bestore.connect(socket)
+
+
+class OverVolumes(OverServer):
+    """The same over a server with several volumes."""
+
+    options = ["--volumes", 3]
+
+    def test_spread(self) -> None:
+        """The files lie in several volumes, and each is followed."""
+        self.make_files()
+        window = self.show(ServerSource(self.server.path), saved=self.saved)
+        names = [f"{number:02}" for number in range(12)]
+        made = [self.make_file(name, 50) for name in names]
+        window.ask("size==50")
+        self.shows(window, *names)
+        self.assertEqual({bestore.volume_of(node) for node in made}, {0, 1, 2})
+        for node, name in zip(made[:6], "abcdef"):
+            self.store.set(node, "name", name)
+        self.shows(window, *names[6:], *"abcdef")
+
+
+if __name__ == "__main__":
+    unittest.main()

@@ -1,0 +1,274 @@
+//! The attributes that a file has in the store.
+
+use super::mail::{self, Side};
+use super::stat::{Form, Stat};
+use super::types::{Types, UNKNOWN};
+use super::walk::Found;
+use bestore::{Kind, Value};
+use std::borrow::Cow;
+use std::collections::BTreeMap;
+use std::ffi::OsStr;
+use std::fs::{File, OpenOptions};
+use std::io::{self, Read};
+use std::os::unix::ffi::OsStrExt;
+use std::os::unix::fs::OpenOptionsExt;
+use std::path::Path;
+
+/// The attributes that an import sets and removes. All others are the user's.
+pub const OWN: [&str; 18] = [
+    "name",
+    "size",
+    "last_modified",
+    "created",
+    "BEOS:TYPE",
+    PARENT,
+    ROOT,
+    NAME,
+    STAT,
+    XATTRS,
+    "MAIL:from",
+    "MAIL:name",
+    "MAIL:to",
+    "MAIL:cc",
+    "MAIL:reply",
+    "MAIL:subject",
+    "MAIL:when",
+    "MAIL:status",
+];
+
+/// The node of the folder that a file is in.
+pub const PARENT: &str = "FILE:parent";
+/// The path of an imported folder.
+pub const ROOT: &str = "FILE:root";
+/// The bytes of a name that isn't UTF-8.
+pub const NAME: &str = "FILE:name";
+/// By what a file is known again, and whether it was changed.
+pub const STAT: &str = "FILE:stat";
+/// Which attributes are from extended attributes of the file: their names, with a zero byte between two.
+pub const XATTRS: &str = "FILE:xattrs";
+
+/// The indices that an import makes.
+pub const INDICES: [(&str, Kind); 9] = [
+    ("name", Kind::Text),
+    ("size", Kind::Int64),
+    ("last_modified", Kind::Int64),
+    ("BEOS:TYPE", Kind::Text),
+    ("MAIL:from", Kind::Text),
+    ("MAIL:to", Kind::Text),
+    ("MAIL:subject", Kind::Text),
+    ("MAIL:when", Kind::Int64),
+    ("MAIL:status", Kind::Text),
+];
+
+/// The most attributes of a node.
+const MOST: usize = 64;
+
+/// The most bytes of a value, and of a name.
+const VALUE: usize = 255;
+const NAME_LENGTH: usize = 63;
+
+/// How many bytes of a file are read for its type.
+const BEGIN: usize = 1 << 12;
+
+/// The attributes of a file, but for the folder that it is in.
+#[derive(Debug, Default)]
+pub struct Content {
+    pub values: BTreeMap<String, Value>,
+    /// How many extended attributes the store can't hold.
+    pub left_out: usize,
+}
+
+/// What reads files.
+#[derive(Debug)]
+pub struct Reader {
+    pub types: Types,
+    /// The kinds of the indices, by their names.
+    pub indices: BTreeMap<String, Kind>,
+}
+
+impl Reader {
+    /// The attributes of a file. What can't be read of it is missing.
+    pub fn content(&self, found: &Found) -> Content {
+        let Found { path, stat } = found;
+        let mut content = Content::default();
+        let mut set = |name: &str, value: Value| content.values.insert(name.into(), value);
+        let name = name_in(path);
+        let text = name.to_string_lossy();
+        set("name", mail::cut(&text).into());
+        if let Cow::Owned(_) = text {
+            set(NAME, name.as_bytes().into());
+        }
+        set("size", stat.size.into());
+        set("last_modified", stat.modified.into());
+        if let Some(created) = stat.created {
+            set("created", created.into());
+        }
+        set(STAT, stat.text().into());
+        let (mime, mail) = self.mime(path, stat, &text);
+        set("BEOS:TYPE", mail::cut(&mime).into());
+        for (name, value) in mail {
+            set(name, value);
+        }
+        if matches!(stat.form, Form::File | Form::Folder) {
+            self.add_extended(path, &mut content);
+        }
+        content
+    }
+
+    /// The type of a file, and the attributes that it has as a mail.
+    fn mime(&self, path: &Path, stat: &Stat, name: &str) -> (String, Vec<(&'static str, Value)>) {
+        if let Some(mime) = stat.form.mime() {
+            return (mime.into(), Vec::new());
+        }
+        let side = path.parent().and_then(Side::of_folder);
+        let mime = match (side, self.types.of_name(name)) {
+            (Some(_), _) => mail::TYPE,
+            (None, Some(mime)) => mime,
+            (None, None) => begin_of(path, BEGIN).map_or(UNKNOWN, |begin| self.types.of_content(&begin)),
+        };
+        if side.is_none() && mime != "message/rfc822" {
+            return (mime.into(), Vec::new());
+        }
+        let begin = begin_of(path, mail::HEAD).unwrap_or_default();
+        (mail::TYPE.into(), mail::attributes(&begin, side, name_in(path)))
+    }
+
+    /// Adds the extended attributes `user.*`.
+    fn add_extended(&self, path: &Path, content: &mut Content) {
+        let mut listed: Vec<u8> = Vec::new();
+        for full in xattr::list(path).into_iter().flatten() {
+            let name = match full.as_bytes().strip_prefix(b"user.") {
+                Some(name) => name,
+                None => continue,
+            };
+            match self.extended(path, &full, name) {
+                Some((name, value)) if content.values.len() + 3 < MOST => {
+                    if !listed.is_empty() {
+                        listed.push(0);
+                    }
+                    listed.extend_from_slice(name.as_bytes());
+                    content.values.insert(name, value);
+                }
+                _ => content.left_out += 1,
+            }
+        }
+        listed.truncate(whole_names(&listed));
+        if !listed.is_empty() {
+            content.values.insert(XATTRS.into(), listed.into());
+        }
+    }
+
+    /// An extended attribute as an attribute of the store, if it can be one.
+    fn extended(&self, path: &Path, full: &OsStr, name: &[u8]) -> Option<(String, Value)> {
+        let name = std::str::from_utf8(name).ok()?;
+        if OWN.contains(&name) || name.is_empty() || name.len() > NAME_LENGTH {
+            return None;
+        }
+        let bytes = xattr::get(path, full).ok()??;
+        let value = self.value_of(name, bytes)?;
+        Some((name.into(), value))
+    }
+
+    /// The bytes as a value: as the index of this name takes it, otherwise a text, or raw if it is none.
+    fn value_of(&self, name: &str, bytes: Vec<u8>) -> Option<Value> {
+        let kind = self.indices.get(name).copied().unwrap_or(Kind::Text);
+        if let Some(value) = std::str::from_utf8(&bytes).ok().and_then(|text| number_of(kind, text)) {
+            return Some(value);
+        }
+        match String::from_utf8(bytes) {
+            Ok(text) if text.len() <= VALUE && !text.contains('\0') => Some(text.into()),
+            Ok(text) if text.len() <= VALUE => Some(text.into_bytes().into()),
+            Err(error) if error.as_bytes().len() <= VALUE => Some(error.into_bytes().into()),
+            _ => None,
+        }
+    }
+}
+
+/// The number of this kind that the text has.
+fn number_of(kind: Kind, text: &str) -> Option<Value> {
+    match kind {
+        Kind::Int32 => text.parse::<i32>().ok().map(Value::from),
+        Kind::Int64 => text.parse::<i64>().ok().map(Value::from),
+        Kind::Uint32 => text.parse::<u32>().ok().map(Value::from),
+        Kind::Uint64 => text.parse::<u64>().ok().map(Value::from),
+        _ => None,
+    }
+}
+
+/// How many bytes of a list of names a value holds, in whole names.
+pub fn whole_names(listed: &[u8]) -> usize {
+    if listed.len() <= VALUE {
+        return listed.len();
+    }
+    listed[..=VALUE].iter().rposition(|byte| *byte == 0).unwrap_or(0)
+}
+
+/// The name of a file in its folder. That of the root of all files is `/`.
+pub fn name_in(path: &Path) -> &OsStr {
+    path.file_name().unwrap_or(path.as_os_str())
+}
+
+/// So many bytes of the file from its beginning. It isn't opened through a symlink, and nothing is waited for: a FIFO that has
+/// taken its place isn't read.
+fn begin_of(path: &Path, most: usize) -> io::Result<Vec<u8>> {
+    let flags = libc::O_NONBLOCK | libc::O_NOFOLLOW | libc::O_NOCTTY;
+    let file: File = OpenOptions::new().read(true).custom_flags(flags).open(path)?;
+    let mut begin = Vec::new();
+    if file.metadata()?.is_file() {
+        file.take(most as u64).read_to_end(&mut begin)?;
+    }
+    Ok(begin)
+}
+
+/// The bytes of an extended attribute that has this value. Numbers are their digits.
+pub fn bytes_of(value: &Value) -> Vec<u8> {
+    value
+        .as_bytes()
+        .map_or_else(|| value.to_string().into_bytes(), <[u8]>::to_vec)
+}
+
+/// Whether the two are the same but for their kinds, which an extended attribute doesn't have.
+pub fn is_same(one: &Value, other: &Value) -> bool {
+    one == other || bytes_of(one) == bytes_of(other)
+}
+
+#[cfg(test)]
+mod tests {
+    use super::*;
+
+    fn reader() -> Reader {
+        Reader {
+            types: Types::of_machine(),
+            indices: [("rating".to_string(), Kind::Int32)].into(),
+        }
+    }
+
+    #[test]
+    fn extended_attributes_have_the_kind_of_their_index() {
+        let value = |name: &str, bytes: &[u8]| reader().value_of(name, bytes.to_vec());
+        assert_eq!(value("rating", b"5"), Some(5_i32.into()));
+        assert_eq!(value("rating", b"five"), Some("five".into()));
+        assert_eq!(value("other", b"5"), Some("5".into()));
+        assert_eq!(value("other", b"a\0"), Some(b"a\0".to_vec().into()));
+        assert_eq!(value("other", b"\xff"), Some(vec![255].into()));
+        assert_eq!(value("other", &[b'a'; 255]), Some("a".repeat(255).into()));
+        assert_eq!(value("other", &[b'a'; 256]), None);
+        assert_eq!(value("other", &[255; 256]), None);
+    }
+
+    #[test]
+    fn a_list_of_names_is_cut_between_names() {
+        assert_eq!(whole_names(b"a\0b"), 3);
+        let mut long = vec![b'a'; 250];
+        long.extend_from_slice(b"\0bcdefgh");
+        assert_eq!(whole_names(&long), 250);
+        assert_eq!(whole_names(&[b'a'; 300]), 0);
+    }
+
+    #[test]
+    fn numbers_and_their_digits_are_the_same() {
+        assert!(is_same(&5_i32.into(), &"5".into()));
+        assert!(!is_same(&5_i32.into(), &6_i32.into()));
+        assert!(!is_same(&vec![1].into(), &vec![2].into()));
+    }
+}

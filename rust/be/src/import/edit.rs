@@ -1,0 +1,130 @@
+//! Changes of nodes that files have already.
+
+use super::content::{is_same, OWN, PARENT, ROOT, STAT, XATTRS};
+use bestore::{Batch, Value};
+use std::collections::{BTreeMap, BTreeSet};
+use std::path::PathBuf;
+
+/// What is changed at a node.
+#[derive(Clone, Debug, PartialEq)]
+pub enum Edit {
+    Set(String, Value),
+    Unset(String),
+    Remove,
+}
+
+/// The changes of a node.
+#[derive(Clone, Debug)]
+pub struct Edits {
+    pub path: PathBuf,
+    pub node: u64,
+    pub edits: Vec<Edit>,
+}
+
+impl Edits {
+    /// Removes a node.
+    pub fn remove(path: PathBuf, node: u64) -> Self {
+        let edits = vec![Edit::Remove];
+        Self { path, node, edits }
+    }
+
+    /// Adds the changes to a batch.
+    pub fn add_to(&self, batch: &mut Batch) {
+        for edit in &self.edits {
+            match edit {
+                Edit::Set(name, value) => batch.set(self.node, name, value.clone()),
+                Edit::Unset(name) => batch.unset(self.node, name),
+                Edit::Remove => batch.remove_node(self.node),
+            };
+        }
+    }
+}
+
+/// What makes the attributes that a node has into those of its file. Attributes that a user has set stay.
+pub fn between(had: &BTreeMap<String, Value>, wanted: &BTreeMap<String, Value>) -> Vec<Edit> {
+    let listed = names_listed(had);
+    let is_from_file = |name: &&String| OWN.contains(&name.as_str()) || listed.contains(name.as_str());
+    let unset = had
+        .keys()
+        .filter(is_from_file)
+        .filter(|name| !wanted.contains_key(*name))
+        .map(|name| Edit::Unset(name.clone()));
+    let differs = |(name, value): &(&String, &Value)| had.get(*name).map_or(true, |had| !is_same(had, value));
+    let set = stat_last(wanted)
+        .filter(differs)
+        .map(|(name, value)| Edit::Set(name.clone(), value.clone()));
+    unset.chain(set).collect()
+}
+
+/// The attributes with `FILE:stat` at the end: if they are more than a batch, a file has it once all others are written.
+pub fn stat_last(values: &BTreeMap<String, Value>) -> impl Iterator<Item = (&String, &Value)> {
+    let others = values.iter().filter(|(name, _)| *name != STAT);
+    others.chain(values.get_key_value(STAT))
+}
+
+/// The names of the attributes that came from extended attributes.
+pub fn names_listed(attributes: &BTreeMap<String, Value>) -> BTreeSet<String> {
+    let bytes = attributes.get(XATTRS).and_then(Value::as_bytes).unwrap_or_default();
+    let names = bytes.split(|byte| *byte == 0).filter(|name| !name.is_empty());
+    names.map(|name| String::from_utf8_lossy(name).into_owned()).collect()
+}
+
+/// Whether a user has set an attribute of the node.
+pub fn has_more(attributes: &BTreeMap<String, Value>) -> bool {
+    attributes.keys().any(|name| !OWN.contains(&name.as_str()))
+}
+
+/// Says in which folder a file is: its node, or the path of one that is imported by itself.
+pub fn place(values: &mut BTreeMap<String, Value>, parent: Option<u64>, root: Option<Value>) {
+    match (parent, root) {
+        (Some(parent), _) => {
+            let parent = i64::try_from(parent).unwrap_or(i64::MAX);
+            values.insert(PARENT.into(), parent.into());
+        }
+        (None, Some(root)) => {
+            values.insert(ROOT.into(), root);
+        }
+        (None, None) => {}
+    }
+}
+
+#[cfg(test)]
+mod tests {
+    use super::*;
+
+    fn attributes(list: &[(&str, &str)]) -> BTreeMap<String, Value> {
+        let pair = |(name, value): &(&str, &str)| (name.to_string(), Value::from(*value));
+        list.iter().map(pair).collect()
+    }
+
+    #[test]
+    fn the_state_of_a_file_is_written_last() {
+        let values = attributes(&[("FILE:stat", "1"), ("name", "a"), ("FILE:parent", "2")]);
+        let names: Vec<&str> = stat_last(&values).map(|(name, _)| name.as_str()).collect();
+        assert_eq!(names, ["FILE:parent", "name", "FILE:stat"]);
+    }
+
+    #[test]
+    fn what_a_user_has_set_stays() {
+        let mut had = attributes(&[
+            ("name", "a"),
+            ("MAIL:to", "x"),
+            ("rating", "5"),
+            ("from-file", "y"),
+            ("size", "1"),
+        ]);
+        had.insert(XATTRS.into(), b"from-file\0other".to_vec().into());
+        let wanted = attributes(&[("name", "b"), ("size", "1")]);
+        assert_eq!(
+            between(&had, &wanted),
+            [
+                Edit::Unset(XATTRS.into()),
+                Edit::Unset("MAIL:to".into()),
+                Edit::Unset("from-file".into()),
+                Edit::Set("name".into(), "b".into()),
+            ]
+        );
+        assert!(between(&wanted, &wanted).is_empty());
+        assert!(has_more(&had) && !has_more(&wanted));
+    }
+}

@@ -1,0 +1,81 @@
+//! `--xattr`: attributes of nodes become extended attributes of their files.
+
+use super::content::{bytes_of, whole_names, OWN, STAT, XATTRS};
+use super::edit::{Edit, Edits};
+use super::stat::{Form, Stat};
+use super::summary::Summary;
+use super::Import;
+use crate::failure::Failure;
+use bestore::Value;
+use std::collections::BTreeMap;
+use std::fs;
+use std::io;
+use std::path::{Path, PathBuf};
+
+impl Import<'_> {
+    /// Writes what a user has set at nodes into their files, each attribute `NAME` as `user.NAME`.
+    pub fn write_extended(&mut self, mut summary: Summary) -> Result<Summary, Failure> {
+        let nodes: Vec<(PathBuf, u64)> = self
+            .tree
+            .files
+            .iter()
+            .map(|(path, known)| (path.clone(), known.node))
+            .collect();
+        let mut edits = Vec::new();
+        for (path, node) in nodes {
+            let attributes = match self.client.attributes(node) {
+                Err(error) if error.is("NoNode") => continue,
+                answer => answer?,
+            };
+            match write_all(&path, &attributes) {
+                Ok((0, _)) => {}
+                Ok((written, stat)) => {
+                    summary.xattrs_written += written;
+                    edits.push(self.written(path, node, &attributes, stat));
+                }
+                Err(error) => summary.refused.push((path, error.to_string())),
+            }
+        }
+        self.write(&edits, &mut summary)?;
+        Ok(summary)
+    }
+
+    /// What the node has to say after its attributes were written into the file.
+    fn written(&mut self, path: PathBuf, node: u64, attributes: &BTreeMap<String, Value>, stat: Stat) -> Edits {
+        let text = stat.text();
+        if let Some(known) = self.tree.files.get_mut(&path) {
+            known.stat = text.clone();
+        }
+        let names: Vec<&str> = users(attributes).map(|(name, _)| name.as_str()).collect();
+        let mut listed = names.join("\0").into_bytes();
+        listed.truncate(whole_names(&listed));
+        let edits = vec![
+            Edit::Set(STAT.into(), text.into()),
+            Edit::Set(XATTRS.into(), listed.into()),
+        ];
+        Edits { path, node, edits }
+    }
+}
+
+/// The attributes that a user has set.
+fn users(attributes: &BTreeMap<String, Value>) -> impl Iterator<Item = (&String, &Value)> {
+    attributes.iter().filter(|(name, _)| !OWN.contains(&name.as_str()))
+}
+
+/// Writes the attributes that the file doesn't have, and returns how many, and what the file system says of it then.
+fn write_all(path: &Path, attributes: &BTreeMap<String, Value>) -> io::Result<(usize, Stat)> {
+    let stat = Stat::from(&fs::symlink_metadata(path)?);
+    if !matches!(stat.form, Form::File | Form::Folder) {
+        return Ok((0, stat));
+    }
+    let mut written = 0;
+    for (name, value) in users(attributes) {
+        let bytes = bytes_of(value);
+        let name = format!("user.{name}");
+        if xattr::get(path, &name)?.as_deref() != Some(&bytes) {
+            xattr::set(path, &name, &bytes)?;
+            written += 1;
+        }
+    }
+    Ok((written, Stat::from(&fs::symlink_metadata(path)?)))
+}

@@ -1,0 +1,120 @@
+//! What the store knows of the files of a folder.
+
+use super::content::STAT;
+use super::stat::Identity;
+use crate::failure::Failure;
+use crate::paths::{each_named, Paths, Step, COLUMNS};
+use crate::server::pinned;
+use bestore::Value;
+use bestore_client::wire::Json;
+use bestore_client::Client;
+use std::collections::{BTreeMap, HashMap};
+use std::path::{Path, PathBuf};
+
+/// A file that has a node.
+#[derive(Clone, Debug, PartialEq, Eq)]
+pub struct Known {
+    pub node: u64,
+    /// The folder's node. `None`: the folder was imported by itself.
+    pub parent: Option<u64>,
+    /// What `FILE:stat` has.
+    pub stat: String,
+}
+
+impl Known {
+    pub fn identity(&self) -> Option<Identity> {
+        Identity::read(&self.stat)
+    }
+}
+
+/// The files of a folder that have a node.
+#[derive(Debug, Default)]
+pub struct Tree {
+    /// By their paths: what is in a folder follows it.
+    pub files: BTreeMap<PathBuf, Known>,
+    /// Those whose folder has no node any more.
+    pub lost: Vec<Known>,
+}
+
+impl Tree {
+    /// Reads what the store knows of the folder and what is below it.
+    pub fn read(client: &mut Client, folder: &Path) -> Result<Self, Failure> {
+        let columns: Vec<&str> = COLUMNS.into_iter().chain([STAT]).collect();
+        let (steps, stats) = pinned(client, |client| {
+            let (mut steps, mut stats) = (HashMap::new(), HashMap::new());
+            each_named(client, &columns, |node, row| {
+                let value = |name: &str| value_of(&columns, row, name);
+                if let (Some(step), Some(Value::Text(stat))) = (Step::read(value), value(STAT)) {
+                    steps.insert(node, step);
+                    stats.insert(node, stat.clone());
+                }
+            })?;
+            Ok((steps, stats))
+        })?;
+        Ok(Self::of_steps(&steps, stats, folder))
+    }
+
+    fn of_steps(steps: &HashMap<u64, Step>, stats: HashMap<u64, String>, folder: &Path) -> Self {
+        let mut tree = Self::default();
+        let mut paths = Paths::default();
+        for (node, stat) in stats {
+            let parent = steps.get(&node).and_then(|step| step.parent);
+            let known = Known { node, parent, stat };
+            match paths.found(node, |node| {
+                Ok::<_, std::convert::Infallible>(steps.get(&node).cloned())
+            }) {
+                Ok(Some(path)) if path.starts_with(folder) => {
+                    tree.add(path, known);
+                }
+                Ok(None) => tree.lost.push(known),
+                _ => {}
+            }
+        }
+        tree
+    }
+
+    /// Adds a file. If two have one path, as after a write that another program has made, one of them is lost.
+    fn add(&mut self, path: PathBuf, known: Known) {
+        self.lost.extend(self.files.insert(path, known));
+    }
+
+    /// Takes the file at this path, and what is below it, out of the tree.
+    pub fn take_below(&mut self, path: &Path) -> Vec<(PathBuf, Known)> {
+        let range = self.files.range(path.to_path_buf()..);
+        let below: Vec<PathBuf> = range
+            .take_while(|(below, _)| below.starts_with(path))
+            .map(|(below, _)| below.clone())
+            .collect();
+        below
+            .into_iter()
+            .filter_map(|path| self.files.remove_entry(&path))
+            .collect()
+    }
+}
+
+fn value_of<'a>(columns: &[&str], row: &'a [Option<Json>], name: &str) -> Option<&'a Value> {
+    let at = columns.iter().position(|column| *column == name)?;
+    row.get(at)?.as_ref().map(|Json(value)| value)
+}
+
+#[cfg(test)]
+mod tests {
+    use super::*;
+
+    #[test]
+    fn what_is_below_a_folder_is_taken_with_it() {
+        let mut tree = Tree::default();
+        for (node, path) in ["/a", "/a/b", "/a/b/c", "/a/b-c", "/a/bc"].into_iter().enumerate() {
+            let known = Known {
+                node: node as u64,
+                parent: None,
+                stat: String::new(),
+            };
+            tree.add(path.into(), known);
+        }
+        let taken = tree.take_below(Path::new("/a/b"));
+        assert_eq!(taken.iter().map(|(_, known)| known.node).collect::<Vec<_>>(), [1, 2]);
+        assert_eq!(tree.files.len(), 3);
+        assert!(tree.take_below(Path::new("/b")).is_empty());
+    }
+}

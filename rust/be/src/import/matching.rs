@@ -1,0 +1,224 @@
+//! Which node each file has: it keeps its node when it is changed, renamed or moved, so what a user has set stays.
+
+use super::known::Known;
+use super::stat::Identity;
+use super::walk::Found;
+use std::collections::{HashMap, HashSet};
+use std::path::PathBuf;
+
+/// A file with the node that it had, and the path that it had then.
+#[derive(Debug)]
+pub struct Matched {
+    pub found: Found,
+    pub known: Option<(PathBuf, Known)>,
+}
+
+/// Files with their nodes, and those that no file has any more.
+#[derive(Debug, Default)]
+pub struct Matching {
+    pub files: Vec<Matched>,
+    pub gone: Vec<(PathBuf, Known)>,
+}
+
+/// The nodes that no file has yet.
+struct Left {
+    nodes: HashMap<u64, (PathBuf, Known)>,
+    by_path: HashMap<PathBuf, u64>,
+    by_identity: HashMap<Identity, Vec<u64>>,
+}
+
+impl Left {
+    fn new(known: Vec<(PathBuf, Known)>) -> Self {
+        let mut left = Self {
+            nodes: HashMap::new(),
+            by_path: HashMap::new(),
+            by_identity: HashMap::new(),
+        };
+        for (path, known) in known {
+            left.by_path.insert(path.clone(), known.node);
+            if let Some(identity) = known.identity() {
+                left.by_identity.entry(identity).or_default().push(known.node);
+            }
+            left.nodes.insert(known.node, (path, known));
+        }
+        left
+    }
+
+    fn take(&mut self, node: u64) -> Option<(PathBuf, Known)> {
+        self.nodes.remove(&node)
+    }
+
+    /// The node at the path of this file, if no other file has it.
+    fn at_path(&self, found: &Found) -> Option<u64> {
+        let node = self.by_path.get(&found.path)?;
+        self.nodes.contains_key(node).then_some(*node)
+    }
+
+    /// A node of the same file, if no other file has it.
+    fn same_file(&self, found: &Found) -> Option<u64> {
+        let nodes = self.by_identity.get(&found.stat.identity)?;
+        nodes.iter().copied().find(|node| self.nodes.contains_key(node))
+    }
+
+    fn identity(&self, node: u64) -> Option<Identity> {
+        self.nodes.get(&node).and_then(|(_, known)| known.identity())
+    }
+}
+
+/// Gives each file its node. `has_more` says whether a node has attributes that a user has set.
+///
+/// 1. The same file at the same path keeps its node.
+/// 2. So does the same file at another path.
+/// 3. Another file at the same path has the node that was there, as after an editor has replaced it.
+/// 4. Others have none.
+///
+/// If one file is moved onto another, 2 and 3 name two nodes. The first one counts, unless the second alone has what a user has set.
+pub fn matched<E>(
+    found: Vec<Found>,
+    known: Vec<(PathBuf, Known)>,
+    mut has_more: impl FnMut(u64) -> Result<bool, E>,
+) -> Result<Matching, E> {
+    let mut left = Left::new(known);
+    let mut files: Vec<Matched> = found.into_iter().map(|found| Matched { found, known: None }).collect();
+    for file in &mut files {
+        match left.at_path(&file.found) {
+            Some(node) if left.identity(node) == Some(file.found.stat.identity) => file.known = left.take(node),
+            _ => {}
+        }
+    }
+    let elsewhere: HashSet<Identity> = without(&mut files).map(|file| file.found.stat.identity).collect();
+    for file in without(&mut files) {
+        if let Some(node) = left.same_file(&file.found) {
+            let replaced = left.at_path(&file.found);
+            let replaced = replaced.filter(|there| left.identity(*there).map_or(true, |it| !elsewhere.contains(&it)));
+            let node = match replaced {
+                Some(there) if has_more(there)? && !has_more(node)? => there,
+                _ => node,
+            };
+            file.known = left.take(node);
+        }
+    }
+    for file in without(&mut files) {
+        file.known = left.at_path(&file.found).and_then(|node| left.take(node));
+    }
+    let gone = left.nodes.into_values().collect();
+    Ok(Matching { files, gone })
+}
+
+fn without(files: &mut [Matched]) -> impl Iterator<Item = &mut Matched> {
+    files.iter_mut().filter(|file| file.known.is_none())
+}
+
+#[cfg(test)]
+mod tests {
+    use super::super::stat::Stat;
+    use super::*;
+    use std::fs;
+
+    /// Each name is a file of its own, whatever its path is.
+    struct Files {
+        folder: PathBuf,
+    }
+
+    impl Files {
+        fn new(test: &str) -> Self {
+            let folder = std::env::temp_dir().join(format!("be-matching-{test}-{}", std::process::id()));
+            fs::create_dir_all(&folder).unwrap();
+            Self { folder }
+        }
+
+        fn stat(&self, file: &str) -> Stat {
+            let path = self.folder.join(file);
+            if !path.exists() {
+                fs::write(&path, file).unwrap();
+            }
+            Stat::from(&fs::symlink_metadata(path).unwrap())
+        }
+
+        fn found(&self, files: &[(&str, &str)]) -> Vec<Found> {
+            let found = |(path, file): &(&str, &str)| Found {
+                path: path.into(),
+                stat: self.stat(file),
+            };
+            files.iter().map(found).collect()
+        }
+
+        fn known(&self, files: &[(u64, &str, &str)]) -> Vec<(PathBuf, Known)> {
+            let known = |(node, path, file): &(u64, &str, &str)| {
+                let stat = self.stat(file).text();
+                let parent = Some(0);
+                (
+                    PathBuf::from(path),
+                    Known {
+                        node: *node,
+                        parent,
+                        stat,
+                    },
+                )
+            };
+            files.iter().map(known).collect()
+        }
+
+        /// The nodes that the files get, and those that are gone.
+        fn nodes(
+            &self,
+            found: &[(&str, &str)],
+            known: &[(u64, &str, &str)],
+            more: &[u64],
+        ) -> (Vec<Option<u64>>, Vec<u64>) {
+            let has_more = |node: u64| Ok::<_, ()>(more.contains(&node));
+            let matching = matched(self.found(found), self.known(known), has_more).unwrap();
+            let node = |file: &Matched| file.known.as_ref().map(|(_, known)| known.node);
+            let mut gone: Vec<u64> = matching.gone.iter().map(|(_, known)| known.node).collect();
+            gone.sort_unstable();
+            (matching.files.iter().map(node).collect(), gone)
+        }
+    }
+
+    impl Drop for Files {
+        fn drop(&mut self) {
+            let _ = fs::remove_dir_all(&self.folder);
+        }
+    }
+
+    #[test]
+    fn a_file_keeps_its_node() {
+        let files = Files::new("keeps");
+        let known = [(1, "/a", "A"), (2, "/b", "B")];
+        for (found, nodes, gone) in [
+            (vec![("/a", "A"), ("/b", "B")], vec![Some(1), Some(2)], vec![]),
+            (vec![("/c", "A"), ("/b", "B")], vec![Some(1), Some(2)], vec![]),
+            (vec![("/a", "B"), ("/b", "A")], vec![Some(2), Some(1)], vec![]),
+            (vec![("/a", "C"), ("/b", "B")], vec![Some(1), Some(2)], vec![]),
+            (vec![("/b", "A")], vec![Some(1)], vec![2]),
+            (vec![("/c", "C")], vec![None], vec![1, 2]),
+            (vec![], vec![], vec![1, 2]),
+        ] {
+            assert_eq!(files.nodes(&found, &known, &[]), (nodes, gone), "{found:?}");
+        }
+    }
+
+    #[test]
+    fn what_a_user_has_set_stays_if_a_file_is_moved_onto_another() {
+        let files = Files::new("onto");
+        let known = [(1, "/new", "A"), (2, "/b", "B")];
+        let found = [("/b", "A")];
+        assert_eq!(files.nodes(&found, &known, &[]), (vec![Some(1)], vec![2]));
+        assert_eq!(files.nodes(&found, &known, &[2]), (vec![Some(2)], vec![1]));
+        assert_eq!(files.nodes(&found, &known, &[1, 2]), (vec![Some(1)], vec![2]));
+        // The one that was there is elsewhere now.
+        let found = [("/b", "A"), ("/c", "B")];
+        assert_eq!(files.nodes(&found, &known, &[2]), (vec![Some(1), Some(2)], vec![]));
+    }
+
+    #[test]
+    fn each_name_of_one_file_has_a_node() {
+        let files = Files::new("links");
+        let known = [(1, "/a", "A"), (2, "/b", "A")];
+        let nodes = |found: &[(&str, &str)]| files.nodes(found, &known, &[]);
+        assert_eq!(nodes(&[("/a", "A"), ("/b", "A")]), (vec![Some(1), Some(2)], vec![]));
+        assert_eq!(nodes(&[("/b", "A"), ("/c", "A")]), (vec![Some(2), Some(1)], vec![]));
+        let (given, _) = nodes(&[("/b", "A"), ("/c", "A"), ("/d", "A")]);
+        assert_eq!(given, [Some(2), Some(1), None]);
+    }
+}

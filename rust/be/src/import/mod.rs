@@ -1,0 +1,185 @@
+//! `import`: a node for each file of a folder, which it keeps when it is changed, renamed or moved.
+
+pub mod content;
+mod edit;
+mod extended;
+pub mod follow;
+mod known;
+pub mod mail;
+mod matching;
+pub mod stat;
+mod summary;
+mod types;
+mod update;
+mod volume;
+mod walk;
+mod words;
+
+use crate::command_line::Import as Line;
+use crate::failure::{complain, Failure};
+use crate::kind::kind_name;
+use crate::output::Output;
+use crate::server;
+use bestore::{Batch, Kind, Value};
+use bestore_client::wire::kind_named;
+use bestore_client::Client;
+use content::{Reader, INDICES};
+use follow::Watches;
+use indicatif::{ProgressBar, ProgressStyle};
+use known::{Known, Tree};
+use std::collections::BTreeMap;
+use std::fs;
+use std::os::unix::ffi::OsStrExt;
+use std::path::{Path, PathBuf};
+use summary::Summary;
+use types::Types;
+use volume::Volume;
+use walk::Walk;
+
+/// The most bytes of the path of an imported folder: it is a value.
+const ROOT: usize = 255;
+
+/// An import of a folder.
+pub struct Import<'a> {
+    folder: PathBuf,
+    line: &'a Line,
+    client: Client,
+    volumes: Vec<Volume>,
+    reader: Reader,
+    tree: Tree,
+    /// Files that weren't at their paths when these were read last.
+    missing: Vec<(PathBuf, Known)>,
+}
+
+pub fn run(connect: &dyn Fn() -> Result<Client, Failure>, line: &Line, output: &mut Output) -> Result<(), Failure> {
+    let folder = folder_of(&line.folder)?;
+    let mut watches = match line.follow {
+        true => Some(Watches::new(&folder)?),
+        false => None,
+    };
+    let mut import = Import::begin(connect, line, folder)?;
+    let summary = import.scan(watches.as_mut())?;
+    summary.print(line, import.reader.types.source(), output)?;
+    output.flush()?;
+    match watches {
+        Some(watches) => import.follow(watches, output),
+        None => server::all_done(summary.is_whole()),
+    }
+}
+
+/// The path of the folder from the root of all files on, without symlinks.
+fn folder_of(folder: &Path) -> Result<PathBuf, Failure> {
+    let failed = |error| Failure::File(folder.into(), error);
+    let whole = fs::canonicalize(folder).map_err(failed)?;
+    // It can be read, and is a folder.
+    fs::read_dir(&whole).map_err(failed)?;
+    match whole.as_os_str().len() <= ROOT {
+        true => Ok(whole),
+        false => Err(Failure::LongPath(whole)),
+    }
+}
+
+impl<'a> Import<'a> {
+    fn begin(connect: &dyn Fn() -> Result<Client, Failure>, line: &'a Line, folder: PathBuf) -> Result<Self, Failure> {
+        let mut client = connect()?;
+        let indices = make_indices(&mut client)?;
+        Ok(Self {
+            tree: Tree::read(&mut client, &folder)?,
+            volumes: Volume::all(connect)?,
+            reader: Reader {
+                types: Types::of_machine(),
+                indices,
+            },
+            missing: Vec::new(),
+            folder,
+            line,
+            client,
+        })
+    }
+
+    /// Reads the whole folder, and writes what differs from the store.
+    fn scan(&mut self, mut watches: Option<&mut Watches>) -> Result<Summary, Failure> {
+        let mut summary = self.scan_once(watches.as_deref_mut())?;
+        if !self.missing.is_empty() {
+            summary = summary.and_then(self.scan_once(watches)?);
+        }
+        match self.line.xattr {
+            true => self.write_extended(summary),
+            false => Ok(summary),
+        }
+    }
+
+    fn scan_once(&mut self, mut watches: Option<&mut Watches>) -> Result<Summary, Failure> {
+        let progress = spinner("reading the folder");
+        let mut failed = None;
+        let mut before = |folder: &Path| {
+            progress.inc(1);
+            if let Some(Err(failure)) = watches.as_mut().map(|watches| watches.add(folder)) {
+                failed.get_or_insert(failure);
+            }
+        };
+        let mut walk = Walk {
+            before: &mut before,
+            one_file_system: self.line.one_file_system,
+        };
+        let walked = walk.below(&self.folder);
+        if walked.found.is_empty() {
+            return Err(Failure::Gone(self.folder.clone()));
+        }
+        progress.finish_and_clear();
+        if let Some(failure) = failed {
+            return Err(failure);
+        }
+        let known = std::mem::take(&mut self.tree.files).into_iter().collect();
+        self.update(walked, known)
+    }
+
+    /// The value of `FILE:root` for the imported folder.
+    fn root_value(&self) -> Value {
+        let path = self.folder.as_os_str();
+        path.to_str()
+            .map_or_else(|| path.as_bytes().to_vec().into(), |path| path.into())
+    }
+}
+
+/// Makes the indices that are missing, and returns the kinds of all.
+fn make_indices(client: &mut Client) -> Result<BTreeMap<String, Kind>, Failure> {
+    let kinds = |names: BTreeMap<String, String>| -> BTreeMap<String, Kind> {
+        let kind = |(name, kind): (String, String)| kind_named(&kind).map(|kind| (name, kind));
+        names.into_iter().filter_map(kind).collect()
+    };
+    let there = kinds(server::indices(client)?);
+    for (name, kind) in INDICES {
+        match there.get(name) {
+            None => match server::apply(client, Batch::new().make_index(name, kind)) {
+                Err(error) if !error.is("IndexExists") => return Err(error.into()),
+                _ => {}
+            },
+            Some(other) if *other != kind => complain(&format!(
+                "warning: the index {name} takes {} and leaves out each {} of a file",
+                kind_name(*other),
+                kind_name(kind)
+            )),
+            Some(_) => {}
+        }
+    }
+    let all = kinds(server::indices(client)?);
+    for (name, _) in INDICES.iter().filter(|(name, _)| !all.contains_key(*name)) {
+        complain(&format!("warning: not each volume has the index {name} with one type"));
+    }
+    Ok(all)
+}
+
+/// A sign on a terminal that something goes on, with a count.
+fn spinner(what: &'static str) -> ProgressBar {
+    let style = ProgressStyle::with_template("{spinner} {msg}: {human_pos} folders").expect("it is a template");
+    ProgressBar::new_spinner().with_style(style).with_message(what)
+}
+
+/// A bar on a terminal.
+fn bar(what: &'static str, count: usize) -> ProgressBar {
+    let style = ProgressStyle::with_template("{msg} {wide_bar} {human_pos} of {human_len}, {eta} left");
+    ProgressBar::new(count as u64)
+        .with_style(style.expect("it is a template"))
+        .with_message(what)
+}

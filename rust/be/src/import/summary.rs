@@ -1,0 +1,209 @@
+//! What an import has done, and what it couldn't do.
+
+use super::walk::Unread;
+use crate::command_line::Import as Line;
+use crate::failure::{complain, Failure};
+use crate::output::Output;
+use crate::text::escaped;
+use serde::Serialize;
+use std::path::{Path, PathBuf};
+
+/// The most pages of a store.
+const MOST_PAGES: u64 = 16_384;
+
+/// How many paths of each fault are printed.
+const SHOWN: usize = 10;
+
+/// What has become of a file.
+#[derive(Clone, Copy, Debug, PartialEq, Eq)]
+pub enum Fate {
+    New,
+    Changed,
+    /// Renamed or moved, and changed perhaps.
+    Renamed,
+    Removed,
+}
+
+impl Fate {
+    fn word(self) -> &'static str {
+        match self {
+            Fate::New => "new",
+            Fate::Changed => "changed",
+            Fate::Renamed => "renamed",
+            Fate::Removed => "removed",
+        }
+    }
+}
+
+/// What an import has done.
+#[derive(Debug, Default, Serialize)]
+pub struct Summary {
+    /// How many files are in the store.
+    pub files: usize,
+    pub new: usize,
+    pub changed: usize,
+    pub renamed: usize,
+    pub removed: usize,
+    /// How many the store has no room for.
+    pub left: usize,
+    /// How many extended attributes the store can't hold.
+    pub xattrs_left: usize,
+    /// How many extended attributes were written to files.
+    pub xattrs_written: usize,
+    /// How many pages the store has, and how many of them are used.
+    pub pages: u64,
+    pub used: u64,
+    pub volumes: u64,
+    #[serde(serialize_with = "count")]
+    pub unread: Vec<Unread>,
+    /// Files of which the store refused something, or which refused an attribute, and why.
+    #[serde(serialize_with = "count")]
+    pub refused: Vec<(PathBuf, String)>,
+    #[serde(skip)]
+    pub fates: Vec<(Fate, PathBuf)>,
+}
+
+fn count<T, S: serde::Serializer>(list: &[T], to: S) -> Result<S::Ok, S::Error> {
+    to.serialize_u64(list.len() as u64)
+}
+
+impl Summary {
+    pub fn add(&mut self, fate: Fate, path: PathBuf) {
+        match fate {
+            Fate::New => self.new += 1,
+            Fate::Changed => self.changed += 1,
+            Fate::Renamed => self.renamed += 1,
+            Fate::Removed => self.removed += 1,
+        }
+        self.fates.push((fate, path));
+    }
+
+    /// What this import and the next one of the same folder have done together.
+    pub fn and_then(self, next: Self) -> Self {
+        Self {
+            new: self.new + next.new,
+            changed: self.changed + next.changed,
+            renamed: self.renamed + next.renamed,
+            removed: self.removed + next.removed,
+            xattrs_left: self.xattrs_left + next.xattrs_left,
+            fates: self.fates.into_iter().chain(next.fates).collect(),
+            ..next
+        }
+    }
+
+    /// Whether each file is in the store as it is.
+    pub fn is_whole(&self) -> bool {
+        self.left == 0 && self.unread.is_empty() && self.refused.is_empty()
+    }
+
+    pub fn print(&self, line: &Line, types: &str, output: &mut Output) -> Result<(), Failure> {
+        if line.verbose {
+            self.print_fates(output)?;
+        }
+        match line.json {
+            true => output.json(self)?,
+            false => {
+                let Self {
+                    files,
+                    new,
+                    changed,
+                    renamed,
+                    removed,
+                    ..
+                } = self;
+                let counts = format!("{new} new, {changed} changed, {renamed} renamed, {removed} removed");
+                output.line(format!("{files} files: {counts}").as_bytes())?;
+                output.line(format!("types by {types}").as_bytes())?;
+            }
+        }
+        self.complain();
+        Ok(())
+    }
+
+    /// Prints a line for each file that came, changed or went.
+    pub fn print_fates(&self, output: &mut Output) -> Result<(), Failure> {
+        for (fate, path) in &self.fates {
+            output.bytes(fate.word().as_bytes())?;
+            output.bytes(b" ")?;
+            output.path(path)?;
+        }
+        Ok(())
+    }
+
+    /// Says what isn't in the store.
+    pub fn complain(&self) {
+        let unread = self.unread.iter().map(|it| (it.path.as_path(), it.error.to_string()));
+        complain_of(unread, "can't be read");
+        let refused = self.refused.iter().map(|(path, why)| (path.as_path(), why.clone()));
+        complain_of(refused, "can't be written");
+        if self.xattrs_left > 0 {
+            complain(&format!(
+                "{} extended attributes are left out: their values or names are too long",
+                self.xattrs_left
+            ));
+        }
+        if self.left > 0 {
+            let help = what_helps(self.files, self.left, self.pages, self.used, self.volumes);
+            complain(&format!(
+                "the store is full: {} files are in it, and {} are not\n  {help}",
+                self.files, self.left
+            ));
+        }
+    }
+}
+
+/// What would take all files, by what those in the store take.
+fn what_helps(files: usize, left: usize, pages: u64, used: u64, volumes: u64) -> String {
+    let (files, left, volumes) = (files.max(1) as u64, left as u64, volumes.max(1));
+    // A tenth more, since files differ.
+    let needed = (used * (files + left) / files * 11 / 10).max(pages + 1);
+    let each = (needed + volumes - 1) / volumes;
+    let words = match (each <= MOST_PAGES, volumes) {
+        (true, 1) => format!("--pages {}", each.next_power_of_two().min(MOST_PAGES)),
+        (true, _) => format!(
+            "--volumes {volumes} --pages {}",
+            each.next_power_of_two().min(MOST_PAGES)
+        ),
+        (false, _) => {
+            let volumes = (needed + MOST_PAGES - 1) / MOST_PAGES;
+            format!("--volumes {volumes} --pages {MOST_PAGES}")
+        }
+    };
+    format!("bestored {words} has room for all")
+}
+
+fn complain_of<'a>(list: impl ExactSizeIterator<Item = (&'a Path, String)>, what: &str) {
+    let count = list.len();
+    for (path, why) in list.take(SHOWN) {
+        complain(&format!("{}: {why}", escaped(&path.to_string_lossy())));
+    }
+    if count > SHOWN {
+        complain(&format!("{count} files {what}; these are the first {SHOWN}"));
+    }
+}
+
+#[cfg(test)]
+mod tests {
+    use super::*;
+
+    #[test]
+    fn what_helps_has_room_for_all() {
+        assert_eq!(
+            what_helps(100, 100, 1024, 1000, 1),
+            "bestored --pages 4096 has room for all"
+        );
+        assert_eq!(
+            what_helps(100, 10, 1024, 1000, 1),
+            "bestored --pages 2048 has room for all"
+        );
+        assert_eq!(
+            what_helps(100, 100, 1024, 1000, 4),
+            "bestored --volumes 4 --pages 1024 has room for all"
+        );
+        assert_eq!(
+            what_helps(14_000, 46_000, 16_384, 16_000, 1),
+            "bestored --volumes 5 --pages 16384 has room for all"
+        );
+        assert_eq!(what_helps(0, 5, 8, 8, 1), "bestored --pages 64 has room for all");
+    }
+}

@@ -1,0 +1,380 @@
+//! Writes files into the store as they were found.
+
+use super::content::{Content, Reader};
+use super::edit::{between, has_more, place, Edits};
+use super::known::Known;
+use super::matching::{matched, Matched, Matching};
+use super::stat::Form;
+use super::summary::{Fate, Summary};
+use super::volume::{Made, New, Volume};
+use super::walk::{Found, Unread, Walked};
+use super::{bar, Import};
+use crate::failure::{message, Failure};
+use bestore::{Batch, Node};
+use bestore_client::Error;
+use std::collections::{BTreeMap, HashMap, HashSet};
+use std::path::{Path, PathBuf};
+use std::thread;
+
+/// How many files are read and written at a time.
+const SLICE: usize = 8_192;
+
+/// The most operations of a batch.
+const OPERATIONS: usize = 64;
+
+/// About so many entries of the store's trees does a page have.
+const ENTRIES: u64 = 8;
+
+impl Import<'_> {
+    /// Writes what was found. The node of a known file that wasn't is removed if that is so two times in turn: a file that is moved
+    /// while folders are read is at neither of its paths for once.
+    pub fn update(&mut self, walked: Walked, known: Vec<(PathBuf, Known)>) -> Result<Summary, Failure> {
+        let Walked { found, unread } = walked;
+        self.refuse_another(&found, &known)?;
+        let lost = std::mem::take(&mut self.tree.lost);
+        let lost_nodes: Vec<u64> = lost.iter().map(|known| known.node).collect();
+        // A file that has lost its folder is known again by what it is.
+        let lost = lost.into_iter().map(|known| (PathBuf::new(), known));
+        let missing = std::mem::take(&mut self.missing);
+        let missed: HashSet<u64> = missing.iter().map(|(_, known)| known.node).collect();
+        let known = lost.chain(missing).chain(known).collect();
+        let client = &mut self.client;
+        let Matching { files, mut gone } = matched(found, known, |node| {
+            client.attributes(node).map(|attributes| has_more(&attributes))
+        })?;
+        gone.retain(|(_, known)| !lost_nodes.contains(&known.node));
+        let mut summary = Summary::default();
+        self.remove(gone, &missed, &unread, &mut summary)?;
+        summary.unread = unread;
+
+        let (new, there): (Vec<Matched>, Vec<Matched>) = files.into_iter().partition(|file| file.known.is_none());
+        let changed = self.keep_unchanged(there);
+        let new: Vec<Found> = new.into_iter().map(|file| file.found).collect();
+        let (folders, files): (Vec<Found>, Vec<Found>) =
+            new.into_iter().partition(|found| found.stat.form == Form::Folder);
+        for folders in by_depth(folders) {
+            self.make(folders, &mut summary)?;
+        }
+        self.change(changed, &mut summary)?;
+        self.make(files, &mut summary)?;
+        self.look(&mut summary)?;
+        Ok(summary)
+    }
+
+    /// Removes those nodes that were missing already, and keeps the others as missing. What is below a folder that can't be read
+    /// stays.
+    fn remove(
+        &mut self,
+        gone: Vec<(PathBuf, Known)>,
+        missed: &HashSet<u64>,
+        unread: &[Unread],
+        summary: &mut Summary,
+    ) -> Result<(), Failure> {
+        let (kept, gone): (Vec<_>, Vec<_>) = gone
+            .into_iter()
+            .partition(|(path, _)| unread.iter().any(|it| path.starts_with(&it.path)));
+        self.tree.files.extend(kept);
+        let (mut gone, missing): (Vec<_>, Vec<_>) =
+            gone.into_iter().partition(|(_, known)| missed.contains(&known.node));
+        self.missing = missing;
+        // What is in a folder goes before the folder.
+        gone.sort_unstable_by(|one, other| other.0.cmp(&one.0));
+        let edits: Vec<Edits> = gone
+            .iter()
+            .map(|(path, known)| Edits::remove(path.clone(), known.node))
+            .collect();
+        self.write(&edits, summary)?;
+        gone.into_iter().for_each(|(path, _)| summary.add(Fate::Removed, path));
+        Ok(())
+    }
+
+    /// Puts files into the tree, and returns those that differ from what the store has.
+    fn keep_unchanged(&mut self, files: Vec<Matched>) -> Vec<Matched> {
+        let mut nodes: HashMap<PathBuf, u64> = HashMap::new();
+        for file in &files {
+            if let Some((_, known)) = &file.known {
+                nodes.insert(file.found.path.clone(), known.node);
+            }
+        }
+        let mut changed = Vec::new();
+        for file in files {
+            let (was, known) = match &file.known {
+                Some(known) => known,
+                None => continue,
+            };
+            let parent = match self.is_root(&file.found.path) {
+                true => known.parent,
+                false => {
+                    let folder = file.found.path.parent();
+                    folder.and_then(|folder| nodes.get(folder).copied().or_else(|| self.node_at(folder)))
+                }
+            };
+            let is_same = (parent.is_some() || self.is_root(&file.found.path))
+                && known.stat == file.found.stat.text()
+                && known.parent == parent
+                && was.file_name() == file.found.path.file_name()
+                && !self.line.reread;
+            self.tree.files.insert(file.found.path.clone(), known.clone());
+            if !is_same {
+                changed.push(file);
+            }
+        }
+        changed
+    }
+
+    /// Refuses a folder that is another one than before and is empty, as one on which no disk is mounted. The nodes of its files,
+    /// with what users have set, would go.
+    fn refuse_another(&self, found: &[Found], known: &[(PathBuf, Known)]) -> Result<(), Failure> {
+        let was = known.iter().find(|(path, _)| self.is_root(path));
+        match (was, found) {
+            (Some((_, was)), [root]) if self.is_root(&root.path) && known.len() > 1 => {
+                match was.identity() == Some(root.stat.identity) || self.line.reread {
+                    true => Ok(()),
+                    false => Err(Failure::Another(self.folder.clone())),
+                }
+            }
+            _ => Ok(()),
+        }
+    }
+
+    fn is_root(&self, path: &Path) -> bool {
+        path == self.folder
+    }
+
+    /// The node of the file at this path.
+    pub fn node_at(&self, path: &Path) -> Option<u64> {
+        self.tree.files.get(path).map(|known| known.node)
+    }
+
+    /// Says in which folder the file is. `false`: that folder has no node.
+    fn place(&self, path: &Path, known: Option<&Known>, content: &mut Content) -> bool {
+        let parent = match self.is_root(path) {
+            true => known.and_then(|known| known.parent),
+            false => path.parent().and_then(|folder| self.node_at(folder)),
+        };
+        let root = self.is_root(path).then(|| self.root_value());
+        let is_placed = parent.is_some() || root.is_some();
+        place(&mut content.values, parent, root);
+        is_placed
+    }
+
+    /// Changes the nodes of these files.
+    fn change(&mut self, files: Vec<Matched>, summary: &mut Summary) -> Result<(), Failure> {
+        let progress = bar("changed files", files.len());
+        for files in slices(files) {
+            let found: Vec<&Found> = files.iter().map(|file| &file.found).collect();
+            let mut contents = read(&self.reader, &found);
+            let mut all = Vec::new();
+            for (file, content) in files.iter().zip(&mut contents) {
+                summary.xattrs_left += content.left_out;
+                let (was, known) = match &file.known {
+                    Some(known) => known,
+                    None => continue,
+                };
+                self.place(&file.found.path, Some(known), content);
+                let had = match self.client.attributes(known.node) {
+                    Err(error) if error.is("NoNode") => continue,
+                    answer => answer?,
+                };
+                let edits = between(&had, &content.values);
+                let path = file.found.path.clone();
+                if !edits.is_empty() {
+                    let fate = if *was == path { Fate::Changed } else { Fate::Renamed };
+                    summary.add(fate, path.clone());
+                    all.extend(edits.chunks(OPERATIONS).map(|edits| Edits {
+                        path: path.clone(),
+                        node: known.node,
+                        edits: edits.to_vec(),
+                    }));
+                }
+            }
+            self.write(&all, summary)?;
+            files.iter().for_each(|file| self.keep(&file.found));
+            progress.inc(files.len() as u64);
+        }
+        progress.finish_and_clear();
+        Ok(())
+    }
+
+    /// Keeps what the store has of a file now.
+    fn keep(&mut self, found: &Found) {
+        let parent = found.path.parent().and_then(|folder| self.node_at(folder));
+        let is_root = self.is_root(&found.path);
+        if let Some(known) = self.tree.files.get_mut(&found.path) {
+            known.stat = found.stat.text();
+            if !is_root {
+                known.parent = parent;
+            }
+        }
+    }
+
+    /// Writes changes: those of several nodes as one batch, and one by one if it is refused.
+    pub fn write(&mut self, edits: &[Edits], summary: &mut Summary) -> Result<(), Failure> {
+        let mut at = 0;
+        while at < edits.len() {
+            let mut batch = Batch::new();
+            let first = at;
+            while at < edits.len()
+                && volume_of(&edits[at]) == volume_of(&edits[first])
+                && (at == first || batch.len() + edits[at].edits.len() <= OPERATIONS)
+            {
+                edits[at].add_to(&mut batch);
+                at += 1;
+            }
+            match self.write_batch(batch) {
+                Err(Error::Refused(_)) => self.write_each(&edits[first..at], summary)?,
+                answer => answer?,
+            }
+        }
+        Ok(())
+    }
+
+    fn write_each(&mut self, edits: &[Edits], summary: &mut Summary) -> Result<(), Failure> {
+        for edit in edits {
+            let mut batch = Batch::new();
+            edit.add_to(&mut batch);
+            match self.write_batch(batch) {
+                // Another program has removed it. The next import makes it again, if the file is there.
+                Err(error) if error.is("NoNode") => {
+                    self.tree.files.remove(&edit.path);
+                }
+                Err(error @ Error::Refused(_)) => summary.refused.push((edit.path.clone(), message(&error))),
+                answer => answer?,
+            }
+        }
+        Ok(())
+    }
+
+    /// Writes a batch of one volume, in parts if it has too many operations for one.
+    fn write_batch(&mut self, batch: Batch) -> Result<(), Error> {
+        crate::server::apply(&mut self.client, &batch)
+    }
+
+    /// Makes nodes for these files.
+    fn make(&mut self, files: Vec<Found>, summary: &mut Summary) -> Result<(), Failure> {
+        let progress = bar("new files", files.len());
+        for files in slices(files) {
+            let found: Vec<&Found> = files.iter().collect();
+            let contents = read(&self.reader, &found);
+            let mut new = Vec::new();
+            for (found, mut content) in files.iter().zip(contents) {
+                match self.place(&found.path, None, &mut content) {
+                    true => {
+                        summary.xattrs_left += content.left_out;
+                        let (path, values) = (found.path.clone(), content.values);
+                        new.push(New { path, values });
+                    }
+                    false => summary.left += 1,
+                }
+            }
+            let stats: HashMap<&Path, String> = files.iter().map(|it| (it.path.as_path(), it.stat.text())).collect();
+            let made = make_in(&mut self.volumes, new, &|count| progress.inc(count))?;
+            summary.left += made.left.len();
+            summary.refused.extend(made.refused);
+            for (file, node) in made.nodes {
+                let parent = file.path.parent().and_then(|folder| self.node_at(folder));
+                let parent = parent.filter(|_| !self.is_root(&file.path));
+                let stat = stats.get(file.path.as_path()).cloned().unwrap_or_default();
+                self.tree.files.insert(file.path.clone(), Known { node, parent, stat });
+                summary.add(Fate::New, file.path);
+            }
+        }
+        progress.finish_and_clear();
+        Ok(())
+    }
+
+    /// Asks how full the store is.
+    fn look(&mut self, summary: &mut Summary) -> Result<(), Failure> {
+        self.volumes.iter_mut().try_for_each(Volume::look)?;
+        summary.files = self.tree.files.len();
+        summary.volumes = self.volumes.len() as u64;
+        summary.pages = self.volumes.iter().map(|volume| volume.pages).sum();
+        summary.used = self.volumes.iter().map(|volume| volume.pages - volume.free).sum();
+        Ok(())
+    }
+}
+
+fn volume_of(edits: &Edits) -> u32 {
+    Node::from(edits.node).volume
+}
+
+/// The folders by how deep they are, the least deep first.
+fn by_depth(folders: Vec<Found>) -> impl Iterator<Item = Vec<Found>> {
+    let mut levels: BTreeMap<usize, Vec<Found>> = BTreeMap::new();
+    for folder in folders {
+        levels.entry(folder.path.components().count()).or_default().push(folder);
+    }
+    levels.into_values()
+}
+
+fn slices<T>(files: Vec<T>) -> impl Iterator<Item = Vec<T>> {
+    let mut left = files.into_iter();
+    std::iter::from_fn(move || {
+        let slice: Vec<T> = left.by_ref().take(SLICE).collect();
+        (!slice.is_empty()).then_some(slice)
+    })
+}
+
+/// Reads files, on each processor a part of them.
+fn read(reader: &Reader, files: &[&Found]) -> Vec<Content> {
+    let processors = thread::available_parallelism().map_or(1, |count| count.get());
+    let part = (files.len() / processors).max(64);
+    let read_part = |files: &[&Found]| files.iter().map(|found| reader.content(found)).collect::<Vec<_>>();
+    thread::scope(|scope| {
+        let parts: Vec<_> = files
+            .chunks(part)
+            .map(|files| scope.spawn(move || read_part(files)))
+            .collect();
+        parts
+            .into_iter()
+            .flat_map(|part| part.join().expect("a reader ends"))
+            .collect()
+    })
+}
+
+/// Makes nodes for these files in the volumes, all of them at the same time. What one has no room for goes to the others.
+fn make_in(volumes: &mut [Volume], files: Vec<New>, done: &(dyn Fn(u64) + Sync)) -> Result<Made, Failure> {
+    let mut all = Made {
+        left: files,
+        ..Made::default()
+    };
+    while !all.left.is_empty() && volumes.iter().any(|volume| !volume.is_full) {
+        let shares = share(volumes, std::mem::take(&mut all.left));
+        let made: Vec<Result<Made, Failure>> = thread::scope(|scope| {
+            let parts: Vec<_> = volumes
+                .iter_mut()
+                .zip(shares)
+                .map(|(volume, files)| scope.spawn(move || volume.make(files, done)))
+                .collect();
+            parts
+                .into_iter()
+                .map(|part| part.join().expect("a writer ends"))
+                .collect()
+        });
+        for made in made {
+            let made = made?;
+            all.nodes.extend(made.nodes);
+            all.left.extend(made.left);
+            all.refused.extend(made.refused);
+        }
+    }
+    Ok(all)
+}
+
+/// Which files each volume takes: the next one goes to the volume with the most room.
+fn share(volumes: &[Volume], files: Vec<New>) -> Vec<Vec<New>> {
+    let mut rooms: Vec<i64> = volumes
+        .iter()
+        .map(|volume| match volume.is_full {
+            true => i64::MIN,
+            false => i64::try_from(volume.free * ENTRIES).unwrap_or(i64::MAX),
+        })
+        .collect();
+    let mut shares: Vec<Vec<New>> = volumes.iter().map(|_| Vec::new()).collect();
+    for file in files {
+        let roomiest = (0..rooms.len()).max_by_key(|at| rooms[*at]).unwrap_or(0);
+        rooms[roomiest] -= file.values.len() as i64 + 4;
+        shares[roomiest].push(file);
+    }
+    shares
+}

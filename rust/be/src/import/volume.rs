@@ -1,0 +1,214 @@
+//! A volume of the server: one of the stores that its queries search. A server of one store has one.
+
+use super::edit::stat_last;
+use crate::failure::{message, Failure};
+use crate::server;
+use bestore::{Batch, Value, Written};
+use bestore_client::wire::{Command, Next, Nothing};
+use bestore_client::{Client, Error};
+use std::collections::BTreeMap;
+use std::path::PathBuf;
+use std::sync::{Arc, Mutex, MutexGuard};
+use std::thread;
+use std::time::Duration;
+
+/// The most operations of a batch.
+const OPERATIONS: usize = 64;
+
+/// The most connections, which the volumes share: a server has up to 62.
+const CONNECTIONS: u32 = 8;
+
+/// How many batches are written until the volume is asked again how full it is.
+const LOOK: u32 = 16;
+
+/// One page of so many stays free, so that a full volume can still be written.
+const RESERVE: u64 = 64;
+
+/// How often a write is tried again if another client is writing.
+const TRIES: u32 = 1_000;
+
+/// A file that has no node yet.
+#[derive(Clone, Debug)]
+pub struct New {
+    pub path: PathBuf,
+    pub values: BTreeMap<String, Value>,
+}
+
+/// What has become of files that had no node.
+#[derive(Debug, Default)]
+pub struct Made {
+    /// The nodes that were made.
+    pub nodes: Vec<(New, u64)>,
+    /// The volume had no room for these.
+    pub left: Vec<New>,
+    /// These were refused, and why.
+    pub refused: Vec<(PathBuf, String)>,
+}
+
+/// A volume, and a connection to its server that it may share with others.
+pub struct Volume {
+    client: Arc<Mutex<Client>>,
+    /// Its number, if the server has several.
+    number: Option<u32>,
+    /// Its commit number, and the number of its next node, as far as is known.
+    commit: u64,
+    next: u64,
+    pub pages: u64,
+    pub free: u64,
+    pub is_full: bool,
+    batches: u32,
+}
+
+impl Volume {
+    /// The volumes of a server.
+    pub fn all(connect: &dyn Fn() -> Result<Client, Failure>) -> Result<Vec<Self>, Failure> {
+        let mut first = connect()?;
+        let count = first.hello()?.volumes;
+        let mut clients = vec![Arc::new(Mutex::new(first))];
+        for _ in 1..count.min(CONNECTIONS) {
+            clients.push(Arc::new(Mutex::new(connect()?)));
+        }
+        let mut volumes: Vec<Self> = (0..count)
+            .zip(clients.iter().cycle())
+            .map(|(number, client)| Self::new(Arc::clone(client), (count > 1).then_some(number)))
+            .collect();
+        for volume in &mut volumes {
+            volume.look()?;
+            volume.meet()?;
+        }
+        Ok(volumes)
+    }
+
+    fn new(client: Arc<Mutex<Client>>, number: Option<u32>) -> Self {
+        Self {
+            client,
+            number,
+            commit: 0,
+            next: 0,
+            pages: 0,
+            free: 0,
+            is_full: false,
+            batches: 0,
+        }
+    }
+
+    fn client(&self) -> MutexGuard<'_, Client> {
+        self.client.lock().expect("a writer ends")
+    }
+
+    /// Asks how full the volume is.
+    pub fn look(&mut self) -> Result<(), Failure> {
+        let status = self.client().status()?;
+        let of_volume = self.number.and_then(|number| status.volumes.get(number as usize));
+        (self.pages, self.free) = of_volume.map_or((status.pages, status.free), |it| (it.pages, it.free));
+        self.is_full = self.free * RESERVE < self.pages;
+        Ok(())
+    }
+
+    /// Asks for the commit number and the next node.
+    fn meet(&mut self) -> Result<(), Failure> {
+        let next: Next = self.client().call(Command::Next(Nothing {}))?;
+        let at = self.number.map_or(0, |number| number as usize);
+        self.commit = next.commits.get(at).copied().unwrap_or(next.commit);
+        self.next = next.nexts.get(at).copied().unwrap_or(next.next);
+        Ok(())
+    }
+
+    /// Writes the batch if nobody else has written this volume since it was met.
+    fn write(&mut self, batch: &Batch) -> Result<Written, Error> {
+        let mut client = self.client();
+        match self.number {
+            Some(number) => client.apply_in_if(number, self.commit, batch),
+            None => client.apply_if(self.commit, batch),
+        }
+    }
+
+    /// Makes nodes for the files, as many at a time as a batch takes, and calls `done` with how many were made.
+    pub fn make(&mut self, files: Vec<New>, done: &dyn Fn(u64)) -> Result<Made, Failure> {
+        let mut made = Made::default();
+        let mut files = files.into_iter().peekable();
+        while files.peek().is_some() && !self.is_full {
+            let mut together: Vec<New> = Vec::new();
+            let mut operations = 0;
+            while let Some(file) = files.next_if(|file| operations + file.values.len() < OPERATIONS) {
+                operations += 1 + file.values.len();
+                together.push(file);
+            }
+            // A file of 64 attributes is more than a batch.
+            if together.is_empty() {
+                together.extend(files.next());
+            }
+            let count = together.len() as u64;
+            self.make_together(together, &mut made)?;
+            done(count);
+        }
+        made.left.extend(files);
+        Ok(made)
+    }
+
+    /// Makes nodes for files that fit into a batch. If it is refused, they are made one by one.
+    fn make_together(&mut self, files: Vec<New>, made: &mut Made) -> Result<(), Failure> {
+        if self.batches % LOOK == 0 {
+            self.look()?;
+        }
+        self.batches += 1;
+        match self.try_to_make(&files) {
+            Ok(nodes) => made.nodes.extend(files.into_iter().zip(nodes)),
+            Err(Failure::Server(error)) if error.is("Full") => {
+                self.is_full = true;
+                made.left.extend(files);
+            }
+            Err(Failure::Server(error @ Error::Refused(_))) if files.len() == 1 => {
+                made.refused.push((files[0].path.clone(), message(&error)));
+            }
+            Err(Failure::Server(Error::Refused(_))) => {
+                for file in files {
+                    self.make_together(vec![file], made)?;
+                }
+            }
+            Err(failure) => return Err(failure),
+        }
+        Ok(())
+    }
+
+    /// Writes a batch on what is known of the volume. If another client has written meanwhile, it is made again.
+    fn try_to_make(&mut self, files: &[New]) -> Result<Vec<u64>, Failure> {
+        let mut left = TRIES;
+        loop {
+            let (batch, rest) = batch_of(files, self.next);
+            match self.write(&batch) {
+                Ok(written) => {
+                    self.commit = written.number;
+                    self.next += files.len() as u64;
+                    if let Some(rest) = rest {
+                        server::apply(&mut self.client(), &rest)?;
+                        self.meet()?;
+                    }
+                    return Ok(written.nodes);
+                }
+                Err(error) if error.is("Conflict") && left > 0 => self.meet()?,
+                Err(error) if error.is("Busy") && left > 0 => thread::sleep(Duration::from_millis(2)),
+                Err(error) => return Err(error.into()),
+            }
+            left -= 1;
+        }
+    }
+}
+
+/// A batch that makes a node for each file, from this number on, and the operations that it has no room for.
+fn batch_of(files: &[New], first: u64) -> (Batch, Option<Batch>) {
+    let (mut batch, mut rest) = (Batch::new(), Batch::new());
+    for (node, file) in (first..).zip(files) {
+        batch.new_node();
+        for (name, value) in stat_last(&file.values) {
+            let batch = if batch.len() < OPERATIONS {
+                &mut batch
+            } else {
+                &mut rest
+            };
+            batch.set(node, name, value.clone());
+        }
+    }
+    let rest = (!rest.is_empty()).then_some(rest);
+    (batch, rest)
+}

@@ -1,0 +1,108 @@
+//! The files of a folder and of those inside it.
+
+use super::stat::{Form, Stat};
+use std::fs::{self, DirEntry, ReadDir};
+use std::io::{self, ErrorKind};
+use std::os::unix::fs::MetadataExt;
+use std::path::{Path, PathBuf};
+
+/// A file with what the file system says of it.
+#[derive(Clone, Debug)]
+pub struct Found {
+    pub path: PathBuf,
+    pub stat: Stat,
+}
+
+/// A file or folder that can't be read.
+#[derive(Debug)]
+pub struct Unread {
+    pub path: PathBuf,
+    pub error: io::Error,
+}
+
+/// What a walk has found: a folder before what is in it.
+#[derive(Debug, Default)]
+pub struct Walked {
+    pub found: Vec<Found>,
+    pub unread: Vec<Unread>,
+}
+
+/// A walk. Symlinks are not followed.
+pub struct Walk<'a> {
+    /// Called with each folder before it is read.
+    pub before: &'a mut dyn FnMut(&Path),
+    /// Whether folders of other file systems are found, but not read.
+    pub one_file_system: bool,
+}
+
+impl Walk<'_> {
+    /// The folder, or file, and what is below it. What goes meanwhile isn't found.
+    pub fn below(&mut self, path: &Path) -> Walked {
+        let mut walked = Walked::default();
+        let device = match fs::symlink_metadata(path) {
+            Ok(about) => {
+                walked.found.push(Found {
+                    path: path.into(),
+                    stat: Stat::from(&about),
+                });
+                about.dev()
+            }
+            Err(error) => {
+                walked.failed(path, error);
+                return walked;
+            }
+        };
+        let mut next = 0;
+        while next < walked.found.len() {
+            if walked.found[next].stat.form == Form::Folder {
+                let folder = walked.found[next].path.clone();
+                self.read_folder(&folder, device, &mut walked);
+            }
+            next += 1;
+        }
+        walked
+    }
+
+    fn read_folder(&mut self, folder: &Path, device: u64, walked: &mut Walked) {
+        if self.one_file_system && fs::symlink_metadata(folder).map_or(false, |about| about.dev() != device) {
+            return;
+        }
+        (self.before)(folder);
+        match fs::read_dir(folder) {
+            Ok(entries) => walked.read(folder, entries),
+            Err(error) => walked.failed(folder, error),
+        }
+    }
+}
+
+impl Walked {
+    fn read(&mut self, folder: &Path, entries: ReadDir) {
+        for entry in entries {
+            match entry {
+                Ok(entry) => self.read_entry(&entry),
+                Err(error) => return self.failed(folder, error),
+            }
+        }
+    }
+
+    fn read_entry(&mut self, entry: &DirEntry) {
+        let path = entry.path();
+        match entry.metadata() {
+            Ok(about) => self.found.push(Found {
+                path,
+                stat: Stat::from(&about),
+            }),
+            Err(error) => self.failed(&path, error),
+        }
+    }
+
+    /// Keeps why a file can't be read, unless it has gone.
+    fn failed(&mut self, path: &Path, error: io::Error) {
+        if error.kind() != ErrorKind::NotFound {
+            self.unread.push(Unread {
+                path: path.into(),
+                error,
+            });
+        }
+    }
+}

@@ -1,0 +1,148 @@
+//! Encoded words of headers, as RFC 2047 has them.
+
+use encoding_rs::{Encoding, WINDOWS_1252};
+use std::borrow::Cow;
+
+/// The bytes as a text: they are UTF-8, or otherwise windows-1252.
+pub fn text_of(bytes: &[u8]) -> Cow<'_, str> {
+    match std::str::from_utf8(bytes) {
+        Ok(text) => text.into(),
+        Err(_) => WINDOWS_1252.decode_without_bom_handling(bytes).0,
+    }
+}
+
+/// The text with its encoded words decoded. What can't be decoded stays as it is.
+pub fn decoded(text: &str) -> String {
+    let mut said = Said::default();
+    let mut rest = text;
+    while let Some(at) = rest.find("=?") {
+        match Word::read(&rest[at..]) {
+            Some((word, after)) => {
+                said.word(&rest[..at], word);
+                rest = after;
+            }
+            None => {
+                said.text(&rest[..at + 2]);
+                rest = &rest[at + 2..];
+            }
+        }
+    }
+    said.text(rest);
+    said.text
+}
+
+/// An encoded word: bytes, and how they are a text.
+struct Word {
+    encoding: &'static Encoding,
+    bytes: Vec<u8>,
+}
+
+impl Word {
+    /// Reads `=?charset?encoding?text?=`, and returns what follows it.
+    fn read(text: &str) -> Option<(Self, &str)> {
+        let (charset, rest) = text.strip_prefix("=?")?.split_once('?')?;
+        let (form, rest) = rest.split_once('?')?;
+        let (content, after) = rest.split_once("?=")?;
+        if content.contains(' ') && !form.eq_ignore_ascii_case("q") {
+            return None;
+        }
+        let label = charset.split('*').next()?;
+        let encoding = Encoding::for_label(label.as_bytes())?;
+        let bytes = match form {
+            "b" | "B" => base64::decode_config(content.trim_end_matches('='), base64::STANDARD_NO_PAD).ok()?,
+            "q" | "Q" => quoted(content)?,
+            _ => return None,
+        };
+        Some((Self { encoding, bytes }, after))
+    }
+}
+
+/// The bytes of a text in the encoding `Q`.
+fn quoted(text: &str) -> Option<Vec<u8>> {
+    let mut bytes = Vec::with_capacity(text.len());
+    let mut left = text.bytes();
+    while let Some(byte) = left.next() {
+        bytes.push(match byte {
+            b'_' => b' ',
+            b'=' => {
+                let digits = [left.next()?, left.next()?];
+                u8::from_str_radix(std::str::from_utf8(&digits).ok()?, 16).ok()?
+            }
+            other => other,
+        });
+    }
+    Some(bytes)
+}
+
+/// What was decoded. Blanks between two encoded words aren't part of the text, and a character may be divided among both.
+#[derive(Default)]
+struct Said {
+    text: String,
+    last: Option<Word>,
+}
+
+impl Said {
+    fn text(&mut self, text: &str) {
+        if let Some(word) = self.last.take() {
+            self.text
+                .push_str(&word.encoding.decode_without_bom_handling(&word.bytes).0);
+        }
+        self.text.push_str(text);
+    }
+
+    fn word(&mut self, before: &str, word: Word) {
+        let follows = self.last.is_some() && before.trim().is_empty();
+        match &mut self.last {
+            Some(last) if follows && last.encoding == word.encoding => last.bytes.extend(word.bytes),
+            _ => {
+                self.text(if follows { "" } else { before });
+                self.last = Some(word);
+            }
+        }
+    }
+}
+
+#[cfg(test)]
+mod tests {
+    use super::*;
+
+    #[test]
+    fn words_are_decoded() {
+        for (encoded, text) in [
+            ("=?ISO-8859-1?Q?Keld_J=F8rn?= <k@x>", "Keld Jørn <k@x>"),
+            ("=?utf-8?B?w7w=?=", "ü"),
+            ("=?utf-8?b?w7w?=", "ü"),
+            ("a =?utf-8?q?b?= c", "a b c"),
+            ("=?utf-8?q?a?= =?utf-8?q?b?=", "ab"),
+            ("=?utf-8?q?a?= =?iso-8859-1?q?=FC?=", "aü"),
+            ("=?utf-8?q?=C3?= =?utf-8?q?=BC?=", "ü"),
+            ("=?utf-8*de?q?a?=", "a"),
+            ("=?koi8-r?B?8NLJ18XU?=", "Привет"),
+            ("=?iso-2022-jp?B?GyRCRnxLXBsoQg==?=", "日本"),
+        ] {
+            assert_eq!(decoded(encoded), text, "{encoded}");
+        }
+    }
+
+    #[test]
+    fn what_is_no_word_stays() {
+        for text in [
+            "",
+            "=?",
+            "=?utf-8",
+            "=?utf-8?q?a",
+            "=?none?q?a?=",
+            "=?utf-8?x?a?=",
+            "=?utf-8?q?=G0?=",
+            "=?utf-8?q?=C?=",
+            "=?utf-8?b?*?=",
+            "a =? b ?= c",
+            "é",
+        ] {
+            assert_eq!(decoded(text), text);
+        }
+        assert_eq!(decoded("=?=?utf-8?q?a?="), "=?a");
+        assert_eq!(text_of(b"\xc3\xbc"), "ü");
+        assert_eq!(text_of(b"\xfc"), "ü");
+    }
+}

@@ -1,0 +1,242 @@
+//! Files and their nodes: `be import` makes a node for each file, and these find one by the other.
+
+use crate::failure::Failure;
+use crate::import::content::{name_in, NAME, PARENT, ROOT, STAT};
+use crate::import::stat::Stat;
+use crate::server::pinned;
+use bestore::Value;
+use bestore_client::wire::Json;
+use bestore_client::{Client, Query};
+use std::collections::HashMap;
+use std::ffi::OsString;
+use std::fs;
+use std::os::unix::ffi::OsStringExt;
+use std::path::{Path, PathBuf};
+
+/// The most folders that a path goes through: more are a ring, which another program has made.
+const DEPTH: usize = 4_096;
+
+/// The attributes by which paths are made.
+pub const COLUMNS: [&str; 4] = ["name", NAME, PARENT, ROOT];
+
+/// What a word of the command line names.
+#[derive(Clone, Debug, PartialEq, Eq)]
+pub enum Place {
+    /// A node by its number.
+    Node(u64),
+    /// A file by its path.
+    File(PathBuf),
+}
+
+impl From<OsString> for Place {
+    /// Digits are a node; all other words are a path.
+    fn from(word: OsString) -> Self {
+        let number = word
+            .to_str()
+            .filter(|text| text.bytes().all(|byte| byte.is_ascii_digit()));
+        match number.and_then(|text| text.parse().ok()) {
+            Some(node) => Place::Node(node),
+            None => Place::File(word.into()),
+        }
+    }
+}
+
+/// The nodes that the words name. What is no imported file is an error.
+pub fn nodes_of(client: &mut Client, places: &[Place]) -> Result<Vec<u64>, Failure> {
+    let node = |place: &Place| match place {
+        Place::Node(node) => Ok(*node),
+        Place::File(path) => node_of(client, path),
+    };
+    places.iter().map(node).collect()
+}
+
+/// The node of a file. Of two with the same name and inode it is the one whose path is the same.
+fn node_of(client: &mut Client, path: &Path) -> Result<u64, Failure> {
+    let failed = |error| Failure::File(path.into(), error);
+    let about = fs::symlink_metadata(path).map_err(failed)?;
+    let whole = whole_path(path).map_err(failed)?;
+    let name = bestore::escape(&crate::import::mail::cut(&name_in(&whole).to_string_lossy()));
+    let identity = Stat::from(&about).identity;
+    let text = format!("name==\"{name}\" && {STAT}==\"{identity}:*\"");
+    let found = pinned(client, |client| match client.query(&text) {
+        // Without the index of names nothing was imported.
+        Err(error) if error.is("NotCovered") => Ok(Vec::new()),
+        answer => {
+            let nodes = answer?;
+            let mut paths = Paths::default();
+            let same = nodes.iter().find_map(|node| match paths.of(client, *node) {
+                Ok(Some(path)) if path == whole => Some(*node),
+                _ => None,
+            });
+            Ok(same.or_else(|| nodes.first().copied()).into_iter().collect())
+        }
+    })?;
+    found.first().copied().ok_or_else(|| Failure::NotImported(path.into()))
+}
+
+/// The path from the root of all files on, without symlinks. If the file itself is one, it stays.
+fn whole_path(path: &Path) -> std::io::Result<PathBuf> {
+    match (path.parent(), path.file_name()) {
+        (Some(folder), Some(name)) => {
+            let here = folder.as_os_str().is_empty();
+            Ok(fs::canonicalize(if here { Path::new(".") } else { folder })?.join(name))
+        }
+        _ => fs::canonicalize(path),
+    }
+}
+
+/// What a node says of its path.
+#[derive(Clone, Debug, Default)]
+pub struct Step {
+    pub name: OsString,
+    pub parent: Option<u64>,
+    pub root: Option<PathBuf>,
+}
+
+impl Step {
+    /// Takes the values of [`COLUMNS`]. `None`: the node has no name.
+    pub fn read<'a>(mut value: impl FnMut(&str) -> Option<&'a Value>) -> Option<Self> {
+        let bytes = |value: &Value| value.as_bytes().map(|bytes| OsString::from_vec(bytes.to_vec()));
+        Some(Self {
+            name: value(NAME).or_else(|| value("name")).and_then(bytes)?,
+            parent: match value(PARENT) {
+                Some(Value::Int64(parent)) => u64::try_from(*parent).ok(),
+                _ => None,
+            },
+            root: value(ROOT).and_then(bytes).map(PathBuf::from),
+        })
+    }
+}
+
+/// The paths of nodes. Those of folders are kept, so that each is asked for once.
+#[derive(Debug, Default)]
+pub struct Paths {
+    folders: HashMap<u64, Option<PathBuf>>,
+}
+
+impl Paths {
+    /// The path of a node in the store, if it is a file's.
+    pub fn of(&mut self, client: &mut Client, node: u64) -> Result<Option<PathBuf>, Failure> {
+        self.found(node, |node| match client.attributes(node) {
+            Err(error) if error.is("NoNode") => Ok(None),
+            answer => {
+                let attributes = answer?;
+                Ok(Step::read(|name| attributes.get(name)))
+            }
+        })
+    }
+
+    /// The path of a node, whose steps the closure finds.
+    pub fn found<E>(
+        &mut self,
+        node: u64,
+        mut step: impl FnMut(u64) -> Result<Option<Step>, E>,
+    ) -> Result<Option<PathBuf>, E> {
+        let mut names: Vec<(u64, OsString)> = Vec::new();
+        let mut at = node;
+        let mut path = loop {
+            if let Some(path) = self.folders.get(&at) {
+                break path.clone();
+            }
+            match step(at)? {
+                Some(Step { root: Some(root), .. }) => {
+                    self.folders.insert(at, Some(root.clone()));
+                    break Some(root);
+                }
+                Some(Step {
+                    name,
+                    parent: Some(parent),
+                    ..
+                }) if names.len() < DEPTH => {
+                    names.push((at, name));
+                    at = parent;
+                }
+                _ => break None,
+            }
+        };
+        for (folder, name) in names.iter().rev() {
+            path = path.map(|path| path.join(name));
+            if *folder != node {
+                self.folders.insert(*folder, path.clone());
+            }
+        }
+        Ok(path)
+    }
+}
+
+/// The paths of these nodes in the order of the nodes.
+pub fn paths_of(client: &mut Client, nodes: &[u64]) -> Result<Vec<Option<PathBuf>>, Failure> {
+    let mut paths = Paths::default();
+    nodes.iter().map(|node| paths.of(client, *node)).collect()
+}
+
+/// Calls the closure with each node that has a name and the values of the columns, on one snapshot.
+pub fn each_named(
+    client: &mut Client,
+    columns: &[&str],
+    mut each: impl FnMut(u64, &[Option<Json>]),
+) -> Result<(), Failure> {
+    let mut query = Query {
+        text: "name==*",
+        columns,
+        ..Query::default()
+    };
+    loop {
+        let page = client.hits(query)?;
+        let (nodes, rows) = (page.nodes.unwrap_or_default(), page.rows.unwrap_or_default());
+        nodes.iter().zip(&rows).for_each(|(node, row)| each(*node, row));
+        match page.more {
+            Some(from) => query.from = from,
+            None => return Ok(()),
+        }
+    }
+}
+
+#[cfg(test)]
+mod tests {
+    use super::*;
+
+    fn step(name: &str, parent: u64) -> Step {
+        Step {
+            name: name.into(),
+            parent: Some(parent),
+            root: None,
+        }
+    }
+
+    #[test]
+    fn a_path_goes_up_to_the_imported_folder() {
+        let root = Step {
+            name: "home".into(),
+            parent: None,
+            root: Some("/home".into()),
+        };
+        let steps: HashMap<u64, Step> = [
+            (1, root),
+            (2, step("ann", 1)),
+            (3, step("a\nb", 2)),
+            (4, step("lost", 9)),
+            (5, step("ring", 6)),
+            (6, step("ring", 5)),
+        ]
+        .into();
+        let mut paths = Paths::default();
+        let mut path = |node: u64| {
+            paths
+                .found(node, |node| Ok::<_, ()>(steps.get(&node).cloned()))
+                .unwrap()
+        };
+        assert_eq!(path(3), Some("/home/ann/a\nb".into()));
+        assert_eq!(path(2), Some("/home/ann".into()));
+        assert_eq!(path(1), Some("/home".into()));
+        assert_eq!((path(4), path(5), path(7)), (None, None, None));
+    }
+
+    #[test]
+    fn digits_are_a_node_and_other_words_a_path() {
+        assert_eq!(Place::from(OsString::from("17")), Place::Node(17));
+        for word in ["./17", "a", "-1", "", "99999999999999999999"] {
+            assert_eq!(Place::from(OsString::from(word)), Place::File(word.into()));
+        }
+    }
+}

@@ -1,0 +1,141 @@
+//! Folders of files, for tests that import them.
+
+use super::{Said, Server};
+use std::collections::BTreeSet;
+use std::ffi::OsStr;
+use std::fs;
+use std::os::unix::ffi::{OsStrExt, OsStringExt};
+use std::path::{Path, PathBuf};
+use std::sync::atomic::{AtomicU32, Ordering};
+
+/// A folder that is removed at the end of a test.
+pub struct Folder(pub PathBuf);
+
+impl Folder {
+    pub fn new() -> Self {
+        static MADE: AtomicU32 = AtomicU32::new(0);
+        let number = MADE.fetch_add(1, Ordering::Relaxed);
+        let path = std::env::temp_dir().join(format!("be-files-{}-{number}", std::process::id()));
+        fs::create_dir(&path).unwrap();
+        Self(path.canonicalize().unwrap())
+    }
+
+    pub fn path(&self, name: impl AsRef<OsStr>) -> PathBuf {
+        self.0.join(name.as_ref())
+    }
+
+    /// The path of a file in it, as a word of a command line.
+    pub fn word(&self, name: &str) -> String {
+        self.path(name).to_str().unwrap().into()
+    }
+
+    /// The folder, as a word of a command line.
+    pub fn all(&self) -> String {
+        self.0.to_str().unwrap().into()
+    }
+
+    pub fn folder(&self, name: &str) -> PathBuf {
+        let path = self.path(name);
+        fs::create_dir_all(&path).unwrap();
+        path
+    }
+
+    pub fn file(&self, name: &str, content: impl AsRef<[u8]>) -> PathBuf {
+        let path = self.path(name);
+        fs::write(&path, content).unwrap();
+        path
+    }
+
+    pub fn rename(&self, from: &str, to: &str) {
+        fs::rename(self.path(from), self.path(to)).unwrap();
+    }
+
+    /// The paths of the folder and of all below it, as the file system has them.
+    pub fn paths(&self) -> BTreeSet<PathBuf> {
+        let mut paths = BTreeSet::from([self.0.clone()]);
+        let mut waiting = vec![self.0.clone()];
+        while let Some(folder) = waiting.pop() {
+            for entry in fs::read_dir(folder).unwrap() {
+                let entry = entry.unwrap();
+                if entry.file_type().unwrap().is_dir() {
+                    waiting.push(entry.path());
+                }
+                paths.insert(entry.path());
+            }
+        }
+        paths
+    }
+}
+
+impl Drop for Folder {
+    fn drop(&mut self) {
+        let _ = fs::remove_dir_all(&self.0);
+    }
+}
+
+impl Server {
+    /// Imports a folder, and returns the counts: new, changed, renamed, removed.
+    pub fn import(&self, folder: &Folder) -> [u64; 4] {
+        let json = self.done(&["import", "--json", &folder.all()]);
+        counts(&json)
+    }
+
+    /// The paths of the files that a query finds.
+    pub fn paths(&self, query: &str) -> BTreeSet<PathBuf> {
+        let output = self.command(&["query", "-0", "--path", query]).output().unwrap();
+        assert!(output.status.success(), "{output:?}");
+        let mut paths: Vec<PathBuf> = output
+            .stdout
+            .split(|byte| *byte == 0)
+            .map(|path| std::ffi::OsString::from_vec(path.to_vec()).into())
+            .collect();
+        assert_eq!(paths.pop(), Some(PathBuf::new()));
+        let count = paths.len();
+        let set: BTreeSet<PathBuf> = paths.into_iter().collect();
+        assert_eq!(set.len(), count, "a path comes twice");
+        set
+    }
+
+    /// The text of an attribute of a file, as `catattr --raw` prints it.
+    pub fn value(&self, name: &str, path: &Path) -> String {
+        let said: Said = self
+            .command(&[
+                OsStr::new("catattr"),
+                OsStr::new("-r"),
+                OsStr::new(name),
+                path.as_os_str(),
+            ])
+            .output()
+            .unwrap()
+            .into();
+        assert_eq!((said.status, said.error.as_str()), (0, ""), "{name} of {path:?}");
+        said.out
+    }
+
+    /// How many nodes each volume has, by the nodes that are printed.
+    pub fn spread(&self, volumes: usize) -> Vec<usize> {
+        let mut spread = vec![0; volumes];
+        for line in self.done(&["query", "name==*"]).lines() {
+            let node: u64 = line.parse().unwrap();
+            spread[bestore::Node::from(node).volume as usize] += 1;
+        }
+        spread
+    }
+
+    /// How many entries the journal has.
+    pub fn entries(&self) -> u64 {
+        let status: serde_json::Value = serde_json::from_str(&self.done(&["status", "--json"])).unwrap();
+        status["entries"].as_u64().unwrap()
+    }
+}
+
+/// The counts of `import --json`.
+pub fn counts(json: &str) -> [u64; 4] {
+    let read: serde_json::Value = serde_json::from_str(json).unwrap();
+    ["new", "changed", "renamed", "removed"].map(|name| read[name].as_u64().unwrap())
+}
+
+/// A name that isn't UTF-8.
+pub fn name_of_bytes(bytes: &[u8]) -> &OsStr {
+    OsStr::from_bytes(bytes)
+}

@@ -1,0 +1,232 @@
+//! `import --follow`: what it makes of changes.
+
+use crate::common::files::Folder;
+use crate::common::{Said, Server};
+use std::fs;
+use std::io::{BufRead, BufReader};
+use std::os::unix::fs::PermissionsExt;
+use std::process::{Child, Command, Stdio};
+use std::thread;
+use std::time::{Duration, Instant};
+
+/// How long a change may take on a machine that has other things to do.
+const WITHIN: Duration = Duration::from_secs(20);
+
+/// An import that follows its folder.
+struct Follower {
+    child: Child,
+}
+
+impl Follower {
+    /// Begins, and returns once the folder was read.
+    fn start(server: &Server, folder: &Folder) -> Self {
+        let mut command = server.command(&["import", "--follow", "--json", &folder.all()]);
+        let mut child = command.stdout(Stdio::piped()).stderr(Stdio::piped()).spawn().unwrap();
+        let mut line = String::new();
+        BufReader::new(child.stdout.take().unwrap())
+            .read_line(&mut line)
+            .unwrap();
+        assert!(line.starts_with("{\"files\":"), "{line}");
+        Self { child }
+    }
+
+    fn signal(&self, signal: &str) {
+        let sent = Command::new("kill")
+            .arg(signal)
+            .arg(self.child.id().to_string())
+            .status();
+        assert!(sent.unwrap().success());
+    }
+
+    /// Waits until the import has ended by itself.
+    fn end(mut self) -> Said {
+        let begun = Instant::now();
+        while self.child.try_wait().unwrap().is_none() {
+            assert!(begun.elapsed() < WITHIN, "the import doesn't end");
+            thread::sleep(Duration::from_millis(10));
+        }
+        let mut error = String::new();
+        std::io::Read::read_to_string(&mut self.child.stderr.take().unwrap(), &mut error).unwrap();
+        let status = self.child.wait().unwrap().code().unwrap_or(-1);
+        Said {
+            status,
+            out: String::new(),
+            error,
+        }
+    }
+}
+
+impl Drop for Follower {
+    fn drop(&mut self) {
+        let _ = self.child.kill();
+        let _ = self.child.wait();
+    }
+}
+
+/// Waits until it is so, and prints how long that took.
+fn soon(what: &str, is_so: impl Fn() -> bool) {
+    let begun = Instant::now();
+    while !is_so() {
+        assert!(begun.elapsed() < WITHIN, "{what}");
+        thread::sleep(Duration::from_millis(20));
+    }
+    println!("{what}: {} ms", begun.elapsed().as_millis());
+}
+
+fn same(server: &Server, folder: &Folder) -> bool {
+    server.paths("name==\"*\"") == folder.paths()
+}
+
+#[test]
+fn what_changes_is_followed() {
+    let server = server!(Server::start());
+    let folder = Folder::new();
+    folder.folder("a/b");
+    folder.file("a/x", "x");
+    let _follower = Follower::start(&server, &folder);
+    let count = |query: &str| server.paths(query).len();
+    server.done(&["addattr", "mark", "x", &folder.word("a/x"), &folder.word("a/b")]);
+    let marked = |name: &str| {
+        let said = server.be(&["catattr", "-r", "mark", &folder.word(name)]);
+        said.out == "x"
+    };
+
+    folder.file("a/new", "");
+    soon("a new file", || same(&server, &folder));
+    folder.file("a/x", "more of it");
+    soon("a changed file", || count("size==10") == 1);
+    folder.rename("a/x", "y");
+    soon("a renamed file", || count("name==y") == 1 && same(&server, &folder));
+    assert!(marked("y"));
+    fs::remove_file(folder.path("a/new")).unwrap();
+    soon("a removed file", || same(&server, &folder));
+
+    folder.folder("c/d/e");
+    folder.file("c/d/e/f", "");
+    soon("new folders", || same(&server, &folder));
+    folder.file("c/d/e/g", "");
+    soon("a file in a new folder", || same(&server, &folder));
+    folder.rename("c", "a/b/c");
+    folder.rename("a", "z");
+    soon("renamed folders", || same(&server, &folder));
+    assert!(marked("z/b"));
+    folder.file("z/b/c/d/e/h", "");
+    soon("a file in a renamed folder", || same(&server, &folder));
+    fs::remove_dir_all(folder.path("z")).unwrap();
+    soon("removed folders", || same(&server, &folder));
+}
+
+#[test]
+fn a_followed_file_keeps_its_node_when_an_editor_saves() {
+    let server = server!(Server::start());
+    let folder = Folder::new();
+    folder.file("y", "");
+    let _follower = Follower::start(&server, &folder);
+    server.done(&["addattr", "mark", "x", &folder.word("y")]);
+    folder.file("y.tmp", "saved by an editor");
+    folder.rename("y.tmp", "y");
+    soon("a replaced file", || {
+        server.paths("size==18").len() == 1 && same(&server, &folder)
+    });
+    assert_eq!(server.value("mark", &folder.path("y")), "x");
+    // Names that change faster than they are read.
+    for round in 0..200 {
+        folder.rename("y", &format!("y{round}"));
+        folder.rename(&format!("y{round}"), "y");
+        thread::sleep(Duration::from_millis(round % 9));
+    }
+    folder.rename("y", "z");
+    soon("a file of many names", || {
+        same(&server, &folder) && server.paths("name==z").len() == 1
+    });
+    assert_eq!(server.value("mark", &folder.path("z")), "x");
+}
+
+#[test]
+fn a_file_that_leaves_the_folder_goes_and_may_come_back() {
+    let server = server!(Server::start());
+    let (folder, away) = (Folder::new(), Folder::new());
+    folder.folder("a");
+    folder.file("a/x", "");
+    let _follower = Follower::start(&server, &folder);
+    fs::rename(folder.path("a"), away.path("a")).unwrap();
+    soon("a folder that left", || same(&server, &folder));
+    fs::rename(away.path("a"), folder.path("b")).unwrap();
+    soon("a folder that came", || same(&server, &folder));
+    folder.file("b/y", "");
+    soon("a file in it", || same(&server, &folder));
+}
+
+#[test]
+fn many_changes_at_once_are_followed() {
+    let server = server!(Server::start_with(&["--pages", "1024", "--volumes", "3"]));
+    let folder = Folder::new();
+    let _follower = Follower::start(&server, &folder);
+    for number in 0..400 {
+        let inner = format!("d{}", number % 9);
+        folder.folder(&inner);
+        folder.file(&format!("{inner}/f{number}"), format!("{number}"));
+        match number % 5 {
+            0 => fs::remove_file(folder.path(format!("{inner}/f{number}"))).unwrap(),
+            1 => folder.rename(&format!("{inner}/f{number}"), &format!("g{number}")),
+            2 if number % 4 == 0 => folder.rename(&inner, &format!("e{number}")),
+            3 => fs::remove_dir_all(folder.path(&inner)).unwrap(),
+            _ => {}
+        }
+    }
+    soon("many changes", || same(&server, &folder));
+    thread::sleep(Duration::from_millis(700));
+    assert!(same(&server, &folder));
+    // All that is known is as it was followed.
+    let [new, _, _, removed] = server.import(&folder);
+    assert_eq!((new, removed), (0, 0));
+}
+
+#[test]
+fn events_that_were_lost_are_made_good() {
+    let server = server!(Server::start());
+    let most = fs::read_to_string("/proc/sys/fs/inotify/max_queued_events").unwrap();
+    let most: usize = most.trim().parse().unwrap();
+    if most > 100_000 {
+        println!("be, lost events: skipped, {most} are kept");
+        return;
+    }
+    let folder = Folder::new();
+    folder.file("a", "");
+    folder.file("b", "");
+    let follower = Follower::start(&server, &folder);
+    follower.signal("-STOP");
+    // Two events in turn, since the kernel joins the same ones.
+    for number in 0..most {
+        let mode = fs::Permissions::from_mode(0o600 + (number / 2 % 2) as u32 * 0o44);
+        fs::set_permissions(folder.path(["a", "b"][number % 2]), mode).unwrap();
+    }
+    folder.folder("lost/too");
+    folder.file("lost/too/file", "");
+    folder.rename("a", "c");
+    follower.signal("-CONT");
+    soon("lost events", || same(&server, &folder));
+    folder.file("lost/too/later", "");
+    soon("a file after them", || same(&server, &folder));
+}
+
+#[test]
+fn a_follower_ends_if_its_folder_or_server_is_gone() {
+    let mut server = server!(Server::start());
+    let folder = Folder::new();
+    let inner = Folder(folder.folder("inner"));
+    inner.file("x", "");
+    let follower = Follower::start(&server, &inner);
+    folder.rename("inner", "other");
+    let said = follower.end();
+    assert_eq!(said.status, 1);
+    assert!(said.error.contains("is gone, and nothing was removed"), "{said:?}");
+    assert_eq!(server.done(&["query", "--count", "name==\"*\""]), "2\n");
+
+    let follower = Follower::start(&server, &folder);
+    server.end();
+    folder.file("y", "");
+    let said = follower.end();
+    assert_eq!(said.status, 1);
+    assert!(said.error.contains("the server closed the connection"), "{said:?}");
+}

@@ -1,0 +1,153 @@
+//! Shelves that are kept: each volume in a file of its own, in one folder.
+
+use super::{Error, Options, Result, Saved};
+use crate::{Shelf, ShelfPass, MOST_VOLUMES};
+use std::fs::{self, DirBuilder};
+use std::io::ErrorKind;
+use std::os::unix::fs::DirBuilderExt;
+use std::path::{Path, PathBuf};
+
+/// A shelf whose volumes are kept in files. It closes them when it is dropped.
+#[derive(Debug)]
+pub struct SavedShelf {
+    shelf: Shelf,
+    volumes: Vec<Saved>,
+}
+
+/// The file of a volume.
+fn path(folder: &Path, volume: u32) -> PathBuf {
+    folder.join(format!("{volume}.bestore"))
+}
+
+/// The volume whose file has this name.
+fn volume_of(name: &std::ffi::OsStr) -> Option<u32> {
+    let digits = name.to_str()?.strip_suffix(".bestore")?;
+    let volume = digits.parse().ok()?;
+    (format!("{volume}") == digits).then_some(volume)
+}
+
+/// How many volumes the folder has.
+fn count(folder: &Path) -> Result<u32> {
+    let wrong = |error| Error::folder(folder, error);
+    let mut found = Vec::new();
+    for entry in fs::read_dir(folder).map_err(wrong)? {
+        found.extend(volume_of(&entry.map_err(wrong)?.file_name()));
+    }
+    found.sort_unstable();
+    match (0..).zip(&found).find(|(expected, volume)| expected != *volume) {
+        Some((missing, _)) => Err(Error::NoFile {
+            path: path(folder, missing),
+        }),
+        None => Ok(found.len() as u32),
+    }
+}
+
+impl Options {
+    /// Opens the volumes that the folder has, each in a file of its own: `0.bestore`, `1.bestore` and so on. With a number of
+    /// `volumes`, 1 to 64, it makes the folder, and those that are missing. A volume that is new gets the indices that the others
+    /// have. The options are those of each volume.
+    ///
+    /// # Errors
+    /// As [`open`](Self::open), in [`Error::OfVolume`]. [`Error::Folder`]: the folder can't be read or made. [`Error::Fewer`]: it
+    /// has more volumes than `volumes`, or none and no number is given. [`Error::NoFile`]: a volume before another is missing.
+    pub fn open_shelf(&self, folder: impl AsRef<Path>, volumes: Option<u32>) -> Result<SavedShelf> {
+        let folder = folder.as_ref();
+        if !(1..=MOST_VOLUMES).contains(&volumes.unwrap_or(1)) {
+            return Err(Error::Store(crate::Error::BadLimits));
+        }
+        if volumes.is_some() {
+            make(folder)?;
+        }
+        let found = count(folder)?;
+        let wanted = volumes.unwrap_or(found);
+        if found > wanted || wanted == 0 {
+            return Err(Error::Fewer {
+                folder: folder.to_owned(),
+                found,
+                wanted,
+            });
+        }
+        let opened = (0..wanted).map(|volume| {
+            let opened = self.open(path(folder, volume));
+            opened.map_err(|error| error.of_volume(volume))
+        });
+        SavedShelf::of_volumes(opened.collect::<Result<_>>()?)
+    }
+}
+
+/// Makes the folder, if it isn't there.
+fn make(folder: &Path) -> Result<()> {
+    match DirBuilder::new().mode(0o700).create(folder) {
+        Err(error) if error.kind() != ErrorKind::AlreadyExists => Err(Error::folder(folder, error)),
+        _ => Ok(()),
+    }
+}
+
+impl SavedShelf {
+    /// A shelf of these volumes. One that never had a node gets the indices that all the others have.
+    ///
+    /// # Errors
+    /// As [`Shelf::of_volumes`]; those of a write.
+    pub fn of_volumes(volumes: Vec<Saved>) -> Result<Self> {
+        let shelf = Shelf::of_volumes(volumes.iter().map(|saved| saved.store.clone()).collect())?;
+        let saved = Self { shelf, volumes };
+        saved.pass()?.index_new_volumes()?;
+        Ok(saved)
+    }
+
+    /// The volumes.
+    #[must_use]
+    pub fn volumes(&self) -> &[Saved] {
+        &self.volumes
+    }
+
+    /// Takes a pass, whose writes are saved.
+    ///
+    /// # Errors
+    /// As [`Shelf::pass`].
+    pub fn pass(&self) -> crate::Result<ShelfPass> {
+        self.shelf.pass_of(self.volumes.iter().map(Saved::pass))
+    }
+
+    fn each(&self, call: impl Fn(&Saved) -> Result<()>) -> Result<()> {
+        let mut outcome = Ok(());
+        for (volume, saved) in (0..).zip(&self.volumes) {
+            outcome = outcome.and(call(saved).map_err(|error| self.error(volume, error)));
+        }
+        outcome
+    }
+
+    /// An error of one volume, with the volume if there are several.
+    fn error(&self, volume: u32, error: Error) -> Error {
+        match self.volumes.len() {
+            1 => error,
+            _ => error.of_volume(volume),
+        }
+    }
+
+    /// Waits until all that was written before the call is in the files.
+    ///
+    /// # Errors
+    /// As [`Saved::flush`], of the first volume that can't be saved. The others are saved.
+    pub fn flush(&self) -> Result<()> {
+        self.each(Saved::flush)
+    }
+
+    /// Writes the current snapshots into the files, as [`Saved::compact`], one after another.
+    ///
+    /// # Errors
+    /// As `Saved::compact`, of the first volume that can't be written. The others are.
+    pub fn compact(&self) -> Result<()> {
+        self.each(Saved::compact)
+    }
+
+    /// Saves what was written, and closes the files. Passes that are still open can read.
+    ///
+    /// # Errors
+    /// As [`flush`](Self::flush).
+    pub fn close(self) -> Result<()> {
+        let outcome = self.flush();
+        let closed = self.volumes.into_iter().map(Saved::close);
+        closed.fold(outcome, Result::and)
+    }
+}

@@ -1,0 +1,306 @@
+//! Passes of a shelf: a pass of each volume.
+
+use super::snapshot::{at, roomiest};
+use super::{Node, ShelfChange, ShelfSnapshot};
+use crate::{Batch, Error, Keeper, Kind, Pass, Result, Retry, Status, Value};
+use std::sync::{Arc, Mutex};
+use std::thread;
+use std::time::{Duration, Instant};
+
+/// How often [`ShelfPass::reach`] looks.
+const LOOK: Duration = Duration::from_millis(2);
+
+/// An accepted transaction of a shelf.
+#[derive(Clone, Debug, PartialEq, Eq)]
+pub struct ShelfWritten {
+    /// The volume that was written.
+    pub volume: u32,
+    /// The commit number in that volume.
+    pub number: u64,
+    /// The nodes that it made, in the order of the operations.
+    pub nodes: Vec<u64>,
+}
+
+/// A pass of a shelf: a pass of each volume, for one thread at a time.
+///
+/// Errors of one volume say which, by [`Error::volume`], if there are several.
+#[derive(Debug)]
+pub struct ShelfPass {
+    volumes: Vec<Pass>,
+    indexing: Arc<Mutex<()>>,
+}
+
+impl ShelfPass {
+    pub(super) fn new(volumes: Vec<Pass>, indexing: Arc<Mutex<()>>) -> Self {
+        Self { volumes, indexing }
+    }
+
+    /// The pass, whose writes go by the keeper of their volume from now on, as those of [`Pass::kept_by`]. Keepers are given numbers
+    /// of nodes in the volume.
+    #[must_use]
+    pub fn kept_by(self, keeper: impl Fn(u32) -> Arc<dyn Keeper>) -> Self {
+        let passes = (0..).zip(self.volumes);
+        Self {
+            volumes: passes.map(|(volume, pass)| pass.kept_by(keeper(volume))).collect(),
+            indexing: self.indexing,
+        }
+    }
+
+    /// The pass of each volume, whose nodes have their numbers in the volume. It may write, too.
+    #[must_use]
+    pub fn volumes(&self) -> &[Pass] {
+        &self.volumes
+    }
+
+    /// The pass of a volume.
+    ///
+    /// # Errors
+    /// [`Error::NoVolume`].
+    pub fn volume(&self, volume: u32) -> Result<&Pass> {
+        at(&self.volumes, volume)
+    }
+
+    /// Sets how often calls of this pass are tried again.
+    pub fn set_retry(&mut self, retry: Retry) {
+        self.volumes.iter_mut().for_each(|pass| pass.set_retry(retry));
+    }
+
+    /// How often a change may run again.
+    pub(super) fn conflicts(&self) -> u32 {
+        match &self.volumes[0] {
+            pass if pass.held().is_some() => 0,
+            pass => pass.retry().conflict,
+        }
+    }
+
+    fn error(&self, volume: u32, error: Error) -> Error {
+        match self.volumes.len() {
+            1 => error,
+            _ => error.in_volume(volume),
+        }
+    }
+
+    /// Pins the current snapshot of each volume, one after another. They can be read until they are dropped.
+    ///
+    /// # Errors
+    /// [`Error::Forked`].
+    pub fn pin(&mut self) -> Result<ShelfSnapshot<'_>> {
+        ShelfSnapshot::pin(&mut self.volumes, &self.indexing)
+    }
+
+    /// Holds a snapshot of each volume, as [`Pass::hold`], until [`release`](Self::release). Returns its [numbers].
+    ///
+    /// [numbers]: ShelfSnapshot::numbers
+    ///
+    /// # Errors
+    /// [`Error::Forked`].
+    pub fn hold(&mut self) -> Result<Vec<u64>> {
+        self.volumes.iter_mut().map(Pass::hold).collect()
+    }
+
+    /// Unpins the snapshots that are held, if they are.
+    pub fn release(&mut self) {
+        self.volumes.iter_mut().for_each(Pass::release);
+    }
+
+    /// Writes all operations of the batch or none, in the volume of the nodes that they name. If they name none, the volume with the
+    /// most free pages is taken.
+    ///
+    /// # Errors
+    /// [`Error::OtherVolume`] with the first operation that names a node of another volume. [`Error::NoNode`] if that volume isn't
+    /// there. [`Error::PartialIndex`]: one makes or removes an index, and there are several volumes; [`make_index`](Self::make_index)
+    /// does. Otherwise as [`Pass::apply`].
+    pub fn apply(&self, batch: &Batch) -> Result<ShelfWritten> {
+        batch.check_no_index(self.volumes.len())?;
+        let (volume, within) = batch.to_volume(None)?;
+        match volume {
+            Some(volume) if self.volume(volume).is_err() => Err(Error::NoNode),
+            Some(volume) => self.write(volume, None, &within),
+            None => self.write(self.roomiest()?, None, &within),
+        }
+    }
+
+    /// Writes as [`apply`](Self::apply), in this volume. It may make an index there alone.
+    ///
+    /// # Errors
+    /// [`Error::NoVolume`]; otherwise as `apply`.
+    pub fn apply_in(&self, volume: u32, batch: &Batch) -> Result<ShelfWritten> {
+        self.write(volume, None, &self.within(volume, batch)?)
+    }
+
+    /// Writes as [`apply_in`](Self::apply_in), if the volume's journal has exactly `expected` entries. What was read of other
+    /// volumes may have changed.
+    ///
+    /// # Errors
+    /// [`Error::Conflict`] if the journal has another length; otherwise as `apply_in`.
+    pub fn apply_in_if(&self, volume: u32, expected: u64, batch: &Batch) -> Result<ShelfWritten> {
+        self.write(volume, Some(expected), &self.within(volume, batch)?)
+    }
+
+    /// The batch with the numbers in this volume.
+    fn within(&self, volume: u32, batch: &Batch) -> Result<Batch> {
+        self.volume(volume)?;
+        Ok(batch.to_volume(Some(volume))?.1)
+    }
+
+    fn write(&self, volume: u32, expected: Option<u64>, within: &Batch) -> Result<ShelfWritten> {
+        let pass = self.volume(volume)?;
+        let written = match expected {
+            None => pass.apply(within),
+            Some(expected) => pass.apply_if(expected, within),
+        };
+        let written = written.map_err(|error| self.error(volume, error))?;
+        Ok(ShelfWritten {
+            volume,
+            number: written.number,
+            nodes: of_volume(volume, written.nodes),
+        })
+    }
+
+    pub(super) fn end_write(&self, volume: u32, number: u64) -> Result<()> {
+        let kept = self.volume(volume)?.end_write(number);
+        kept.map_err(|error| self.error(volume, error))
+    }
+
+    /// Reads and writes as one, as [`Pass::change`]: the closure reads all volumes, and its operations are written to one, if
+    /// nothing else was written there since. What it read of other volumes may have changed.
+    ///
+    /// # Errors
+    /// Those of the closure; [`Error::Conflict`] after as many tries as [`Retry::conflict`] says; otherwise as
+    /// [`apply`](Self::apply).
+    pub fn change<T>(&mut self, mut change: impl FnMut(&mut ShelfChange<'_>) -> Result<T>) -> Result<T> {
+        ShelfChange::run(self, None, &mut change)
+    }
+
+    /// The same, writing to this volume.
+    ///
+    /// # Errors
+    /// [`Error::NoVolume`]; otherwise as [`change`](Self::change).
+    pub fn change_in<T>(
+        &mut self,
+        volume: u32,
+        mut change: impl FnMut(&mut ShelfChange<'_>) -> Result<T>,
+    ) -> Result<T> {
+        self.volume(volume)?;
+        ShelfChange::run(self, Some(volume), &mut change)
+    }
+
+    /// Makes a node in the volume with the most free pages. As [`apply`](Self::apply), like the three calls after it.
+    ///
+    /// # Errors
+    /// As `apply`.
+    pub fn new_node(&self) -> Result<u64> {
+        Ok(self.apply(Batch::new().new_node())?.nodes[0])
+    }
+
+    /// Removes the node and all its attributes.
+    ///
+    /// # Errors
+    /// As [`apply`](Self::apply).
+    pub fn remove_node(&self, node: u64) -> Result<()> {
+        self.apply(Batch::new().remove_node(node)).map(drop)
+    }
+
+    /// Sets the attribute.
+    ///
+    /// # Errors
+    /// As [`apply`](Self::apply).
+    pub fn set(&self, node: u64, name: &str, value: impl Into<Value>) -> Result<()> {
+        self.apply(Batch::new().set(node, name, value)).map(drop)
+    }
+
+    /// Removes the attribute.
+    ///
+    /// # Errors
+    /// As [`apply`](Self::apply).
+    pub fn unset(&self, node: u64, name: &str) -> Result<()> {
+        self.apply(Batch::new().unset(node, name)).map(drop)
+    }
+
+    /// Makes an index of this name for values of this kind in each volume, as [`ShelfSnapshot::make_index`] on a new snapshot.
+    ///
+    /// # Errors
+    /// As that.
+    pub fn make_index(&mut self, name: &str, kind: Kind) -> Result<()> {
+        self.pin()?.make_index(name, kind)
+    }
+
+    /// Removes the index from each volume that has it, as [`ShelfSnapshot::remove_index`].
+    ///
+    /// # Errors
+    /// As that.
+    pub fn remove_index(&mut self, name: &str) -> Result<()> {
+        self.pin()?.remove_index(name)
+    }
+
+    /// How full each volume is.
+    ///
+    /// # Errors
+    /// As [`Pass::status`].
+    pub fn status(&self) -> Result<Vec<Status>> {
+        let all = (0..).zip(&self.volumes);
+        let all = all.map(|(volume, pass)| pass.status().map_err(|error| self.error(volume, error)));
+        all.collect()
+    }
+
+    /// The volume with the most free pages, the first one of several. It asks each for its status if there is more than one.
+    ///
+    /// # Errors
+    /// As [`Pass::status`].
+    pub fn roomiest(&self) -> Result<u32> {
+        roomiest(self.volumes.iter())
+    }
+
+    /// Waits up to this time until the journal of each volume has at least so many entries; volumes without a number aren't waited
+    /// for. Snapshots that the pass pins then have them. Returns whether they are there. It asks each volume for its status every
+    /// 2 milliseconds.
+    ///
+    /// # Errors
+    /// [`Error::NoVolume`]: there are more numbers than volumes; otherwise as [`Pass::status`].
+    pub fn reach(&self, numbers: &[u64], within: Duration) -> Result<bool> {
+        if numbers.len() > self.volumes.len() {
+            return self.volume(self.volumes.len() as u32).map(|_| false);
+        }
+        let until = Instant::now() + within;
+        loop {
+            let status = self.status()?;
+            if numbers.iter().zip(&status).all(|(least, now)| now.entries >= *least) {
+                return Ok(true);
+            }
+            if Instant::now() >= until {
+                return Ok(false);
+            }
+            thread::sleep(LOOK);
+        }
+    }
+
+    /// Makes the indices that all other volumes have in those that never had a node, so that they are complete there.
+    #[cfg(feature = "saved")]
+    pub(crate) fn index_new_volumes(&mut self) -> Result<()> {
+        let mut new = Vec::new();
+        let mut common: Option<Vec<(String, Kind)>> = None;
+        {
+            let snapshot = self.pin()?;
+            for (volume, of_volume) in (0..).zip(snapshot.volumes()) {
+                let indices = of_volume.indices()?;
+                match (of_volume.next_node()?, &mut common) {
+                    (1, _) => new.push((volume, indices)),
+                    (_, Some(common)) => common.retain(|index| indices.contains(index)),
+                    (_, None) => common = Some(indices),
+                }
+            }
+        }
+        for (volume, indices) in new {
+            let wanted = common.iter().flatten().filter(|index| !indices.contains(index));
+            for (name, kind) in wanted {
+                self.write(volume, None, Batch::new().make_index(name, *kind))?;
+            }
+        }
+        Ok(())
+    }
+}
+
+fn of_volume(volume: u32, numbers: Vec<u64>) -> Vec<u64> {
+    let nodes = numbers.into_iter().map(|number| Node { volume, number }.into());
+    nodes.collect()
+}

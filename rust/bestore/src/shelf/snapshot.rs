@@ -1,0 +1,316 @@
+//! Snapshots of all volumes.
+
+use super::node::extend;
+use super::Node;
+use crate::{Batch, Error, Kind, Nodes, Pass, Prepared, Result, Snapshot, Status, Value};
+use std::collections::BTreeMap;
+use std::sync::{Mutex, PoisonError};
+
+/// A snapshot of each volume. They are pinned one after another, so writes to different volumes may be in it in another order than
+/// that in which they were made.
+///
+/// Errors of one volume say which, by [`Error::volume`], if there are several.
+#[derive(Debug)]
+pub struct ShelfSnapshot<'a> {
+    volumes: Vec<Snapshot<'a>>,
+    indexing: &'a Mutex<()>,
+}
+
+impl<'a> ShelfSnapshot<'a> {
+    pub(super) fn pin(passes: &'a mut [Pass], indexing: &'a Mutex<()>) -> Result<Self> {
+        let volumes = passes.iter_mut().map(Pass::pin).collect::<Result<_>>()?;
+        Ok(Self { volumes, indexing })
+    }
+
+    /// How many entries the journals of all volumes have in it together.
+    #[must_use]
+    pub fn number(&self) -> u64 {
+        self.numbers().sum()
+    }
+
+    /// The number of each volume's snapshot.
+    pub fn numbers(&self) -> impl Iterator<Item = u64> + '_ {
+        self.volumes.iter().map(Snapshot::number)
+    }
+
+    /// The snapshot of each volume, whose nodes have their numbers in the volume.
+    #[must_use]
+    pub fn volumes(&self) -> &[Snapshot<'a>] {
+        &self.volumes
+    }
+
+    /// The snapshot of a volume.
+    ///
+    /// # Errors
+    /// [`Error::NoVolume`].
+    pub fn volume(&self, volume: u32) -> Result<&Snapshot<'a>> {
+        at(&self.volumes, volume)
+    }
+
+    fn each(&self) -> impl Iterator<Item = (u32, &Snapshot<'a>)> {
+        (0..).zip(&self.volumes)
+    }
+
+    /// An error of one volume, with the volume if there are several.
+    pub(super) fn error(&self, volume: u32, error: Error) -> Error {
+        match self.volumes.len() {
+            1 => error,
+            _ => error.in_volume(volume),
+        }
+    }
+
+    /// The snapshot that may have the node, and the node's number there.
+    fn place(&self, node: u64) -> Option<(&Snapshot<'a>, u64)> {
+        let node = Node::from(node);
+        Some((self.volumes.get(node.volume as usize)?, node.number))
+    }
+
+    fn found(&self, query: impl Fn(&Snapshot<'a>) -> Result<Vec<u64>>) -> Result<Vec<u64>> {
+        let mut found = Vec::new();
+        for (volume, snapshot) in self.each() {
+            let numbers = query(snapshot).map_err(|error| self.error(volume, error))?;
+            extend(&mut found, volume, numbers);
+        }
+        Ok(found)
+    }
+
+    /// The nodes of all volumes that the query finds, ascending. The text is parsed once.
+    ///
+    /// # Errors
+    /// As [`Snapshot::query`]. If volumes don't cover the query, the error has the first of them.
+    pub fn query(&self, text: &str) -> Result<Vec<u64>> {
+        if let [only] = &self.volumes[..] {
+            return only.query(text);
+        }
+        let prepared = Prepared::new(text)?;
+        self.found(|snapshot| {
+            let found = snapshot.query_prepared(&prepared);
+            // The error of the text has the place in it that is wrong.
+            found.or_else(|_| snapshot.query(text))
+        })
+    }
+
+    /// The nodes of all volumes that the prepared query finds, ascending.
+    ///
+    /// # Errors
+    /// As [`query`](Self::query).
+    pub fn query_prepared(&self, prepared: &Prepared) -> Result<Vec<u64>> {
+        self.found(|snapshot| snapshot.query_prepared(prepared))
+    }
+
+    /// The chosen indices of the query in the first volume, and the cost there. The others choose the same if they have the same
+    /// indices.
+    ///
+    /// # Errors
+    /// As [`query`](Self::query).
+    pub fn explain(&self, text: &str) -> Result<String> {
+        let explained = self.each().map(|(volume, snapshot)| {
+            let text = snapshot.explain(text);
+            text.map_err(|error| self.error(volume, error))
+        });
+        let explained = explained.collect::<Result<Vec<_>>>()?;
+        Ok(explained.into_iter().next().unwrap_or_default())
+    }
+
+    /// All nodes from this one on, ascending: 0 for all.
+    pub fn nodes_from(&self, from: u64) -> ShelfNodes<'_> {
+        let Node { volume, number } = from.into();
+        ShelfNodes {
+            volume,
+            nodes: self.volumes.get(volume as usize).map(|first| first.nodes_from(number)),
+            snapshot: self,
+        }
+    }
+
+    /// Whether the node exists.
+    ///
+    /// # Errors
+    /// As [`Snapshot::contains`].
+    pub fn contains(&self, node: u64) -> Result<bool> {
+        self.place(node)
+            .map_or(Ok(false), |(snapshot, number)| snapshot.contains(number))
+    }
+
+    /// An attribute, or `None` if the node or the attribute doesn't exist.
+    ///
+    /// # Errors
+    /// As [`Snapshot::get`].
+    pub fn get(&self, node: u64, name: &str) -> Result<Option<Value>> {
+        match self.place(node) {
+            Some((snapshot, number)) => snapshot.get(number, name),
+            // The first volume has no node 0, so that the name alone is checked.
+            None => self.volumes[0].get(0, name),
+        }
+    }
+
+    /// The attributes of a node, by ascending names.
+    ///
+    /// # Errors
+    /// As [`Snapshot::attributes`].
+    pub fn attributes(&self, node: u64) -> Result<Vec<(String, Value)>> {
+        let (snapshot, number) = self.place(node).ok_or(Error::NoNode)?;
+        snapshot.attributes(number)
+    }
+
+    /// Of each index, by ascending names, the volumes that have it, with its kind there.
+    fn all_indices(&self) -> Result<BTreeMap<String, Vec<(u32, Kind)>>> {
+        let mut indices: BTreeMap<String, Vec<(u32, Kind)>> = BTreeMap::new();
+        for (volume, snapshot) in self.each() {
+            for (name, kind) in snapshot.indices()? {
+                indices.entry(name).or_default().push((volume, kind));
+            }
+        }
+        Ok(indices)
+    }
+
+    /// The kind of an index that each volume has with one kind.
+    fn common_kind(&self, volumes: &[(u32, Kind)]) -> Option<Kind> {
+        let (_, kind) = volumes[0];
+        let is_common = volumes.len() == self.volumes.len() && volumes.iter().all(|(_, other)| *other == kind);
+        is_common.then_some(kind)
+    }
+
+    /// The indices that each volume has with one kind, by ascending names.
+    ///
+    /// # Errors
+    /// As [`Snapshot::indices`].
+    pub fn indices(&self) -> Result<Vec<(String, Kind)>> {
+        if let [only] = &self.volumes[..] {
+            return only.indices();
+        }
+        let indices = self.all_indices()?.into_iter();
+        let common = indices.filter_map(|(name, volumes)| Some((name, self.common_kind(&volumes)?)));
+        Ok(common.collect())
+    }
+
+    /// The indices that some volumes lack or have with another kind, with the volumes that have them.
+    ///
+    /// # Errors
+    /// As [`Snapshot::indices`].
+    pub fn partial_indices(&self) -> Result<BTreeMap<String, Vec<u32>>> {
+        let indices = self.all_indices()?.into_iter();
+        let partial = indices.filter(|(_, volumes)| self.common_kind(volumes).is_none());
+        Ok(partial
+            .map(|(name, volumes)| (name, volumes.into_iter().map(|(volume, _)| volume).collect()))
+            .collect())
+    }
+
+    /// Makes an index of this name for values of this kind in each volume that has none, one after another. Meanwhile no other call
+    /// on the shelf makes or removes indices in all volumes.
+    ///
+    /// # Errors
+    /// [`Error::IndexExists`] if each volume has it, or if in this snapshot one has it with another kind, which the error then names;
+    /// nothing was written. Otherwise as [`Pass::apply`], with the volume that refuses: those before it have the index, and the same
+    /// call makes the others.
+    pub fn make_index(&self, name: &str, kind: Kind) -> Result<()> {
+        for (volume, snapshot) in self.each() {
+            let differs = |(index, found): &(String, Kind)| index == name && *found != kind;
+            if snapshot.indices()?.iter().any(differs) {
+                return Err(self.error(volume, Error::IndexExists));
+            }
+        }
+        let batch = Batch::new().make_index(name, kind).clone();
+        self.write_each(&batch, Error::IndexExists, |error| matches!(error, Error::IndexExists))
+    }
+
+    /// Removes the index of this name from each volume that has it, one after another.
+    ///
+    /// # Errors
+    /// [`Error::NoIndex`] if none has it; otherwise as [`make_index`](Self::make_index).
+    pub fn remove_index(&self, name: &str) -> Result<()> {
+        let batch = Batch::new().remove_index(name).clone();
+        self.write_each(&batch, Error::NoIndex, |error| matches!(error, Error::NoIndex))
+    }
+
+    /// Writes the batch in each volume, but for those where it has this error. `all` is the error if it has that everywhere.
+    fn write_each(&self, batch: &Batch, all: Error, is_done: impl Fn(&Error) -> bool) -> Result<()> {
+        let _turn = self.indexing.lock().unwrap_or_else(PoisonError::into_inner);
+        let mut outcome = Err(all);
+        for (volume, snapshot) in self.each() {
+            match snapshot.pass().apply(batch) {
+                Err(error) if is_done(&error) => {}
+                Err(error) => return Err(self.error(volume, error)),
+                Ok(_) => outcome = Ok(()),
+            }
+        }
+        outcome
+    }
+
+    /// The volume with the most free pages, the first one of several. It asks each for its status if there is more than one.
+    ///
+    /// # Errors
+    /// As [`Pass::status`].
+    pub fn roomiest(&self) -> Result<u32> {
+        roomiest(self.volumes.iter().map(Snapshot::pass))
+    }
+
+    /// How full each volume is.
+    ///
+    /// # Errors
+    /// As [`Pass::status`].
+    pub fn status(&self) -> Result<Vec<Status>> {
+        let all = self.each().map(|(volume, snapshot)| {
+            let status = snapshot.pass().status();
+            status.map_err(|error| self.error(volume, error))
+        });
+        all.collect()
+    }
+
+    /// The number that the next node of this volume will have, if it is made on this snapshot.
+    ///
+    /// # Errors
+    /// As [`Snapshot::next_node`]; [`Error::NoVolume`].
+    pub fn next_node(&self, volume: u32) -> Result<u64> {
+        let number = self.volume(volume)?.next_node()?;
+        Ok(Node { volume, number }.into())
+    }
+}
+
+/// What belongs to a volume.
+pub(super) fn at<T>(volumes: &[T], volume: u32) -> Result<&T> {
+    volumes.get(volume as usize).ok_or(Error::NoVolume {
+        volume,
+        volumes: volumes.len() as u32,
+    })
+}
+
+/// The first of the volumes with the most free pages.
+pub(super) fn roomiest<'p>(passes: impl ExactSizeIterator<Item = &'p Pass>) -> Result<u32> {
+    if passes.len() == 1 {
+        return Ok(0);
+    }
+    let (mut roomiest, mut most) = (0, 0);
+    for (volume, pass) in (0..).zip(passes) {
+        let free = pass.status().map_err(|error| error.in_volume(volume))?.free;
+        if free > most {
+            (roomiest, most) = (volume, free);
+        }
+    }
+    Ok(roomiest)
+}
+
+/// The nodes of a shelf, by [`ShelfSnapshot::nodes_from`]. An error ends those of its volume.
+#[derive(Debug)]
+pub struct ShelfNodes<'a> {
+    snapshot: &'a ShelfSnapshot<'a>,
+    volume: u32,
+    nodes: Option<Nodes<'a>>,
+}
+
+impl Iterator for ShelfNodes<'_> {
+    type Item = Result<u64>;
+
+    fn next(&mut self) -> Option<Result<u64>> {
+        loop {
+            let volume = self.volume;
+            if let Some(number) = self.nodes.as_mut()?.next() {
+                return Some(number.map(|number| Node { volume, number }.into()));
+            }
+            self.volume += 1;
+            let next = self.snapshot.volumes.get(self.volume as usize);
+            self.nodes = next.map(Snapshot::nodes);
+        }
+    }
+}
+
+impl std::iter::FusedIterator for ShelfNodes<'_> {}

@@ -1,0 +1,315 @@
+//! The tables of the log in PostgreSQL. docs/SERVER.md describes them.
+
+use super::error::{Error, Result};
+use std::fmt;
+use std::future::Future;
+use std::pin::Pin;
+use std::sync::Arc;
+use std::task::{Context, Poll};
+use std::time::Duration;
+use tokio::sync::Notify;
+use tokio_postgres::types::ToSql;
+use tokio_postgres::{AsyncMessage, Client, Config, NoTls, Row as SqlRow, Socket, Statement};
+
+/// The version of the tables.
+const FORMAT: i32 = 1;
+
+/// How long a call may take. PostgreSQL gives a statement up a little sooner.
+const LIMIT: Duration = Duration::from_secs(8);
+
+/// The most entries that are read at once.
+pub const ENTRIES: usize = 500;
+
+/// How many entries before the state stay in the log, for followers that are a little late.
+const SPARE: u64 = 10_000;
+
+/// A leader whose machine is gone is given up by PostgreSQL after some 11 seconds, so that another one can lead. An answered
+/// write is on PostgreSQL's disk, whatever the default of the database is.
+const SETTINGS: &str = "
+    SET statement_timeout = '7s';
+    SET tcp_keepalives_idle = 5;
+    SET tcp_keepalives_interval = 2;
+    SET tcp_keepalives_count = 3;
+    SELECT set_config('synchronous_commit', 'on', false)
+        WHERE current_setting('synchronous_commit') IN ('off', 'local');
+";
+
+const TABLES: &str = "
+    CREATE TABLE bestore_log (
+        is_one boolean PRIMARY KEY DEFAULT true CHECK (is_one),
+        format integer NOT NULL,
+        log text NOT NULL DEFAULT gen_random_uuid()::text,
+        last bigint NOT NULL DEFAULT 0,
+        term bigint NOT NULL DEFAULT 0,
+        leader text NOT NULL DEFAULT '',
+        run text NOT NULL DEFAULT '',
+        entries bigint NOT NULL DEFAULT 0,
+        next bigint NOT NULL DEFAULT 1
+    );
+    CREATE TABLE bestore_state (place bigint PRIMARY KEY, batch bytea NOT NULL);
+    CREATE TABLE bestore_entry (
+        number bigint PRIMARY KEY, term bigint NOT NULL, pass bigint NOT NULL, batch bytea NOT NULL
+    );
+";
+
+/// Adds entries if the log ends with `$2`, and this term is still the last one: in one statement, so no other leader can add
+/// between. The row of `bestore_log` is locked until the commit.
+const APPEND: &str = "
+    WITH head AS (
+        UPDATE bestore_log SET last = last + cardinality($3::bigint[])
+        WHERE term = $1 AND last = $2 RETURNING last
+    ), added AS (
+        INSERT INTO bestore_entry (number, term, pass, batch)
+        SELECT $2 + row.place, $1, row.pass, row.batch
+        FROM head, unnest($3::bigint[], $4::bytea[]) WITH ORDINALITY AS row (pass, batch, place)
+    )
+    SELECT pg_notify('bestore_log', last::text) FROM head";
+
+/// The advisory lock of a log: "best" in ASCII, and the number of its table in the database.
+const LOCK: &str = "SELECT pg_try_advisory_lock(1650815860, 'bestore_log'::regclass::oid::integer)";
+
+/// Also locks out others that make the tables.
+const MAKE_LOCK: &str = "SELECT pg_advisory_xact_lock(1650815860, 0)";
+
+/// What the log says of itself.
+#[derive(Clone, Debug)]
+pub struct Head {
+    /// Another text for each log.
+    pub log: String,
+    /// The number of the last entry.
+    pub last: u64,
+    /// Counts the leaders.
+    pub term: u64,
+    /// The last leader.
+    pub leader: String,
+    /// The run of that leader.
+    pub run: String,
+    /// The number of the last entry that the state contains.
+    pub entries: u64,
+    /// The number of the next node after the state.
+    pub next: u64,
+}
+
+impl Head {
+    fn of(row: &SqlRow) -> Result<Self> {
+        Ok(Self {
+            log: row.try_get("log")?,
+            last: unsigned(row, "last")?,
+            term: unsigned(row, "term")?,
+            leader: row.try_get("leader")?,
+            run: row.try_get("run")?,
+            entries: unsigned(row, "entries")?,
+            next: unsigned(row, "next")?,
+        })
+    }
+}
+
+fn unsigned(row: &SqlRow, name: &str) -> Result<u64> {
+    Ok(row.try_get::<_, i64>(name)? as u64)
+}
+
+/// An accepted transaction on its way into the log.
+#[derive(Debug)]
+pub struct Row {
+    pub number: u64,
+    pub pass: u64,
+    pub batch: Vec<u8>,
+}
+
+/// An entry of the log.
+#[derive(Debug)]
+pub struct Entry {
+    pub number: u64,
+    pub batch: Vec<u8>,
+}
+
+/// The next message of a connection that PostgreSQL sends without a request.
+struct NextMessage<'a>(&'a mut tokio_postgres::Connection<Socket, tokio_postgres::tls::NoTlsStream>);
+
+impl Future for NextMessage<'_> {
+    type Output = Option<std::result::Result<AsyncMessage, tokio_postgres::Error>>;
+
+    fn poll(mut self: Pin<&mut Self>, context: &mut Context<'_>) -> Poll<Self::Output> {
+        self.0.poll_message(context)
+    }
+}
+
+/// Waits for the call, for a limited time.
+async fn limited<T>(call: impl Future<Output = std::result::Result<T, tokio_postgres::Error>>) -> Result<T> {
+    match tokio::time::timeout(LIMIT, call).await {
+        Ok(answer) => Ok(answer?),
+        Err(_) => Err(Error::Slow(LIMIT)),
+    }
+}
+
+/// A connection to the database of the log.
+pub struct Database {
+    client: Client,
+    news: Arc<Notify>,
+    append: Option<Statement>,
+}
+
+impl fmt::Debug for Database {
+    fn fmt(&self, f: &mut fmt::Formatter<'_>) -> fmt::Result {
+        f.debug_struct("Database").finish_non_exhaustive()
+    }
+}
+
+impl Database {
+    /// Connects. To be called in a runtime.
+    pub async fn connect(config: &Config) -> Result<Self> {
+        let (client, mut connection) = limited(config.connect(NoTls)).await?;
+        let news = Arc::new(Notify::new());
+        let of_task = news.clone();
+        tokio::spawn(async move {
+            while let Some(Ok(_)) = NextMessage(&mut connection).await {
+                of_task.notify_one();
+            }
+            // The client's calls say what has happened.
+            of_task.notify_one();
+        });
+        limited(client.batch_execute(SETTINGS)).await?;
+        Ok(Self {
+            client,
+            news,
+            append: None,
+        })
+    }
+
+    /// Whether the connection has ended.
+    pub fn is_closed(&self) -> bool {
+        self.client.is_closed()
+    }
+
+    async fn one(&self, sql: &str, parameters: &[&(dyn ToSql + Sync)]) -> Result<SqlRow> {
+        limited(self.client.query_one(sql, parameters)).await
+    }
+
+    /// Makes the tables if there are none.
+    pub async fn make(&self) -> Result<()> {
+        let make = format!("{TABLES} INSERT INTO bestore_log (format) VALUES ({FORMAT});");
+        limited(self.client.batch_execute(&format!("BEGIN; {MAKE_LOCK}"))).await?;
+        let is_there = self.has_tables().await?;
+        let end = if is_there { "COMMIT" } else { "; COMMIT" };
+        let made = format!("{}{end}", if is_there { "" } else { &make });
+        limited(self.client.batch_execute(&made)).await
+    }
+
+    async fn has_tables(&self) -> Result<bool> {
+        let found = self.one("SELECT to_regclass('bestore_log') IS NOT NULL", &[]).await?;
+        Ok(found.try_get(0)?)
+    }
+
+    /// Refuses a database without a log, and a log of another format.
+    pub async fn check_format(&self) -> Result<()> {
+        if !self.has_tables().await? {
+            return Err(Error::NoLog);
+        }
+        let found = limited(self.client.query_one("SELECT format FROM bestore_log", &[])).await;
+        let format = match found {
+            Ok(row) => row.try_get::<_, i32>(0).map_err(|_| Error::Foreign)?,
+            Err(Error::Database(error)) if error.code().is_some() && !self.is_closed() => return Err(Error::Foreign),
+            Err(error) => return Err(error),
+        };
+        match format {
+            FORMAT => Ok(()),
+            format if format > FORMAT => Err(Error::Newer { format, known: FORMAT }),
+            _ => Err(Error::Foreign),
+        }
+    }
+
+    /// Lets PostgreSQL send a message for new entries.
+    pub async fn listen(&self) -> Result<()> {
+        limited(self.client.batch_execute("LISTEN bestore_log")).await
+    }
+
+    /// Ends that.
+    pub async fn unlisten(&self) -> Result<()> {
+        limited(self.client.batch_execute("UNLISTEN *")).await
+    }
+
+    /// Waits until there are new entries, or for this time.
+    pub async fn news(&self, within: Duration) {
+        // Either may come first.
+        let _ = tokio::time::timeout(within, self.news.notified()).await;
+    }
+
+    pub async fn head(&self) -> Result<Head> {
+        Head::of(&self.one("SELECT * FROM bestore_log", &[]).await?)
+    }
+
+    /// Takes the lock by which a server leads, if nobody has it. It is given back when the connection ends.
+    pub async fn try_lock(&self) -> Result<bool> {
+        Ok(self.one(LOCK, &[]).await?.try_get(0)?)
+    }
+
+    /// Begins the next term. From then on no other server can add entries. With `again` the last leader has to be this run.
+    pub async fn take_term(&self, leader: &str, run: &str, again: bool) -> Result<Option<Head>> {
+        let sql = "UPDATE bestore_log SET term = term + 1, leader = $1, run = $2 WHERE run = $2 OR NOT $3 RETURNING *";
+        let taken = limited(self.client.query_opt(sql, &[&leader, &run, &again])).await?;
+        taken.as_ref().map(Head::of).transpose()
+    }
+
+    /// Adds the entries, all in one commit, if the log ends with the one before them and the term is the last one. Returns
+    /// whether it did.
+    pub async fn append(&mut self, term: u64, last: u64, rows: &[Row]) -> Result<bool> {
+        let statement = match &self.append {
+            Some(statement) => statement.clone(),
+            None => self.append.insert(limited(self.client.prepare(APPEND)).await?).clone(),
+        };
+        let passes: Vec<i64> = rows.iter().map(|row| row.pass as i64).collect();
+        let batches: Vec<&[u8]> = rows.iter().map(|row| &*row.batch).collect();
+        let parameters: [&(dyn ToSql + Sync); 4] = [&(term as i64), &(last as i64), &passes, &batches];
+        Ok(limited(self.client.query_opt(&statement, &parameters)).await?.is_some())
+    }
+
+    /// Some of the entries after this one, by rising numbers.
+    pub async fn entries(&self, after: u64) -> Result<Vec<Entry>> {
+        let sql = "SELECT number, batch FROM bestore_entry WHERE number > $1 ORDER BY number LIMIT $2";
+        let rows = limited(self.client.query(sql, &[&(after as i64), &(ENTRIES as i64)])).await?;
+        let entry = |row: &SqlRow| {
+            Ok(Entry {
+                number: unsigned(row, "number")?,
+                batch: row.try_get("batch")?,
+            })
+        };
+        rows.iter().map(entry).collect()
+    }
+
+    /// The head and the state, as one.
+    pub async fn state(&mut self) -> Result<(Head, Vec<Vec<u8>>)> {
+        let begin = "BEGIN ISOLATION LEVEL REPEATABLE READ READ ONLY; SET LOCAL statement_timeout = 0";
+        self.client.batch_execute(begin).await?;
+        let head = self.head().await?;
+        let rows = self
+            .client
+            .query("SELECT batch FROM bestore_state ORDER BY place", &[])
+            .await?;
+        self.client.batch_execute("COMMIT").await?;
+        let batches: std::result::Result<_, _> = rows.iter().map(|row| row.try_get(0)).collect();
+        Ok((head, batches?))
+    }
+
+    /// Puts this state, which contains the entries up to `number`, in the place of the old one. The entries long before it go.
+    /// Returns whether the term is still the last one; otherwise nothing has changed.
+    pub async fn write_state(&self, term: u64, number: u64, next: u64, batches: &[Vec<u8>]) -> Result<bool> {
+        let begin =
+            "BEGIN; SET LOCAL statement_timeout = 0; LOCK bestore_state IN EXCLUSIVE MODE; DELETE FROM bestore_state";
+        self.client.batch_execute(begin).await?;
+        let insert = "INSERT INTO bestore_state SELECT $1 + place, batch FROM unnest($2::bytea[]) WITH ORDINALITY AS row (batch, place)";
+        let insert = self.client.prepare(insert).await?;
+        for (place, part) in (0_i64..).step_by(ENTRIES).zip(batches.chunks(ENTRIES)) {
+            self.client.execute(&insert, &[&place, &part]).await?;
+        }
+        let delete = "DELETE FROM bestore_entry WHERE number <= $1";
+        let spared = number.saturating_sub(SPARE) as i64;
+        self.client.execute(delete, &[&spared]).await?;
+        // Last, as from here to the commit no entry can be added.
+        let update = "UPDATE bestore_log SET entries = $1, next = $2 WHERE term = $3 AND entries <= $1 AND last >= $1";
+        let parameters: [&(dyn ToSql + Sync); 3] = [&(number as i64), &(next as i64), &(term as i64)];
+        let is_leading = self.client.execute(update, &parameters).await? == 1;
+        let end = if is_leading { "COMMIT" } else { "ROLLBACK" };
+        self.client.batch_execute(end).await?;
+        Ok(is_leading)
+    }
+}

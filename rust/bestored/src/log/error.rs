@@ -1,0 +1,163 @@
+//! Why the log can't be read or written, and why a server stops using it.
+
+use bestore::saved::Place;
+use std::fmt;
+use std::sync::Arc;
+use std::time::Duration;
+
+/// The result of a call of this module.
+pub type Result<T> = std::result::Result<T, Error>;
+
+/// Why the log can't be read or written.
+#[derive(Debug)]
+pub enum Error {
+    /// The URL can't be read.
+    Url(tokio_postgres::Error),
+    /// An error of PostgreSQL, or of the connection to it.
+    Database(tokio_postgres::Error),
+    /// PostgreSQL didn't reply within this time.
+    Slow(Duration),
+    /// The database has no log.
+    NoLog,
+    /// A table of the log's name is of another program.
+    Foreign,
+    /// The log is of a newer format.
+    Newer { format: i32, known: i32 },
+    /// Another server leads.
+    Led { leader: String },
+    /// Another server leads now, though this one did.
+    Deposed { leader: String, unsaved: u64 },
+    /// The database has another log than before.
+    Replaced,
+    /// The log has fewer entries than it had, or more than anybody may have added.
+    Length { known: u64, found: u64 },
+    /// The log has what no store did.
+    Differs {
+        place: Place,
+        why: Box<dyn std::error::Error + Send + Sync>,
+    },
+    /// What the log has doesn't fit the limits of the store.
+    TooLarge { place: Place, error: bestore::Error },
+    /// An error of the store.
+    Store(bestore::Error),
+    /// There is no thread or no runtime for the log.
+    Thread(std::io::Error),
+    /// The thread of the log has ended by a fault.
+    Fault,
+}
+
+impl Error {
+    pub fn differs(place: Place, why: impl Into<Box<dyn std::error::Error + Send + Sync>>) -> Self {
+        Error::Differs { place, why: why.into() }
+    }
+
+    /// The error of a store that refuses what the log has at this place.
+    pub fn refused(place: Place, error: bestore::Error) -> Self {
+        use bestore::Error::{CommitsSpent, Full, OutOfMemory};
+        match error {
+            Full { .. } | CommitsSpent | OutOfMemory => Error::TooLarge { place, error },
+            error => Error::differs(place, error),
+        }
+    }
+
+    /// Whether it may go better later.
+    pub fn is_passing(&self) -> bool {
+        matches!(self, Error::Database(_) | Error::Slow(_))
+    }
+}
+
+impl From<tokio_postgres::Error> for Error {
+    fn from(error: tokio_postgres::Error) -> Self {
+        Error::Database(error)
+    }
+}
+
+impl From<bestore::Error> for Error {
+    fn from(error: bestore::Error) -> Self {
+        Error::Store(error)
+    }
+}
+
+impl fmt::Display for Error {
+    fn fmt(&self, f: &mut fmt::Formatter<'_>) -> fmt::Result {
+        match self {
+            Error::Url(error) => write!(f, "the URL of the log: {}", Shown(error)),
+            Error::Database(error) => write!(f, "the database of the log: {}", Shown(error)),
+            Error::Slow(time) => write!(f, "the database of the log didn't reply within {} s", time.as_secs()),
+            Error::NoLog => f.write_str("the database has no log; --log makes one"),
+            Error::Foreign => f.write_str("the database has tables of the log's names that are of another program"),
+            Error::Newer { format, known } => {
+                write!(f, "the log has format {format}, and format {known} is the one known here")
+            }
+            Error::Led { leader } => write!(f, "the log is led by {leader}; --follow follows it"),
+            Error::Deposed { leader, unsaved } => write!(
+                f,
+                "{leader} leads the log now; {unsaved} writes of this server, none of them confirmed, may be missing there"
+            ),
+            Error::Replaced => f.write_str("the database has another log than before"),
+            Error::Length { known, found } => {
+                write!(f, "the log has {found} entries, and {known} of them are known here")
+            }
+            Error::Differs { place, why } => write!(f, "{place} of the log: it has what no store did: {why}"),
+            Error::TooLarge { place, error } => {
+                write!(f, "{place} of the log: it doesn't fit the limits of the store: {error}")
+            }
+            Error::Store(error) => error.fmt(f),
+            Error::Thread(error) => write!(f, "the thread of the log can't be started: {error}"),
+            Error::Fault => f.write_str("the thread of the log has ended by a fault"),
+        }
+    }
+}
+
+impl std::error::Error for Error {
+    fn source(&self) -> Option<&(dyn std::error::Error + 'static)> {
+        match self {
+            Error::Url(error) | Error::Database(error) => Some(error),
+            Error::TooLarge { error, .. } | Error::Store(error) => Some(error),
+            Error::Differs { why, .. } => Some(why.as_ref()),
+            Error::Thread(error) => Some(error),
+            _ => None,
+        }
+    }
+}
+
+/// An error of PostgreSQL on one line, with its code.
+struct Shown<'a>(&'a tokio_postgres::Error);
+
+impl fmt::Display for Shown<'_> {
+    fn fmt(&self, f: &mut fmt::Formatter<'_>) -> fmt::Result {
+        match self.0.as_db_error() {
+            Some(error) => write!(f, "{} ({})", error.message(), error.code().code()),
+            None => self.0.fmt(f),
+        }
+    }
+}
+
+/// Why a write isn't made, or not confirmed.
+#[derive(Clone, Debug)]
+pub enum Refused {
+    /// This server follows.
+    NotLeader { leader: String },
+    /// The write was made in memory, and may be in the log or not.
+    NotSaved(Arc<Error>),
+    /// Nothing was written, since the log can't be written.
+    Stopped(Arc<Error>),
+}
+
+impl From<Refused> for bestore::Error {
+    fn from(refused: Refused) -> Self {
+        bestore::Error::other(refused)
+    }
+}
+
+impl fmt::Display for Refused {
+    fn fmt(&self, f: &mut fmt::Formatter<'_>) -> fmt::Result {
+        match self {
+            Refused::NotLeader { leader } => write!(f, "this server follows, and {leader} leads"),
+            Refused::NotSaved(error) => write!(f, "the write may be in the log or not: {error}"),
+            Refused::Stopped(error) => write!(f, "nothing was written: {error}"),
+        }
+    }
+}
+
+impl std::error::Error for Refused {}

@@ -1,0 +1,288 @@
+//! The writes on their way into the log, and what is known of the log here.
+
+use super::database::Row;
+use super::error::{Error, Refused};
+use bestore::{Batch, Keeper, Written};
+use std::mem;
+use std::sync::{Arc, Condvar, Mutex, MutexGuard, PoisonError};
+use std::time::{Duration, Instant};
+use tokio::sync::Notify;
+
+/// How many bytes may wait for the log before the next write waits too.
+const WAITING: usize = 16 << 20;
+
+/// How long writes wait for a log that can't be written.
+const PATIENCE: Duration = Duration::from_secs(10);
+
+/// What a server does.
+#[derive(Clone, Copy, Debug, PartialEq, Eq)]
+pub enum Role {
+    Follower,
+    /// Since when, as the log counts the leaders.
+    Leader {
+        term: u64,
+    },
+}
+
+/// Since when the log can't be read or written, and why.
+#[derive(Clone, Debug)]
+pub struct Trouble {
+    pub since: Instant,
+    pub why: Arc<Error>,
+}
+
+impl Trouble {
+    fn is_long(&self) -> bool {
+        self.since.elapsed() >= PATIENCE
+    }
+}
+
+#[derive(Debug)]
+pub struct State {
+    pub role: Role,
+    /// The last known leader.
+    pub leader: String,
+    /// The number of the last entry in memory.
+    pub written: u64,
+    /// The number of the last entry that is in memory and in the log.
+    pub saved: u64,
+    pub trouble: Option<Trouble>,
+    waiting: Vec<Row>,
+    waiting_bytes: usize,
+    /// The server ends.
+    is_closing: bool,
+    /// Nothing more is read or written.
+    is_over: bool,
+    failed: Option<Arc<Error>>,
+}
+
+impl State {
+    /// Why nothing can be written, if it can't.
+    fn refused(&self) -> Option<Refused> {
+        if let Some(error) = &self.failed {
+            return Some(Refused::Stopped(error.clone()));
+        }
+        match (self.role, &self.trouble) {
+            (Role::Follower, _) => Some(Refused::NotLeader {
+                leader: self.leader.clone(),
+            }),
+            (_, Some(trouble)) if trouble.is_long() => Some(Refused::Stopped(trouble.why.clone())),
+            _ => None,
+        }
+    }
+
+    /// Why the writes that wait are no longer waited for.
+    fn given_up(&self) -> Option<Arc<Error>> {
+        let trouble = self.trouble.as_ref().filter(|trouble| trouble.is_long());
+        self.failed
+            .clone()
+            .or_else(|| trouble.map(|trouble| trouble.why.clone()))
+    }
+}
+
+/// The writes in their order. The thread of the log takes them.
+#[derive(Debug)]
+pub struct Line {
+    state: Mutex<State>,
+    changed: Condvar,
+    work: Notify,
+    /// What has to be added to a commit number of the store to have the number in the log.
+    shift: u64,
+}
+
+impl Line {
+    /// For a store whose last commit has the number `commit`, and in which the log's entries up to `entry` are.
+    pub fn new(role: Role, leader: String, entry: u64, commit: u64) -> Self {
+        let state = State {
+            role,
+            leader,
+            written: entry,
+            saved: entry,
+            trouble: None,
+            waiting: Vec::new(),
+            waiting_bytes: 0,
+            is_closing: false,
+            is_over: false,
+            failed: None,
+        };
+        Self {
+            state: Mutex::new(state),
+            changed: Condvar::new(),
+            work: Notify::new(),
+            shift: entry.wrapping_sub(commit),
+        }
+    }
+
+    pub fn lock(&self) -> MutexGuard<'_, State> {
+        self.state.lock().unwrap_or_else(PoisonError::into_inner)
+    }
+
+    fn wait<'a>(&self, state: MutexGuard<'a, State>, within: Duration) -> MutexGuard<'a, State> {
+        let waited = self.changed.wait_timeout(state, within);
+        waited.unwrap_or_else(PoisonError::into_inner).0
+    }
+
+    /// Changes the state, and wakes all who wait for a change.
+    pub fn change<T>(&self, change: impl FnOnce(&mut State) -> T) -> T {
+        let changed = change(&mut self.lock());
+        self.changed.notify_all();
+        changed
+    }
+
+    /// The number in the log of the entry with this commit number.
+    pub fn entry(&self, commit: u64) -> u64 {
+        commit.wrapping_add(self.shift)
+    }
+
+    /// The commit number of this entry of the log.
+    pub fn commit(&self, entry: u64) -> u64 {
+        entry.wrapping_sub(self.shift)
+    }
+
+    /// Takes the writes that wait.
+    pub fn take(&self) -> Vec<Row> {
+        let mut state = self.lock();
+        state.waiting_bytes = 0;
+        mem::take(&mut state.waiting)
+    }
+
+    /// Waits until there may be writes, or for this time.
+    pub async fn work(&self, within: Duration) {
+        // Either may come first.
+        let _ = tokio::time::timeout(within, self.work.notified()).await;
+    }
+
+    /// The entries up to this one are in memory and in the log.
+    pub fn saved(&self, number: u64) {
+        self.change(|state| {
+            state.saved = number;
+            state.written = state.written.max(number);
+            state.trouble = None;
+        });
+    }
+
+    /// The log can't be read or written since then. Returns whether that is new.
+    pub fn trouble(&self, error: Error, since: Instant) -> bool {
+        let why = Arc::new(error);
+        self.change(|state| match &mut state.trouble {
+            Some(trouble) => {
+                trouble.why = why;
+                false
+            }
+            none => {
+                *none = Some(Trouble { since, why });
+                true
+            }
+        })
+    }
+
+    /// Waits until all that was written before the call is in the log.
+    pub fn flush(&self) -> Result<(), Refused> {
+        let state = self.lock();
+        let number = state.written;
+        self.wait_saved(state, number).map(drop)
+    }
+
+    fn wait_saved<'a>(&self, mut state: MutexGuard<'a, State>, number: u64) -> Result<MutexGuard<'a, State>, Refused> {
+        while state.saved < number {
+            if let Some(error) = state.given_up() {
+                return Err(Refused::NotSaved(error));
+            }
+            state = self.wait(state, Duration::from_secs(1));
+        }
+        Ok(state)
+    }
+
+    /// Waits until the entry with this number is here, for a limited time. Returns the last one that is.
+    pub fn wait_for(&self, number: u64, within: Duration) -> u64 {
+        let until = Instant::now() + within;
+        let mut state = self.lock();
+        while state.saved < number && state.failed.is_none() && !state.is_closing {
+            let left = until.saturating_duration_since(Instant::now());
+            if left.is_zero() {
+                break;
+            }
+            state = self.wait(state, left);
+        }
+        state.saved
+    }
+
+    /// Nothing more can be read or written.
+    pub fn fail(&self, error: Error) {
+        self.change(|state| state.failed = Some(Arc::new(error)));
+    }
+
+    /// Lets the thread of the log end after the writes that wait.
+    pub fn close(&self) {
+        self.change(|state| state.is_closing = true);
+        self.work.notify_one();
+    }
+
+    /// Whether the thread has to end: there is nothing left to write, or it has been waited for too long.
+    pub fn is_at_end(&self) -> bool {
+        let state = self.lock();
+        state.is_closing && (state.written == state.saved || state.given_up().is_some())
+    }
+
+    pub fn is_closing(&self) -> bool {
+        self.lock().is_closing
+    }
+
+    /// The thread has ended.
+    pub fn end(&self) {
+        self.change(|state| {
+            state.is_over = true;
+            if state.written > state.saved && state.failed.is_none() {
+                let trouble = state.trouble.as_ref().map(|trouble| trouble.why.clone());
+                state.failed = Some(trouble.unwrap_or_else(|| Arc::new(Error::Fault)));
+            }
+        });
+    }
+
+    /// Waits for the end of the thread. Returns why it has failed, if it has.
+    pub fn wait_end(&self) -> Result<(), Arc<Error>> {
+        let mut state = self.lock();
+        while !state.is_over {
+            state = self.wait(state, Duration::from_secs(1));
+        }
+        state.failed.clone().map_or(Ok(()), Err)
+    }
+}
+
+impl Keeper for Line {
+    fn keep(
+        &self,
+        pass: u64,
+        batch: &Batch,
+        write: &mut dyn FnMut() -> bestore::Result<Written>,
+    ) -> bestore::Result<(Written, u64)> {
+        let mut state = self.lock();
+        while state.waiting_bytes > WAITING && state.refused().is_none() {
+            state = self.wait(state, Duration::from_secs(1));
+        }
+        if let Some(refused) = state.refused() {
+            return Err(refused.into());
+        }
+        let written = write()?;
+        let number = self.entry(written.number);
+        state.written = number;
+        match batch.clone().set_nodes(&written.nodes).to_bytes() {
+            Ok(batch) => {
+                state.waiting_bytes += batch.len();
+                state.waiting.push(Row { number, pass, batch });
+            }
+            // What the store has accepted has bytes, if there is memory. Nothing may follow an entry that is missing.
+            Err(error) => {
+                let error = state.failed.insert(Arc::new(Error::Store(error)));
+                return Err(Refused::NotSaved(error.clone()).into());
+            }
+        }
+        drop(state);
+        self.work.notify_one();
+        Ok((written, number))
+    }
+
+    fn wait(&self, number: u64) -> bestore::Result<()> {
+        Ok(self.wait_saved(self.lock(), number).map(drop)?)
+    }
+}

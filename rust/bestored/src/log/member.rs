@@ -1,0 +1,417 @@
+//! What the thread of the log does: it follows, and it leads.
+
+use super::database::{Database, Entry, Head, Row, ENTRIES};
+use super::error::{Error, Result};
+use super::line::{Line, Role};
+use super::{state, Access, FOR_LOCK};
+use crate::pressure::Pressure;
+use crate::server::Shared;
+use bestore::saved::Place;
+use bestore::{Batch, Pass, Written};
+use std::sync::Arc;
+use std::thread;
+use std::time::{Duration, Instant};
+
+/// How often a follower looks whether anybody leads.
+const LOOK: Duration = Duration::from_millis(100);
+
+/// How often a leader that has nothing to write looks whether it still leads.
+const LEADING: Duration = Duration::from_secs(1);
+
+/// How long a follower lets the leader come back after the connection to the database has broken.
+const GRACE: Duration = Duration::from_secs(3);
+
+/// How long the thread rests before it tries again what has failed.
+const REST: Duration = Duration::from_millis(200);
+
+/// How long entries that find no page are tried again, while snapshots of clients keep pages.
+const FOR_PAGES: Duration = Duration::from_secs(60);
+
+/// After so many entries the leader writes the state.
+const STATE_EVERY: u64 = 100_000;
+
+/// When a turn of the thread ends.
+#[derive(Clone, Copy, Debug, PartialEq, Eq)]
+enum Turn {
+    /// The role has changed.
+    Next,
+    /// The server ends.
+    End,
+}
+
+/// A server as a member of those that share a log.
+#[derive(Debug)]
+pub struct Member {
+    access: Access,
+    line: Arc<Line>,
+    database: Database,
+    pass: Pass,
+    /// Which log it is.
+    log: String,
+    /// The writes that are being added.
+    sending: Vec<Row>,
+    /// The number of the last entry that the state contains, as far as is known here.
+    state: u64,
+    /// From when on a follower may lead.
+    may_lead: Instant,
+    /// When the last call of the database that may fail began.
+    tried: Instant,
+}
+
+impl Member {
+    /// Connects, and makes the store again. To lead is refused while another server does.
+    pub async fn begin(access: Access, mut pass: Pass, leads: bool) -> Result<(Self, Arc<Line>)> {
+        let mut database = Database::connect(&access.config).await?;
+        if leads {
+            database.make().await?;
+        }
+        database.check_format().await?;
+        let role = match leads {
+            true => lead_first(&database, &access).await?,
+            false => Role::Follower,
+        };
+        let state = state::load(&mut database, &mut pass).await?;
+        let head = database.head().await?;
+        let commit = pass.pin()?.number();
+        let line = Arc::new(Line::new(role, head.leader, state, commit));
+        let mut member = Self {
+            access,
+            line: line.clone(),
+            database,
+            pass,
+            log: head.log,
+            sending: Vec::new(),
+            state,
+            may_lead: Instant::now(),
+            tried: Instant::now(),
+        };
+        member.apply_to(head.last, None).await?;
+        Ok((member, line))
+    }
+
+    /// Follows and leads until the server ends, or until this is no longer possible.
+    pub async fn run(&mut self, shared: &Arc<Shared>) -> Result<()> {
+        loop {
+            let role = self.line.lock().role;
+            let turn = match role {
+                Role::Follower => self.follow(shared).await,
+                Role::Leader { term } => self.lead(term, shared).await,
+            };
+            match turn {
+                Ok(Turn::Next) => {}
+                Ok(Turn::End) => return Ok(()),
+                Err(error) if error.is_passing() => {
+                    self.note(error);
+                    if self.connect_again(role).await? == Turn::End {
+                        return Ok(());
+                    }
+                }
+                Err(error) => return Err(error),
+            }
+        }
+    }
+
+    /// Says once that the log can't be read or written.
+    fn note(&self, error: Error) {
+        let text = error.to_string();
+        if self.line.trouble(error, self.tried) {
+            eprintln!("bestored: {text}; it is tried again");
+        }
+    }
+
+    /// Connects until it succeeds. A leader then has to find the log as it left it.
+    async fn connect_again(&mut self, role: Role) -> Result<Turn> {
+        loop {
+            if self.line.is_at_end() || role == Role::Follower && self.line.is_closing() {
+                return Ok(Turn::End);
+            }
+            tokio::time::sleep(REST).await;
+            let connected = async {
+                let database = self.access.connect().await?;
+                self.check(&database.head().await?)?;
+                if let Role::Leader { .. } = role {
+                    self.lead_again(&database).await?;
+                }
+                Ok(database)
+            };
+            match connected.await {
+                Ok(database) => {
+                    self.database = database;
+                    self.may_lead = Instant::now() + GRACE;
+                    return Ok(Turn::Next);
+                }
+                Err(error @ Error::Led { .. }) => self.note(error),
+                Err(error) if error.is_passing() => self.note(error),
+                Err(error) => return Err(error),
+            }
+        }
+    }
+
+    /// Whether it is the same log, with all entries that are known here.
+    fn check(&self, head: &Head) -> Result<()> {
+        let known = self.line.lock().saved;
+        if head.log != self.log {
+            Err(Error::Replaced)
+        } else if head.last < known {
+            Err(Error::Length {
+                known,
+                found: head.last,
+            })
+        } else {
+            Ok(())
+        }
+    }
+
+    /// Gets new entries and applies them. Leads once nobody does.
+    async fn follow(&mut self, shared: &Shared) -> Result<Turn> {
+        self.database.listen().await?;
+        let mut looked = None;
+        while !self.line.is_closing() {
+            self.tried = Instant::now();
+            if self.apply_some(Some(shared)).await? == ENTRIES {
+                continue;
+            }
+            if looked.map_or(true, |looked: Instant| looked.elapsed() >= LOOK) {
+                looked = Some(Instant::now());
+                let head = self.database.head().await?;
+                self.check(&head)?;
+                self.line.change(|state| {
+                    state.leader = head.leader;
+                    state.trouble = None;
+                });
+                if Instant::now() >= self.may_lead && self.database.try_lock().await? {
+                    self.take_over(shared).await?;
+                    return Ok(Turn::Next);
+                }
+            }
+            self.database.news(LOOK).await;
+        }
+        Ok(Turn::End)
+    }
+
+    /// Ends the term of the last leader, applies all that it has added, and leads.
+    async fn take_over(&mut self, shared: &Shared) -> Result<()> {
+        let head = take_term(&self.database, &self.access, false).await?;
+        self.check(&head)?;
+        self.apply_to(head.last, Some(shared)).await?;
+        self.database.unlisten().await?;
+        self.line.change(|state| {
+            state.leader = head.leader;
+            state.role = Role::Leader { term: head.term };
+        });
+        Ok(())
+    }
+
+    /// Applies all entries up to this one, which the log has.
+    async fn apply_to(&mut self, last: u64, shared: Option<&Shared>) -> Result<()> {
+        self.apply_new(shared).await?;
+        let known = self.line.lock().saved;
+        match known >= last {
+            true => Ok(()),
+            false => Err(Error::differs(Place::Entry(known + 1), "the entry is missing")),
+        }
+    }
+
+    /// Applies the entries that the log has.
+    async fn apply_new(&mut self, shared: Option<&Shared>) -> Result<()> {
+        while self.apply_some(shared).await? == ENTRIES {}
+        Ok(())
+    }
+
+    /// Applies some of the entries that the log has. Returns how many.
+    async fn apply_some(&mut self, shared: Option<&Shared>) -> Result<usize> {
+        let known = self.line.lock().saved;
+        let entries = self.database.entries(known).await?;
+        for (number, entry) in (known + 1..).zip(&entries) {
+            self.apply(number, entry, shared.map(|shared| &shared.pressure))?;
+            self.line.saved(number);
+        }
+        if let (Some(shared), false) = (shared, entries.is_empty()) {
+            shared.watcher.written();
+        }
+        Ok(entries.len())
+    }
+
+    /// Applies an entry, and compares its outcome with the leader's.
+    fn apply(&self, number: u64, entry: &Entry, pressure: Option<&Pressure>) -> Result<()> {
+        let place = Place::Entry(number);
+        if entry.number != number {
+            return Err(Error::differs(place, "the entry is missing"));
+        }
+        let batch = Batch::from_bytes(&entry.batch).map_err(|error| Error::differs(place, error))?;
+        let written = match pressure {
+            None => self.pass.apply(&batch),
+            Some(pressure) => self.apply_with(pressure, &batch),
+        };
+        let written = written.map_err(|error| Error::refused(place, error))?;
+        let mut repeated = batch.clone();
+        repeated.set_nodes(&written.nodes);
+        match repeated == batch {
+            true => Ok(()),
+            false => Err(Error::differs(place, "it makes other nodes here")),
+        }
+    }
+
+    /// Applies a batch, also if snapshots of clients keep pages for a while.
+    fn apply_with(&self, pressure: &Pressure, batch: &Batch) -> bestore::Result<Written> {
+        let until = Instant::now() + FOR_PAGES;
+        loop {
+            match pressure.write(&self.pass, None, batch) {
+                Err(bestore::Error::Full { .. })
+                    if self.pass.status()?.oldest.is_some() && Instant::now() < until && !self.line.is_closing() =>
+                {
+                    thread::sleep(REST);
+                }
+                written => return written,
+            }
+        }
+    }
+
+    /// Adds what is written to the log, until another server leads or the server ends.
+    async fn lead(&mut self, term: u64, shared: &Arc<Shared>) -> Result<Turn> {
+        loop {
+            self.write_state_if_due(shared);
+            if self.line.is_at_end() {
+                return Ok(Turn::End);
+            }
+            if self.sending.is_empty() {
+                self.sending = self.line.take();
+            }
+            match self.sending.last().map(|row| row.number) {
+                Some(last) => self.send(term, last).await?,
+                None => self.rest(term).await?,
+            }
+        }
+    }
+
+    /// Adds the entries up to this one to the log.
+    async fn send(&mut self, term: u64, last: u64) -> Result<()> {
+        let before = self.line.lock().saved;
+        self.tried = Instant::now();
+        match self.database.append(term, before, &self.sending).await {
+            Ok(true) => {
+                self.sending.clear();
+                self.line.saved(last);
+                Ok(())
+            }
+            Ok(false) => {
+                let head = self.database.head().await?;
+                self.settle(&head, term)
+            }
+            // PostgreSQL has refused the statement, as on a full disk: nothing was added.
+            Err(error @ Error::Database(_)) if !self.database.is_closed() && is_refusal(&error) => {
+                self.note(error);
+                tokio::time::sleep(REST).await;
+                Ok(())
+            }
+            Err(error) => Err(error),
+        }
+    }
+
+    /// Waits for writes, and looks whether this server still leads.
+    async fn rest(&mut self, term: u64) -> Result<()> {
+        let begin = Instant::now();
+        self.line.work(LEADING).await;
+        if begin.elapsed() < LEADING {
+            return Ok(());
+        }
+        self.tried = Instant::now();
+        let head = self.database.head().await?;
+        self.check(&head)?;
+        match head.term == term {
+            true => Ok(()),
+            false => Err(self.deposed(&head)),
+        }
+    }
+
+    /// Why this server no longer leads.
+    fn deposed(&self, head: &Head) -> Error {
+        let state = self.line.lock();
+        Error::Deposed {
+            leader: head.leader.clone(),
+            unsaved: state.written - state.saved,
+        }
+    }
+
+    /// Finds out by the head whether the entries that were sent are in the log, if this server leads in this term. Then nobody else
+    /// may have added any.
+    fn settle(&mut self, head: &Head, term: u64) -> Result<()> {
+        self.check(head)?;
+        if (&head.run, head.term) != (&self.access.run, term) {
+            return Err(self.deposed(head));
+        }
+        let known = self.line.lock().saved;
+        let sent = self.sending.last().map_or(known, |row| row.number);
+        if head.last == sent {
+            self.sending.clear();
+            self.line.saved(sent);
+        } else if head.last != known {
+            return Err(Error::Length {
+                known,
+                found: head.last,
+            });
+        }
+        Ok(())
+    }
+
+    /// Takes the lock again, and ends the own term, since the old session may still add entries.
+    async fn lead_again(&mut self, database: &Database) -> Result<()> {
+        if !database.try_lock().await? {
+            let head = database.head().await?;
+            return Err(match head.run == self.access.run {
+                // The old session hasn't ended yet.
+                true => Error::Led { leader: head.leader },
+                false => self.deposed(&head),
+            });
+        }
+        let head = match database.take_term(&self.access.name, &self.access.run, true).await? {
+            Some(head) => head,
+            None => return Err(self.deposed(&database.head().await?)),
+        };
+        self.settle(&head, head.term)?;
+        self.line.change(|state| state.role = Role::Leader { term: head.term });
+        Ok(())
+    }
+
+    /// Lets another thread write the state, if there are many entries since the last one.
+    fn write_state_if_due(&mut self, shared: &Arc<Shared>) {
+        let saved = self.line.lock().saved;
+        if saved - self.state < STATE_EVERY {
+            return;
+        }
+        self.state = saved;
+        let shared = shared.clone();
+        let writing = thread::Builder::new().name("log-state".into()).spawn(move || {
+            if let Err(failure) = shared.kept.compact() {
+                eprintln!("bestored: the state of the log isn't written: {}", failure.0.message);
+            }
+        });
+        if let Err(error) = writing {
+            eprintln!("bestored: no thread writes the state of the log: {error}");
+        }
+    }
+}
+
+/// Whether PostgreSQL has refused the statement, and the connection goes on.
+fn is_refusal(error: &Error) -> bool {
+    matches!(error, Error::Database(error) if error.code().is_some())
+}
+
+async fn take_term(database: &Database, access: &Access, again: bool) -> Result<Head> {
+    let taken = database.take_term(&access.name, &access.run, again).await?;
+    taken.ok_or(Error::Foreign)
+}
+
+/// Takes the lock for a server that starts.
+async fn lead_first(database: &Database, access: &Access) -> Result<Role> {
+    let until = Instant::now() + FOR_LOCK;
+    while !database.try_lock().await? {
+        if Instant::now() > until {
+            let leader = database.head().await?.leader;
+            return Err(Error::Led { leader });
+        }
+        tokio::time::sleep(LOOK).await;
+    }
+    let term = take_term(database, access, false).await?.term;
+    Ok(Role::Leader { term })
+}

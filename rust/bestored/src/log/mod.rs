@@ -1,0 +1,245 @@
+//! A log in PostgreSQL that several machines share. One server leads: it writes, and adds each accepted transaction to the log
+//! before the reply. The others follow: they apply the entries in order, and compare each outcome with the leader's.
+//!
+//! The leader has an advisory lock of the database, so that there is one. That nothing is written by another one rests on the
+//! statement that adds entries: it adds them only in the last term, and only after the last entry.
+
+mod database;
+mod error;
+mod line;
+mod member;
+mod state;
+
+pub use error::{Error, Refused};
+
+use crate::failure::Failure;
+use crate::kept::Kept;
+use crate::options::Options;
+use crate::os;
+use crate::server::Shared;
+use bestore::{Shelf, ShelfPass, Store};
+use bestore_client::wire;
+use database::Database;
+use error::Result;
+use line::{Line, Role};
+use member::Member;
+use std::fs;
+use std::sync::{Arc, Mutex, MutexGuard, PoisonError};
+use std::thread;
+use std::time::Duration;
+use tokio::runtime::{Builder, Runtime};
+use tokio_postgres::Config;
+
+/// How long a leader waits for the lock when it starts, since the session of one that was killed may end a little later.
+const FOR_LOCK: Duration = Duration::from_secs(5);
+
+/// How to reach the log, and who this server is.
+#[derive(Clone, Debug)]
+struct Access {
+    config: Config,
+    /// Names this server for people: its machine and its socket.
+    name: String,
+    /// Another text for each run.
+    run: String,
+}
+
+impl Access {
+    async fn connect(&self) -> Result<Database> {
+        let database = Database::connect(&self.config).await?;
+        database.check_format().await?;
+        Ok(database)
+    }
+}
+
+fn config(url: &str) -> Result<Config> {
+    let mut config: Config = url.parse().map_err(Error::Url)?;
+    if let (None, Ok(password)) = (config.get_password(), std::env::var("PGPASSWORD")) {
+        config.password(password);
+    }
+    if config.get_application_name().is_none() {
+        config.application_name("bestored");
+    }
+    config.keepalives_idle(Duration::from_secs(5));
+    Ok(config)
+}
+
+/// The machine and the path of the socket.
+fn name(options: &Options) -> String {
+    let machine = fs::read_to_string("/proc/sys/kernel/hostname").unwrap_or_default();
+    format!("{}:{}", machine.trim(), options.socket().display())
+}
+
+fn runtime() -> Result<Runtime> {
+    Builder::new_current_thread()
+        .enable_all()
+        .build()
+        .map_err(Error::Thread)
+}
+
+/// The store of a server that leads or follows.
+#[derive(Debug)]
+pub struct Log {
+    store: Store,
+    /// The store as the one volume of the server.
+    shelf: Shelf,
+    line: Arc<Line>,
+    access: Access,
+    /// Who writes the state has it.
+    writing_state: Mutex<()>,
+    /// What the thread begins with.
+    begun: Mutex<Option<(Runtime, Member)>>,
+}
+
+impl Log {
+    /// Connects, and makes the store again to the end of the log. To lead is refused while another server does.
+    pub fn open(options: &Options, run: &str) -> Result<Self> {
+        let in_log = options.log.as_ref().ok_or(Error::NoLog)?;
+        let access = Access {
+            config: config(&in_log.url)?,
+            name: name(options),
+            run: run.into(),
+        };
+        let store = Store::open(options.limits())?;
+        let pass = store.pass()?;
+        let runtime = runtime()?;
+        let (member, line) = runtime.block_on(Member::begin(access.clone(), pass, in_log.leads))?;
+        Ok(Self {
+            shelf: Shelf::of_volumes(vec![store.clone()])?,
+            store,
+            line,
+            access,
+            writing_state: Mutex::default(),
+            begun: Mutex::new(Some((runtime, member))),
+        })
+    }
+
+    /// Takes a pass, whose writes are added to the log.
+    pub fn pass(&self) -> bestore::Result<ShelfPass> {
+        Ok(self.shelf.pass()?.kept_by(|_| self.line.clone()))
+    }
+
+    /// Starts the thread of the log, which runs until `finish`. If it fails, the program ends.
+    pub fn start(shared: &Arc<Shared>) -> std::io::Result<()> {
+        let shared = shared.clone();
+        let thread = thread::Builder::new().name("log".into());
+        let started = thread.spawn(move || {
+            if let Kept::Log(log) = &shared.kept {
+                log.run(&shared);
+            }
+        });
+        started.map(drop)
+    }
+
+    fn run(&self, shared: &Arc<Shared>) {
+        let _ending = Ending(&self.line);
+        let begun = lock(&self.begun).take();
+        let (runtime, mut member) = match begun {
+            Some(begun) => begun,
+            None => return,
+        };
+        if let Err(error) = runtime.block_on(member.run(shared)) {
+            self.line.fail(error);
+            os::end_program();
+        }
+    }
+
+    /// The number in the log of the entry with this commit number.
+    pub fn entry(&self, commit: u64) -> u64 {
+        self.line.entry(commit)
+    }
+
+    /// Waits until all that was written is in the log.
+    pub fn flush(&self) -> std::result::Result<(), Refused> {
+        self.line.flush()
+    }
+
+    /// Waits until the entry with this number is here, for a limited time, and says what the server does.
+    pub fn status(&self, wanted: &wire::OfLog) -> std::result::Result<wire::LogStatus, Failure> {
+        if let Some(entry) = wanted.entry {
+            let found = self.line.wait_for(entry, within(wanted.within)?);
+            if found < entry {
+                return Err(Failure::behind(entry, found));
+            }
+        }
+        let state = self.line.lock();
+        let (role, term) = match state.role {
+            Role::Leader { term } => ("leader", Some(term)),
+            Role::Follower => ("follower", None),
+        };
+        Ok(wire::LogStatus {
+            role: role.into(),
+            leader: state.leader.clone(),
+            term,
+            entry: state.saved,
+            commit: self.line.commit(state.saved),
+            trouble: state.trouble.as_ref().map(|trouble| trouble.why.to_string()),
+        })
+    }
+
+    /// Writes the state of now into the log, if this server leads.
+    pub fn compact(&self) -> std::result::Result<(), Refused> {
+        let _one = lock(&self.writing_state);
+        let (role, leader) = {
+            let state = self.line.lock();
+            (state.role, state.leader.clone())
+        };
+        let term = match role {
+            Role::Leader { term } => term,
+            Role::Follower => return Err(Refused::NotLeader { leader }),
+        };
+        self.flush()?;
+        let written = self.write_state(term);
+        written.map_err(|error| Refused::NotSaved(Arc::new(error)))
+    }
+
+    fn write_state(&self, term: u64) -> Result<()> {
+        let state = state::collect(&mut self.store.pass()?)?;
+        let number = self.line.entry(state.commit);
+        // The snapshot may have later writes than the log.
+        self.line.wait_for(number, FOR_LOCK);
+        runtime()?.block_on(async {
+            let database = self.access.connect().await?;
+            match database.write_state(term, number, state.next, &state.batches).await? {
+                true => Ok(()),
+                false => Err(Error::Deposed {
+                    leader: database.head().await?.leader,
+                    unsaved: 0,
+                }),
+            }
+        })
+    }
+
+    /// Ends the thread after the writes that wait.
+    pub fn finish(&self) -> std::result::Result<(), Arc<Error>> {
+        self.line.close();
+        self.line.wait_end()
+    }
+}
+
+/// The end of the thread, also by a panic.
+struct Ending<'a>(&'a Line);
+
+impl Drop for Ending<'_> {
+    fn drop(&mut self) {
+        self.0.end();
+        if thread::panicking() {
+            self.0.fail(Error::Fault);
+            os::end_program();
+        }
+    }
+}
+
+/// How long an entry is waited for, of so many milliseconds.
+fn within(milliseconds: Option<u64>) -> std::result::Result<Duration, Failure> {
+    match milliseconds.unwrap_or(5_000) {
+        time @ 0..=60_000 => Ok(Duration::from_millis(time)),
+        _ => Err(Failure::new(
+            "BadRequest",
+            "an entry is waited for up to 60000 milliseconds",
+        )),
+    }
+}
+
+fn lock<T>(mutex: &Mutex<T>) -> MutexGuard<'_, T> {
+    mutex.lock().unwrap_or_else(PoisonError::into_inner)
+}

@@ -1,0 +1,42 @@
+//! The state: batches that make a store again, so that a start needn't repeat all entries.
+
+use super::database::Database;
+use super::error::{Error, Result};
+use bestore::saved::Place;
+use bestore::{Batch, Pass};
+
+/// A snapshot as it goes into the log.
+#[derive(Debug)]
+pub struct State {
+    /// The commit number of the snapshot.
+    pub commit: u64,
+    /// The number of the next node.
+    pub next: u64,
+    pub batches: Vec<Vec<u8>>,
+}
+
+/// The state of the current snapshot.
+pub fn collect(pass: &mut Pass) -> Result<State> {
+    let snapshot = pass.pin()?;
+    let batches = snapshot.state().map(|batch| batch.and_then(|batch| batch.to_bytes()));
+    Ok(State {
+        commit: snapshot.number(),
+        next: snapshot.next_node()?,
+        batches: batches.collect::<bestore::Result<_>>()?,
+    })
+}
+
+/// Applies the state of the log to an empty store. Returns the number of the last entry that it contains.
+pub async fn load(database: &mut Database, pass: &mut Pass) -> Result<u64> {
+    let (head, batches) = database.state().await?;
+    for (index, bytes) in (0..).zip(&batches) {
+        let place = Place::State(index);
+        let batch = Batch::from_bytes(bytes).map_err(|error| Error::differs(place, error))?;
+        pass.apply(&batch).map_err(|error| Error::refused(place, error))?;
+    }
+    let last = Place::State((batches.len() as u64).saturating_sub(1));
+    if pass.pin()?.next_node()? != head.next {
+        return Err(Error::differs(last, "the state has another next node than it says"));
+    }
+    Ok(head.entries)
+}

@@ -1,0 +1,51 @@
+//! Waiting for a commit number.
+
+use crate::answer::View;
+use crate::failure::Failure;
+use bestore_client::wire::{self, Numbers};
+use std::thread;
+use std::time::{Duration, Instant};
+
+/// How long is waited if nothing is said, and at most.
+const WITHIN: Duration = Duration::from_secs(5);
+const MOST: Duration = Duration::from_secs(60);
+
+/// How often the journals are looked at.
+const LOOK: Duration = Duration::from_millis(2);
+
+/// Waits until each volume has the entry with its number. Later reads of the current snapshot have them.
+pub fn reach(view: &View<'_, '_>, reach: &wire::Reach) -> Result<wire::Commit, Failure> {
+    let wanted = numbers(&reach.commit, view.volumes())?;
+    let within = reach.within.map_or(WITHIN, Duration::from_millis).min(MOST);
+    let until = Instant::now() + within;
+    loop {
+        let found: Vec<u64> = view.status()?.iter().map(|status| status.entries).collect();
+        if wanted.iter().zip(&found).all(|(wanted, found)| wanted <= found) {
+            return Ok(wire::Commit {
+                commit: found.iter().sum(),
+                commits: wire::several(&found),
+            });
+        }
+        if Instant::now() >= until {
+            return Err(behind(&wanted, &found));
+        }
+        thread::sleep(LOOK);
+    }
+}
+
+/// The number of each volume.
+fn numbers(commit: &Numbers, volumes: usize) -> Result<Vec<u64>, Failure> {
+    match commit {
+        Numbers::One(number) if volumes == 1 => Ok(vec![*number]),
+        Numbers::Each(numbers) if numbers.len() == volumes => Ok(numbers.clone()),
+        _ => Err(Failure::numbers(volumes)),
+    }
+}
+
+fn behind(wanted: &[u64], found: &[u64]) -> Failure {
+    let failure = Failure::new("Behind", "the journal isn't as long yet");
+    match (wanted, found) {
+        ([wanted], [found]) => failure.with("expected", *wanted).with("found", *found),
+        _ => failure.with("expected", wanted.to_vec()).with("found", found.to_vec()),
+    }
+}

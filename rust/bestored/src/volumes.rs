@@ -1,0 +1,163 @@
+//! What requests mean if there are several volumes.
+
+use crate::answer::View;
+use crate::failure::Failure;
+use crate::page::commits;
+use crate::pressure::Pressure;
+use bestore::{Batch, Error, Operation, ShelfSnapshot, Status};
+use bestore_client::wire::{self, Numbers};
+
+fn is_of_indices(operation: &Operation<'_>) -> bool {
+    matches!(operation, Operation::MakeIndex { .. } | Operation::RemoveIndex { .. })
+}
+
+/// Whether the operations are made in each volume: they make and remove indices, and no volume is said.
+pub fn is_for_all(write: &wire::Write, volumes: usize) -> bool {
+    let mut operations = write.operations.batch.operations();
+    volumes > 1 && write.volume.is_none() && operations.len() > 0 && operations.all(|one| is_of_indices(&one))
+}
+
+/// Writes the batch in one volume.
+pub fn write(pressure: &Pressure, view: &View<'_, '_>, write: &wire::Write) -> Result<wire::Written, Failure> {
+    let batch = &write.operations.batch;
+    let volumes = view.volumes();
+    if volumes == 1 && write.volume.unwrap_or(0) == 0 {
+        let expected = expected(write, 0, 1)?;
+        let written = pressure.write(view.pass(0)?, expected, batch)?;
+        return Ok(wire::Written {
+            commit: written.number,
+            nodes: written.nodes,
+            ..wire::Written::default()
+        });
+    }
+    if write.volume.is_none() {
+        batch.check_no_index(volumes)?;
+    }
+    let (volume, within) = place(view, write)?;
+    let expected = expected(write, volume, volumes)?;
+    let written = pressure.write(view.pass(volume)?, expected, &within);
+    let written = written.map_err(|error| error.in_volume(volume))?;
+    let nodes = written.nodes.into_iter();
+    Ok(wire::Written {
+        volume: Some(volume),
+        commit: written.number,
+        nodes: nodes.map(|number| bestore::Node { volume, number }.into()).collect(),
+        ..wire::Written::default()
+    })
+}
+
+/// The volume of the batch, and the batch with the numbers in it.
+fn place(view: &View<'_, '_>, write: &wire::Write) -> Result<(u32, Batch), Failure> {
+    if let Some(asked) = write.volume {
+        view.pass(asked)?;
+    }
+    let (volume, within) = write.operations.batch.to_volume(write.volume)?;
+    match volume {
+        Some(volume) if view.pass(volume).is_err() => Err(Error::NoNode.into()),
+        Some(volume) => Ok((volume, within)),
+        None => Ok((view.roomiest()?, within)),
+    }
+}
+
+/// The number that the volume's journal has to have.
+fn expected(write: &wire::Write, volume: u32, volumes: usize) -> Result<Option<u64>, Failure> {
+    match &write.expected {
+        None => Ok(None),
+        Some(Numbers::One(number)) if volumes == 1 || write.volume.is_some() => Ok(Some(*number)),
+        Some(Numbers::Each(numbers)) if numbers.len() == volumes => Ok(numbers.get(volume as usize).copied()),
+        Some(_) => Err(Failure::numbers(volumes)),
+    }
+}
+
+/// Makes and removes indices in each volume, one operation after another.
+pub fn write_indices(snapshot: &ShelfSnapshot<'_>, batch: &Batch) -> Result<wire::Written, Failure> {
+    for (index, operation) in batch.operations().enumerate() {
+        let made = match operation {
+            Operation::MakeIndex { name, kind } => snapshot.make_index(name, kind),
+            Operation::RemoveIndex { name } => snapshot.remove_index(name),
+            _ => Ok(()),
+        };
+        made.map_err(|error| Failure::from(error).with("operation", index))?;
+    }
+    let numbers: Vec<u64> = snapshot.status()?.iter().map(|status| status.entries).collect();
+    Ok(wire::Written {
+        commit: numbers.iter().sum(),
+        commits: numbers,
+        ..wire::Written::default()
+    })
+}
+
+/// The numbers of the next nodes.
+pub fn next(snapshot: &ShelfSnapshot<'_>) -> Result<wire::Next, Failure> {
+    let nexts = (0..)
+        .zip(snapshot.volumes())
+        .map(|(volume, _)| snapshot.next_node(volume));
+    let nexts = nexts.collect::<Result<Vec<_>, _>>()?;
+    Ok(wire::Next {
+        commit: snapshot.number(),
+        commits: commits(snapshot),
+        next: nexts[snapshot.roomiest()? as usize],
+        nexts: wire::several(&nexts),
+    })
+}
+
+/// The indices, and those that aren't in each volume.
+pub fn indices(snapshot: &ShelfSnapshot<'_>) -> Result<wire::Indices, Failure> {
+    let indices = snapshot.indices()?.into_iter();
+    Ok(wire::Indices {
+        commit: snapshot.number(),
+        commits: commits(snapshot),
+        indices: indices
+            .map(|(name, kind)| (name, wire::kind_name(kind).into()))
+            .collect(),
+        partial: match snapshot.volumes() {
+            [_] => Default::default(),
+            _ => snapshot.partial_indices()?,
+        },
+    })
+}
+
+/// How full the volumes are, together and each.
+pub fn status(all: &[Status]) -> wire::Status {
+    let sum = |number: fn(&Status) -> u64| all.iter().map(number).sum();
+    let mut held = (0..)
+        .zip(all)
+        .filter_map(|(volume, status)| Some((volume, held_by(status)?)));
+    let oldest = held.next().map(|(volume, oldest)| wire::HeldBy {
+        volume: (all.len() > 1).then_some(volume),
+        ..oldest
+    });
+    wire::Status {
+        pages: sum(|status| status.pages),
+        free: sum(|status| status.free),
+        retired: sum(|status| status.retired),
+        entries: sum(|status| status.entries),
+        commits: sum(|status| status.commits),
+        oldest,
+        volumes: match all {
+            [_] => Vec::new(),
+            _ => all.iter().map(of_volume).collect(),
+        },
+        ..wire::Status::default()
+    }
+}
+
+fn held_by(status: &Status) -> Option<wire::HeldBy> {
+    let oldest = status.oldest?;
+    Some(wire::HeldBy {
+        snapshot: oldest.snapshot,
+        pass: oldest.pass,
+        volume: None,
+    })
+}
+
+fn of_volume(status: &Status) -> wire::VolumeStatus {
+    wire::VolumeStatus {
+        pages: status.pages,
+        free: status.free,
+        retired: status.retired,
+        entries: status.entries,
+        commits: status.commits,
+        oldest: held_by(status),
+    }
+}

@@ -1,0 +1,224 @@
+//! A PostgreSQL of a test, in a folder of its own.
+
+use super::{wait_until, Folder};
+use std::fs;
+use std::net::TcpListener;
+use std::os::unix::process::CommandExt;
+use std::path::{Path, PathBuf};
+use std::process::{Child, Command, Stdio};
+use std::sync::atomic::{AtomicU32, Ordering};
+use std::sync::{Arc, Mutex, PoisonError, Weak};
+
+/// The options of each database server.
+const OPTIONS: [&str; 5] = [
+    "listen_addresses=127.0.0.1",
+    "max_connections=100",
+    "shared_buffers=32MB",
+    "log_min_messages=fatal",
+    "max_wal_size=64MB",
+];
+
+/// A database server, which is ended at the end.
+#[derive(Debug)]
+pub struct Postgres {
+    child: Mutex<Option<Child>>,
+    folder: Folder,
+    programs: PathBuf,
+    user: Option<(u32, u32)>,
+    pub port: u16,
+    fsync: &'static str,
+}
+
+impl Drop for Postgres {
+    fn drop(&mut self) {
+        self.end("QUIT");
+    }
+}
+
+/// The folder of the latest version that is installed.
+fn programs() -> Option<PathBuf> {
+    let versions = fs::read_dir("/usr/lib/postgresql").ok()?;
+    let programs = versions.flatten().map(|version| version.path().join("bin"));
+    let mut programs: Vec<_> = programs.filter(|folder| folder.join("initdb").exists()).collect();
+    programs.sort();
+    programs.pop()
+}
+
+/// Whom PostgreSQL runs as, if this is root, as whom it doesn't run.
+fn other_user() -> Option<(u32, u32)> {
+    let status = fs::read_to_string("/proc/self/status").ok()?;
+    let ids = status.lines().find_map(|line| line.strip_prefix("Uid:"))?;
+    if ids.split_whitespace().nth(1) != Some("0") {
+        return None;
+    }
+    let users = fs::read_to_string("/etc/passwd").ok()?;
+    let id_of = |name: &str| {
+        let line = users.lines().find(|line| line.split(':').next() == Some(name))?;
+        let mut ids = line.split(':').skip(2).map(|id| id.parse().ok());
+        Some((ids.next()??, ids.next()??))
+    };
+    id_of("postgres").or_else(|| id_of("nobody"))
+}
+
+/// A port that nobody listens at.
+fn free_port() -> u16 {
+    let listener = TcpListener::bind("127.0.0.1:0").unwrap();
+    listener.local_addr().unwrap().port()
+}
+
+impl Postgres {
+    /// Starts a server in memory. A test kills it and not the machine, so nothing has to be on a disk. `None`: PostgreSQL isn't
+    /// installed.
+    pub fn start() -> Option<Arc<Self>> {
+        Self::start_in(Folder::in_memory(), "fsync=off")
+    }
+
+    /// Starts a server that writes to the disk.
+    pub fn on_disk() -> Option<Arc<Self>> {
+        Self::start_in(Folder::new(), "fsync=on")
+    }
+
+    /// The server that tests share while they run.
+    pub fn shared() -> Option<Arc<Self>> {
+        static SHARED: Mutex<Option<Weak<Postgres>>> = Mutex::new(None);
+        let mut shared = SHARED.lock().unwrap_or_else(PoisonError::into_inner);
+        if let Some(running) = shared.as_ref().and_then(Weak::upgrade) {
+            return Some(running);
+        }
+        let started = Self::start()?;
+        *shared = Some(Arc::downgrade(&started));
+        Some(started)
+    }
+
+    fn start_in(folder: Folder, fsync: &'static str) -> Option<Arc<Self>> {
+        let postgres = Self {
+            child: Mutex::new(None),
+            folder,
+            programs: programs()?,
+            user: other_user(),
+            port: free_port(),
+            fsync,
+        };
+        if let Some((user, group)) = postgres.user {
+            let owner = format!("{user}:{group}");
+            let changed = Command::new("chown").arg(owner).arg(postgres.path()).status();
+            assert!(changed.unwrap().success());
+        }
+        let mut initdb = postgres.command("initdb");
+        initdb.args([
+            "--no-sync",
+            "--username=bestore",
+            "--auth=trust",
+            "--encoding=UTF8",
+            "--locale=C",
+            "-D",
+        ]);
+        let made = initdb.arg(postgres.data()).stdout(Stdio::null()).output().unwrap();
+        assert!(made.status.success(), "{}", String::from_utf8_lossy(&made.stderr));
+        postgres.begin();
+        Some(Arc::new(postgres))
+    }
+
+    /// Makes a database.
+    pub fn database(self: &Arc<Self>) -> Database {
+        static LAST: AtomicU32 = AtomicU32::new(0);
+        let name = format!("test{}", LAST.fetch_add(1, Ordering::Relaxed));
+        self.sql("postgres", &format!("CREATE DATABASE {name}"));
+        Database {
+            postgres: self.clone(),
+            name,
+        }
+    }
+
+    fn path(&self) -> &Path {
+        self.folder.path()
+    }
+
+    fn data(&self) -> PathBuf {
+        self.folder.join("data")
+    }
+
+    fn command(&self, program: &str) -> Command {
+        let mut command = Command::new(self.programs.join(program));
+        command.current_dir("/");
+        command.env("PGPORT", self.port.to_string());
+        if let Some((user, group)) = self.user {
+            command.uid(user).gid(group);
+        }
+        command
+    }
+
+    /// Starts the server, and waits until it takes connections.
+    pub fn begin(&self) {
+        let mut command = self.command("postgres");
+        command.arg("-D").arg(self.data()).arg("-k").arg(self.path());
+        command.args(OPTIONS.iter().chain([&self.fsync]).flat_map(|option| ["-c", option]));
+        let child = command.stdin(Stdio::null()).stderr(Stdio::null()).spawn().unwrap();
+        *self.child.lock().unwrap() = Some(child);
+        wait_until("PostgreSQL takes connections", || {
+            let mut ready = self.command("pg_isready");
+            ready.arg("-q").arg("-h").arg(self.path()).status().unwrap().success()
+        });
+    }
+
+    /// Ends the server by a signal: INT lets sessions roll back, QUIT is as a crash.
+    pub fn end(&self, signal: &str) {
+        if let Some(mut child) = self.child.lock().unwrap().take() {
+            let number = child.id().to_string();
+            let _ = Command::new("kill").args(["-s", signal, &number]).status();
+            let _ = child.wait();
+        }
+    }
+
+    #[track_caller]
+    fn sql(&self, database: &str, statements: &str) -> String {
+        let mut command = self.command("psql");
+        command.args([
+            "-X",
+            "-q",
+            "-A",
+            "-t",
+            "-v",
+            "ON_ERROR_STOP=1",
+            "-U",
+            "bestore",
+            "-d",
+            database,
+            "-h",
+        ]);
+        let output = command.arg(self.path()).args(["-c", statements]).output().unwrap();
+        assert!(output.status.success(), "{}", String::from_utf8_lossy(&output.stderr));
+        String::from_utf8(output.stdout).unwrap().trim().to_owned()
+    }
+}
+
+/// A database of a test.
+#[derive(Debug)]
+pub struct Database {
+    pub postgres: Arc<Postgres>,
+    name: String,
+}
+
+impl Database {
+    /// Its URL, by a Unix socket.
+    pub fn url(&self) -> String {
+        let (folder, port) = (self.postgres.path().display(), self.postgres.port);
+        format!("postgresql:///{}?user=bestore&host={folder}&port={port}", self.name)
+    }
+
+    /// Its URL, by TCP.
+    pub fn url_of_tcp(&self) -> String {
+        self.url_at(self.postgres.port)
+    }
+
+    /// Its URL through what listens at this port.
+    pub fn url_at(&self, port: u16) -> String {
+        format!("postgresql://bestore@127.0.0.1:{port}/{}", self.name)
+    }
+
+    /// Runs statements, and returns the lines of what the last one finds, with `|` between columns.
+    #[track_caller]
+    pub fn sql(&self, statements: &str) -> String {
+        self.postgres.sql(&self.name, statements)
+    }
+}

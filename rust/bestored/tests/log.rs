@@ -1,0 +1,579 @@
+//! Servers that share a log in a real PostgreSQL.
+
+use crate::common::postgres::{Database, Postgres};
+use crate::common::proxy::{Lost, Proxy};
+use crate::common::writers::{check_history, state_of, Writers};
+use crate::common::{command, wait_until, Folder, Random, Server};
+use bestore::Batch;
+use bestore_client::wire::{Command, LogStatus, Nothing, Write, Written};
+use bestore_client::{Client, Error};
+use std::fs::{self, File};
+use std::sync::atomic::{AtomicBool, Ordering::Relaxed};
+use std::sync::Arc;
+use std::thread;
+use std::time::{Duration, Instant};
+
+/// How often a leader is killed. `BESTORED_LOG_KILLS` has another number.
+const KILLS: u64 = 50;
+
+/// After how long at most no further leader is killed.
+const TIME: Duration = Duration::from_secs(40);
+
+/// How many µs a leader lives at most after the first write.
+const LIFE: u64 = 60_000;
+
+/// A database, or a line that says that there is none.
+fn database_of(server: Option<Arc<Postgres>>) -> Option<Database> {
+    if server.is_none() {
+        println!("a log in PostgreSQL: skipped, it isn't installed");
+    }
+    server.map(|server| server.database())
+}
+
+fn database() -> Option<Database> {
+    database_of(Postgres::shared())
+}
+
+/// A server of the log, in a folder of its own.
+struct Member {
+    folder: Folder,
+    server: Server,
+}
+
+impl Member {
+    /// Starts a server. `how` is `--log` or `--follow`.
+    fn start(database: &Database, how: &str) -> Self {
+        Self::start_in(Folder::in_memory(), database, how)
+    }
+
+    fn start_in(folder: Folder, database: &Database, how: &str) -> Self {
+        Self::start_at(folder, &database.url(), how)
+    }
+
+    fn start_at(folder: Folder, url: &str, how: &str) -> Self {
+        let socket = folder.join("socket");
+        let options = [how, url, "--pages", "512", "--passes", "16"];
+        let mut command = command(&socket, &options);
+        command.stderr(
+            File::options()
+                .append(true)
+                .create(true)
+                .open(folder.join("said"))
+                .unwrap(),
+        );
+        let server = Server::run(command, &socket);
+        Self { folder, server }
+    }
+
+    /// Kills the server, and starts another one at the same socket, which follows.
+    fn follow_again(self, database: &Database) -> Self {
+        self.server.kill();
+        Self::start_at(self.folder, &database.url_of_tcp(), "--follow")
+    }
+
+    fn client(&self) -> Client {
+        assert!(self.server.answers(), "{}", self.said());
+        self.server.client()
+    }
+
+    /// What the server has said on standard error.
+    fn said(&self) -> String {
+        fs::read_to_string(self.folder.join("said")).unwrap_or_default()
+    }
+
+    fn leads(&self) -> bool {
+        status(&self.server).map_or(false, |status| status.role == "leader")
+    }
+
+    /// Waits until the server ends, and returns what it has said.
+    #[track_caller]
+    fn end(&self) -> String {
+        let ended = self.server.wait_end();
+        assert!(!ended.success());
+        self.said()
+    }
+}
+
+fn status(server: &Server) -> Option<LogStatus> {
+    Client::connect(server.socket()).ok()?.log().ok()
+}
+
+/// Waits until one of them leads.
+fn leader_of(members: &[Member]) -> usize {
+    let mut leader = None;
+    wait_until("one leads", || {
+        leader = members.iter().position(Member::leads);
+        leader.is_some()
+    });
+    leader.unwrap()
+}
+
+/// Waits until all have what the leader has, and compares the states.
+fn check_all_alike(members: &[Member], leader: usize) {
+    let mut client = members[leader].client();
+    let entry = client.log().unwrap().entry;
+    client.pin().unwrap();
+    let state = state_of(&mut client);
+    for member in members {
+        let mut other = member.client();
+        let reached = other.wait_for_entry(entry, Duration::from_secs(60)).unwrap();
+        assert_eq!(reached.entry, entry);
+        other.pin().unwrap();
+        assert!(state_of(&mut other) == state, "{}", member.folder.path().display());
+    }
+}
+
+fn set_count(count: u64) -> Batch {
+    let mut batch = Batch::new();
+    batch.set(1, "count", count);
+    batch
+}
+
+#[test]
+fn leaders_are_killed_and_no_answered_write_is_lost() {
+    let database = match database() {
+        Some(database) => database,
+        None => return,
+    };
+    let kills = std::env::var("BESTORED_LOG_KILLS")
+        .ok()
+        .and_then(|text| text.parse().ok());
+    let kills: u64 = kills.unwrap_or(KILLS);
+    let mut members = vec![Member::start(&database, "--log")];
+    let writers = Writers::default();
+    writers.begin(&mut members[0].client(), 0);
+    members.extend((0..2).map(|_| Member::start(&database, "--follow")));
+    let (begin, mut random) = (Instant::now(), Random::new(1));
+    let (mut killed, mut writing) = (0, 0);
+    while killed < kills && begin.elapsed() < TIME {
+        let leader = leader_of(&members);
+        let server = &members[leader].server;
+        writers.go_on(&mut members[leader].client());
+        writers.write(server.socket(), || {
+            writers.wait_for(1);
+            thread::sleep(Duration::from_micros(random.below(LIFE)));
+            writing += u64::from(writers.are_writing());
+            server.kill();
+        });
+        killed += 1;
+        let member = members.remove(leader);
+        members.push(member.follow_again(&database));
+    }
+    let leader = leader_of(&members);
+    writers.go_on(&mut members[leader].client());
+    check_all_alike(&members, leader);
+    check_history(&mut members[leader].client());
+    // Each entry is there once, and those of a term come before those of the next one.
+    let found = database.sql(
+        "SELECT count(*) = last, min(number) = 1, max(number) = last FROM bestore_entry, bestore_log GROUP BY last;",
+    );
+    assert_eq!(found, "t|t|t");
+    let order =
+        "SELECT bool_and(term >= before) FROM (SELECT term, lag(term, 1, 0::bigint) OVER (ORDER BY number) AS before \
+                 FROM bestore_entry) AS terms";
+    assert_eq!(database.sql(order), "t");
+    let (seconds, answered) = (begin.elapsed().as_secs(), writers.answered());
+    println!("killed {killed} of {kills} leaders in {seconds} s, {writing} times while clients were writing; {answered} writes");
+    assert!(writing * 2 >= killed && answered > killed);
+}
+
+#[test]
+fn followers_refuse_writes_and_wait_for_entries() {
+    let database = match database() {
+        Some(database) => database,
+        None => return,
+    };
+    let members = [Member::start(&database, "--log"), {
+        wait_until("there is a log", || {
+            database.sql("SELECT to_regclass('bestore_log') IS NOT NULL") == "t"
+        });
+        Member::start(&database, "--follow")
+    }];
+    let (mut leader, mut follower) = (members[0].client(), members[1].client());
+    leader.apply(Batch::new().new_node().set(1, "count", 0_u64)).unwrap();
+    let led = leader.log().unwrap();
+    assert_eq!(
+        (&*led.role, led.term, led.entry, led.trouble),
+        ("leader", Some(1), 1, None)
+    );
+    // A write says who leads, and changes nothing.
+    let refused = follower.apply(Batch::new().new_node()).unwrap_err();
+    assert!(refused.is("NotLeader"), "{refused}");
+    let named = refused.refusal().unwrap().details["leader"]
+        .as_str()
+        .unwrap()
+        .to_owned();
+    assert_eq!(named, led.leader);
+    assert!(
+        named.ends_with(&format!(":{}", members[0].server.socket().display())),
+        "{named}"
+    );
+    assert!(follower
+        .call::<Nothing>(Command::Compact(Nothing {}))
+        .unwrap_err()
+        .is("NotLeader"));
+    // What is waited for is seen.
+    for count in 1..=50 {
+        let written = leader.apply(&set_count(count)).unwrap();
+        let status = follower.wait_for_entry(count + 1, Duration::from_secs(60)).unwrap();
+        assert!(status.entry > count && status.entry - status.commit == count + 1 - written.number);
+        let found = follower.get(1, "count").unwrap().and_then(|value| value.as_u64());
+        assert!(found >= Some(count));
+    }
+    // What doesn't come is waited for so long, and not while a snapshot is kept.
+    let late = follower.wait_for_entry(99, Duration::from_millis(20)).unwrap_err();
+    let details = &late.refusal().unwrap().details;
+    assert!(
+        late.is("Behind") && details["expected"] == 99 && details["found"] == 51,
+        "{late}"
+    );
+    assert!(follower
+        .wait_for_entry(1, Duration::from_secs(61))
+        .unwrap_err()
+        .is("BadRequest"));
+    follower.pin().unwrap();
+    assert!(follower.wait_for_entry(1, Duration::ZERO).unwrap_err().is("Pinned"));
+    follower.log().unwrap();
+    follower.unpin().unwrap();
+    // Live queries of a follower are pushed.
+    follower.watch(None).unwrap();
+    leader.apply(&set_count(51)).unwrap();
+    assert!(follower.next_push(Duration::from_secs(60)).unwrap().is_some());
+    // The leader's regular end gives the lead on.
+    assert!(members[0].server.end_by("TERM").success(), "{}", members[0].said());
+    wait_until("the follower leads", || members[1].leads());
+    follower.apply(&set_count(52)).unwrap();
+    assert_eq!(follower.log().unwrap().term, Some(2));
+}
+
+#[test]
+fn a_wrong_outcome_is_named_with_its_entry() {
+    let database = match database() {
+        Some(database) => database,
+        None => return,
+    };
+    let leader = Member::start(&database, "--log");
+    let mut client = leader.client();
+    for _ in 0..8 {
+        client.apply(Batch::new().new_node()).unwrap();
+    }
+    // One that follows already, and is stopped meanwhile, and ones that start.
+    let follower = Member::start(&database, "--follow");
+    follower.client().wait_for_entry(8, Duration::from_secs(60)).unwrap();
+    follower.server.stop();
+    for _ in 0..3 {
+        client.apply(Batch::new().new_node()).unwrap();
+    }
+    database.sql("UPDATE bestore_entry SET batch = set_byte(batch, 6, 99) WHERE number = 10");
+    follower.server.signal("CONT");
+    let why = "entry 10 of the log: it has what no store did: it makes other nodes here";
+    let said = follower.end();
+    assert!(said.contains(why), "{said}");
+    let said = Member::start(&database, "--follow").end();
+    assert!(said.contains(why), "{said}");
+    // Bytes that are no batch, an entry that the store refuses, and one that is missing.
+    for (change, why) in [
+        (
+            "UPDATE bestore_entry SET batch = 'BEC' WHERE number = 5",
+            "entry 5 of the log: it has",
+        ),
+        (
+            "UPDATE bestore_entry SET batch = set_byte(batch, 5, 1) WHERE number = 4",
+            "entry 4 of the log: it has",
+        ),
+        (
+            "DELETE FROM bestore_entry WHERE number = 3",
+            "entry 3 of the log: it has what no store did: the entry is missing",
+        ),
+        (
+            "DELETE FROM bestore_entry",
+            "entry 1 of the log: it has what no store did: the entry is missing",
+        ),
+    ] {
+        database.sql(change);
+        let said = Member::start(&database, "--follow").end();
+        assert!(said.contains(why), "{said}");
+    }
+}
+
+#[test]
+fn a_leader_that_was_away_adds_nothing() {
+    for is_next_one_killed in [false, true] {
+        if let Some(database) = database() {
+            leave_leader(&database, is_next_one_killed);
+        }
+    }
+}
+
+/// Stops a leader while a client waits for a write, until another server has led, and perhaps was killed.
+fn leave_leader(database: &Database, is_next_one_killed: bool) {
+    let old = Member::start(database, "--log");
+    old.client()
+        .apply(Batch::new().new_node().set(1, "count", 0_u64))
+        .unwrap();
+    let new = Member::start(database, "--follow");
+    new.client().wait_for_entry(1, Duration::from_secs(60)).unwrap();
+    let mut waiting = old.client();
+    waiting.log().unwrap();
+    old.server.stop();
+    let sent = waiting.send(Command::Batch(Write {
+        operations: set_count(1).into(),
+        ..Write::default()
+    }));
+    database.sql(
+        "SELECT pg_terminate_backend(pid) FROM pg_locks JOIN pg_database ON database = pg_database.oid \
+         WHERE locktype = 'advisory' AND datname = current_database()",
+    );
+    wait_until("the follower leads", || new.leads());
+    let mut client = new.client();
+    client.apply(&set_count(2)).unwrap();
+    if is_next_one_killed {
+        new.server.kill();
+    }
+    old.server.signal("CONT");
+    let answer = waiting.receive::<Written>(sent.unwrap());
+    assert!(answer.is_err(), "{answer:?}");
+    let said = old.end();
+    assert!(
+        said.contains("leads the log now") && said.contains("1 writes"),
+        "{said}"
+    );
+    assert_eq!(
+        database.sql("SELECT last, count(*) FROM bestore_log, bestore_entry GROUP BY last"),
+        "2|2"
+    );
+    let new = match is_next_one_killed {
+        true => new.follow_again(database),
+        false => new,
+    };
+    wait_until("it leads", || new.leads());
+    let found = new.client().get(1, "count").unwrap().and_then(|value| value.as_u64());
+    assert_eq!(found, Some(2));
+    if !is_next_one_killed {
+        // Who wants to lead a log that is led is refused.
+        let said = Member::start_in(old.folder, database, "--log").end();
+        assert!(said.contains("the log is led by "), "{said}");
+    }
+}
+
+#[test]
+fn a_leader_without_its_term_adds_nothing() {
+    let database = match database() {
+        Some(database) => database,
+        None => return,
+    };
+    let leader = Member::start(&database, "--log");
+    let mut client = leader.client();
+    client.apply(Batch::new().new_node().set(1, "count", 0_u64)).unwrap();
+    // Its session goes on, and has the lock.
+    database.sql("UPDATE bestore_log SET term = term + 1, leader = 'another', run = 'another'");
+    client.apply(&set_count(1)).unwrap_err();
+    let said = leader.end();
+    assert!(said.contains("another leads the log now"), "{said}");
+    let found = database.sql("SELECT last, count(*) FROM bestore_log, bestore_entry GROUP BY last");
+    assert_eq!(found, "1|1");
+}
+
+#[test]
+fn a_request_or_a_reply_of_the_database_is_lost() {
+    let database = match database() {
+        Some(database) => database,
+        None => return,
+    };
+    let proxy = Proxy::start(database.postgres.port);
+    let leader = Member::start_at(Folder::in_memory(), &database.url_at(proxy.port), "--log");
+    let mut client = leader.client();
+    client.apply(Batch::new().new_node().set(1, "count", 0_u64)).unwrap();
+    for count in 1..=6 {
+        proxy.lose(if count % 2 == 0 { Lost::Requests } else { Lost::Replies });
+        // The write waits, and is made once.
+        let written = client.apply(Batch::new().new_node().set(1, "count", count)).unwrap();
+        assert_eq!(written.nodes, [count + 1]);
+        assert!(proxy.has_lost());
+    }
+    assert_eq!(client.log().unwrap().entry, 7);
+    let found = database.sql("SELECT last, count(*), max(number) FROM bestore_log, bestore_entry GROUP BY last");
+    assert_eq!(found, "7|7|7");
+    let follower = Member::start(&database, "--follow");
+    check_all_alike(&[leader, follower], 0);
+}
+
+#[test]
+fn the_database_is_started_again_while_clients_write() {
+    let database = match database_of(Postgres::start()) {
+        Some(database) => database,
+        None => return,
+    };
+    let mut members = vec![Member::start(&database, "--log")];
+    let writers = Writers::default();
+    writers.begin(&mut members[0].client(), 0);
+    members.push(Member::start(&database, "--follow"));
+    members[1].client();
+    for signal in ["INT", "QUIT"] {
+        writers.go_on(&mut members[0].client());
+        let errors = writers.write(members[0].server.socket(), || {
+            writers.wait_for(8);
+            database.postgres.end(signal);
+            thread::sleep(Duration::from_millis(300));
+            let mut client = members[0].client();
+            wait_until("the trouble is known", || client.log().unwrap().trouble.is_some());
+            // Reads go on, of leaders and followers.
+            client.get(1, "count").unwrap().unwrap();
+            members[1].client().get(1, "count").unwrap().unwrap();
+            database.postgres.begin();
+            // The writes that waited are answered, and others.
+            writers.wait_for(32);
+            members[0].server.kill();
+        });
+        assert!(errors.iter().all(|error| error.refusal().is_none()), "{errors:?}");
+        wait_until("the follower leads", || members[1].leads());
+        let member = members.remove(0);
+        members.push(member.follow_again(&database));
+        writers.go_on(&mut members[0].client());
+        check_all_alike(&members, 0);
+    }
+}
+
+#[test]
+fn a_full_disk_of_the_database_stops_writes_until_there_is_room() {
+    let database = match database() {
+        Some(database) => database,
+        None => return,
+    };
+    let leader = Member::start(&database, "--log");
+    let writers = Writers::default();
+    writers.begin(&mut leader.client(), 0);
+    let follower = Member::start(&database, "--follow");
+    follower.client();
+    let fail = "CREATE FUNCTION fail() RETURNS trigger LANGUAGE plpgsql AS $$ BEGIN \
+                RAISE EXCEPTION 'could not extend file' USING ERRCODE = 'disk_full'; END $$; \
+                CREATE TRIGGER fail BEFORE INSERT ON bestore_entry FOR EACH ROW EXECUTE FUNCTION fail()";
+    let errors = writers.write(leader.server.socket(), || {
+        writers.wait_for(8);
+        database.sql(fail);
+    });
+    assert!(
+        errors.iter().all(|error| error.is("NotSaved") || error.is("Stopped")),
+        "{errors:?}"
+    );
+    assert!(
+        errors[0].to_string().contains("could not extend file (53100)"),
+        "{errors:?}"
+    );
+    let mut client = leader.client();
+    assert!(client.apply(&set_count(0)).unwrap_err().is("Stopped"));
+    client.get(1, "count").unwrap().unwrap();
+    database.sql("DROP TRIGGER fail ON bestore_entry");
+    // What was written in memory gets into the log, and the leader goes on.
+    wait_until("the log is written", || client.log().unwrap().trouble.is_none());
+    writers.go_on(&mut client);
+    client.apply(Batch::new().new_node()).unwrap();
+    check_all_alike(&[leader, follower], 0);
+}
+
+#[test]
+fn the_state_is_written_and_read() {
+    let database = match database() {
+        Some(database) => database,
+        None => return,
+    };
+    let leader = Member::start(&database, "--log");
+    let writers = Writers::default();
+    writers.begin(&mut leader.client(), 700);
+    let is_done = AtomicBool::new(false);
+    writers.write(leader.server.socket(), || {
+        writers.wait_for(8);
+        let mut client = leader.client();
+        for _ in 0..3 {
+            client.call::<Nothing>(Command::Compact(Nothing {})).unwrap();
+            writers.wait_for(8);
+        }
+        is_done.store(true, Relaxed);
+        leader.server.kill();
+    });
+    let entries: u64 = database.sql("SELECT entries FROM bestore_log").parse().unwrap();
+    assert!(entries > 700);
+    // The entries that the state contains aren't needed.
+    database.sql("DELETE FROM bestore_entry WHERE number <= (SELECT entries FROM bestore_log)");
+    let members = [Member::start(&database, "--follow")];
+    leader_of(&members);
+    let mut client = members[0].client();
+    writers.go_on(&mut client);
+    check_history(&mut client);
+    // A state that is wrong is named.
+    database.sql("UPDATE bestore_state SET batch = 'BEC' WHERE place = 3");
+    let said = Member::start(&database, "--follow").end();
+    assert!(
+        said.contains("batch 2 of the state of the log: it has what no store did"),
+        "{said}"
+    );
+    database.sql("DELETE FROM bestore_state WHERE place > 1");
+    let said = Member::start(&database, "--follow").end();
+    assert!(said.contains("of the log: it has what no store did"), "{said}");
+}
+
+#[test]
+fn what_is_no_log_is_refused() {
+    let database = match database() {
+        Some(database) => database,
+        None => return,
+    };
+    let said = |how: &str| Member::start(&database, how).end();
+    assert!(said("--follow").contains("the database has no log; --log makes one"));
+    let member = Member::start(&database, "--log");
+    member.client().apply(Batch::new().new_node()).unwrap();
+    member.server.kill();
+    for (change, why) in [
+        (
+            "UPDATE bestore_log SET format = 2",
+            "the log has format 2, and format 1 is the one known here",
+        ),
+        ("UPDATE bestore_log SET format = 0", "of another program"),
+        (
+            "ALTER TABLE bestore_log RENAME COLUMN format TO size",
+            "of another program",
+        ),
+    ] {
+        database.sql(change);
+        let text = said("--log");
+        assert!(text.contains(why), "{text}");
+    }
+    database.sql("DROP TABLE bestore_log, bestore_state, bestore_entry");
+    // A follower whose log is replaced or goes back ends.
+    for (change, why) in [
+        (
+            "UPDATE bestore_log SET log = 'another'",
+            "the database has another log than before",
+        ),
+        (
+            "UPDATE bestore_log SET last = 1",
+            "the log has 1 entries, and 2 of them are known here",
+        ),
+    ] {
+        let leader = Member::start(&database, "--log");
+        leader.client().apply(Batch::new().new_node()).unwrap();
+        leader.client().apply(Batch::new().new_node()).unwrap();
+        let follower = Member::start(&database, "--follow");
+        follower.client().wait_for_entry(2, Duration::from_secs(60)).unwrap();
+        database.sql(change);
+        let (first, second) = (leader.end(), follower.end());
+        assert!(first.contains(why) && second.contains(why), "{first}{second}");
+        database.sql("DROP TABLE bestore_log, bestore_state, bestore_entry");
+    }
+    let mut url = command(&member.folder.join("other"), &["--log", "postgresql:///?port=none"]);
+    let output = url.output().unwrap();
+    assert!(
+        String::from_utf8_lossy(&output.stderr).contains("the URL of the log"),
+        "{output:?}"
+    );
+}
+
+#[test]
+fn a_server_without_a_log_says_so() {
+    let folder = Folder::new();
+    let server = Server::start(&folder, &[]);
+    let error: Error = server.client().log().unwrap_err();
+    assert!(error.is("NoLog"));
+    let written = server.talk().ask(r#"{"id":1,"batch":{"operations":[["new"]]}}"#);
+    assert_eq!(written, r#"{"id":1,"ok":{"commit":1,"nodes":[1]}}"#);
+}
