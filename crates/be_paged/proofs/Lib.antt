@@ -5,3 +5,4 @@ pub mod CatalogPairs
 pub mod IndexEntries
 pub mod Asking
 pub mod Applying
+pub mod Told

@@ -9,3 +9,4 @@ pub mod Changes
 pub mod Source
 pub mod Place
 pub mod Entries
+pub mod Cells

@@ -17,6 +17,7 @@
 mod asked;
 mod attributes;
 mod catalog;
+mod cells;
 mod changes;
 mod comparing;
 mod edits;
@@ -31,13 +32,16 @@ mod on_page;
 mod paged_source;
 mod paged_whole;
 mod reading;
+mod rows;
 mod spelling;
 mod version;
 mod writes;
 
+pub use cells::{Cell, HeldName};
 pub use first::first_page;
 pub use paged_source::{PagedSource, source};
 pub use paged_whole::{PagedWhole, whole};
 pub use reading::{attrs, get, indices, next, nodes};
+pub use rows::{columns, get_into};
 pub use spelling::one_spelling;
 pub use writes::{apply, apply_into};

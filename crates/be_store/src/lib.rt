@@ -23,6 +23,7 @@
 
 mod answers;
 mod asking;
+mod columns;
 mod conditional;
 mod entries;
 pub mod laws;
@@ -36,6 +37,7 @@ mod writing;
 pub use answers::{Answer, Updates};
 pub use arrayvec::ArrayVec;
 pub use be_journal::{Entry, Items, Journal};
+pub use be_paged::{Cell, HeldName};
 pub use be_plan::{Cover, Picks, explain};
 pub use be_query::{Item, Query, from_rpn, parse};
 pub use be_state::Place;

@@ -3,7 +3,7 @@
 //! A pin that is forgotten holds its version's pages for as long as the store lives. So a program that leaves a function by
 //! `?` asks through a `Pinned`, which unpins when it goes.
 ghost use Rattle.std.specs.List.Sorted.{IsStrictlyIncreasing};
-ghost use Rattle.std.specs.Prelude.{◌≡◌, ◌⊎◌, ◌<◌, ◌≤◌, ◌++◌, ℕ, true, false, [], None, Ok, Err, IsOk, IfOk, IfErr, IfNone, IfSome, length};
+ghost use Rattle.std.specs.Prelude.{◌≡◌, ◌⊎◌, ◌<◌, ◌≤◌, ◌++◌, ◌*◌, ◌^◌, ℕ, true, false, [], None, Ok, Err, IsOk, IfOk, IfErr, IfNone, IfSome, length, map as each};
 ghost use Rattle.be_value.specs.Refusal.{Answers};
 ghost use Rattle.be_value.specs.declared.refusals.Refusal.TheVariants.{OutOfMemory, NotCovered};
 ghost use Rattle.be_volume.specs.Query.{scan, has_index, covered};
@@ -11,6 +11,7 @@ ghost use Rattle.be_volume.specs.Reading.{attribute, attributes_at, index_kinds}
 ghost use Rattle.be_state.specs.Places.{given, left};
 ghost use Rattle.be_plan.specs.Cover.{chosen, covers};
 ghost use Rattle.be_plan.specs.Explain.{are_places};
+ghost use Rattle.be_paged.specs.Cells.{TellsColumns, name_in};
 ghost use Rattle.be_paged.specs.Nodes.{nodes_from};
 ghost use Rattle.be_table.specs.Seats.{pinned_number};
 ghost use Rattle.be_table.specs.Steps.{unpins};
@@ -22,6 +23,7 @@ ghost use Rattle.be_store.specs.Passes.{IsBetweenCalls, IsBetweenCalls-prop, IsP
 
 use crate::answers::{Answer, Updates};
 use crate::{Live, Pass, Store};
+use be_paged::{Cell, HeldName};
 use be_plan::Cover;
 use be_query::Query;
 use be_state::Place;
@@ -102,6 +104,24 @@ impl Pinned<'_> {
         ensures value { result ≡ attribute (volume_pinned self.old.pass.now.knows) node name.now }
     {
         self.store.get(self.pass, node, name)
+    }
+
+    /// As `Store::columns`.
+    pub fn columns(
+        &mut self,
+        nodes: &[u64],
+        names: &[HeldName],
+        cells: &mut [Cell],
+        bytes: &mut [u8],
+    ) -> u64
+        requires pinned { (n : ℕ) × IsPinnedTo self.old.pass.now.knows n }
+        requires few { length nodes.now * length names.now ≤ 2 ^ 32 }
+        ensures same_reference { self.new.pass.ghost_name ≡ self.old.pass.ghost_name }
+        ensures store { (self.new.store.now ≡ self.old.store.now) × (self.new.number ≡ self.old.number) }
+        ensures read { HasRead self.old.pass.now.knows self.new.pass.now.knows }
+        ensures told { TellsColumns (volume_pinned self.old.pass.now.knows) nodes.now (each name_in names.now) cells.old cells.new bytes.old bytes.new result }
+    {
+        self.store.columns(self.pass, nodes, names, cells, bytes)
     }
 
     /// As `Store::next`.

@@ -200,7 +200,7 @@ impl Store {
     }
 
     /// A reader of the pinned version, and its version page. The pass is blank until the reader's seat is back.
-    fn reader(&self, pass: &mut Pass) -> (PinnedLook<'_>, u64)
+    pub(crate) fn reader(&self, pass: &mut Pass) -> (PinnedLook<'_>, u64)
         requires pass { IsPassOf self.now pass.old }
         requires pinned { (n : ℕ) × IsPinnedTo pass.old.knows n }
         ensures look { (result.0.table ≡ self.now) × (result.0.knows ≡ pass.old.knows) }

@@ -71,7 +71,7 @@ none_some x e = absurd (clash e)
     clash e = cc
 
 -- the first pair from a key on stands in the list
-first_stands : (xs : List Pair) (from : List ℕ) (after : Bool) (now : List Pair) (x : Pair) → now ≡ pairs_from xs from after → slice_get now 0 ≡ Some x → payload_at xs x.key ≡ Some x.payload
+pub first_stands : (xs : List Pair) (from : List ℕ) (after : Bool) (now : List Pair) (x : Pair) → now ≡ pairs_from xs from after → slice_get now 0 ≡ Some x → payload_at xs x.key ≡ Some x.payload
 first_stands xs from after [] x is e = none_some x e
 first_stands xs from after (y ∷ ys) x is e = subst (λ (z : Pair). payload_at xs z.key ≡ Some z.payload) (same y x e) (chosen (is_from from after y.key) (payload_at xs y.key) (sym (payload_from from y.key after xs) ∙ here))
   where
