@@ -6,6 +6,7 @@
 
 mod explaining;
 mod faults;
+mod held;
 mod items;
 mod lists;
 mod meanings;
@@ -17,6 +18,7 @@ mod spellings;
 mod states;
 
 pub use faults::{Fault, ListFault};
+pub use held::held_name;
 pub use items::{PredicateItem, query_of_items};
 pub use lists::{Operation, operations};
 pub use meanings::{name, spelled};

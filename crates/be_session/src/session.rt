@@ -1,11 +1,12 @@
 //! A pass with its share of the store, and its calls.
-ghost use Rattle.std.specs.Prelude.{◌≡◌, ◌⊎◌, ◌≤◌, ◌<◌, ◌+◌, ℕ, [], None, Ok, IfOk, IfErr, OnErr, OnOk, false, is_some, length, string_bytes, true, vec_len};
+ghost use Rattle.std.specs.Prelude.{◌≡◌, ◌⊎◌, ◌≤◌, ◌<◌, ◌+◌, ◌*◌, ◌^◌, ℕ, [], None, Ok, IsOk, IfOk, IfErr, OnErr, OnOk, false, is_some, length, map as each, string_bytes, true, vec_len};
 ghost use Rattle.be_value.specs.declared.refusals.Refusal.{Refusal as AnyRefusal};
 ghost use Rattle.be_value.specs.declared.refusals.Refusal.TheVariants.{OutOfMemory};
 ghost use Rattle.be_query.specs.Grammar.{IsTextOf};
 ghost use Rattle.be_volume.specs.Query.{scan};
 ghost use Rattle.be_volume.specs.Reading.{attribute, attributes_at, index_kinds};
 ghost use Rattle.be_journal.specs.Journal.{IsLegal};
+ghost use Rattle.be_paged.specs.Cells.{IsReadInto, TellsColumns, name_in};
 ghost use Rattle.be_paged.specs.Nodes.{nodes_from};
 ghost use Rattle.be_table.specs.Rule.{IsWithin, entries, newcomer};
 ghost use Rattle.be_table.specs.Seats.{pinned_number};
@@ -20,16 +21,17 @@ ghost use Rattle.be_store.specs.Statuses.{TellsStatus};
 ghost use Rattle.be_session.specs.Explained.{explanation_in};
 ghost use Rattle.be_session.specs.Sitting.{AtPin, HasMet, IsHandedOut, IsPinned, IsUnwritten, IsUnwrittenIf, IsNoQuery, IsOpened, IsUnpinnedAt, IsUnrefreshed, ReadAnswers};
 ghost use Rattle.be_session.specs.States.{untold, waiting};
-ghost use Rattle.be_session.specs.declared.faults.Fault.TheVariants.{AlreadyPinned, NoPass, NotPinned, Refused};
+ghost use Rattle.be_session.specs.declared.faults.Fault.TheVariants.{AlreadyPinned, BadCount, NoPass, NotPinned, Refused};
 
 use crate::explaining::cover_text;
+use crate::held::are_few;
 use crate::passes::{put_last, take_last};
 use crate::shared::Shared;
 use crate::{Fault, StatePlace};
 use be_store::laws::seen_is_legal;
 use be_store::{
-    ArrayVec, Done, Entry, Kind, Limits, Live, Name, Op, Pass, Query, Refusal, Status, Store,
-    Updates, Value, parse,
+    ArrayVec, Cell, Done, Entry, HeldName, Kind, Limits, Live, Name, Op, Pass, Query, Refusal,
+    Status, Store, Updates, Value, parse,
 };
 use std::alloc::{AllocFailed, Global};
 use std::marker::Model;
@@ -429,6 +431,53 @@ impl Session {
             return Err(Fault::NotPinned);
         };
         Ok(self.shared.store().get(&mut self.pass, node, name))
+    }
+
+    /// A node's attribute in the pinned version as a cell, if it has one. The bytes of a text are put to the front of the places,
+    /// as many as there are places.
+    pub fn get_into(
+        &mut self,
+        node: u64,
+        name: &HeldName,
+        bytes: &mut [u8],
+    ) -> Result<Option<Cell>, Fault>
+        ensures store { (self.new.store ≡ self.old.store) × (self.new.spare ≡ self.old.spare) }
+        ensures read { HasRead self.old.knows self.new.knows }
+        ensures value { AtPin (pinned_number self.old.knows.phase) result (IsOk result
+            × IfOk result (λ cell. IsReadInto (attribute (volume_pinned self.old.knows) node (name_in name.now)) cell bytes.old bytes.new)) }
+        ensures kept { OnErr result (bytes.new ≡ bytes.old) }
+    {
+        let Some(_) = self.pass.pinned() else {
+            return Err(Fault::NotPinned);
+        };
+        let store = self.shared.store();
+        Ok(store.get_into(&mut self.pass, node, name, bytes))
+    }
+
+    /// Tells what each node has at each name in the pinned version, in a cell for each, as the store's own `columns`. BadCount
+    /// if there are more than 2^32 cells to tell.
+    pub fn columns(
+        &mut self,
+        nodes: &[u64],
+        names: &[HeldName],
+        cells: &mut [Cell],
+        bytes: &mut [u8],
+    ) -> Result<u64, Fault>
+        ensures store { (self.new.store ≡ self.old.store) × (self.new.spare ≡ self.old.spare) }
+        ensures read { HasRead self.old.knows self.new.knows }
+        ensures told { AtPin (pinned_number self.old.knows.phase) result
+            (IfOk result (λ needed. TellsColumns (volume_pinned self.old.knows) nodes.now (each name_in names.now) cells.old cells.new bytes.old bytes.new needed)
+            × IfErr result (λ e. (e ≡ BadCount) × (2 ^ 32 < length nodes.now * length names.now))) }
+        ensures kept { OnErr result ((cells.new ≡ cells.old) × (bytes.new ≡ bytes.old)) }
+    {
+        let Some(_) = self.pass.pinned() else {
+            return Err(Fault::NotPinned);
+        };
+        if !are_few(nodes.len(), names.len()) {
+            return Err(Fault::BadCount);
+        }
+        let store = self.shared.store();
+        Ok(store.columns(&mut self.pass, nodes, names, cells, bytes))
     }
 
     /// A node's attributes in the pinned version, by ascending bytes of their names.

@@ -1,0 +1,31 @@
+//! Names that are checked once, and how many cells a call may tell.
+ghost use Rattle.std.specs.Prelude.{◌≡◌, ◌*◌, ◌^◌, ◌<◌, ◌≤◌, true, false, IfErr, IfOk, Ok, IsUtf8};
+ghost use Rattle.be_paged.specs.Cells.{name_in};
+ghost use Rattle.be_session.specs.Meaning.{IsNoName};
+ghost use Rattle.be_value.specs.Name.{name_from};
+
+use crate::Fault;
+use crate::meanings::name;
+use be_store::HeldName;
+
+/// How many cells one call tells at most: 2^32.
+const MOST_CELLS: usize = 1 << 32;
+
+/// The name that bytes spell, checked once and held.
+pub fn held_name(bytes: &[u8]) -> Result<HeldName, Fault>
+    ensures ok { IfOk result (λ held. (name_in held ≡ bytes.now) × IsUtf8 bytes.now × (name_from bytes.now ≡ Ok bytes.now)) }
+    ensures err { IfErr result (λ e. IsNoName bytes.now e) }
+{
+    Ok(HeldName::new(&name(bytes)?))
+}
+
+/// Whether one call may tell so many cells.
+pub(crate) fn are_few(nodes: usize, names: usize) -> bool
+    ensures few { result ≡ true → nodes * names ≤ 2 ^ 32 }
+    ensures many { result ≡ false → 2 ^ 32 < nodes * names }
+{
+    match nodes.checked_mul(names) {
+        Some(count) => count <= MOST_CELLS,
+        None => false,
+    }
+}
