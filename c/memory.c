@@ -94,6 +94,14 @@ static uint32_t call_nodes(void) { return bes_nodes(&mine, 0, out.nodes, 4, &out
 static uint32_t call_status(void) { return bes_status(&mine, &out.usage, &out.number); }
 static uint32_t call_changes(void) { return bes_changes(&kept, out.nodes, 4, out.more, 4); }
 static uint32_t call_get(void) { return bes_read(&mine, 1, "size", &out.told, out.bytes, 64); }
+static uint32_t call_columns(void)
+{
+    static const uint64_t nodes[] = {1, 9};
+    bes_name held;
+    bes_cell cells[2];
+    uint32_t error = bes_check_name((const uint8_t *)"size", 4, &held);
+    return error != BES_OK ? error : bes_columns(&mine, nodes, 2, &held, 1, cells, 2, out.bytes, 64, &out.count);
+}
 static uint32_t call_unpin(void) { return bes_unpin(&mine); }
 static uint32_t call_pin(void) { return bes_pin(&mine, &out.number); }
 static uint32_t call_prepared_text(void) { return bes_prepared_text(&kept, out.bytes, 64, &out.count); }
@@ -150,8 +158,8 @@ static void refuse_all(void)
         call_another, call_prepare, call_prepare_items, call_query, call_items, call_prepared, call_explain, call_attributes,
         call_indices, call_nodes, call_state, call_journal, call_journal_from, call_prepared_text, call_apply, call_retry
     };
-    uint32_t (*const without[])(void) = {call_changes, call_get, call_status, call_next, call_number, call_move_prepared,
-                                         call_move_place, call_unpin, call_pin, call_move};
+    uint32_t (*const without[])(void) = {call_changes, call_get, call_columns, call_status, call_next, call_number,
+                                         call_move_prepared, call_move_place, call_unpin, call_pin, call_move};
     CHECK(bes_open(64, 2, 100, &mine) == BES_OK);
     CHECK(bes_make_index(&mine, "size", BES_INT32_TYPE) == BES_OK && bes_make_index(&mine, "name", BES_STRING_TYPE) == BES_OK);
     CHECK(bes_new_node(&mine, &out.number) == BES_OK && bes_set_int32(&mine, 1, "size", 1) == BES_OK);

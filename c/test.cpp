@@ -54,6 +54,33 @@ static void values()
     CHECK(!pin.get<std::string>(1, "k"));
 }
 
+// The columns of some names: the same as by get, also in a change, which sees what it has set.
+static void columns()
+{
+    Store store({64, 1, 100});
+    store.apply(Batch().new_node().new_node().new_node(), 0);
+    store.apply(Batch().set(1, "name", "ann").set(1, "size", 1).set(3, "size", 3).set(3, "tag", Raw{0, 255}).remove_node(2), 0);
+    const Nodes nodes{3, 1, 2, 9, 1};
+    const std::vector<std::string_view> names{"size", "none", "name", "size", "tag"};
+    const auto same = [&](auto &snapshot) {
+        const auto columns = snapshot.columns(nodes, names);
+        CHECK(columns.size() == names.size());
+        for (std::size_t name = 0; name < names.size(); name++) {
+            CHECK(columns[name].size() == nodes.size() && columns[name] == snapshot.column(nodes, names[name]));
+            for (std::size_t node = 0; node < nodes.size(); node++)
+                CHECK(columns[name][node] == snapshot.get(nodes[node], names[name]));
+        }
+    };
+    store.change([&](Change &change) {
+        change.set(1, "none", 5).set(3, "size", 4);
+        same(change);
+    });
+    auto pin = store.pin();
+    same(pin);
+    CHECK(pin.columns({}, names).front().empty() && pin.columns(nodes, {}).empty() && pin.columns({1}, {}).empty());
+    refused(BES_NAME_LENGTH, [&] { pin.columns(nodes, {"size", ""}); });
+}
+
 static void writes()
 {
     Store store({64, 1, 8});
@@ -319,6 +346,7 @@ int main()
 {
     c_header();
     values();
+    columns();
     writes();
     queries();
     predicates();

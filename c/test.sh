@@ -55,7 +55,7 @@ build() { cc -std=c11 "${warn[@]}" -I../include "$@" libbestore.a -lpthread; }
 build_cpp() { c++ -std=c++17 "${warn[@]}" -I../include "$@" libbestore.a -lpthread; }
 
 # The tests, and those of them in which threads run.
-tests=(test threads helpers texts racing)
+tests=(test columns threads helpers texts racing)
 tests_cpp=(test helpers racing)
 with_threads=(threads helpers racing)
 

@@ -181,6 +181,22 @@ typedef struct bes_attribute {
     uint64_t number;  /* of a number: the value; (int64_t)number of a signed one */
 } bes_attribute;
 
+/* A name that was checked once, for the calls that take it again and again. bes_check_name makes it. It may be copied, and any
+ * thread may use it with any store. Other bytes in it do no harm: they name no attribute, so a read finds none. */
+typedef struct bes_name {
+    uint64_t length;   /* how many of the bytes are the name's */
+    uint8_t bytes[64];
+} bes_name;
+
+/* What bes_columns writes of a node's attribute. If it isn't there, all but the error and the offset is 0. */
+typedef struct bes_cell {
+    uint32_t error;   /* BES_OK, BES_NO_ATTRIBUTE, or BES_NO_NODE */
+    uint32_t code;    /* the type code */
+    uint64_t number;  /* of a number: the value; (int64_t)number of a signed one */
+    uint64_t offset;  /* of a text or a raw value: where in the bytes it begins */
+    uint64_t length;  /* and how many bytes it has */
+} bes_cell;
+
 /* How full a store is, and which pass holds the oldest version. */
 typedef struct bes_usage {
     uint64_t pages;    /* all pages of the store */
@@ -395,6 +411,36 @@ uint32_t bes_nodes(bes_pass *pass, uint64_t from, uint64_t *nodes, size_t nodes_
  * Cost: one descent of a tree. */
 uint32_t bes_get(bes_pass *pass, uint64_t node, const uint8_t *name, size_t name_length, bes_attribute *attribute,
                  uint8_t *bytes, size_t bytes_room);
+
+/* Checks a name once, for bes_get_named and bes_columns. Needs no pass.
+ * [in] name      the name, name_length bytes
+ * [out] checked  the name. On an error it stays as it was.
+ * BES_NOT_UTF8, BES_NAME_LENGTH, BES_HAS_NUL.
+ * Cost: the time to read the name. */
+uint32_t bes_check_name(const uint8_t *name, size_t name_length, bes_name *checked);
+
+/* Reads a node's attribute in the pinned snapshot, as bes_get does, by a name of bes_check_name.
+ * [in] name      the name
+ * [out] attribute  its type code, number and length
+ * [out] bytes    the first bytes of a text or raw value; as many as bytes_room, and 255 suffice
+ * BES_CLOSED, BES_NOT_PINNED, BES_NO_ATTRIBUTE (also if there is no such node).
+ * Cost: one descent of a tree. */
+uint32_t bes_get_named(bes_pass *pass, uint64_t node, const bes_name *name, bes_attribute *attribute, uint8_t *bytes,
+                       size_t bytes_room);
+
+/* Reads the attributes of many nodes in the pinned snapshot: what each node has at each name. The bytes of all texts and raw values
+ * are put end to end, in the order of the cells.
+ * [in] nodes     the nodes, nodes_count of them, in any order
+ * [in] names     the names, names_count of them. By ascending bytes they cost least.
+ * [out] cells    the cells of the first node, one for each name, then those of the second, and so on; as many as cells_room. A node
+ *                that isn't there and an attribute that it hasn't are no errors of the call: the cell has the number.
+ * [out] bytes    the first bytes; as many as bytes_room
+ * [out] bytes_count  how many bytes there are; if that is more than the room, call again with more room
+ * BES_CLOSED, BES_NOT_PINNED, BES_BAD_COUNT (more than 2^32 cells). Then cells and bytes stay as they were, and bytes_count is 0.
+ * Cost: one descent of a tree for a node whose attributes of these names follow one another; one more for each name that it hasn't,
+ * and for each after which another attribute comes. No memory. */
+uint32_t bes_columns(bes_pass *pass, const uint64_t *nodes, size_t nodes_count, const bes_name *names, size_t names_count,
+                     bes_cell *cells, size_t cells_room, uint8_t *bytes, size_t bytes_room, uint64_t *bytes_count);
 
 /* Lists a node's attributes in the pinned snapshot by ascending names, as the operations that set them.
  * [out] counts   how many operations and bytes there are; if that is more than the room, call again with more room

@@ -10,6 +10,7 @@
 #include <iterator>
 #include <memory>
 #include <new>
+#include <numeric>
 #include <pthread.h>
 
 namespace bestore {
@@ -309,6 +310,38 @@ public:
     }
     template <class T> std::optional<T> get(Node node, const Attribute<T> &attribute) { return get<T>(node, attribute.name()); }
 
+    // The attributes of these names of many nodes: for each name a list with the value of each node, empty if it has none. Takes one
+    // search in a tree for a node whose attributes of these names follow one another. In a change it takes a search for each value.
+    std::vector<std::vector<std::optional<Value>>> columns(const std::vector<Node> &nodes, const std::vector<std::string_view> &names)
+    {
+        std::vector<std::vector<std::optional<Value>>> columns(names.size(), std::vector<std::optional<Value>>(nodes.size()));
+        if (batch_ != nullptr) {
+            for (std::size_t node = 0; node < nodes.size(); node++)
+                for (std::size_t name = 0; name < names.size(); name++)
+                    columns[name][node] = get(nodes[node], names[name]);
+            return columns;
+        }
+        std::vector<std::size_t> order(names.size());
+        std::iota(order.begin(), order.end(), std::size_t{0});
+        std::sort(order.begin(), order.end(), [&](std::size_t one, std::size_t other) { return names[one] < names[other]; });
+        std::vector<bes_name> checked(names.size() + 1);
+        for (std::size_t at = 0; at < names.size(); at++)
+            detail::check(bes_check_name(detail::bytes_of(names[order[at]]), names[order[at]].size(), &checked[at]));
+        std::vector<bes_cell> cells(nodes.size() * names.size() + 1);
+        const auto bytes = read_columns(nodes, checked, cells);
+        for (std::size_t at = 0; at + 1 < cells.size(); at++)
+            if (const bes_cell &cell = cells[at]; cell.error == BES_OK)
+                columns[order[at % names.size()]][at / names.size()] = detail::value_of(
+                    cell.code, cell.number, std::string_view(bytes).substr(cell.offset, cell.length));
+        return columns;
+    }
+
+    // The attributes of this name of many nodes, as columns() returns them.
+    std::vector<std::optional<Value>> column(const std::vector<Node> &nodes, std::string_view name)
+    {
+        return std::move(columns(nodes, {name}).front());
+    }
+
     // A node's attributes, by ascending names.
     std::vector<NamedValue> attributes(Node node)
     {
@@ -382,6 +415,16 @@ private:
     template <class Call> std::vector<Node> found(Call call, detail::Place place)
     {
         return detail::whole<std::vector<Node>>(256, place, call);
+    }
+
+    // Fills the cells, all but the last, with what the nodes have at the names, all but the last. Returns the bytes of the values.
+    std::string read_columns(const std::vector<Node> &nodes, const std::vector<bes_name> &names, std::vector<bes_cell> &cells)
+    {
+        const auto call = [&](char *bytes, std::size_t room, std::uint64_t *count) {
+            return bes_columns(handle(), detail::begin_of(nodes), nodes.size(), names.data(), names.size() - 1, cells.data(),
+                               cells.size() - 1, reinterpret_cast<std::uint8_t *>(bytes), room, count);
+        };
+        return detail::whole<std::string>(32 * cells.size(), detail::Place::none, call);
     }
 
     template <class Query> std::uint64_t counted(Query &&query, detail::Place place)

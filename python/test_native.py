@@ -80,6 +80,19 @@ class Columns(unittest.TestCase):
                         version.columns([1], names)
             self.assertEqual(store.change(lambda change: change.columns([1, 2], ["k", "none"])), [[1, 2], [None, None]])
 
+    def test_more_bytes_than_room(self):
+        with bestore.open(1024, 1) as store:
+            nodes = list(store.new_nodes(64))
+            values = {node: chr(ord("a") + node % 26) * (255 - node % 3) for node in nodes}
+            for node in nodes[1:]:
+                store.set(node, "long", values[node])
+                store.set(node, "raw", values[node].encode()[::2])
+            with store.pin() as version:
+                found = version.columns(nodes, ["raw", "none", "long"])
+                self.assertEqual(found[2], [None] + [values[node] for node in nodes[1:]])
+                self.assertEqual(found[0], [None] + [values[node].encode()[::2] for node in nodes[1:]])
+                self.assertEqual(found[1], [None] * len(nodes))
+
     def test_in_a_change(self):
         with bestore.open(64, 1, 100) as store:
             store.new_nodes(3)

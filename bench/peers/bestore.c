@@ -155,17 +155,29 @@ size_t ask(struct pass *pass, struct query *query, uint64_t *nodes, size_t most)
     return count;
 }
 
-/* A number, or how long a text is. */
-static uint64_t weight_of(const bes_operation *it) { return it->code == BES_INT64_TYPE ? it->number : it->value_length; }
+/* A number, or how long a text is; 0 where there is none. */
+static uint64_t weight_of(const bes_cell *cell) { return cell->code == BES_INT64_TYPE ? cell->number : cell->length; }
+
+enum { WIDTH = 5, PART = 128 };
+
+/* The names of a file's attributes, by ascending bytes. */
+static const bes_name *checked_names(void) {
+    static const char *const names[WIDTH] = {"kind", "modified", "name", "owner", "size"};
+    static bes_name checked[WIDTH];
+    for (int i = 0; i < WIDTH && checked[WIDTH - 1].length == 0; i++)
+        must_do(bes_check_name((const uint8_t *)names[i], strlen(names[i]), &checked[i]));
+    return checked;
+}
 
 uint64_t read_each(struct pass *pass, const uint64_t *nodes, size_t count) {
-    uint8_t bytes[64 * (63 + 255)];
-    bes_operation operations[64];
-    bes_counts counts;
-    uint64_t sum = 0;
-    for (size_t i = 0; i < count; i++) {
-        must_do(bes_attributes(&pass->held, nodes[i], &counts, operations, 64, bytes, sizeof bytes));
-        for (uint64_t j = 0; j < counts.operations; j++) sum += weight_of(&operations[j]);
+    static uint8_t bytes[PART * WIDTH * 255];
+    bes_cell cells[PART * WIDTH];
+    const bes_name *names = checked_names();
+    uint64_t sum = 0, length = 0;
+    for (size_t first = 0; first < count; first += PART) {
+        size_t part = count - first < PART ? count - first : PART;
+        must_do(bes_columns(&pass->held, nodes + first, part, names, WIDTH, cells, PART * WIDTH, bytes, sizeof bytes, &length));
+        for (size_t i = 0; i < part * WIDTH; i++) sum += weight_of(&cells[i]);
     }
     return sum;
 }

@@ -166,7 +166,22 @@ CALL(bes_journal_from, bes_pass *, uint64_t, uint64_t *, bes_counts *, bes_opera
 CALL(bes_prepared_text, bes_prepared *, uint8_t *, size_t, uint64_t *)
 CALL(bes_move_prepared, bes_prepared *, bes_prepared *)
 CALL(bes_move_place, bes_place *, bes_place *)
+CALL(bes_check_name, const uint8_t *, size_t, bes_name *)
+CALL(bes_get_named, bes_pass *, uint64_t, const bes_name *, bes_attribute *, uint8_t *, size_t)
+CALL(bes_columns, bes_pass *, const uint64_t *, size_t, const bes_name *, size_t, bes_cell *, size_t, uint8_t *, size_t,
+     uint64_t *)
 NUMBER(BES_CONFLICT, 76)
+
+SIZE(bes_name, 72)
+FIELD(bes_name, length, 0, uint64_t)
+_Static_assert(offsetof(bes_name, bytes) == 8, "the place of bes_name.bytes");
+
+SIZE(bes_cell, 32)
+FIELD(bes_cell, error, 0, uint32_t)
+FIELD(bes_cell, code, 4, uint32_t)
+FIELD(bes_cell, number, 8, uint64_t)
+FIELD(bes_cell, offset, 16, uint64_t)
+FIELD(bes_cell, length, 24, uint64_t)
 
 int main(void)
 {

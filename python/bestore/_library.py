@@ -50,6 +50,23 @@ class Attribute(ctypes.Structure):
     _fields_ = [("code", ctypes.c_uint32), ("length", ctypes.c_uint64), ("number", ctypes.c_uint64)]
 
 
+class HeldName(ctypes.Structure):
+    length: int
+    _fields_ = [("length", ctypes.c_uint64), ("bytes", ctypes.c_uint8 * 64)]
+
+
+class Cell(ctypes.Structure):
+    error: int
+    code: int
+    number: int
+    offset: int
+    length: int
+    _fields_ = [
+        ("error", ctypes.c_uint32), ("code", ctypes.c_uint32), ("number", ctypes.c_uint64),
+        ("offset", ctypes.c_uint64), ("length", ctypes.c_uint64),
+    ]
+
+
 class Usage(ctypes.Structure):
     pages: int
     free: int
@@ -109,6 +126,8 @@ def _arguments() -> dict[str, List[Any]]:
         "bes_nodes": [handle, word, *put_out],
         "bes_status": [handle, ctypes.POINTER(Usage), words],
         "bes_get": [handle, word, text, size, ctypes.POINTER(Attribute), text, size],
+        "bes_check_name": [text, size, ctypes.POINTER(HeldName)],
+        "bes_columns": [handle, words, size, ctypes.POINTER(HeldName), size, ctypes.POINTER(Cell), size, text, size, words],
         "bes_attributes": [handle, word, *listed],
         "bes_indices": [handle, *listed],
         "bes_state": [handle, handle, *listed],

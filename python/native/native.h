@@ -38,6 +38,9 @@ typedef struct Library {
     uint32_t (*changes)(bes_prepared *, uint64_t *, size_t, uint64_t *, size_t);
     uint32_t (*nodes)(bes_pass *, uint64_t, uint64_t *, size_t, uint64_t *);
     uint32_t (*get)(bes_pass *, uint64_t, const uint8_t *, size_t, bes_attribute *, uint8_t *, size_t);
+    uint32_t (*check_name)(const uint8_t *, size_t, bes_name *);
+    uint32_t (*columns)(
+        bes_pass *, const uint64_t *, size_t, const bes_name *, size_t, bes_cell *, size_t, uint8_t *, size_t, uint64_t *);
     uint32_t (*attributes)(bes_pass *, uint64_t, bes_counts *, bes_operation *, size_t, uint8_t *, size_t);
     uint32_t (*indices)(bes_pass *, bes_counts *, bes_operation *, size_t, uint8_t *, size_t);
     uint32_t (*state)(bes_pass *, bes_place *, bes_counts *, bes_operation *, size_t, uint8_t *, size_t);

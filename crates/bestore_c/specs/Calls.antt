@@ -1,8 +1,11 @@
 -- What calls make of handles.
-use Rattle.std.specs.Prelude.{◌≡◌, ◌⊎◌, ℕ, ◌+◌, List, length, map, slice_get, Option, None, Some, Ok, Err}
+use Rattle.std.specs.Prelude.{◌≡◌, ◌⊎◌, ◌<◌, ℕ, ◌+◌, ◌*◌, ◌^◌, IsUtf8, List, length, map, slice_get, Option, None, Some, Ok, Err}
 use Rattle.std.specs.declared.result.Result.{Result}
 use Rattle.be_journal.specs.declared.entries.Entry.{Entry}
 use Rattle.be_journal.specs.Journal.{IsLegal}
+use Rattle.be_paged.specs.Cells.{TellsColumns, name_in}
+use Rattle.be_paged.specs.declared.cells.Cell.{Cell}
+use Rattle.be_paged.specs.declared.cells.HeldName.{HeldName}
 use Rattle.be_query.specs.Grammar.{Formula, IsTextOf}
 use Rattle.be_query.specs.Printing.{or_text}
 use Rattle.be_session.specs.Fault.{fault_carried, fault_code}
@@ -13,7 +16,7 @@ use Rattle.be_session.specs.Explained.{explanation_in}
 use Rattle.be_session.specs.Prepared.{IsUnasked, PreparedQuery}
 use Rattle.be_session.specs.Sitting.{IsHandedOut, IsNoQuery, IsOpened, IsUnrefreshed, IsUnwritten, IsUnwrittenIf, Sitting}
 use Rattle.be_session.specs.declared.faults.Fault.{Fault}
-use Rattle.be_session.specs.declared.faults.Fault.TheVariants.{NotPinned, Refused}
+use Rattle.be_session.specs.declared.faults.Fault.TheVariants.{BadCount, NotPinned, Refused}
 use Rattle.be_session.specs.declared.items.PredicateItem.{PredicateItem}
 use Rattle.be_session.specs.declared.lists.Operation.{Operation}
 use Rattle.be_store.specs.Conditional.{AcceptsAt}
@@ -25,12 +28,14 @@ use Rattle.be_table.specs.Seats.{pinned_number}
 use Rattle.be_table.specs.Works.{IsOpenRefused}
 use Rattle.be_table.specs.declared.limits.Limits.{Limits}
 use Rattle.be_table.specs.declared.pass.Knowledge.{Knowledge}
+use Rattle.be_value.specs.Name.{name_from}
 use Rattle.be_value.specs.Refusal.{refusal_number}
 use Rattle.be_value.specs.declared.refusals.Refusal.{Refusal}
 use Rattle.be_value.specs.declared.refusals.Refusal.TheVariants.{OutOfMemory}
 use Rattle.be_value.specs.declared.values.Value.{Value}
 use Rattle.be_volume.specs.Query.{scan}
 use Rattle.be_volume.specs.Reading.{attribute}
+use Rattle.be_volume.specs.Volume.{State}
 use Rattle.be_volume.specs.declared.ops.Done.{Done}
 use Rattle.be_volume.specs.declared.ops.Op.{Op}
 use Rattle.bestore_c.specs.Places.{node_of, over}
@@ -163,6 +168,24 @@ abbrev pub Reads : Sitting → Sitting → ℕ → List ℕ → Attribute → Li
 Reads s t node name told places filled code =
     ((e : Fault) × (code ≡ fault_code e) × IsNoName name e × (t ≡ s))
     ⊎ (HasRead s.knows t.knows × Shown (pinned_number s.knows.phase) (attribute (volume_pinned s.knows) node name) told places filled code)
+
+-- what is there in the pinned version, if there is a pin, is shown: that of a name that is held
+abbrev pub ReadsHeld : Sitting → Sitting → ℕ → List ℕ → Attribute → List ℕ → List ℕ → ℕ → Type 0
+ReadsHeld s t node name told places filled code =
+    HasRead s.knows t.knows × Shown (pinned_number s.knows.phase) (attribute (volume_pinned s.knows) node name) told places filled code
+
+-- A name is checked and held; or the bytes are none, and what was held stays.
+abbrev pub HoldsName : List ℕ → HeldName → HeldName → ℕ → Type 0
+HoldsName bytes was held code =
+    ((code ≡ 0) × (name_in held ≡ bytes) × (name_from bytes ≡ Ok bytes) × IsUtf8 bytes)
+    ⊎ ((e : Fault) × (code ≡ fault_code e) × IsNoName bytes e × (held ≡ was))
+
+-- What the pinned version has of nodes at names is told, if there is a pin, and if there are no more than 2^32 cells to tell.
+abbrev pub TellsAtPin : Option ℕ → State → List ℕ → List (List ℕ) → List Cell → List Cell → List ℕ → List ℕ → ℕ → ℕ → Type 0
+TellsAtPin None volume nodes names cell_places cells places filled needed code = Refuses NotPinned needed code
+TellsAtPin (Some n) volume nodes names cell_places cells places filled needed code =
+    ((code ≡ 0) × TellsColumns volume nodes names cell_places cells places filled needed)
+    ⊎ (Refuses BadCount needed code × (2 ^ 32 < length nodes * length names))
 
 -- A list is put out as these operations: how many there are in a spelling of them, with how many bytes, and of both as many as
 -- there are places; or memory was refused.

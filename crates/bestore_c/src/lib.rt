@@ -4,7 +4,8 @@
 //! of a fault, or 64 and 65, which are the handle's own. None has a `requires`.
 #![tactic(auto)]
 
-ghost use Rattle.std.specs.Prelude.{◌≡◌, ◌⊎◌, ◌+◌, None, Ok, length};
+ghost use Rattle.std.specs.Prelude.{◌≡◌, ◌⊎◌, ◌+◌, None, Ok, length, map};
+ghost use Rattle.be_paged.specs.Cells.{name_in};
 ghost use Rattle.be_paged.specs.Nodes.{nodes_from};
 ghost use Rattle.be_query.specs.Grammar.{IsTextOf};
 ghost use Rattle.be_session.specs.Items.{IsBuilt, IsUnbuilt};
@@ -19,7 +20,7 @@ ghost use Rattle.be_table.specs.Trace.{with_history};
 ghost use Rattle.be_volume.specs.Reading.{attributes_at, index_kinds};
 ghost use Rattle.bestore_c.specs.Calls.{AnswersWhetherOpen, Calls, Explains, Finds, FindsBuilt, FindsPrepared, GivesAnother, IsClosed};
 ghost use Rattle.bestore_c.specs.Calls.{IsTextFault, Listed, MovesHandle, Opens, Prepares, PrintsPrepared, PutsOutAtPin, Reads, RefreshesPrepared, Refuses};
-ghost use Rattle.bestore_c.specs.Calls.{ShowsChanges, TellsEntry, TellsJournal, TellsNumber, WritesSpelled, WritesSpelledIf};
+ghost use Rattle.bestore_c.specs.Calls.{HoldsName, ReadsHeld, ShowsChanges, TellsAtPin, TellsEntry, TellsJournal, TellsNumber, WritesSpelled, WritesSpelledIf};
 ghost use Rattle.bestore_c.specs.States.{TellsState, untold_at};
 ghost use Rattle.bestore_c.specs.Usage.{TellsUsage};
 
@@ -39,9 +40,10 @@ mod telling;
 
 use asking::{find_prepared, put_text, query_for, refresh_prepared, tell, tell_text};
 use be_session::{
-    Operation, PredicateItem, Session, name, operations, prepare, prepare_items, query_of_items,
+    Operation, PredicateItem, Session, held_name, operations, prepare, prepare_items,
+    query_of_items,
 };
-use be_store::{ArrayVec, Limits};
+use be_store::{ArrayVec, Cell, HeldName, Limits};
 use entries::tell_entry;
 use handle::{Attribute, Counts, Handle, PlaceHandle, PreparedHandle, UpdateCounts, Usage};
 use listing::{tell_attributes, tell_indices};
@@ -479,9 +481,70 @@ pub extern "C" fn bes_get(
     if !pass.live {
         return CLOSED;
     }
-    match &name(name_bytes) {
+    match &held_name(name_bytes) {
         Ok(name) => read(pass.owned.lent(), node, name, attribute, bytes),
         Err(fault) => fault.code(),
+    }
+}
+
+/// Checks a name, and holds it for the calls that take it.
+#[unsafe(no_mangle)]
+pub extern "C" fn bes_check_name(name_bytes: &[u8], held: &mut HeldName) -> u32
+    ensures { HoldsName name_bytes.now held.old held.new result }
+{
+    match held_name(name_bytes) {
+        Ok(name) => {
+            *held = name;
+            DONE
+        }
+        Err(fault) => fault.code(),
+    }
+}
+
+/// Reads a node's attribute in the pinned version by a name that is held, as `bes_get` does.
+#[unsafe(no_mangle)]
+pub extern "C" fn bes_get_named(
+    pass: &mut Handle,
+    node: u64,
+    held: &HeldName,
+    attribute: &mut Attribute,
+    bytes: &mut [u8],
+) -> u32
+    ensures pass { Calls pass.old.owned.value pass.new.owned.value (result ≡ 64) (λ s t. ReadsHeld s t node (name_in held.now) attribute.new bytes.old bytes.new result) }
+    ensures kept { (result ≡ 0) ⊎ ((attribute.new ≡ attribute.old) × (bytes.new ≡ bytes.old)) }
+{
+    if !pass.live {
+        return CLOSED;
+    }
+    read(pass.owned.lent(), node, held, attribute, bytes)
+}
+
+/// Tells what each node has at each name in the pinned version: a cell for each, and the bytes of all texts end to end, of both as
+/// many as there are places. Puts out how many bytes there are.
+#[unsafe(no_mangle)]
+pub extern "C" fn bes_columns(
+    pass: &mut Handle,
+    nodes: &[u64],
+    names: &[HeldName],
+    cells: &mut [Cell],
+    bytes: &mut [u8],
+    count: &mut u64,
+) -> u32
+    ensures pass { Calls pass.old.owned.value pass.new.owned.value (IsClosed count.new result)
+        (λ s t. HasRead s.knows t.knows × TellsAtPin (pinned_number s.knows.phase) (volume_pinned s.knows) nodes.now (map name_in names.now)
+        cells.old cells.new bytes.old bytes.new count.new result) }
+    ensures kept { (result ≡ 0) ⊎ ((cells.new ≡ cells.old) × (bytes.new ≡ bytes.old)) }
+{
+    if !pass.live {
+        *count = 0;
+        return CLOSED;
+    }
+    match pass.owned.lent().columns(nodes, names, cells, bytes) {
+        Ok(needed) => {
+            *count = needed;
+            DONE
+        }
+        Err(fault) => refuse(fault, count),
     }
 }
 

@@ -152,6 +152,26 @@ pub struct bes_attribute {
     pub number: u64,
 }
 
+/// A name that was checked once. Other bytes in it name no attribute.
+#[repr(C)]
+#[derive(Clone, Copy, Debug, PartialEq, Eq)]
+pub struct bes_name {
+    pub length: u64,
+    pub bytes: [u8; 64],
+}
+
+/// An attribute as `bes_columns` writes it.
+#[repr(C)]
+#[derive(Clone, Copy, Debug, Default, PartialEq, Eq)]
+pub struct bes_cell {
+    /// `BES_OK`, `BES_NO_ATTRIBUTE` or `BES_NO_NODE`.
+    pub error: u32,
+    pub code: u32,
+    pub number: u64,
+    pub offset: u64,
+    pub length: u64,
+}
+
 /// How full a store is.
 #[repr(C)]
 #[derive(Clone, Copy, Debug, Default, PartialEq, Eq)]
@@ -275,6 +295,27 @@ extern "C" {
         attribute: *mut bes_attribute,
         bytes: *mut u8,
         bytes_room: usize,
+    ) -> u32;
+    pub fn bes_check_name(name: *const u8, name_length: usize, held: *mut bes_name) -> u32;
+    pub fn bes_get_named(
+        pass: *mut bes_pass,
+        node: u64,
+        held: *const bes_name,
+        attribute: *mut bes_attribute,
+        bytes: *mut u8,
+        bytes_room: usize,
+    ) -> u32;
+    pub fn bes_columns(
+        pass: *mut bes_pass,
+        nodes: *const u64,
+        nodes_count: usize,
+        names: *const bes_name,
+        names_count: usize,
+        cells: *mut bes_cell,
+        cells_room: usize,
+        bytes: *mut u8,
+        bytes_room: usize,
+        bytes_count: *mut u64,
     ) -> u32;
     pub fn bes_attributes(
         pass: *mut bes_pass,

@@ -166,6 +166,17 @@ where
     }
 }
 
+/// A name that is checked once.
+pub(crate) fn checked_name(name: &str) -> Answer<sys::bes_name> {
+    let mut checked = sys::bes_name {
+        length: 0,
+        bytes: [0; 64],
+    };
+    // SAFETY: as the module says.
+    let code = unsafe { sys::bes_check_name(name.as_ptr(), name.len(), &mut checked) };
+    check(code, 0).map(|()| checked)
+}
+
 /// A list of operations, from a call that is asked again with more room if the list is longer.
 fn listed(
     room: (usize, usize),
@@ -365,6 +376,30 @@ impl RawPass {
             )
         };
         check(code, 0).map(|()| attribute)
+    }
+
+    /// The cells of all nodes at all names, node by node, and the bytes that they are parts of.
+    pub(crate) fn columns(&self, nodes: &[u64], names: &[sys::bes_name]) -> Answer<(Vec<sys::bes_cell>, Vec<u8>)> {
+        let pass = self.handle.get()?;
+        let mut cells = vec![sys::bes_cell::default(); nodes.len().saturating_mul(names.len())];
+        let bytes = whole(32 * cells.len(), |bytes, room, count| {
+            // SAFETY: as the module says.
+            unsafe {
+                sys::bes_columns(
+                    pass,
+                    nodes.as_ptr(),
+                    nodes.len(),
+                    names.as_ptr(),
+                    names.len(),
+                    cells.as_mut_ptr(),
+                    cells.len(),
+                    bytes,
+                    room,
+                    count,
+                )
+            }
+        })?;
+        Ok((cells, bytes))
     }
 
     pub(crate) fn attributes(&self, node: u64) -> Answer<List> {

@@ -1,6 +1,6 @@
 //! Snapshots: what a pass reads while it is pinned.
 
-use crate::raw::{List, RawPlace, Refused};
+use crate::raw::{checked_name, List, RawPlace, Refused};
 use crate::{Batch, Error, Kind, Pass, Prepared, Result, Value};
 use bestore_sys as sys;
 
@@ -140,6 +140,37 @@ impl<'a> Snapshot<'a> {
         }
     }
 
+    /// The attributes of this name of many nodes: the value of each node, or `None` if it has none.
+    ///
+    /// # Errors
+    /// As [`Snapshot::columns`].
+    pub fn column(&self, nodes: &[u64], name: &str) -> Result<Vec<Option<Value>>> {
+        Ok(self.columns(nodes, &[name])?.pop().unwrap_or_default())
+    }
+
+    /// The attributes of these names of many nodes: for each name a list with the value of each node, or `None` if it has none. It
+    /// takes one search in a tree for a node whose attributes of these names follow one another, and less time than a
+    /// [`Snapshot::get`] for each.
+    ///
+    /// # Errors
+    /// [`Error::NameLength`], [`Error::HasNul`], [`Error::BadCount`] if there are more than 2^32 values, [`Error::Forked`].
+    pub fn columns(&self, nodes: &[u64], names: &[&str]) -> Result<Vec<Vec<Option<Value>>>> {
+        let mut order: Vec<usize> = (0..names.len()).collect();
+        order.sort_by_key(|&place| names[place]);
+        let checked = order
+            .iter()
+            .map(|&place| checked_name(names[place]))
+            .collect::<std::result::Result<Vec<_>, Refused>>()?;
+        let (cells, bytes) = self.pass.raw().columns(nodes, &checked)?;
+        let mut columns: Vec<Vec<Option<Value>>> = names.iter().map(|_| Vec::with_capacity(nodes.len())).collect();
+        for row in cells.chunks(names.len().max(1)) {
+            for (cell, &place) in row.iter().zip(&order) {
+                columns[place].push(value_of(cell, &bytes));
+            }
+        }
+        Ok(columns)
+    }
+
     /// The attributes of a node, by ascending names.
     ///
     /// # Errors
@@ -195,6 +226,16 @@ fn named<T>(list: &List, read: impl Fn(&sys::bes_operation) -> T) -> Vec<(String
         .iter()
         .map(|operation| (list.name(operation).to_owned(), read(operation)))
         .collect()
+}
+
+/// The value of a cell, whose bytes are some of these.
+fn value_of(cell: &sys::bes_cell, bytes: &[u8]) -> Option<Value> {
+    if cell.error != sys::BES_OK {
+        return None;
+    }
+    let (kind, from) = (Kind::from_code(cell.code).unwrap_or(Kind::Raw), cell.offset as usize);
+    let content = bytes.get(from..from + cell.length as usize).unwrap_or_default();
+    Some(Value::of_parts(kind, cell.number, content))
 }
 
 /// How many nodes are read at a time.

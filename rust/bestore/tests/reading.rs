@@ -56,6 +56,35 @@ fn a_snapshot_is_held_until_it_is_released() {
 }
 
 #[test]
+fn columns_are_what_get_reads() {
+    let mut pass = store().pass().unwrap();
+    for node in 1..=4 {
+        assert_eq!(pass.new_node().unwrap(), node);
+        pass.set(node, "size", node as i64 - 3).unwrap();
+    }
+    pass.set(2, "name", "é".repeat(127).as_str()).unwrap();
+    pass.set(2, "data", vec![0, 255]).unwrap();
+    pass.set(1, "name", "").unwrap();
+    pass.remove_node(4).unwrap();
+    let snapshot = pass.pin().unwrap();
+    let (nodes, names) = ([2, 4, 1, 9, 3, 2], ["size", "none", "data", "name", "size"]);
+    let columns = snapshot.columns(&nodes, &names).unwrap();
+    for (name, column) in names.iter().zip(&columns) {
+        assert_eq!(&snapshot.column(&nodes, name).unwrap(), column);
+        let read: Vec<_> = nodes.iter().map(|&node| snapshot.get(node, name).unwrap()).collect();
+        assert_eq!(&read, column);
+    }
+    assert_eq!(columns.len(), 5);
+    assert_eq!(snapshot.columns(&[], &names).unwrap(), vec![Vec::new(); 5]);
+    assert!(snapshot.columns(&nodes, &[]).unwrap().is_empty());
+    assert!(matches!(
+        snapshot.columns(&nodes, &["size", ""]),
+        Err(Error::NameLength { .. })
+    ));
+    assert!(matches!(snapshot.column(&nodes, "a\0"), Err(Error::HasNul { .. })));
+}
+
+#[test]
 fn every_kind_of_value_is_read_as_it_was_written() {
     let mut pass = store().pass().unwrap();
     let node = pass.new_node().unwrap();
