@@ -1,20 +1,22 @@
 -- A whole write: the lock is taken, the write is published or not, and the lock is given back.
-use Rattle.std.proofs.Common.{◌≡◌, false, append_assoc, inr, ℕ, List, [], ◌∷◌, ◌++◌, length, refl, sym, ap, ◌∙◌, subst, arith, length-append}
+use Rattle.std.proofs.Common.{◌≡◌, false, inr, ℕ, List, [], ◌∷◌, ◌++◌, length, refl, sym, ap, ◌∙◌, subst, arith, length-append}
 use Rattle.std.specs.Prelude.{Result, Ok, Err, MatchResult, IfOk, IfErr}
 use Rattle.std.proofs.lemmas.List.{map-append}
 use Rattle.be_journal.specs.declared.entries.Entry.{Entry}
 use Rattle.be_journal.specs.Journal.{by_pass, replay}
+use Rattle.be_table.specs.declared.limits.Limits.{Limits}
 use Rattle.be_table.specs.declared.pass.Commit.{Commit}
 use Rattle.be_table.specs.declared.pass.Knowledge.{Knowledge}
 use Rattle.be_table.specs.declared.pass.Move.{Move}
 use Rattle.be_table.specs.declared.pass.Move.TheVariants.{Lock, Publish, Unlock}
 use Rattle.be_table.specs.Rule.{entries}
 use Rattle.be_table.specs.Steps.{IsPass, entry_by, without_lock}
-use Rattle.be_table.specs.Trace.{AreWork, HasWorked, Makes, upto_lock, with_history}
+use Rattle.be_table.specs.Trace.{Makes, upto_lock, with_history}
+use Rattle.be_table.specs.Working.{HasWorked, WorksOn}
 use Rattle.be_table.specs.Works.{Moves, TakesLock}
 use Rattle.be_table.proofs.Histories.{by_pass-append, by_pass-own}
 use Rattle.be_table.proofs.Traces.{makes_more}
-use Rattle.be_table.proofs.Worked.{upto_now}
+use Rattle.be_table.proofs.Worked.{upto_now, works_none}
 use Rattle.be_value.specs.declared.refusals.Refusal.{Refusal}
 use Rattle.be_volume.specs.Volume.{steps}
 use Rattle.be_volume.specs.declared.ops.Done.{Done}
@@ -32,6 +34,9 @@ nothing_more xs (y ∷ ys) e = absurd (let l : length (xs ++ y ∷ ys) ≡ lengt
 module _ (a w : Knowledge) (t : TakesLock a w) where
   same_number : w.number ≡ a.number
   same_number = ap (λ (k : Knowledge). k.number) t.same
+
+  same_limits : w.limits ≡ a.limits
+  same_limits = ap (λ (k : Knowledge). k.limits) t.same
 
   same_mine : w.mine ≡ a.mine
   same_mine = ap (λ (k : Knowledge). k.mine) t.same
@@ -52,7 +57,7 @@ module _ (a w : Knowledge) (t : TakesLock a w) where
       ∙ (ap (λ l. by_pass a.number (entries l)) (sym t.more.1) ∙ own))))
 
   -- the history up to the lock is all that there was when the lock was taken
-  upto_here : upto_lock w.number w.history ≡ w.history
+  pub upto_here : upto_lock w.number w.history ≡ w.history
   upto_here = ap (λ k. upto_lock k w.history) same_number ∙ upto_now a.number a.history w.history t.moves.made
 
   -- the lock is given back at once
@@ -62,13 +67,13 @@ module _ (a w : Knowledge) (t : TakesLock a w) where
       (subst (λ k. Makes k w.history (Unlock k ∷ []) c.history) same_number unlocked.made)
 
   -- from the lock to the unlock
-  locks_only : (v c : Knowledge) (work : List Move) → v.number ≡ w.number → AreWork w.number work → Makes w.number w.history work v.history → Moves v (Unlock v.number ∷ []) c → LocksOnly a c
-  locks_only v c work same is made unlocked = record {
-    work = work;
-    is_work = subst (λ k. AreWork k work) same_number is;
-    made = makes_more a.number a.history (Lock a.number ∷ []) w.history (work ++ Unlock a.number ∷ []) c.history t.moves.made
-        (makes_more a.number w.history work v.history (Unlock a.number ∷ []) c.history (subst (λ k. Makes k w.history work v.history) same_number made)
-        (subst (λ k. Makes k v.history (Unlock k ∷ []) c.history) (same ∙ same_number) unlocked.made));
+  locks_only : (v c : Knowledge) → v.number ≡ w.number → WorksOn w.limits w.number w.history v.history → Moves v (Unlock v.number ∷ []) c → LocksOnly a c
+  locks_only v c same work unlocked = record {
+    locked = w.history;
+    lock = t.moves.made;
+    worked = v.history;
+    work = subst (λ (x : Limits × ℕ). WorksOn x.0 x.1 w.history v.history) (λ i. (same_limits i, same_number i)) work;
+    unlock = subst (λ k. Makes k v.history (Unlock k ∷ []) c.history) (same ∙ same_number) unlocked.made;
   }
 
   pub accepts : (v c : Knowledge) (ops : List Op) (n : ℕ) (dones : List Done) → Publishes w v ops n dones → c ≡ without_lock (with_history v c.history) → IsPass c → Moves v (Unlock v.number ∷ []) c → Accepts a c ops n dones
@@ -92,14 +97,14 @@ module _ (a w : Knowledge) (t : TakesLock a w) where
         pass = number;
         pin = ap (λ (k : Knowledge). k.phase) is ∙ (p.same.pin ∙ same_phase);
         moves = record {
-          work = p.work;
-          is_work = subst (λ k. AreWork k p.work) same_number p.is_work;
+          locked = w.history;
+          lock = t.moves.made;
+          worked = p.worked;
+          work = subst (λ (x : Limits × ℕ × List Move). WorksOn x.0 x.1 x.2 p.worked) (λ i. (same_limits i, same_number i, upto_here i)) p.work;
           given = p.given;
-          made = makes_more a.number a.history (Lock a.number ∷ []) w.history (p.work ++ Publish a.number p.commit.page p.given ∷ Unlock a.number ∷ []) c.history t.moves.made
-              (subst (λ (l : List Move). Makes a.number w.history l c.history) (append_assoc p.work (Publish a.number p.commit.page p.given ∷ []) (Unlock a.number ∷ []))
-              (makes_more a.number w.history (p.work ++ Publish a.number p.commit.page p.given ∷ []) v.history (Unlock a.number ∷ []) c.history
-              (subst (λ (x : ℕ × List Move). Makes x.0 x.1 (p.work ++ Publish x.0 p.commit.page p.given ∷ []) v.history) (λ i. (same_number i, upto_here i)) p.made)
-              (subst (λ k. Makes k v.history (Unlock k ∷ []) c.history) (p.same.pass ∙ same_number) unlocked.made)));
+          publish = makes_more a.number p.worked (Publish a.number p.commit.page p.given ∷ []) v.history (Unlock a.number ∷ []) c.history
+              (subst (λ k. Makes k p.worked (Publish k p.commit.page p.given ∷ []) v.history) same_number p.made)
+              (subst (λ k. Makes k v.history (Unlock k ∷ []) c.history) (p.same.pass ∙ same_number) unlocked.made);
         };
       }
 
@@ -112,28 +117,27 @@ module _ (a w : Knowledge) (t : TakesLock a w) where
         mine = sym pass.mine ∙ (ap (λ k. by_pass k (entries c.seen)) number ∙ (ap (λ l. by_pass a.number (entries l)) seen ∙ own));
         pass = number;
         pin = ap (λ (k : Knowledge). k.phase) is ∙ same_phase;
-        moves = inr (locks_only w c [] refl tt refl unlocked);
+        moves = inr (locks_only w c refl (works_none w.limits w.number w.history) unlocked);
       }
 
-  -- so it is where the pass has only scanned
-  pub learns_same : (v c : Knowledge) (work : List Move) → v.seen ≡ w.seen → IsSame w v → c ≡ without_lock (with_history v c.history) → IsPass c
-      → AreWork w.number work → Makes w.number w.history work v.history → Moves v (Unlock v.number ∷ []) c → Learns a c
-  learns_same v c work unseen same is pass is_work made unlocked =
+  -- so it is where the pass has only worked
+  pub learns_same : (v c : Knowledge) → v.seen ≡ w.seen → IsSame w v → c ≡ without_lock (with_history v c.history) → IsPass c
+      → WorksOn w.limits w.number w.history v.history → Moves v (Unlock v.number ∷ []) c → Learns a c
+  learns_same v c unseen same is pass work unlocked =
       let seen : c.seen ≡ w.seen = ap (λ (k : Knowledge). k.seen) is ∙ unseen in
       let number : c.number ≡ a.number = ap (λ (k : Knowledge). k.number) is ∙ (same.pass ∙ same_number) in record {
         more = (t.more.0, seen ∙ t.more.1);
         mine = sym pass.mine ∙ (ap (λ k. by_pass k (entries c.seen)) number ∙ (ap (λ l. by_pass a.number (entries l)) seen ∙ own));
         pass = number;
         pin = ap (λ (k : Knowledge). k.phase) is ∙ (same.pin ∙ same_phase);
-        moves = inr (locks_only v c work same.pass is_work made unlocked);
+        moves = inr (locks_only v c same.pass work unlocked);
       }
 
   pub learns : (v c : Knowledge) (ops : List Op) (e : Refusal) → IsHeldBack w v ops e → c ≡ without_lock (with_history v c.history) → IsPass c
-      → (v.published ≡ false → HasWorked v.number v.history) → Moves v (Unlock v.number ∷ []) c → Learns a c
+      → (v.published ≡ false → HasWorked v.limits v.number v.history) → Moves v (Unlock v.number ∷ []) c → Learns a c
   learns v c ops e p is pass worked unlocked =
-      let h = worked p.unpublished in
-      learns_same v c h.own p.seen p.same is pass (subst (λ k. AreWork k h.own) p.same.pass h.work)
-      (subst (λ (x : ℕ × List Move). Makes x.0 x.1 h.own v.history) (λ i. (p.same.pass i, (p.begun ∙ upto_here) i)) h.made) unlocked
+      learns_same v c p.seen p.same is pass
+      (subst (λ (x : Limits × ℕ × List Move). WorksOn x.0 x.1 x.2 v.history) (λ i. (p.same.limits i, p.same.pass i, (p.begun ∙ upto_here) i)) (worked p.unpublished)) unlocked
 
 pub reasons : (a w v c : Knowledge) (ops : List Op) (e : Refusal) → IsHeldBack w v ops e → c ≡ without_lock (with_history v c.history) → IsReason a c ops e
 reasons a w v c ops e p is = subst (λ (k : Knowledge). IsReason a k ops e) (sym is) (inr p.reason)

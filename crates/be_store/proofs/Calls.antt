@@ -19,8 +19,9 @@ use Rattle.be_volume.specs.Volume.{empty}
 use Rattle.be_table.specs.declared.limits.Limits.{Limits}
 use Rattle.be_table.specs.declared.pass.Move.{Move}
 use Rattle.be_table.specs.declared.pass.Move.TheVariants.{Look, Announce, LookAgain, Unpin, Lock, Publish, Unlock}
-use Rattle.be_table.specs.Trace.{AllRest, HasTrace}
+use Rattle.be_table.specs.Trace.{AllRest, HasTrace, Makes}
 use Rattle.be_table.proofs.Scans.{makes_starts}
+use Rattle.be_table.proofs.Worked.{works_start}
 use Rattle.be_store.specs.Calls.{AreInOneTrace, Call, Calls, HasFronts, HasWrites, ReadsFronts}
 use Rattle.be_store.specs.History.{LocksOnly}
 use Rattle.be_store.specs.Passes.{volume_pinned}
@@ -98,13 +99,21 @@ all_fronts log (a ∷ passes) kept = All-cons (ReadsFronts log) a passes (reads_
 same_history : (a c : Knowledge) → c.history ≡ a.history → StartsWith c.history a.history
 same_history a c same = subst (λ (l : List Move). StartsWith l a.history) (sym same) (starts_refl a.history)
 
+-- from the lock on
+worked_start : (a c : Knowledge) (locked worked own : List Move) → Makes a.number a.history (Lock a.number ∷ []) locked → StartsWith worked locked → Makes a.number worked own c.history → StartsWith c.history a.history
+worked_start a c locked worked own lock work made =
+    starts_trans a.history locked c.history (starts_trans locked worked c.history (makes_starts a.number worked own c.history made) work)
+    (makes_starts a.number a.history (Lock a.number ∷ []) locked lock)
+
 locks_start : (a c : Knowledge) → (c.history ≡ a.history) ⊎ LocksOnly a c → StartsWith c.history a.history
 locks_start a c (inl none) = same_history a c none
-locks_start a c (inr l) = makes_starts a.number a.history (Lock a.number ∷ (l.work ++ Unlock a.number ∷ [])) c.history l.made
+locks_start a c (inr l) =
+    worked_start a c l.locked l.worked (Unlock a.number ∷ []) l.lock (works_start a.limits a.number l.locked l.worked l.work) l.unlock
 
 call_history : (a c : Knowledge) → Call a c → StartsWith c.history a.history
 call_history a c (inl (ops, n, dones, h)) =
-    makes_starts a.number a.history (Lock a.number ∷ (h.moves.work ++ Publish a.number h.commit.page h.moves.given ∷ Unlock a.number ∷ [])) c.history h.moves.made
+    let m = h.moves in
+    worked_start a c m.locked m.worked (Publish a.number h.commit.page m.given ∷ Unlock a.number ∷ []) m.lock (works_start a.limits a.number m.locked m.worked m.work) m.publish
 call_history a c (inr (inl h)) = locks_start a c h.moves
 call_history a c (inr (inr (inl (n, h)))) = makes_starts a.number a.history (Look a.number ∷ Announce a.number ∷ LookAgain a.number ∷ []) c.history h.moves.made
 call_history a c (inr (inr (inr (inl h)))) = makes_starts a.number a.history (Unpin a.number ∷ []) c.history h.1

@@ -12,7 +12,8 @@ use Rattle.be_table.specs.declared.pass.Knowledge.{Knowledge}
 use Rattle.be_table.specs.declared.pass.Move.TheVariants.{Unlock}
 use Rattle.be_table.specs.Rule.{entries}
 use Rattle.be_table.specs.Steps.{IsPass, without_lock}
-use Rattle.be_table.specs.Trace.{HasWorked, Makes, with_history}
+use Rattle.be_table.specs.Trace.{Makes, with_history}
+use Rattle.be_table.specs.Working.{HasWorked}
 use Rattle.be_table.specs.Works.{FoundHeld, Moves, TakesLock}
 use Rattle.be_value.specs.declared.refusals.Refusal.{Refusal}
 use Rattle.be_volume.specs.Volume.{empty, steps}
@@ -66,7 +67,7 @@ module _ (a w : Knowledge) (t : TakesLock a w) (number : ℕ) where
       }
 
   pub unapplied : (v c : Knowledge) (ops : List Op) (e : ApplyIfError) → IsHeldBackIf w v number ops e → c ≡ without_lock (with_history v c.history)
-      → Moves v (Unlock v.number ∷ []) c → IsPass c → (v.published ≡ false → HasWorked v.number v.history) → IsUnapplied a c number ops e
+      → Moves v (Unlock v.number ∷ []) c → IsPass c → (v.published ≡ false → HasWorked v.limits v.number v.history) → IsUnapplied a c number ops e
   unapplied v c ops (Conflict found) h is unlocked pass worked = conflict found v c h is unlocked pass
   unapplied v c ops (Refused e) h is unlocked pass worked = (
     learns a w t v c ops e h.0 is pass worked unlocked,

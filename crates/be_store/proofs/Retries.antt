@@ -61,7 +61,7 @@ module _ (a : Knowledge) (holders : List ℕ) (m c : Knowledge) (is : m ≡ trie
         mine = h.mine;
         pass = h.pass;
         pin = h.pin;
-        moves = record { work = h.moves.work; is_work = h.moves.is_work; given = h.moves.given; made = h.moves.made };
+        moves = record { locked = h.moves.locked; lock = h.moves.lock; worked = h.moves.worked; work = h.moves.work; given = h.moves.given; publish = h.moves.publish };
       }
 
   pub learns_at_last : Learns m c → Learns a c
@@ -72,7 +72,7 @@ module _ (a : Knowledge) (holders : List ℕ) (m c : Knowledge) (is : m ≡ trie
         where
           moved : (c.history ≡ a.history) ⊎ LocksOnly (tried a holders) c → (c.history ≡ a.history) ⊎ LocksOnly a c
           moved (inl none) = inl none
-          moved (inr l) = inr (record { work = l.work; is_work = l.is_work; made = l.made })
+          moved (inr l) = inr (record { locked = l.locked; lock = l.lock; worked = l.worked; work = l.work; unlock = l.unlock })
 
   -- the last try found a holder too
   pub held_at_last : (e : Refusal) → FoundHeld e m c → IsHeldThrough (length holders + 1) a c e

@@ -13,21 +13,21 @@ use Rattle.be_table.specs.Works.{MakesScan, Moves, TakesLock}
 use Rattle.be_store.specs.History.{Learns}
 use Rattle.be_store.specs.Statuses.{TellsStatus}
 use Rattle.be_store.specs.Writing.{IsSame}
-use Rattle.be_table.proofs.Worked.{scans_work}
+use Rattle.be_table.proofs.Worked.{works_scan}
 use Rattle.be_store.proofs.Applied.{learns_same}
 
 module _ (a : Knowledge) (o n : Work) (t : TakesLock a o.knows) (scan : (least : ℕ) × MakesScan o n least) where
   -- a scan leaves the pass as it was
   scanned_same : IsSame o.knows n.knows
-  scanned_same = record { pass = ap (λ (x : Work). x.knows.number) scan.1.same; pin = ap (λ (x : Work). x.knows.phase) scan.1.same }
+  scanned_same = record { pass = ap (λ (x : Work). x.knows.number) scan.1.same; limits = ap (λ (x : Work). x.knows.limits) scan.1.same; pin = ap (λ (x : Work). x.knows.phase) scan.1.same }
 
   scanned_number : n.knows.number ≡ a.number
   scanned_number = scanned_same.pass ∙ ap (λ (k : Knowledge). k.number) t.same
 
   pub scan_learns : (c : Knowledge) → c ≡ without_lock (with_history n.knows c.history) → IsPass c → Moves n.knows (Unlock n.knows.number ∷ []) c → Learns a c
   scan_learns c is pass unlocked =
-      learns_same a o.knows t n.knows c (scans_of o.knows.number o.knows.limits.passes) (ap (λ (x : Work). x.knows.seen) scan.1.same) scanned_same is pass
-      (scans_work o.knows.number o.knows.limits.passes) scan.1.moves unlocked
+      learns_same a o.knows t n.knows c (ap (λ (x : Work). x.knows.seen) scan.1.same) scanned_same is pass
+      (works_scan o.knows.limits o.knows.number o.knows.history n.knows.history scan.1.moves) unlocked
 
   pub scan_tells : (c : Knowledge) (s : Status) → FindsOldest o.knows.limits o.knows.number o.knows.history n.knows.history s.oldest → LieAt o.knows.limits n.knows.history n.knows.places → Tells n.knows s
       → c ≡ without_lock (with_history n.knows c.history) → Moves n.knows (Unlock n.knows.number ∷ []) c → TellsStatus a c s

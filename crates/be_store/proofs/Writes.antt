@@ -4,6 +4,7 @@ use Rattle.std.specs.Prelude.{IfErr, IsOk, Result, MatchResult}
 use Rattle.std.specs.Result.{IsErrAnd}
 use Rattle.be_journal.specs.Journal.{replay}
 use Rattle.be_core.specs.Machine.{has}
+use Rattle.be_table.specs.declared.limits.Limits.{Limits}
 use Rattle.be_table.specs.declared.pass.Commit.{Commit}
 use Rattle.be_table.specs.declared.pass.Knowledge.{Knowledge}
 use Rattle.be_table.specs.declared.pass.Move.{Move}
@@ -12,11 +13,11 @@ use Rattle.be_table.specs.Place.{Work}
 use Rattle.be_table.specs.Reading.{open_of, standing_among, standing_in_work, word_of_page, words_of, StaysOpen}
 use Rattle.be_table.specs.Rule.{entries, page_at, reach_at}
 use Rattle.be_table.specs.Steps.{commit_of, entry_by, given_of, publishes}
-use Rattle.be_table.specs.Trace.{AreWork, HasWorked, Makes, upto_lock, with_history}
+use Rattle.be_table.specs.Trace.{Makes, upto_lock, with_history}
+use Rattle.be_table.specs.Working.{HasWorked, WorksOn}
 use Rattle.be_table.specs.Versions.{at_start, SpellsVolume}
 use Rattle.be_table.specs.Works.{HasNoRoom, MakesScan, Moves, TakesLock}
 use Rattle.be_table.proofs.Standings.{swept_in}
-use Rattle.be_table.proofs.Traces.{makes_more}
 use Rattle.be_volume.specs.Volume.{State, steps}
 use Rattle.be_volume.specs.declared.ops.Done.{Done}
 use Rattle.be_volume.specs.declared.ops.Op.{Op}
@@ -52,23 +53,24 @@ begins_scanned old new least h b =
 pub published_from : (w v : Work) (c : Knowledge) (ops : List Op) (n : ℕ) (dones : List Done) → open_of v ≡ open_of w → Publishes v.knows c ops n dones → Publishes w.knows c ops n dones
 published_from w v c ops n dones kept p =
     let number : v.knows.number ≡ w.knows.number = ap (λ (o : StaysOpen). o.number) kept in
+    let limits : v.knows.limits ≡ w.knows.limits = ap (λ (o : StaysOpen). o.limits) kept in
     let seen : v.knows.seen ≡ w.knows.seen = ap (λ (o : StaysOpen). o.seen) kept in
     let begun : upto_lock v.knows.number v.knows.history ≡ upto_lock w.knows.number w.knows.history = ap (λ (o : StaysOpen). o.begun) kept in record {
-      same = record { pass = p.same.pass ∙ number; pin = p.same.pin ∙ ap (λ (o : StaysOpen). o.phase) kept };
+      same = record { pass = p.same.pass ∙ number; limits = p.same.limits ∙ limits; pin = p.same.pin ∙ ap (λ (o : StaysOpen). o.phase) kept };
       commit = p.commit;
       entry = p.entry ∙ ap (λ k. record { by = k; ops = ops; dones = dones }) number;
       seen = p.seen ∙ ap (λ l. l ++ p.commit ∷ []) seen;
       answered = (p.answered.0, ap (λ l. steps (replay (entries l)) ops) (sym seen) ∙ p.answered.1);
       number = p.number;
-      work = p.work;
-      is_work = subst (λ k. AreWork k p.work) number p.is_work;
+      worked = p.worked;
+      work = subst (λ (x : Limits × ℕ × List Move). WorksOn x.0 x.1 x.2 p.worked) (λ i. (limits i, number i, begun i)) p.work;
       given = p.given;
-      made = subst (λ (x : ℕ × List Move). Makes x.0 x.1 (p.work ++ Publish x.0 p.commit.page p.given ∷ []) c.history) (λ i. (number i, begun i)) p.made;
+      made = subst (λ k. Makes k p.worked (Publish k p.commit.page p.given ∷ []) c.history) number p.made;
     }
 
 pub held_back_from : (w v : Work) (c : Knowledge) (ops : List Op) (e : Refusal) → open_of v ≡ open_of w → IsHeldBack v.knows c ops e → IsHeldBack w.knows c ops e
 held_back_from w v c ops e kept p = record {
-  same = record { pass = p.same.pass ∙ ap (λ (o : StaysOpen). o.number) kept; pin = p.same.pin ∙ ap (λ (o : StaysOpen). o.phase) kept };
+  same = record { pass = p.same.pass ∙ ap (λ (o : StaysOpen). o.number) kept; limits = p.same.limits ∙ ap (λ (o : StaysOpen). o.limits) kept; pin = p.same.pin ∙ ap (λ (o : StaysOpen). o.phase) kept };
   seen = p.seen ∙ ap (λ (o : StaysOpen). o.seen) kept;
   reason = p.reason;
   unpublished = p.unpublished;
@@ -82,24 +84,24 @@ both_from (Err e) P R Q S f g m = g e m
 pub published : (w v r p : Work) (ops : List Op) (page n : ℕ) (dones shown : List Done) (made : State)
     → open_of v ≡ open_of w → r.knows ≡ v.knows → p.knows ≡ publishes (with_history r.knows p.knows.history) (entry_by r.knows ops shown) page → shown ≡ dones
     → steps (replay (entries w.knows.seen)) ops ≡ Ok (made, dones) → n ≡ length p.knows.seen
-    → HasWorked r.knows.number r.knows.history → Moves r.knows (Publish r.knows.number page (given_of r.knows) ∷ []) p.knows → Publishes w.knows p.knows ops n dones
+    → HasWorked r.knows.limits r.knows.number r.knows.history → Moves r.knows (Publish r.knows.number page (given_of r.knows) ∷ []) p.knows → Publishes w.knows p.knows ops n dones
 published w v r p ops page n dones shown made kept same is lent stepped number worked moves =
     let pass : r.knows.number ≡ w.knows.number = ap (λ (k : Knowledge). k.number) same ∙ ap (λ (o : StaysOpen). o.number) kept in
+    let limits : r.knows.limits ≡ w.knows.limits = ap (λ (k : Knowledge). k.limits) same ∙ ap (λ (o : StaysOpen). o.limits) kept in
     let pin : r.knows.phase ≡ w.knows.phase = ap (λ (k : Knowledge). k.phase) same ∙ ap (λ (o : StaysOpen). o.phase) kept in
     let seen : r.knows.seen ≡ w.knows.seen = ap (λ (k : Knowledge). k.seen) same ∙ ap (λ (o : StaysOpen). o.seen) kept in
     let begun : upto_lock r.knows.number r.knows.history ≡ upto_lock w.knows.number w.knows.history = ap (λ (k : Knowledge). upto_lock k.number k.history) same ∙ ap (λ (o : StaysOpen). o.begun) kept in
     let commit = commit_of r.knows (entry_by r.knows ops shown) page in record {
-      same = record { pass = ap (λ (k : Knowledge). k.number) is ∙ pass; pin = ap (λ (k : Knowledge). k.phase) is ∙ pin };
+      same = record { pass = ap (λ (k : Knowledge). k.number) is ∙ pass; limits = ap (λ (k : Knowledge). k.limits) is ∙ limits; pin = ap (λ (k : Knowledge). k.phase) is ∙ pin };
       commit = commit;
       entry = cc;
       seen = ap (λ (k : Knowledge). k.seen) is ∙ ap (λ s. s ++ commit ∷ []) seen;
       answered = (made, stepped);
       number = number;
-      work = worked.own;
-      is_work = subst (λ k. AreWork k worked.own) pass worked.work;
+      worked = r.knows.history;
+      work = subst (λ (x : Limits × ℕ × List Move). WorksOn x.0 x.1 x.2 r.knows.history) (λ i. (limits i, pass i, begun i)) worked;
       given = given_of r.knows;
-      made = subst (λ (x : ℕ × List Move). Makes x.0 x.1 (worked.own ++ Publish x.0 page (given_of r.knows) ∷ []) p.knows.history) (λ i. (pass i, begun i))
-          (makes_more r.knows.number (upto_lock r.knows.number r.knows.history) worked.own r.knows.history (Publish r.knows.number page (given_of r.knows) ∷ []) p.knows.history worked.made moves.made);
+      made = subst (λ k. Makes k r.knows.history (Publish k page (given_of r.knows) ∷ []) p.knows.history) pass moves.made;
     }
 
 -- a list that is refused for want of a page is one that the volume accepts
@@ -114,7 +116,7 @@ pub full_unroomed : (w v r : Work) (full_of : Work → ℕ → Type 0) (ops : Li
 full_unroomed w v r full_of ops least f e unpublished is refused same none =
     let h = full_accepts open_of standing_in_work words_of full_of (replay (entries w.knows.seen)) ops least w v (subst (λ g. IsRefusedList open_of standing_in_work words_of full_of (replay (entries w.knows.seen)) ops g w v) is refused) in
     let k : open_of r ≡ open_of w = ap open_of same ∙ h.1.kept in record {
-      same = record { pass = ap (λ (o : StaysOpen). o.number) k; pin = ap (λ (o : StaysOpen). o.phase) k };
+      same = record { pass = ap (λ (o : StaysOpen). o.number) k; limits = ap (λ (o : StaysOpen). o.limits) k; pin = ap (λ (o : StaysOpen). o.phase) k };
       seen = ap (λ (o : StaysOpen). o.seen) k;
       reason = inr (inl (subst (λ (o : StaysOpen). IsOk (steps (replay (entries o.seen)) ops)) (sym k) h.0, subst (λ (x : Work). HasNoRoom e x.knows) (sym same) none));
       unpublished = ap (λ (o : StaysOpen). o.published) k ∙ unpublished;

@@ -11,7 +11,8 @@ use Rattle.be_table.specs.declared.pass.Knowledge.{Knowledge}
 use Rattle.be_table.specs.History.{StartsWith}
 use Rattle.be_table.specs.Rule.{entries}
 use Rattle.be_table.specs.Steps.{entry_by}
-use Rattle.be_table.specs.Trace.{AreWork, Makes}
+use Rattle.be_table.specs.Trace.{Makes}
+use Rattle.be_table.specs.Working.{WorksOn}
 use Rattle.be_table.specs.declared.pass.Move.{Move}
 use Rattle.be_table.specs.declared.pass.Move.TheVariants.{Look, Announce, LookAgain, Lock, Publish, Unlock}
 use Rattle.be_table.specs.Works.{MovesNow, FoundHeld, HasNoRoom, IsSpent}
@@ -22,18 +23,22 @@ use Rattle.be_volume.specs.declared.ops.Done.{Done}
 use Rattle.be_volume.specs.declared.ops.Op.{Op}
 use Rattle.be_store.specs.Passes.{IsPinnedTo, volume_seen}
 
--- The moves of an accepted write: the pass takes the lock, scans, fills and returns pages, publishes this version page by one move, and gives the lock back. Moves of other passes may lie between.
+-- The moves of an accepted write: the pass takes the lock and works on pages, publishes this version page by one move, and gives the lock back. A whole scan is made right after the lock, or where no page is free. Moves of other passes may lie between.
 pub record PublishesOnce (a c : Knowledge) (page : ℕ) : Type 0 where
-  pub work : List Move
-  pub is_work : AreWork a.number work
+  pub locked : List Move
+  pub lock : Makes a.number a.history (Lock a.number ∷ []) locked
+  pub worked : List Move
+  pub work : WorksOn a.limits a.number locked worked
   pub given : List ℕ
-  pub made : Makes a.number a.history (Lock a.number ∷ (work ++ Publish a.number page given ∷ Unlock a.number ∷ [])) c.history
+  pub publish : Makes a.number worked (Publish a.number page given ∷ Unlock a.number ∷ []) c.history
 
--- The moves of a call that took the lock and published nothing.
+-- The moves of a call that took the lock, worked on pages, and published nothing.
 pub record LocksOnly (a c : Knowledge) : Type 0 where
-  pub work : List Move
-  pub is_work : AreWork a.number work
-  pub made : Makes a.number a.history (Lock a.number ∷ (work ++ Unlock a.number ∷ [])) c.history
+  pub locked : List Move
+  pub lock : Makes a.number a.history (Lock a.number ∷ []) locked
+  pub worked : List Move
+  pub work : WorksOn a.limits a.number locked worked
+  pub unlock : Makes a.number worked (Unlock a.number ∷ []) c.history
 
 -- The pass took the lock and gave it back, and made no other move.
 abbrev pub LocksAndUnlocks : Knowledge → Knowledge → Type 0
@@ -110,6 +115,6 @@ text_seen a = lines_from 1 (entries a.seen)
 abbrev pub entries_from : List Entry → ℕ → ℕ → List Entry
 entries_from log from most = take most (drop from log)
 
--- Why the journal isn't told: the one try found that another pass holds the lock, and nothing more was seen; or a growth was refused.
+-- Why the journal isn't told: the one try found that another pass holds the lock, and nothing more was seen; or a growth was refused, between a lock and its unlock.
 abbrev pub IsUntold : (a c : Knowledge) → Refusal → Type 0
-IsUntold a c e = (FoundHeld e a c × (c.seen ≡ a.seen)) ⊎ (e ≡ OutOfMemory)
+IsUntold a c e = (FoundHeld e a c × (c.seen ≡ a.seen)) ⊎ ((e ≡ OutOfMemory) × LocksAndUnlocks a c)

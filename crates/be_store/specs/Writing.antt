@@ -12,8 +12,9 @@ use Rattle.be_table.specs.Place.{Work}
 use Rattle.be_table.specs.Reading.{standing_among, word_of_page}
 use Rattle.be_table.specs.Rule.{page_at, reach_at}
 use Rattle.be_table.specs.Steps.{entry_by}
-use Rattle.be_table.specs.Trace.{AreWork, Makes, upto_lock}
+use Rattle.be_table.specs.Trace.{Makes, upto_lock}
 use Rattle.be_table.specs.Versions.{at_start, SpellsVolume}
+use Rattle.be_table.specs.Working.{WorksOn}
 use Rattle.be_table.specs.Works.{MakesScan}
 use Rattle.be_value.specs.declared.refusals.Refusal.{Refusal}
 use Rattle.be_value.specs.declared.refusals.Refusal.TheVariants.{Full}
@@ -37,6 +38,7 @@ ScansEarly old new =
 -- the pass is still the same pass, with its pin
 pub record IsSame (a c : Knowledge) : Type 0 where
   pub pass : c.number ≡ a.number
+  pub limits : c.limits ≡ a.limits
   pub pin : c.phase ≡ a.phase
 
 -- the write is the last entry that the pass has seen, and since its lock the pass has worked and then published it
@@ -47,10 +49,10 @@ pub record Publishes (a c : Knowledge) (ops : List Op) (n : ℕ) (dones : List D
   pub seen : c.seen ≡ a.seen ++ commit ∷ []
   pub answered : Agrees (volume_seen a) (entry_by a ops dones)
   pub number : n ≡ length c.seen
-  pub work : List Move
-  pub is_work : AreWork a.number work
+  pub worked : List Move
+  pub work : WorksOn a.limits a.number (upto_lock a.number a.history) worked
   pub given : List ℕ
-  pub made : Makes a.number (upto_lock a.number a.history) (work ++ Publish a.number commit.page given ∷ []) c.history
+  pub made : Makes a.number worked (Publish a.number commit.page given ∷ []) c.history
 
 -- why a write that has the lock is refused
 pub record IsHeldBack (a c : Knowledge) (ops : List Op) (e : Refusal) : Type 0 where

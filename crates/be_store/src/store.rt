@@ -54,7 +54,7 @@ impl Store {
     ghost use Rattle.be_table.specs.Rule.{IsWithin, entries};
     ghost use Rattle.be_table.specs.Seats.{pinned_number};
     ghost use Rattle.be_table.specs.Steps.{Has, KeepsSeen, longer, met, unpins};
-    ghost use Rattle.be_table.specs.Trace.{with_history};
+    ghost use Rattle.be_table.specs.Trace.{HasTrace, with_history};
     ghost use Rattle.be_table.specs.Versions.{CanSpellEach};
     ghost use Rattle.be_table.specs.Works.{AllAt, AreNew, FoundHeld, IsOpenRefused, Moves, TakesLock, knows_of};
     ghost use Rattle.be_table.specs.declared.pass.Move.TheVariants as moves;
@@ -497,8 +497,8 @@ impl Store {
         Ok(status)
     }
 
-    /// Both passes have then seen what either had: of two prefixes of one journal the longer. Returns its length. Three
-    /// steps, and no memory.
+    /// Both passes have then seen what either had: of two prefixes of one journal the longer. Returns its length. The moves of
+    /// both so far lie in one trace, and a meeting makes none. Three steps, and no memory.
     pub fn meet(&self, left: &mut Pass, right: &mut Pass) -> u64
         requires passes { IsPassOf self.now left.old × IsPassOf self.now right.old }
         ensures passes { IsPassOf self.now left.new × IsPassOf self.now right.new }
@@ -507,6 +507,7 @@ impl Store {
         ensures right { StartsWith (longer left.old.knows.seen right.old.knows.seen) right.old.knows.seen
             × (right.new.knows ≡ met right.old.knows (longer left.old.knows.seen right.old.knows.seen)) }
         ensures length { result ≡ length (longer left.old.knows.seen right.old.knows.seen) }
+        ensures trace { HasTrace self.now.limits (left.old.knows ∷ right.old.knows ∷ []) }
     {
         let (first, second, length) = self.table.meet(left.move_out(), right.move_out());
         *left = first;

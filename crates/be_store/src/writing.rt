@@ -5,6 +5,7 @@ ghost use Rattle.be_paged.specs.Changes.{Applies, IsRefusedList};
 ghost use Rattle.be_paged.specs.Version.{IsVersion};
 ghost use Rattle.be_table.specs.Place.{Work};
 ghost use Rattle.be_table.specs.Reading.{open_of, standing_among, standing_in_work, word_of_page, words_of};
+ghost use Rattle.be_table.specs.Trace.{upto_lock};
 ghost use Rattle.be_table.specs.Works.{IsSpent, TakesLock};
 ghost use Rattle.be_table.specs.declared.pass.Knowledge.{Knowledge};
 ghost use Rattle.be_store.specs.Conditional.{WritesIf};
@@ -40,6 +41,7 @@ fn apply_to(
 /// Scans where a scan is due, and only there, so that the write takes pages that were given up lately.
 fn scan_early(writing: &mut Writing<'_>)
     requires begins { Begins writing.old.knows }
+    requires first { upto_lock writing.old.knows.number writing.old.knows.history ≡ writing.old.knows.history }
     ensures table { writing.new.table ≡ writing.old.table }
     ensures begins { Begins writing.new.knows }
     ensures kept { open_of writing.new ≡ open_of writing.old }

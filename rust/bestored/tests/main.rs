@@ -7,6 +7,7 @@ mod killed;
 mod live;
 #[cfg(feature = "log")]
 mod log;
+mod manual;
 mod memory;
 mod pages;
 mod protocol;

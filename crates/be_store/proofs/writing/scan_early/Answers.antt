@@ -1,3 +1,4 @@
+use Rattle.std.proofs.Common.{inr}
 use Rattle.be_table.proofs.Worked.{scan_kept}
 use Rattle.be_store.proofs.Writes.{begins_scanned}
 use Rattle.be_store.proofs.writing.scan_early.Goals as goal
@@ -7,3 +8,6 @@ returns-then-is_scan_due-clause-begins c = begins_scanned c.args.writing.now c.s
 
 pub returns-then-is_scan_due-clause-kept : goal.returns-then-is_scan_due-clause-kept
 returns-then-is_scan_due-clause-kept c = scan_kept c.args.writing.now c.scan.new.self c.scan.result c.scan.ensures
+
+pub scan-requires : goal.scan-requires
+scan-requires c = record { «open» = c.requires.begins.unpublished; reason = inr c.requires.first }

@@ -1,8 +1,12 @@
+use Rattle.be_store.proofs.Applied.{upto_here}
 use Rattle.be_store.proofs.Writes.{begins_locked, both_from, held_back_from, published_from}
 use Rattle.be_store.proofs.writing.write.Goals as goal
 
 pub scan_early-requires : goal.scan_early-requires
-scan_early-requires c = record { begins = begins_locked c.requires.begun.0 c.args.writing.now.knows c.requires.begun.1 }
+scan_early-requires c = record {
+  begins = begins_locked c.requires.begun.0 c.args.writing.now.knows c.requires.begun.1;
+  first = upto_here c.requires.begun.0 c.args.writing.now.knows c.requires.begun.1;
+}
 
 pub returns-clause-answer : goal.returns-clause-answer
 returns-clause-answer c =

@@ -1,3 +1,4 @@
+use Rattle.std.proofs.Common.{inr, refl}
 use Rattle.be_store.proofs.Applied.{learns_only, locks_and_unlocks}
 use Rattle.be_store.proofs.store.Store.journal_from.Goals as goal
 
@@ -12,3 +13,7 @@ returns-in-Err-clause-learns c =
 pub returns-in-Ok-clause-moves : goal.returns-in-Ok-clause-moves
 returns-in-Ok-clause-moves c =
     locks_and_unlocks c.args.pass.now.knows c.in_ok-held.held.knows c.in_ok-held.ensures.held.2 c.unlock.result.knows c.unlock.ensures.moves
+
+pub returns-in-Err-clause-err : goal.returns-in-Err-clause-err
+returns-in-Err-clause-err c =
+    inr (refl, locks_and_unlocks c.args.pass.now.knows c.in_ok-held.held.knows c.in_ok-held.ensures.held.2 c.unlock.result.knows c.unlock.ensures.moves)

@@ -1,4 +1,4 @@
-use Rattle.std.proofs.Common.{Ok, refl}
+use Rattle.std.proofs.Common.{Ok, inr, refl}
 use Rattle.be_store.specs.History.{text_seen}
 use Rattle.be_store.proofs.Applied.{learns_only, locks_and_unlocks, told}
 use Rattle.be_store.proofs.store.Store.journal_text.Goals as goal
@@ -18,3 +18,7 @@ returns-in-Ok-clause-text c =
 pub returns-in-Ok-clause-moves : goal.returns-in-Ok-clause-moves
 returns-in-Ok-clause-moves c =
     locks_and_unlocks c.args.pass.now.knows c.in_ok-held.held.knows c.in_ok-held.ensures.held.2 c.unlock.result.knows c.unlock.ensures.moves
+
+pub returns-in-Err-clause-err : goal.returns-in-Err-clause-err
+returns-in-Err-clause-err c =
+    inr (refl, locks_and_unlocks c.args.pass.now.knows c.in_ok-held.held.knows c.in_ok-held.ensures.held.2 c.unlock.result.knows c.unlock.ensures.moves)
