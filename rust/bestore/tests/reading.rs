@@ -77,7 +77,10 @@ fn columns_are_what_get_reads() {
     assert_eq!(columns.len(), 5);
     assert_eq!(snapshot.columns(&[], &names).unwrap(), vec![Vec::new(); 5]);
     assert!(snapshot.columns(&nodes, &[]).unwrap().is_empty());
-    assert!(matches!(snapshot.columns(&nodes, &["size", ""]), Err(Error::NameLength { .. })));
+    assert!(matches!(
+        snapshot.columns(&nodes, &["size", ""]),
+        Err(Error::NameLength { .. })
+    ));
     assert!(matches!(snapshot.column(&nodes, "a\0"), Err(Error::HasNul { .. })));
 }
 
