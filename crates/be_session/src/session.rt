@@ -14,7 +14,7 @@ ghost use Rattle.be_table.specs.Steps.{unpins};
 ghost use Rattle.be_table.specs.Trace.{with_history};
 ghost use Rattle.be_table.specs.Works.{AreNew, FoundHeld, IsOpenRefused};
 ghost use Rattle.be_store.specs.Conditional.{AcceptsAt};
-ghost use Rattle.be_store.specs.History.{Accepts, IsUntold, Learns, Pins, entries_from, text_seen};
+ghost use Rattle.be_store.specs.History.{Accepts, IsUntold, Learns, LocksAndUnlocks, Pins, entries_from, text_seen};
 ghost use Rattle.be_store.specs.Live.{Refreshes};
 ghost use Rattle.be_store.specs.Passes.{HasRead, IsPassOf, IsPinnedTo, volume_pinned};
 ghost use Rattle.be_store.specs.Statuses.{TellsStatus};
@@ -320,6 +320,7 @@ impl Session {
         ensures learns { Learns self.old.knows self.new.knows }
         ensures list { IfOk result (λ list. list.items ≡ entries_from (entries self.new.knows.seen) from most) }
         ensures err { IfErr result (λ e. (why : AnyRefusal) × (e ≡ Refused why) × IsUntold self.old.knows self.new.knows why) }
+        ensures moves { OnOk result (LocksAndUnlocks self.old.knows self.new.knows) }
     {
         let store = self.shared.store();
         Ok(store.journal_from(alloc, &mut self.pass, from, most)?)
@@ -344,6 +345,7 @@ impl Session {
         ensures legal { IsLegal (entries self.new.knows.seen) }
         ensures text { IfOk result (λ text. string_bytes text ≡ text_seen self.new.knows) }
         ensures err { IfErr result (λ e. (why : AnyRefusal) × (e ≡ Refused why) × IsUntold self.old.knows self.new.knows why) }
+        ensures moves { OnOk result (LocksAndUnlocks self.old.knows self.new.knows) }
     {
         let answer = self.shared.store().journal_text(&mut self.pass);
         seen_is_legal(self.shared.store(), &self.pass);

@@ -20,7 +20,7 @@ use Rattle.be_session.specs.declared.faults.Fault.TheVariants.{BadCount, NotPinn
 use Rattle.be_session.specs.declared.items.PredicateItem.{PredicateItem}
 use Rattle.be_session.specs.declared.lists.Operation.{Operation}
 use Rattle.be_store.specs.Conditional.{AcceptsAt}
-use Rattle.be_store.specs.History.{Accepts, IsUntold, Learns, text_seen}
+use Rattle.be_store.specs.History.{Accepts, IsUntold, Learns, LocksAndUnlocks, text_seen}
 use Rattle.be_store.specs.Live.{Refreshes}
 use Rattle.be_store.specs.Passes.{HasRead, IsPinnedTo, volume_pinned}
 use Rattle.be_table.specs.Rule.{IsWithin, entries}
@@ -257,18 +257,18 @@ IsEntryPutOut (Some entry) by counts places filled byte_places bytes =
     (by ≡ entry.by) × (os : List Operation) × (bs : List ℕ) × AreSpelled os bs entry.ops × TellNodes os entry.ops entry.dones
     × (counts.operations ≡ length os) × (filled ≡ over os places) × (counts.bytes ≡ length bs) × (bytes ≡ over bs byte_places)
 
--- The entry with this index of the journal, as far as the pass has then seen it, and the journal's length; or an error, with what
--- it carries.
+-- The entry with this index of the journal, as far as the pass has then seen it, and the journal's length: the call's moves are a
+-- lock and an unlock. Or an error, with what it carries.
 abbrev pub TellsEntry : Sitting → Sitting → ℕ → ℕ → Counts → List Operation → List Operation → List ℕ → List ℕ → ℕ → ℕ → Type 0
 TellsEntry s t from by counts places filled byte_places bytes number code =
     Learns s.knows t.knows
-    × (((code ≡ 0) × (number ≡ length t.knows.seen) × IsEntryPutOut (slice_get (entries t.knows.seen) from) by counts places filled byte_places bytes)
+    × (((code ≡ 0) × LocksAndUnlocks s.knows t.knows × (number ≡ length t.knows.seen) × IsEntryPutOut (slice_get (entries t.knows.seen) from) by counts places filled byte_places bytes)
     ⊎ ((why : Refusal) × Refuses (Refused why) number code × IsUntold s.knows t.knows why))
 
 -- The journal, as far as the pass has then seen it, is legal, and its text is told: how many bytes it has, and as many of them
--- as there are places; or why it isn't told, with what that carries.
+-- as there are places, and the call's moves are a lock and an unlock. Or why it isn't told, with what that carries.
 abbrev pub TellsJournal : Sitting → Sitting → List ℕ → List ℕ → ℕ → ℕ → Type 0
 TellsJournal s t places filled count code =
     Learns s.knows t.knows × IsLegal (entries t.knows.seen)
-    × (((code ≡ 0) × (count ≡ length (text_seen t.knows)) × (filled ≡ over (text_seen t.knows) places))
+    × (((code ≡ 0) × LocksAndUnlocks s.knows t.knows × (count ≡ length (text_seen t.knows)) × (filled ≡ over (text_seen t.knows) places))
     ⊎ ((why : Refusal) × Refuses (Refused why) count code × IsUntold s.knows t.knows why))

@@ -1,7 +1,7 @@
 //! One entry of the journal, as C reads it.
 ghost use Rattle.std.specs.Option.{option_copied};
 ghost use Rattle.std.specs.Prelude.{◌≡◌, IfErr, IfOk, OnErr, OnOk, length, slice_get};
-ghost use Rattle.be_store.specs.History.{IsUntold, Learns};
+ghost use Rattle.be_store.specs.History.{IsUntold, Learns, LocksAndUnlocks};
 ghost use Rattle.be_session.specs.declared.faults.Fault.TheVariants.{Refused};
 ghost use Rattle.be_table.specs.Rule.{entries};
 ghost use Rattle.be_value.specs.declared.refusals.Refusal.{Refusal as AnyRefusal};
@@ -56,6 +56,7 @@ pub(crate) fn tell_entry(
     ensures learns { Learns session.old.knows session.new.knows }
     ensures length { IfOk result (λ n. n ≡ length session.new.knows.seen) }
     ensures told { OnOk result (IsEntryPutOut (slice_get (entries session.new.knows.seen) from) by.new counts.new operations.old operations.new bytes.old bytes.new) }
+    ensures moves { OnOk result (LocksAndUnlocks session.old.knows session.new.knows) }
     ensures err { IfErr result (λ e. (why : AnyRefusal) × (e ≡ Refused why) × IsUntold session.old.knows session.new.knows why) }
     ensures kept { OnErr result ((by.new ≡ by.old) × (counts.new ≡ counts.old) × (operations.new ≡ operations.old) × (bytes.new ≡ bytes.old)) }
 {
