@@ -36,9 +36,9 @@ run() {
         all+=("$1")
         shift
     done
-    if ! timeout -k 10 600 cargo "${all[@]}" "${options[@]}" "$@" >"$work/said" 2>&1; then
+    if ! timeout -k 10 1500 cargo "${all[@]}" "${options[@]}" "$@" >"$work/said" 2>&1; then
         cat "$work/said" >&2
-        echo "$what: failed, or not at its end after 600 seconds" >&2
+        echo "$what: failed, or not at its end after 1500 seconds" >&2
         exit 1
     fi
     local passed
