@@ -59,9 +59,10 @@ fn write(writing: &mut Writing<'_>, ops: &[Op]) -> Result<u64, Refusal>
     Ok(writing.publish(page, ops, dones.as_slice()))
 }
 
-/// The least of a scan, whether one is due, or 0.
+/// The least of a scan, whether one is due, or 0, right after the lock.
 fn look_round(writing: &mut Writing<'_>, words: &str) -> u64
     requires open { writing.old.knows.published ≡ false }
+    requires begun { (a : Knowledge) × TakesLock a writing.old.knows }
     ensures table { writing.new.table ≡ writing.old.table }
     ensures pass { (writing.new.knows.number ≡ writing.old.knows.number) × (writing.new.knows.phase ≡ writing.old.knows.phase) }
 {
