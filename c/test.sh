@@ -12,7 +12,7 @@ trap 'rm -rf "$work"' EXIT
 run() {
     local what=$1 said
     shift
-    timeout -k 10 300 "$@" >"$work/said" || { cat "$work/said" >&2; echo "$what: failed, or not at its end after 300 seconds" >&2; exit 1; }
+    timeout -k 10 900 "$@" >"$work/said" || { cat "$work/said" >&2; echo "$what: failed, or not at its end after 900 seconds" >&2; exit 1; }
     said=$(cat "$work/said")
     echo "$what: ${said:-ok}"
 }
@@ -146,7 +146,7 @@ sed -n '/^  /!s/.*: //p' "$work/said" | tr '\n' ' ' | cmp - <(printf '3 3 1 1 1 
 # A store that is full ends the reading, and what was read is found.
 awk 'BEGIN { for (i = 0; i < 6000; i++) printf "From x\nFrom: ann%d\nTo: bob%d\nSubject: Letter %d\nDate: Mon, 3 Mar 2025 09:12:00 +0000\n\nText\n", i, i, i }' \
     >"$work/many.mbox"
-if timeout -k 10 300 "$work/mailbox" "$work/many.mbox" 'MAIL:from=="ann*"' >"$work/said" 2>"$work/warned"; then
+if timeout -k 10 900 "$work/mailbox" "$work/many.mbox" 'MAIL:from=="ann*"' >"$work/said" 2>"$work/warned"; then
     echo "mailbox: more mails were read than a store takes" >&2
     exit 1
 fi
