@@ -70,7 +70,7 @@ static void read_all(bes_pass *pass, const size_t *order, size_t width)
     static uint64_t nodes[NODES + 3];
     static bes_cell cells[(NODES + 3) * NAMES];
     static uint8_t bytes[(NODES + 3) * NAMES * 255];
-    bes_name held[NAMES];
+    bes_name held[NAMES] = { { 0 } };
     uint64_t count = 0, end = 0;
     for (size_t at = 0; at < NODES + 3; at++)
         nodes[at] = (at * 7) % (NODES + 3);
