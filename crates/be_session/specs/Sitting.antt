@@ -1,5 +1,5 @@
 -- What a contract sees of a session, and what its calls make of it.
-use Rattle.std.specs.Prelude.{◌≡◌, ◌⊎◌, ◌+◌, ◌<◌, ℕ, List, IsUtf8, length, Ok, Err, Some, None, is_some, true, false}
+use Rattle.std.specs.Prelude.{◌≡◌, ◌⊎◌, ◌+◌, ◌<◌, ℕ, List, [], ◌∷◌, IsUtf8, length, Ok, Err, Some, None, is_some, true, false}
 use Rattle.std.specs.declared.option.Option.{Option}
 use Rattle.std.specs.declared.result.Result.{Result}
 use Rattle.be_query.specs.Faults.{fault}
@@ -12,6 +12,7 @@ use Rattle.be_table.specs.Place.{Opened, SeatFacts}
 use Rattle.be_table.specs.Rule.{IsWithin, newcomer}
 use Rattle.be_table.specs.Seats.{pinned_number}
 use Rattle.be_table.specs.Steps.{longer, met}
+use Rattle.be_table.specs.Trace.{HasTrace}
 use Rattle.be_table.specs.Works.{AreNew}
 use Rattle.be_table.specs.declared.limits.Limits.{Limits}
 use Rattle.be_table.specs.declared.pass.Knowledge.{Knowledge}
@@ -65,11 +66,11 @@ IsHandedOut s t a =
     ⊎ ((s.spare ≡ 0) × (t.spare ≡ 0) × IsUnpinnedAt s.store a)
 
 -- A pass has met another one of its store that isn't pinned: it has then seen what either had, of two beginnings of one journal
--- the longer, which is so long.
+-- the longer, which is so long. The moves of both up to then lie in one trace.
 abbrev pub HasMet : Opened → Knowledge → Knowledge → ℕ → Type 0
 HasMet store a c n =
     (b : Knowledge) × IsUnpinnedAt store b × StartsWith (longer a.seen b.seen) a.seen × StartsWith (longer a.seen b.seen) b.seen
-    × (c ≡ met a (longer a.seen b.seen)) × (n ≡ length (longer a.seen b.seen))
+    × (c ≡ met a (longer a.seen b.seen)) × (n ≡ length (longer a.seen b.seen)) × HasTrace store.limits (a ∷ b ∷ [])
 
 -- why a write did nothing, and what it left: a count that isn't 1 to 64, or the store's own refusal
 abbrev pub IsUnwritten : Knowledge → Knowledge → List Op → Fault → Type 0

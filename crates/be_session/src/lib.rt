@@ -21,6 +21,6 @@ pub use items::{PredicateItem, query_of_items};
 pub use lists::{Operation, operations};
 pub use meanings::{name, spelled};
 pub use preparing::{Prepared, prepare, prepare_items};
-pub use session::{Session, may_move, query_of, sent};
+pub use session::{Session, Unfinished, may_move, query_of, sent};
 pub use spellings::{Spelling, attributes_spelled, entry_spelled, indices_spelled};
 pub use states::StatePlace;

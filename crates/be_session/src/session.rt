@@ -18,6 +18,7 @@ ghost use Rattle.be_store.specs.Live.{Refreshes};
 ghost use Rattle.be_store.specs.Passes.{HasRead, IsPassOf, IsPinnedTo, volume_pinned};
 ghost use Rattle.be_store.specs.Statuses.{TellsStatus};
 ghost use Rattle.be_session.specs.Explained.{explanation_in};
+ghost use Rattle.be_session.specs.Finishing.{IsFinished, IsUnfinished};
 ghost use Rattle.be_session.specs.Sitting.{AtPin, HasMet, IsHandedOut, IsPinned, IsUnwritten, IsUnwrittenIf, IsNoQuery, IsOpened, IsUnpinnedAt, IsUnrefreshed, ReadAnswers};
 ghost use Rattle.be_session.specs.States.{untold, waiting};
 ghost use Rattle.be_session.specs.declared.faults.Fault.TheVariants.{AlreadyPinned, NoPass, NotPinned, Refused};
@@ -28,7 +29,7 @@ use crate::shared::Shared;
 use crate::{Fault, StatePlace};
 use be_store::laws::seen_is_legal;
 use be_store::{
-    ArrayVec, Done, Entry, Kind, Limits, Live, Name, Op, Pass, Query, Refusal, Status, Store,
+    ArrayVec, Done, Entry, Journal, Kind, Limits, Live, Name, Op, Pass, Query, Refusal, Status, Store,
     Updates, Value, parse,
 };
 use std::alloc::{AllocFailed, Global};
@@ -55,6 +56,17 @@ impl Model for Session {
     ghost view = { λ s. record { store = s.shared.value; knows = s.pass.knows; spare = vec_len s.spare } };
 
     ghost invariant = { λ s. IsPassOf s.shared.value s.pass × AreNew s.shared.value 0 s.spare.items };
+}
+
+/// Why a store was not closed.
+#[derive(Drop)]
+pub enum Unfinished {
+    /// Another session of the store is open. Nothing has happened.
+    Shared(Session),
+    /// Memory was refused. Nothing has happened.
+    NoMemory(Session),
+    /// A pass is missing, since its session was dropped and not closed. The store is gone.
+    PassLost,
 }
 
 /// A session of a store that nobody shares yet, with the passes that are left over.
@@ -200,6 +212,41 @@ impl Session {
         } = self;
         drop(shared.give_back(pass));
         shared.give_back_all(spare);
+    }
+
+    /// Closes the store, if this is its last session, and returns its journal. It takes the session's pass and all that were given
+    /// back; they may be pinned.
+    ///
+    /// The journal is that of the whole, whatever calls were made in whatever threads: each write that a session was told of as
+    /// accepted is there, at its commit number. An error says what has become of the store.
+    pub fn finish(self, alloc: Global) -> Result<Journal, Unfinished>
+        ensures ok { IfOk result (λ journal. IsFinished self journal) }
+        ensures err { IfErr result (IsUnfinished self) }
+    {
+        let Ok(mut passes) = Vec::with_capacity(alloc, self.shared.passes() + 1) else {
+            return Err(Unfinished::NoMemory(self));
+        };
+        let Session {
+            shared,
+            pass,
+            spare,
+        } = self;
+        match Arc::try_unwrap(shared) {
+            Ok(shared) => {
+                shared.give_back_all(spare);
+                let own = pass.number();
+                passes.push_reserved(pass);
+                match shared.finish(own, passes) {
+                    Some(journal) => Ok(journal),
+                    None => Err(Unfinished::PassLost),
+                }
+            }
+            Err(shared) => Err(Unfinished::Shared(Session {
+                shared,
+                pass,
+                spare,
+            })),
+        }
     }
 
     /// Meets a pass that was given back: both have then seen what either had. Answers how much that is. NoPass where none is there,

@@ -1,12 +1,15 @@
 //! What the sessions of a store share: the store, and the passes that were given back.
-ghost use Rattle.std.specs.Prelude.{◌≡◌, ◌≤◌, ◌<◌, IfOk, IfSome, vec_len};
-ghost use Rattle.be_table.specs.Works.{AreNew};
+ghost use Rattle.std.specs.Prelude.{◌≡◌, ◌≤◌, ◌<◌, ◌+◌, ◌++◌, ℕ, List, true, length, map, IfOk, IfSome, vec_capacity, vec_len};
+ghost use Rattle.be_table.specs.Place.{SeatFacts};
+ghost use Rattle.be_table.specs.Steps.{Has};
+ghost use Rattle.be_table.specs.Works.{AllAt, AreNew, knows_of};
 ghost use Rattle.be_store.specs.Passes.{IsPassOf};
+ghost use Rattle.be_session.specs.Finishing.{IsClosedWith};
 ghost use Rattle.be_session.specs.Sitting.{AreAllSeats, IsUnpinnedOf, MayWaitAt};
 
 use crate::passes::take_last;
 use be_store::laws::seen_is_legal;
-use be_store::{Pass, Store};
+use be_store::{Journal, Pass, Store};
 use counted_slot::{Counted, Fits, TAKEN};
 use std::alloc::{AllocError, Global};
 use std::marker::Model;
@@ -89,6 +92,32 @@ impl Model for Shared {
     ghost invariant = { λ s. AreAllSeats s.store s.slots.items };
 }
 
+/// Takes the passes that wait out of their slots, behind the one that is here. False if one isn't there.
+fn take_others(
+    _store: &Store,
+    slots: &[Counted<Option<Returned>>],
+    own: u64,
+    passes: &mut Vec<Pass>,
+) -> bool
+    requires seats { AreAllSeats _store.now slots.now }
+    requires here { AllAt _store.now.id passes.old.items }
+    requires own { Has (map knows_of passes.old.items) own }
+    requires room { vec_len passes.old + length slots.now ≤ vec_capacity passes.old }
+    ensures here { AllAt _store.now.id passes.new.items }
+    ensures all { result ≡ true → (k : ℕ) → k < _store.now.limits.passes → Has (map knows_of passes.new.items) k }
+    ensures kept { (more : List SeatFacts) × (passes.new.items ≡ passes.old.items ++ more) }
+{
+    for k in 0..slots.len() {
+        if k as u64 != own {
+            let Some(pass) = take(&slots[k]) else {
+                return false;
+            };
+            passes.push_reserved(pass);
+        }
+    }
+    true
+}
+
 impl Shared {
     /// The store, with an empty slot for each of its passes.
     pub(crate) fn new(alloc: Global, store: Store, passes: &[Pass]) -> Result<Shared, AllocError>
@@ -117,6 +146,27 @@ impl Shared {
         seen_is_legal(&self.store, &pass);
         let slot = &self.slots[pass.number() as usize];
         put(slot, unpinned(&self.store, pass))
+    }
+
+    /// How many passes the store has.
+    pub(crate) fn passes(&self) -> usize
+        ensures { result ≡ self.now.limits.passes }
+    {
+        self.slots.len()
+    }
+
+    /// Closes the store with this pass and all that were given back, and returns its journal. None if one isn't there.
+    pub(crate) fn finish(self, own: u64, mut passes: Vec<Pass>) -> Option<Journal>
+        requires here { AllAt self.id passes.items }
+        requires own { Has (map knows_of passes.items) own }
+        requires room { vec_len passes + self.limits.passes ≤ vec_capacity passes }
+        ensures { IfSome result (λ journal. (more : List SeatFacts) × IsClosedWith self.limits (map knows_of (passes.items ++ more)) journal) }
+    {
+        let Shared { store, slots } = self;
+        if !take_others(&store, slots.as_slice(), own, &mut passes) {
+            return None;
+        }
+        Some(store.close(passes))
     }
 
     /// Gives back passes that nobody has used.
