@@ -54,6 +54,18 @@ fn each_file_is_a_node_with_the_attributes_of_be() {
 }
 
 #[test]
+fn files_of_kept_stores_are_left_out() {
+    let server = server!(Server::start());
+    let folder = small();
+    for name in ["0.bestore", "0.bestore-wal", "a/s.bestore-shm", "a/s.bestore-journal"] {
+        folder.file(name, "");
+    }
+    folder.folder("my.bestores");
+    assert_eq!(server.import(&folder), [7, 0, 0, 0]);
+    assert_eq!(server.paths("name==\"*bestore*\""), [folder.path("my.bestores")].into());
+}
+
+#[test]
 fn a_second_import_writes_what_has_changed_alone() {
     let server = server!(Server::start());
     let folder = small();

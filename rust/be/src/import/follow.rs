@@ -2,7 +2,7 @@
 
 use super::known::Known;
 use super::summary::Summary;
-use super::walk::{Found, Walk, Walked};
+use super::walk::{is_of_a_store, Found, Walk, Walked};
 use super::Import;
 use crate::failure::Failure;
 use crate::output::Output;
@@ -153,6 +153,9 @@ impl Dirty {
             Some(name) => folder.join(name),
             None => folder.into(),
         };
+        if is_of_a_store(&path) {
+            return;
+        }
         if event.mask.contains(EventMask::MOVED_FROM) {
             self.moves.push(event.cookie);
         }

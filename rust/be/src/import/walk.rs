@@ -3,8 +3,12 @@
 use super::stat::{Form, Stat};
 use std::fs::{self, DirEntry, ReadDir};
 use std::io::{self, ErrorKind};
+use std::os::unix::ffi::OsStrExt;
 use std::os::unix::fs::MetadataExt;
 use std::path::{Path, PathBuf};
+
+/// How the names of files of kept stores end.
+const STORES: [&[u8]; 4] = [b".bestore", b".bestore-wal", b".bestore-shm", b".bestore-journal"];
 
 /// A file with what the file system says of it.
 #[derive(Clone, Debug)]
@@ -27,7 +31,14 @@ pub struct Walked {
     pub unread: Vec<Unread>,
 }
 
-/// A walk. Symlinks are not followed.
+/// Whether a file is that of a kept store, or one that SQLite puts beside it. Such a file is left out: to keep what is written of it
+/// would change it again.
+pub fn is_of_a_store(path: &Path) -> bool {
+    let name = path.file_name().map_or(&b""[..], OsStrExt::as_bytes);
+    STORES.iter().any(|end| name.ends_with(end))
+}
+
+/// A walk. Symlinks are not followed, and files of kept stores are left out.
 pub struct Walk<'a> {
     /// Called with each folder before it is read.
     pub before: &'a mut dyn FnMut(&Path),
@@ -87,6 +98,9 @@ impl Walked {
 
     fn read_entry(&mut self, entry: &DirEntry) {
         let path = entry.path();
+        if is_of_a_store(&path) {
+            return;
+        }
         match entry.metadata() {
             Ok(about) => self.found.push(Found {
                 path,
