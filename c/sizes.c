@@ -1,4 +1,4 @@
-/* Each list, text and number that a call takes or writes, at the sizes that tools/try-sizes names: what grows, and then sizes or ranges
+/* Each list, text and number that a call takes or writes, at the sizes that tests/sizes names: what grows, and then sizes or ranges
  * of them, ascending, as in `sizes nodes 1-255 256 511-513`. malloc refuses nothing here, so no call has a reason to return
  * BES_NO_MEMORY. */
 #include "tests.h"
@@ -585,7 +585,7 @@ static void many_entries(void)
     OK(bes_close(&pass));
 }
 
-/* What grows, by the names that tools/growth.txt has. */
+/* What grows, by the names that tests/growth.txt has. */
 static const struct row {
     const char *name;
     void (*run)(void);

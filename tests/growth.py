@@ -1,4 +1,4 @@
-"""The table of what grows, tools/growth.txt, and the sizes at which it is tried."""
+"""The table of what grows, tests/growth.txt, and the sizes at which it is tried."""
 from __future__ import annotations
 
 import re
@@ -6,7 +6,7 @@ from pathlib import Path
 from typing import Iterator, NamedTuple
 
 ROOT = Path(__file__).resolve().parent.parent
-TABLE = ROOT / "tools/growth.txt"
+TABLE = ROOT / "tests/growth.txt"
 
 
 class Trial(NamedTuple):
