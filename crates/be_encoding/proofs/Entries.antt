@@ -1,5 +1,5 @@
 -- An entry that was written is read back, operation by operation.
-use Rattle.std.proofs.Common.{◌≡◌, ℕ, suc, ◌+◌, ◌-◌, ◌^◌, ◌<◌, ◌≤◌, true, false, nat_lt, List, [], ◌∷◌, ◌++◌, length, All, Some, Result, Ok, Err, refl, sym, ap, ◌∙◌, append_assoc, arith}
+use Rattle.std.proofs.Common.{◌≡◌, ℕ, suc, ◌+◌, ◌-◌, ◌^◌, ◌<◌, ◌≤◌, true, false, nat_lt, List, [], ◌∷◌, ◌++◌, length, All, Some, None, Result, Ok, Err, refl, sym, ap, ◌∙◌, append_assoc, arith}
 use Rattle.std.specs.Prelude.{IfOk}
 use Rattle.std.specs.Option.{option_map}
 use Rattle.std.specs.declared.option.Option.{Option}
@@ -98,6 +98,11 @@ entry_again by ops dones rest is =
 pub entry_of_head : (bytes : List ℕ) (by count : ℕ) (rest : List ℕ) → Some (by, count, rest) ≡ head_at bytes → entry_at bytes ≡ (steps_at count rest >>= λ x. Some (by, x.0, x.1, x.2))
 unfolding entry_at
 entry_of_head bytes by count rest is = rw (sym is) refl
+
+-- without a head there is no entry
+pub entry_of_none : (bytes : List ℕ) → None ≡ head_at bytes → None ≡ entry_at bytes
+unfolding entry_at
+entry_of_none bytes is = rw (sym is) refl
 
 -- what reading gives of bytes that an entry begins
 pub read_written : {X E : Type 0} (view : X → ℕ × List Op × List Done × List ℕ) (result : Result (Option X) E) (bytes : List ℕ) → IfOk result (λ read. option_map view read ≡ entry_at bytes) →

@@ -3,8 +3,7 @@
 //! An entry lies in a journal as bytes. A view of it reads them: its pass and the number of its operations at once, and each
 //! operation with its answer when it is asked for, made in place. So none of it takes memory.
 ghost use Rattle.std.specs.Iterator.{YieldsFirst, item_count};
-ghost use Rattle.std.specs.List.{map};
-ghost use Rattle.std.specs.Prelude.{◌≡◌, IfOk, IsSome, length};
+ghost use Rattle.std.specs.Prelude.{◌≡◌, IfOk, IsSome, length, map};
 ghost use Rattle.be_encoding.specs.Decoding.{steps_at};
 ghost use Rattle.be_journal.specs.Blocks.{steps_in};
 
@@ -26,8 +25,7 @@ pub struct EntryView<'a> {
 }
 
 impl<'a> Model for EntryView<'a> {
-    ghost use Rattle.std.specs.List.{map};
-    ghost use Rattle.std.specs.Prelude.{IsSome};
+    ghost use Rattle.std.specs.Prelude.{IsSome, map};
     ghost use Rattle.be_encoding.specs.Decoding.{steps_at};
     ghost use Rattle.be_journal.specs.Blocks.{steps_in};
     ghost use Rattle.be_journal.specs.Journal.{coded_entry};
