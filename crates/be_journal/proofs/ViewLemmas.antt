@@ -20,7 +20,14 @@ with_first : (count : ℕ) (bytes : List ℕ) (s : Op × Done × List ℕ) → S
     IfSome (steps_at (suc count) bytes) (IsReadAs (suc count) bytes)
 unfolding steps_at steps_in
 with_first count bytes s is None same h = rw (sym is, sym same) tt
-with_first count bytes s is (Some x) same h = rw (sym is, sym same) (ap (λ ops. s.0 ∷ ops) h.0, ap (λ dones. s.1 ∷ dones) h.1, ap suc h.2)
+with_first count bytes s is (Some x) same h =
+    let one : steps_in (suc count) bytes ≡ (s.0, s.1) ∷ steps_in count s.2 = rw (sym is) refl in
+    let both : IsReadAs (suc count) bytes (s.0 ∷ x.0, s.1 ∷ x.1, x.2) = (
+      ap (map (λ (p : Op × Done). p.0)) one ∙ ap (λ (ops : List Op). s.0 ∷ ops) h.0,
+      ap (map (λ (p : Op × Done). p.1)) one ∙ ap (λ (dones : List Done). s.1 ∷ dones) h.1,
+      ap length one ∙ ap suc h.2,
+    ) in
+    rw (sym is, sym same) both
 
 with_step : (count : ℕ) (bytes : List ℕ) (o : Option (Op × Done × List ℕ)) → o ≡ step_at bytes → ((rest : List ℕ) → IfSome (steps_at count rest) (IsReadAs count rest)) →
     IfSome (steps_at (suc count) bytes) (IsReadAs (suc count) bytes)
@@ -34,7 +41,7 @@ read_alike zero bytes = (refl, refl, refl)
 read_alike (suc count) bytes = with_step count bytes (step_at bytes) refl (read_alike count)
 
 count_of : (count : ℕ) (bytes : List ℕ) (o : Option Found) → IsSome o → IfSome o (IsReadAs count bytes) → length (steps_in count bytes) ≡ count
-count_of count bytes None some is = absurd some
+count_of count bytes None some is = cc
 count_of count bytes (Some x) some is = is.2
 
 -- where so many operations lie, so many are read
@@ -42,7 +49,7 @@ pub counted : (count : ℕ) (bytes : List ℕ) → IsSome (steps_at count bytes)
 counted count bytes some = count_of count bytes (steps_at count bytes) some (read_alike count bytes)
 
 -- an entry as a view of it has it
-abbrev viewed : ℕ → ℕ → List ℕ → Entry
+abbrev pub viewed : ℕ → ℕ → List ℕ → Entry
 viewed by count bytes = record { by = by; ops = map (λ s. s.0) (steps_in count bytes); dones = map (λ s. s.1) (steps_in count bytes) }
 
 -- the entry that was read is the one that is viewed
@@ -65,7 +72,7 @@ view_at left bytes by count rest (Some x) are some is same =
     let r = read left bytes by x.0 x.1 x.2 are some (ap (λ (o : Option Found). o >>= λ y. Some (by, y.0, y.1, y.2)) same ∙ sym (entry_of_head bytes by count rest is)) in
     let whole : viewed by count rest ≡ record { by = by; ops = x.0; dones = x.1 } = sym (same_entry by count rest x.0 x.1 x.2 same) in
     record {
-      some = subst (λ (o : Option Found). IsSome o) same tt;
+      some = subst (λ (o : Option Found). IsSome o) same refl;
       first = r.first
           ∙ ap (λ (e : Entry). e ∷ entries_at (left - 1) x.2) (sym whole)
           ∙ ap (λ (es : List Entry). viewed by count rest ∷ es) (sym (ap (drop 1) r.first));
@@ -78,11 +85,20 @@ pub never_viewed : (left : ℕ) (bytes : List ℕ) → AreEntries left bytes →
 never_viewed left bytes are some is = never_read left bytes are some (entry_of_none bytes is)
 
 -- the next of the operations that are left, with its answer
-pub next_step : (left : ℕ) (bytes : List ℕ) (op : Op) (done : Done) (rest : List ℕ) → length (steps_in left bytes) ≡ left → nat_eq left 0 ≡ false → Some (op, done, rest) ≡ step_at bytes →
+pub next_step : (left : ℕ) (bytes : List ℕ) (op : Op) (done : Done) (rest : List ℕ) → length (steps_in left bytes) ≡ left → (left ≡ 0 → ⊥) → Some (op, done, rest) ≡ step_at bytes →
     (steps_in left bytes ≡ (op, done) ∷ steps_in (left - 1) rest) × (length (steps_in (left - 1) rest) ≡ left - 1)
 unfolding steps_in
-next_step zero bytes op done rest are some is = absurd (omega (arith, some))
+next_step zero bytes op done rest are some is = absurd (some refl)
 next_step (suc count) bytes op done rest are some is =
     let first : steps_in (suc count) bytes ≡ (op, done) ∷ steps_in count rest = rw (sym is) refl in
     let len : suc (length (steps_in count rest)) ≡ suc count = sym (ap length first) ∙ are in
-    (first, omega (arith, len))
+    let others : length (steps_in count rest) ≡ count = omega (arith, len) in
+    let one : count ≡ suc count - 1 = omega arith in
+    subst (λ n. (steps_in (suc count) bytes ≡ (op, done) ∷ steps_in n rest) × (length (steps_in n rest) ≡ n)) one (first, others)
+
+pub never_next : (left : ℕ) (bytes : List ℕ) → length (steps_in left bytes) ≡ left → (left ≡ 0 → ⊥) → None ≡ step_at bytes → ⊥
+unfolding steps_in
+never_next zero bytes are some is = some refl
+never_next (suc count) bytes are some is =
+    let none : steps_in (suc count) bytes ≡ [] = rw (sym is) refl in
+    absurd (omega (arith, sym (ap length none) ∙ are))

@@ -62,9 +62,9 @@ impl<'a> BlockReader<'a> {
     }
 
     /// A view of the next entry, of which there is one. It takes no memory.
-    pub(crate) fn into_view(self, alloc: Global) -> EntryView<'a>
-        requires { 0 < length self }
-        ensures { self ≡ result ∷ drop 1 self }
+    pub(crate) fn view(&self, alloc: Global) -> EntryView<'a>
+        requires { 0 < length self.now }
+        ensures { self.now ≡ result ∷ drop 1 self.now }
     {
         let Some((by, count, bytes)) = read_head(self.bytes) else {
             unreachable!()

@@ -108,7 +108,7 @@ impl Block {
         for _ in 0..i % 16 {
             reader.skip();
         }
-        reader.into_view(alloc)
+        reader.view(alloc)
     }
 }
 
