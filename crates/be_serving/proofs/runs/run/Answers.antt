@@ -5,7 +5,7 @@ use Rattle.be_serving.specs.Served.{known}
 use Rattle.be_serving.specs.Store.{Store, start}
 use Rattle.be_serving.specs.declared.faults.RunFault.TheVariants.{Limits, Memory}
 use Rattle.be_serving.proofs.LimitLemmas.{no_fault, not_by, served_spelt}
-use Rattle.be_serving.proofs.ReadLemmas.{none_read}
+use Rattle.be_serving.proofs.ReadLemmas.{no_reads, none_read}
 use Rattle.be_serving.proofs.RunLemmas.{none_answered_if, on_ok, run_output}
 use Rattle.be_serving.proofs.runs.run.Goals as goal
 
@@ -45,3 +45,9 @@ returns-in_default-clause-limits g c = no_fault c.args.limits (Err Memory) (c.ar
 pub returns-clause-limits : goal.returns-clause-limits
 returns-clause-limits g c =
     no_fault c.args.limits c.serve-ran.result (c.are_within.ensures.within (search rules)) (not_by c.serve-ran.result IsNotLimits Limits (λ never. never) c.serve-ran.ensures.other)
+
+pub returns-then-not-are_within-clause-reads : goal.returns-then-not-are_within-clause-reads
+returns-then-not-are_within-clause-reads g c = no_reads (g.R.ScriptReader.was_read c.args.reader.now)
+
+pub returns-in_default-clause-reads : goal.returns-in_default-clause-reads
+returns-in_default-clause-reads g c = no_reads (g.R.ScriptReader.was_read c.args.reader.now)

@@ -5,7 +5,7 @@ use Rattle.be_serving.specs.Store.{start}
 use Rattle.be_serving.specs.Telling.{IsToldInPart, IsToldRun}
 use Rattle.be_serving.specs.declared.faults.RunFault.TheVariants.{Limits, Memory}
 use Rattle.be_serving.proofs.LimitLemmas.{no_fault, not_by}
-use Rattle.be_serving.proofs.ReadLemmas.{none_read, read_by, read_late, whole_fits}
+use Rattle.be_serving.proofs.ReadLemmas.{no_reads, none_read, read_by, read_late, whole_fits}
 use Rattle.be_serving.proofs.TellLemmas.{told_of_reader, stops_early, stops_late}
 use Rattle.be_serving.proofs.tellings.run_and_tell.Goals as goal
 
@@ -59,3 +59,6 @@ returns-in-Ok-clause-taken g c =
 
 pub returns-in-Err-clause-taken : goal.returns-in-Err-clause-taken
 returns-in-Err-clause-taken g c = read_by c.in-Err.fault (g.R.ScriptReader.remaining c.args.reader.now) (g.R.ScriptReader.remaining c.read_script.new.reader) c.in-Err.ensures.err
+
+pub returns-then-not-are_within-clause-reads : goal.returns-then-not-are_within-clause-reads
+returns-then-not-are_within-clause-reads g c = no_reads (g.R.ScriptReader.was_read c.args.reader.now)
