@@ -1,5 +1,5 @@
 -- An entry that was written is read back, operation by operation.
-use Rattle.std.proofs.Common.{◌≡◌, ℕ, suc, ◌+◌, ◌-◌, ◌^◌, ◌<◌, ◌≤◌, true, false, nat_lt, List, [], ◌∷◌, ◌++◌, length, All, Some, Result, Ok, Err, refl, ap, ◌∙◌, append_assoc, arith}
+use Rattle.std.proofs.Common.{◌≡◌, ℕ, suc, ◌+◌, ◌-◌, ◌^◌, ◌<◌, ◌≤◌, true, false, nat_lt, List, [], ◌∷◌, ◌++◌, length, All, Some, None, Result, Ok, Err, refl, sym, ap, ◌∙◌, append_assoc, arith}
 use Rattle.std.specs.Prelude.{IfOk}
 use Rattle.std.specs.Option.{option_map}
 use Rattle.std.specs.declared.option.Option.{Option}
@@ -10,7 +10,7 @@ use Rattle.be_volume.specs.declared.ops.Op.{Op}
 use Rattle.be_volume.specs.declared.ops.Op.TheVariants.{New, Drop, Set, Unset, MkIndex, RmIndex}
 use Rattle.be_value.specs.Value.{kind_number}
 use Rattle.be_encoding.specs.Encoding.{number_bytes, counted_bytes, value_bytes, form_of, op_bytes, step_bytes, steps_bytes, entry_bytes, CanBeOp, CanBeDone, CanBeEntry}
-use Rattle.be_encoding.specs.Decoding.{op_at, set_at, unset_at, mkindex_at, quiet_at, answered_at, step_at, steps_at, entry_at}
+use Rattle.be_encoding.specs.Decoding.{◌>>=◌, op_at, set_at, unset_at, mkindex_at, quiet_at, answered_at, step_at, steps_at, head_at, entry_at}
 use Rattle.be_encoding.proofs.Numbers.{number_again}
 use Rattle.be_encoding.proofs.Values.{name_again, kind_again, value_again}
 
@@ -84,7 +84,7 @@ steps_again (op ∷ ops) (done ∷ dones) rest each are fit =
     ap (steps_at (suc (length ops))) (append_assoc (step_bytes op done) (steps_bytes ops dones) rest) ∙ rw (first, others) refl
 
 pub entry_again : (by : ℕ) (ops : List Op) (dones : List Done) (rest : List ℕ) → CanBeEntry by ops dones → entry_at (entry_bytes by ops dones ++ rest) ≡ Some (by, ops, dones, rest)
-unfolding entry_bytes entry_at
+unfolding entry_bytes entry_at head_at
 entry_again by ops dones rest is =
     let few : length ops ≤ 64 = is.few in
     ap entry_at (regrouped (number_bytes by) (number_bytes (length ops)) (steps_bytes ops dones) rest)
@@ -93,6 +93,16 @@ entry_again by ops dones rest is =
       number_again (length ops) (steps_bytes ops dones ++ rest) (omega (arith, few)),
       steps_again ops dones rest is.each is.of_ops is.of_dones,
     ) refl
+
+-- an entry is its operations with their answers, from the end of its head on
+pub entry_of_head : (bytes : List ℕ) (by count : ℕ) (rest : List ℕ) → Some (by, count, rest) ≡ head_at bytes → entry_at bytes ≡ (steps_at count rest >>= λ x. Some (by, x.0, x.1, x.2))
+unfolding entry_at
+entry_of_head bytes by count rest is = rw (sym is) refl
+
+-- without a head there is no entry
+pub entry_of_none : (bytes : List ℕ) → None ≡ head_at bytes → None ≡ entry_at bytes
+unfolding entry_at
+entry_of_none bytes is = rw (sym is) refl
 
 -- what reading gives of bytes that an entry begins
 pub read_written : {X E : Type 0} (view : X → ℕ × List Op × List Done × List ℕ) (result : Result (Option X) E) (bytes : List ℕ) → IfOk result (λ read. option_map view read ≡ entry_at bytes) →

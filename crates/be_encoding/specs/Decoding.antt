@@ -170,9 +170,15 @@ Found = ℕ × List Op × List Done × List ℕ
 abbrev pub found : ℕ → List Op → List Done → List ℕ → Option Found
 found by ops dones rest = Some (by, ops, dones, rest)
 
-unfoldable pub entry_at : List ℕ → Option Found
-entry_at bytes = do
+-- the pass, how many operations there are, and the bytes from the first of these on
+unfoldable pub head_at : List ℕ → Option (ℕ × ℕ × List ℕ)
+head_at bytes = do
   by ← number_at bytes
   count ← number_at by.1
-  steps ← steps_at count.0 count.1
-  Some (by.0, steps.0, steps.1, steps.2)
+  Some (by.0, count.0, count.1)
+
+unfoldable pub entry_at : List ℕ → Option Found
+entry_at bytes = do
+  head ← head_at bytes
+  steps ← steps_at head.1 head.2
+  Some (head.0, steps.0, steps.1, steps.2)

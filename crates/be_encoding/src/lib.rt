@@ -15,5 +15,5 @@ mod reading;
 mod writing;
 
 pub use laws::{entry_is_read, entry_is_short};
-pub use reading::{read_entry, skip_entry};
+pub use reading::{read_entry, read_head, read_step, read_steps, skip_entry};
 pub use writing::{most_bytes, write_entry};

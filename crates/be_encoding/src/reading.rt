@@ -282,8 +282,10 @@ fn answered_of(form: u8, bytes: &[u8]) -> Option<(Op, Done, &[u8])>
     Some((op, Done::Node(node), rest))
 }
 
+/// The operation at the front of the bytes with its answer, and the bytes after them; None if none is there. It takes no
+/// memory, and costs what the operation has.
 #[tactic(auto, unfolding(crate::specs::Decoding::step_at))]
-fn step_of(bytes: &[u8]) -> Option<(Op, Done, &[u8])>
+pub fn read_step(bytes: &[u8]) -> Option<(Op, Done, &[u8])>
     ensures { option_map (λ x. (x.0, x.1, x.2.now)) result ≡ spec.step_at bytes.now }
 {
     let (first, rest) = first_of(bytes)?;
@@ -294,7 +296,9 @@ fn step_of(bytes: &[u8]) -> Option<(Op, Done, &[u8])>
     }
 }
 
-fn steps_of(
+/// So many operations from the front of the bytes on, the answer to each, and the bytes after them; None if there are fewer.
+/// Memory is taken for the two lists alone, and it costs what they have.
+pub fn read_steps(
     alloc: Global,
     count: u64,
     bytes: &[u8],
@@ -305,7 +309,7 @@ fn steps_of(
     let mut dones = Vec::new(alloc);
     let mut rest = bytes;
     for _ in 0..count {
-        let Some((op, done, after)) = step_of(rest) else {
+        let Some((op, done, after)) = read_step(rest) else {
             return Ok(None);
         };
         ops.push(op)?;
@@ -315,6 +319,17 @@ fn steps_of(
     Ok(Some((ops, dones, rest)))
 }
 
+/// The front of the entry at the front of the bytes: its pass, how many operations it has, and the bytes from the first of
+/// these on; None if no such numbers are there. It takes no memory, and costs a few steps.
+#[tactic(auto, unfolding(crate::specs::Decoding::head_at))]
+pub fn read_head(bytes: &[u8]) -> Option<(u64, u64, &[u8])>
+    ensures { option_map (λ x. (x.0, x.1, x.2.now)) result ≡ spec.head_at bytes.now }
+{
+    let (by, rest) = number_of(bytes)?;
+    let (count, rest) = number_of(rest)?;
+    Some((by, count, rest))
+}
+
 #[tactic(auto, unfolding(crate::specs::Decoding::entry_at))]
 fn entry_of(
     alloc: Global,
@@ -322,13 +337,10 @@ fn entry_of(
 ) -> Result<Option<(u64, Vec<Op>, Vec<Done>, &[u8])>, AllocError>
     ensures { IfOk result (λ read. option_map (λ x. (x.0, x.1.items, x.2.items, x.3.now)) read ≡ spec.entry_at bytes.now) }
 {
-    let Some((by, rest)) = number_of(bytes) else {
+    let Some((by, count, rest)) = read_head(bytes) else {
         return Ok(None);
     };
-    let Some((count, rest)) = number_of(rest) else {
-        return Ok(None);
-    };
-    let Some((ops, dones, rest)) = steps_of(alloc, count, rest)? else {
+    let Some((ops, dones, rest)) = read_steps(alloc, count, rest)? else {
         return Ok(None);
     };
     Ok(Some((by, ops, dones, rest)))
@@ -355,7 +367,7 @@ fn behind_steps(count: u64, bytes: &[u8]) -> Option<&[u8]>
 {
     let mut rest = bytes;
     for _ in 0..count {
-        let (_op, _done, after) = step_of(rest)?;
+        let (_op, _done, after) = read_step(rest)?;
         rest = after;
     }
     Some(rest)
@@ -366,7 +378,6 @@ fn behind_steps(count: u64, bytes: &[u8]) -> Option<&[u8]>
 pub fn skip_entry(bytes: &[u8]) -> Option<&[u8]>
     ensures { option_map (λ x. x.now) result ≡ option_map (λ x. x.3) (spec.entry_at bytes.now) }
 {
-    let (_by, rest) = number_of(bytes)?;
-    let (count, rest) = number_of(rest)?;
+    let (_by, count, rest) = read_head(bytes)?;
     behind_steps(count, rest)
 }

@@ -3,8 +3,10 @@ use Rattle.std.specs.Prelude.{◌≡◌, ◌<◌, ◌≤◌, ◌-◌, ◌*◌, �
 use Rattle.std.specs.Coded.{Coded, code_by, coded_ℕ, coded_list, coded×}
 use Rattle.std.specs.Option.{option_map_or}
 use Rattle.std.specs.declared.option.Option.{Option}
-use Rattle.be_encoding.specs.Decoding.{entry_at}
+use Rattle.be_encoding.specs.Decoding.{entry_at, step_at}
 use Rattle.be_encoding.specs.Encoding.{entry_bytes, most_bytes, CanBeEntry}
+use Rattle.be_volume.specs.declared.ops.Done.{Done}
+use Rattle.be_volume.specs.declared.ops.Op.{Op}
 use Rattle.be_journal.specs.Journal.{coded_entry, IsEntry}
 use Rattle.be_journal.specs.declared.entries.Entry.{Entry}
 
@@ -15,6 +17,11 @@ bytes_of entry = entry_bytes entry.by entry.ops entry.dones
 unfoldable pub entries_at : ℕ → List ℕ → List Entry
 entries_at zero bytes = []
 entries_at (suc count) bytes = option_map_or (λ x. (record { by = x.0; ops = x.1; dones = x.2 }) ∷ entries_at count x.3) (entry_at bytes) []
+
+-- so many operations with their answers from the front of bytes on, as far as they stand there
+unfoldable pub steps_in : ℕ → List ℕ → List (Op × Done)
+steps_in zero bytes = []
+steps_in (suc count) bytes = option_map_or (λ x. (x.0, x.1) ∷ steps_in count x.2) (step_at bytes) []
 
 -- what every entry of a journal is
 abbrev pub IsStored : Entry → Type 0

@@ -3,8 +3,9 @@ ghost use Rattle.std.specs.Prelude.{◌≡◌, ◌<◌, ◌∷◌, length, drop,
 ghost use Rattle.be_journal.specs.Blocks.{entries_at, AreEntries};
 ghost use Rattle.be_journal.specs.Journal.{IsEntry};
 
+use crate::views::EntryView;
 use crate::{Entry, Items};
-use be_encoding::{read_entry, skip_entry};
+use be_encoding::{read_entry, read_head, skip_entry};
 use std::alloc::{AllocError, Global};
 use std::marker::Model;
 
@@ -58,6 +59,17 @@ impl<'a> BlockReader<'a> {
         };
         self.bytes = rest;
         self.left -= 1;
+    }
+
+    /// A view of the next entry, of which there is one. It takes no memory.
+    pub(crate) fn view(&self, alloc: Global) -> EntryView<'a>
+        requires { 0 < length self.now }
+        ensures { self.now ≡ result ∷ drop 1 self.now }
+    {
+        let Some((by, count, bytes)) = read_head(self.bytes) else {
+            unreachable!()
+        };
+        EntryView::new(alloc, by, count, bytes)
     }
 
     /// The next entry, of which there is one. Memory is taken for its two lists.

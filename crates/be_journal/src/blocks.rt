@@ -6,8 +6,8 @@ ghost use Rattle.be_encoding.specs.Encoding.{most_bytes as longest};
 ghost use Rattle.be_journal.specs.Blocks.{entries_of, has_room, with_place, AreFilled, IsSpare};
 ghost use Rattle.be_journal.specs.declared.entries.Entry.{Entry as AnyEntry};
 
-use crate::Entry;
 use crate::block_readers::BlockReader;
+use crate::views::EntryView;
 use be_encoding::{most_bytes, write_entry};
 use be_volume::{Done, Op};
 use std::alloc::{AllocError, Global};
@@ -98,9 +98,9 @@ impl Block {
     }
 
     /// The entry with this number in the block, from 0. Up to 15 others are gone past to find it.
-    pub(crate) fn get(&self, alloc: Global, i: u64) -> Result<Entry, AllocError>
+    pub(crate) fn get(&self, alloc: Global, i: u64) -> EntryView<'_>
         requires { i < length self.now.entries }
-        ensures { IfOk result (λ entry. entry ≡ get_or self.now.entries i entry) }
+        ensures { result ≡ get_or self.now.entries i result }
     {
         let before = i / 16;
         let place = self.places[before as usize];
@@ -108,8 +108,7 @@ impl Block {
         for _ in 0..i % 16 {
             reader.skip();
         }
-        let entry = reader.next(alloc)?;
-        Ok(entry)
+        reader.view(alloc)
     }
 }
 

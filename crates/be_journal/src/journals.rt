@@ -15,6 +15,7 @@ use crate::Entry;
 use crate::blocks::{Block, append, block_of, make_spare};
 use crate::readers::Reader;
 use crate::texts::entry_line;
+use crate::views::EntryView;
 use be_value::Refusal;
 use be_volume::{Done, Op, Volume};
 use std::alloc::{AllocError, Global};
@@ -83,15 +84,14 @@ impl Journal {
         Reader::new(self.alloc, &self.blocks)
     }
 
-    /// The entry with this number, from 0, an entry of its own. It is refused with OutOfMemory alone. It goes from block to
-    /// block, each of which has some 20,000 small entries, and then past 15 entries at most.
-    pub fn get(&self, i: u64) -> Result<Entry, Refusal>
+    /// The entry with this number, from 0, seen where it lies; it takes no memory. It goes from block to block, each of which
+    /// has some 20,000 small entries, and then past 15 entries at most.
+    pub fn get(&self, i: u64) -> EntryView<'_>
         requires { i < length self.now.entries }
-        ensures ok { IfOk result (λ entry. entry ≡ get_or self.now.entries i entry) }
-        ensures err { IfErr result (λ e. e ≡ OutOfMemory) }
+        ensures { result ≡ get_or self.now.entries i result }
     {
         let (block, place) = block_of(&self.blocks, i);
-        Ok(block.get(self.alloc, place)?)
+        block.get(self.alloc, place)
     }
 
     /// Appends an entry; what was reserved is given up. It is refused with CommitsSpent exactly where the journal is at its

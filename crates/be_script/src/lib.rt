@@ -8,8 +8,8 @@
 pub use be_command_line::{Task, task};
 pub use be_history::{Finding, check, dump, dump_state, journal_told};
 pub use be_serving::{
-    Gate, Journal, Limits, OpenGate, RefusedLine, RunFault, laws, put_result, race, read_files,
-    run, run_and_tell, run_strictly,
+    Gate, Journal, Limits, OpenGate, RefusedLine, RunFault, ScriptReader, laws, put_result, race,
+    read_files, run, run_and_tell, run_strictly,
 };
 pub use be_shell::{
     Aside, Breaking, Ends, Line, Peer, Screen, Terminal, converse, shell, shell_and_close,

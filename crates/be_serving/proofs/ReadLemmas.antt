@@ -1,10 +1,10 @@
 -- What a run has read where it stops.
-use Rattle.std.proofs.Common.{ℕ, ◌≤◌, ◌^◌, List, [], ◌++◌, length, IfErr, IfSome, OnOk, Some, None, refl, sym, ap, ◌∙◌, arith}
+use Rattle.std.proofs.Common.{ℕ, ◌+◌, ◌≤◌, ◌^◌, List, [], ◌++◌, length, IfErr, IfSome, OnOk, Some, None, refl, sym, ap, subst, ◌∙◌, arith}
 use Rattle.std.specs.declared.option.Option.{Option}
 use Rattle.std.specs.declared.result.Result.{Result}
 use Rattle.std.specs.declared.result.Result.TheVariants.{Ok, Err}
 use Rattle.std.specs.Io.KnownBytes.{Consumes, Keeps}
-use Rattle.be_serving.specs.Run.{HasReadScript, ReadFault, ReadsAll, ReadsFew, IsLate}
+use Rattle.be_serving.specs.Run.{HasFewReads, HasReadScript, ReadFault, ReadsAll, ReadsFew, IsLate}
 use Rattle.be_serving.specs.declared.faults.RunFault.{RunFault}
 use Rattle.be_serving.specs.declared.faults.RunFault.TheVariants.{Limits, Read, TooLong, Write, Memory}
 use Rattle.be_serving.proofs.RunLemmas.{all_read}
@@ -20,6 +20,17 @@ read_none (Some a) (Some b) (Some c) xs h k = h ∙ ap (λ z. xs ++ z) (sym k)
 pub none_read : (known : Option (List ℕ)) → ReadsFew known known
 none_read None = ([], tt, omega arith)
 none_read (Some xs) = ([], refl, omega arith)
+
+-- no read
+pub not_read : (P : ℕ → Type 0) (before : ℕ) → P before → P (before + 0)
+not_read P before h = subst P (omega arith) h
+
+pub no_reads : (P : ℕ → Type 0) → HasFewReads P P
+no_reads P = λ before h. (0, omega arith, not_read P before h)
+
+-- one read more
+pub read_more : (P : ℕ → Type 0) (before times : ℕ) → P ((before + times) + 1) → P (before + (times + 1))
+read_more P before times h = subst P (omega arith) h
 
 -- a fault of the reading tells what was read
 pub read_by : (e : RunFault) (old new : Option (List ℕ)) → ReadFault e old new → HasReadScript e old new

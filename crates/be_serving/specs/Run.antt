@@ -1,5 +1,5 @@
 -- What a run reads, writes and leaves.
-use Rattle.std.specs.Prelude.{◌==◌, ◌≡◌, ℕ, ◌<◌, ◌≤◌, ◌^◌, Bool, List, ◌++◌, length, IfSome}
+use Rattle.std.specs.Prelude.{◌==◌, ◌≡◌, ℕ, ◌+◌, ◌<◌, ◌≤◌, ◌^◌, Bool, List, ◌++◌, length, IfSome}
 use Rattle.std.specs.Io.KnownBytes.{Appends, Keeps, Consumes, IsAtEnd}
 use Rattle.std.specs.declared.option.Option.{Option}
 use Rattle.be_serving.specs.Output.{Session, opening, Answered, Outputs, IsOutputTo, IsFrontOfOutput}
@@ -37,6 +37,10 @@ is_line_end c = c == 10
 -- these are all the bytes that the reader had
 abbrev pub ReadsAll : Option (List ℕ) → Option (List ℕ) → List ℕ → Type 0
 ReadsAll old new bytes = Consumes old new bytes × IsAtEnd new
+
+-- a reader was read at most once more than a script may have bytes
+abbrev pub HasFewReads : (ℕ → Type 0) → (ℕ → Type 0) → Type 0
+HasFewReads old new = (before : ℕ) → old before → (times : ℕ) × (times ≤ 2 ^ 20 + 1) × new (before + times)
 
 -- at most as many bytes were read as a script may have; and more than these
 abbrev pub ReadsFew : Option (List ℕ) → Option (List ℕ) → Type 0

@@ -20,18 +20,19 @@ ghost use Rattle.be_table.specs.Rule.{AreBad, entries};
 use crate::answers::answer;
 use crate::client::Client;
 use crate::gates::{Gate, OpenGate};
+use crate::script_readers::ScriptReader;
 use crate::stores::{PassServer, Server, open_for_one};
 use crate::{Limits, RunFault};
 use be_language::{read_line, reply_text};
 use be_store::{Pass, Store};
 use std::alloc::Global;
-use std::io::{Read, Write};
+use std::io::Write;
 
 /// The longest script in bytes.
 pub(crate) const MAX_SCRIPT: usize = 1 << 20;
 
 /// The most reads of a script: each gives a byte at least, the end or a fault.
-const MAX_READS: u64 = (1 << 20) + 2;
+const MAX_READS: u64 = (1 << 20) + 1;
 
 /// Writes all the bytes. After a fault their front was written.
 pub fn put<W: Write>(writer: &mut W, bytes: &[u8]) -> Result<(), RunFault>
@@ -168,16 +169,17 @@ pub fn serve_pass<G: Gate>(
 }
 
 /// Reads a whole script.
-pub(crate) fn read_script<R: Read>(alloc: Global, reader: &mut R) -> Result<Vec<u8>, RunFault>
+pub(crate) fn read_script<R: ScriptReader>(alloc: Global, reader: &mut R) -> Result<Vec<u8>, RunFault>
     ensures ok { IfOk result (λ script. spec.ReadsAll (R.remaining reader.old) (R.remaining reader.new) script.items) }
     ensures fits { IfOk result (λ script. vec_len script ≤ 2 ^ 20) }
     ensures err { IfErr result (λ e. spec.ReadFault e (R.remaining reader.old) (R.remaining reader.new)) }
     ensures early { IfErr result spec.IsEarly }
+    ensures reads { spec.HasFewReads (R.was_read reader.old) (R.was_read reader.new) }
 {
     let mut script = Vec::new(alloc);
     let mut buffer = [0u8; 4096];
     for _reads in 0..MAX_READS {
-        match reader.read(&mut buffer) {
+        match reader.read_once(&mut buffer) {
             Err(_) => return Err(RunFault::Read),
             Ok(0) => return Ok(script),
             Ok(n) => {
@@ -195,7 +197,7 @@ pub(crate) fn read_script<R: Read>(alloc: Global, reader: &mut R) -> Result<Vec<
 
 /// Runs a script on what serves it. Where the reader's bytes and the writer's are known, what is written is an output of
 /// the script from there on, and leaves what then serves.
-pub fn serve<S: Server, R: Read, W: Write>(
+pub fn serve<S: Server, R: ScriptReader, W: Write>(
     alloc: Global,
     server: &mut S,
     reader: &mut R,
@@ -208,6 +210,7 @@ pub fn serve<S: Server, R: Read, W: Write>(
     ensures fits { OnOk result (IfSome (R.remaining reader.old) (λ script. length script ≤ 2 ^ 20)) }
     ensures taken { IfErr result (λ e. spec.HasReadScript e (R.remaining reader.old) (R.remaining reader.new)) }
     ensures other { IfErr result spec.IsNotLimits }
+    ensures reads { spec.HasFewReads (R.was_read reader.old) (R.was_read reader.new) }
 {
     match read_script(alloc, reader) {
         Ok(script) => run_lines(alloc, server, 0, &OpenGate, &script, writer),
@@ -217,13 +220,13 @@ pub fn serve<S: Server, R: Read, W: Write>(
 
 /// Runs a script on an empty store of its own, which has the pages and commits of the limits and one pass.
 ///
-/// The limits are looked at first, and then the store is opened. The script is read whole, in at most 1,048,578 reads,
+/// The limits are looked at first, and then the store is opened. The script is read whole, in at most 1,048,577 reads,
 /// before its first line is run; any error of a read is `Read`. Each line is run before its reply is written; any error of
 /// a write, and a write of no bytes, is `Write`. `TooLong` comes where more than 1,048,576 bytes were read, and no other
 /// fault comes then. Where the reader's bytes and the writer's are known, as those of a slice
 /// and a vector are, what is written is an output of the script. After `Write` it is the front of one, after `Memory` the
 /// replies to the script's first lines, each of them whole, and after any other fault nothing was written.
-pub fn run<R: Read, W: Write>(
+pub fn run<R: ScriptReader, W: Write>(
     alloc: Global,
     reader: &mut R,
     writer: &mut W,
@@ -236,6 +239,7 @@ pub fn run<R: Read, W: Write>(
     ensures fits { OnOk result (IfSome (R.remaining reader.old) (λ script. length script ≤ 2 ^ 20)) }
     ensures fault { IfErr result (λ e. spec.RunLeaves e (start limits.commits) (R.remaining reader.old) (W.contents writer.old) (W.contents writer.new)) }
     ensures taken { IfErr result (λ e. spec.HasReadScript e (R.remaining reader.old) (R.remaining reader.new)) }
+    ensures reads { spec.HasFewReads (R.was_read reader.old) (R.was_read reader.new) }
 {
     if !limits.are_within() {
         return Err(RunFault::Limits);

@@ -17,13 +17,14 @@ ghost use Rattle.be_table.specs.Rule.{AreBad, IsWithin};
 use crate::answers::answer;
 use crate::client::Client;
 use crate::runs::{put, read_script, split_line};
+use crate::script_readers::ScriptReader;
 use crate::stores::{PassServer, Server, open_for_one};
 use crate::tellings::close_alone;
 use crate::{Limits, RunFault};
 use be_journal::Journal;
 use be_language::{Reply, read_line, reply_text};
 use std::alloc::Global;
-use std::io::{Read, Write};
+use std::io::Write;
 
 /// A line of a script that was refused.
 #[derive(Debug, Drop)]
@@ -162,7 +163,7 @@ fn run_on_new<W: Write>(
 /// Such replies are a refusal, `bad line`, `already begun`, `not begun`, `full batch`, `empty batch`, `already pinned`, `not
 /// pinned` and `no live query`. What is written is an output of the lines up to that one. Faults are those of `run`, and leave
 /// what they leave there.
-pub fn run_strictly<R: Read, W: Write>(
+pub fn run_strictly<R: ScriptReader, W: Write>(
     alloc: Global,
     reader: &mut R,
     writer: &mut W,
@@ -177,6 +178,7 @@ pub fn run_strictly<R: Read, W: Write>(
     ensures fits { OnOk result (IfSome (R.remaining reader.old) (λ script. length script ≤ 2 ^ 20)) }
     ensures fault { IfErr result (λ e. spec.RunLeaves e (start limits.commits) (R.remaining reader.old) (W.contents writer.old) (W.contents writer.new)) }
     ensures taken { IfErr result (λ e. spec.HasReadScript e (R.remaining reader.old) (R.remaining reader.new)) }
+    ensures reads { spec.HasFewReads (R.was_read reader.old) (R.was_read reader.new) }
 {
     if !limits.are_within() {
         return Err(RunFault::Limits);

@@ -11,13 +11,14 @@ ghost use Rattle.be_table.specs.Versions.{CanSpellEach};
 use crate::gates::OpenGate;
 use crate::races::put_result;
 use crate::runs::{read_script, run_lines};
+use crate::script_readers::ScriptReader;
 use crate::stores::{PassServer, open_for_one};
 use crate::{Limits, RunFault};
 use be_journal::Journal;
 use be_store::Pass;
 use be_store::laws::alone;
 use std::alloc::Global;
-use std::io::{Read, Write};
+use std::io::Write;
 
 /// A list of this pass alone.
 fn only(alloc: Global, pass: Pass) -> Result<Vec<Pass>, RunFault>
@@ -77,7 +78,7 @@ fn run_on_new<W: Write>(
 /// script, in its order; after each of them the volume is one that as many pages as the limits say can spell. Faults are those
 /// of `run`; `Write` leaves a front of the replies written, or all of them and a front of what stands behind them, `Memory` the
 /// replies to the script's first lines, each of them whole, and nothing of the journal, and any other fault leaves nothing.
-pub fn run_and_tell<R: Read, W: Write>(
+pub fn run_and_tell<R: ScriptReader, W: Write>(
     alloc: Global,
     reader: &mut R,
     writer: &mut W,
@@ -90,6 +91,7 @@ pub fn run_and_tell<R: Read, W: Write>(
     ensures fits { OnOk result (IfSome (R.remaining reader.old) (λ script. length script ≤ 2 ^ 20)) }
     ensures fault { IfErr result (λ e. TellingLeaves limits e (R.remaining reader.old) (W.contents writer.old) (W.contents writer.new)) }
     ensures taken { IfErr result (λ e. spec.HasReadScript e (R.remaining reader.old) (R.remaining reader.new)) }
+    ensures reads { spec.HasFewReads (R.was_read reader.old) (R.was_read reader.new) }
 {
     if !limits.are_within() {
         return Err(RunFault::Limits);

@@ -120,7 +120,7 @@ impl<'a> Writing<'a> {
         ensures ok { IfOk result (λ entry. entry ≡ get_or (entries self.now.knows.seen) i entry) }
         ensures err { IfErr result (λ e. e ≡ OutOfMemory) }
     {
-        self.ledger.journal.get(i)
+        Ok(self.ledger.journal.get(i).to_entry()?)
     }
 
     /// Word i of a page, as the current version has it or as this write filled it. One load.

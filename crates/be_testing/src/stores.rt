@@ -1,7 +1,7 @@
 //! What tests of the store and of its table look at alike: limits, names, and the journal of two passes.
 ghost use Rattle.std.specs.Prelude.{◌≡◌, ◌∷◌, [], IfOk};
 
-use be_journal::Journal;
+use be_journal::{EntryView, Journal};
 use be_value::{Name, Refusal};
 use be_volume::Done;
 use std::alloc::{AllocError, Global};
@@ -54,29 +54,31 @@ pub fn is_legal(journal: &Journal) -> Result<bool, Refusal> {
     }
 }
 
-/// How many entries are by the pass, if each entry's answer is the node of its number. An entry is read again where memory is
-/// refused.
-fn count_by(journal: &Journal, pass: u64) -> Result<u64, Refusal> {
+/// Whether the entry has one operation, and its answer is this node.
+fn answers_node(entry: &EntryView<'_>, node: u64) -> bool {
+    let mut steps = entry.steps();
+    entry.len() == 1 && matches!(steps.next(), Some((_, Done::Node(it))) if it == node)
+}
+
+/// How many entries are by the pass, if each entry's answer is the node of its number.
+fn count_by(journal: &Journal, pass: u64) -> u64 {
     let mut count: u64 = 0;
     for i in 0..journal.len() {
-        let entry = match journal.get(i) {
-            Err(_) => journal.get(i)?,
-            Ok(entry) => entry,
-        };
-        if entry.dones.as_slice() != [Done::Node(i + 1)].as_slice() {
-            return Ok(0);
+        let entry = journal.get(i);
+        if !answers_node(&entry, i + 1) {
+            return 0;
         }
-        if entry.by == pass {
+        if entry.by() == pass {
             count = count.saturating_add(1);
         }
     }
-    Ok(count)
+    count
 }
 
 /// Whether the journal is legal and has just a hundred new nodes by each of the passes 0 and 1.
 pub fn has_hundred_by_each(journal: &Journal) -> Result<bool, Refusal> {
     let is_whole = journal.len() == 200
-        && count_by(journal, 0)? == 100
-        && count_by(journal, 1)? == 100;
+        && count_by(journal, 0) == 100
+        && count_by(journal, 1) == 100;
     Ok(is_whole && is_legal(journal)?)
 }

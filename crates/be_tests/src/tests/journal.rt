@@ -130,15 +130,15 @@ fn long_lists(alloc: Global, count: u64) -> Result<Journal, Refusal> {
 }
 
 /// How many entries are of 64 operations by the pass of their number.
-fn found_lists(journal: &Journal) -> Result<u64, Refusal> {
+fn found_lists(journal: &Journal) -> u64 {
     let mut found: u64 = 0;
     for i in 0..journal.len() {
-        let entry = journal.get(i)?;
-        if entry.by == i && entry.ops.as_slice().len() == 64 {
+        let entry = journal.get(i);
+        if entry.by() == i && entry.len() == 64 {
             found = found.saturating_add(1);
         }
     }
-    Ok(found)
+    found
 }
 
 /// The reply to `attrs`.
@@ -217,7 +217,7 @@ pub(crate) fn told_end(alloc: Global) -> Result<String, Refusal> {
 pub(crate) fn told_lists(alloc: Global, text: &str) -> Result<String, Refusal> {
     let (count, _) = first_number(text);
     let journal = long_lists(alloc, count)?;
-    let found = found_lists(&journal)?;
+    let found = found_lists(&journal);
     Ok(format!(in alloc; "{found} found")?)
 }
 

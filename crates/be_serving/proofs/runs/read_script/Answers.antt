@@ -7,17 +7,17 @@ pub returns-in-Err-clause-err : goal.returns-in-Err-clause-err
 returns-in-Err-clause-err g c =
     let items = c.loop-reads.script.items in (
       items,
-      read_none (g.R.Read.remaining c.args.reader.now) (g.R.Read.remaining c.loop-reads.reader) (g.R.Read.remaining c.read.new.self) items c.loop-reads.invariant.taken c.in-Err.ensures.bytes,
+      read_none (g.R.ScriptReader.remaining c.args.reader.now) (g.R.ScriptReader.remaining c.loop-reads.reader) (g.R.ScriptReader.remaining c.read_once.new.self) items c.loop-reads.invariant.taken c.in-Err.ensures.bytes,
       omega (arith, c.loop-reads.invariant.fits, c.loop-reads.script.ok.0),
     )
 
 pub returns-then-is_err-clause-err : goal.returns-then-is_err-clause-err
 returns-then-is_err-clause-err g c =
     let items = c.loop-reads.script.items in
-    let more = take c.in-Ok.n c.read.new.buf in
-    let exact : length more ≡ c.in-Ok.n = length-take-le c.in-Ok.n c.read.new.buf (omega (arith, c.in-Ok.ensures.bound)) in (
+    let more = take c.in-Ok.n c.read_once.new.buf in
+    let exact : length more ≡ c.in-Ok.n = length-take-le c.in-Ok.n c.read_once.new.buf (omega (arith, c.in-Ok.ensures.bound)) in (
       items ++ more,
-      read_both (g.R.Read.remaining c.args.reader.now) (g.R.Read.remaining c.loop-reads.reader) (g.R.Read.remaining c.read.new.self) items more
+      read_both (g.R.ScriptReader.remaining c.args.reader.now) (g.R.ScriptReader.remaining c.loop-reads.reader) (g.R.ScriptReader.remaining c.read_once.new.self) items more
           c.loop-reads.invariant.taken c.in-Ok.ensures.bytes.0,
       omega (arith, length-append items more, exact, c.loop-reads.script.ok.0),
     )
@@ -25,10 +25,10 @@ returns-then-is_err-clause-err g c =
 pub returns-then-len-n-gt-MAX_SCRIPT-clause-err : goal.returns-then-len-n-gt-MAX_SCRIPT-clause-err
 returns-then-len-n-gt-MAX_SCRIPT-clause-err g c =
     let items = c.loop-reads.script.items in
-    let more = take c.in-Ok.n c.read.new.buf in
-    let exact : length more ≡ c.in-Ok.n = length-take-le c.in-Ok.n c.read.new.buf (omega (arith, c.in-Ok.ensures.bound)) in (
+    let more = take c.in-Ok.n c.read_once.new.buf in
+    let exact : length more ≡ c.in-Ok.n = length-take-le c.in-Ok.n c.read_once.new.buf (omega (arith, c.in-Ok.ensures.bound)) in (
       items ++ more,
-      read_both (g.R.Read.remaining c.args.reader.now) (g.R.Read.remaining c.loop-reads.reader) (g.R.Read.remaining c.read.new.self) items more
+      read_both (g.R.ScriptReader.remaining c.args.reader.now) (g.R.ScriptReader.remaining c.loop-reads.reader) (g.R.ScriptReader.remaining c.read_once.new.self) items more
           c.loop-reads.invariant.taken c.in-Ok.ensures.bytes.0,
       omega (arith, length-append items more, exact, c.loop-reads.script.ok.0),
     )

@@ -1,7 +1,7 @@
 use Rattle.std.proofs.Common.{sym}
 use Rattle.be_encoding.specs.Decoding.{steps_at}
 use Rattle.be_encoding.proofs.Loops.{goes_on, ends, is_done}
-use Rattle.be_encoding.proofs.reading.steps_of.Goals as goal
+use Rattle.be_encoding.proofs.reading.read_steps.Goals as goal
 
 pub returns-in_default : goal.returns-in_default
 returns-in_default c = sym (ends c.loop.ops.items c.loop.dones.items c.args.count c.loop.counter c.loop.rest.now (steps_at c.args.count c.args.bytes.now)
