@@ -29,8 +29,12 @@ pub no_reads : (P : ℕ → Type 0) → HasFewReads P P
 no_reads P = λ before h. (0, omega arith, not_read P before h)
 
 -- one read more
-pub read_more : (P : ℕ → Type 0) (before times : ℕ) → P ((before + times) + 1) → P (before + (times + 1))
+read_more : (P : ℕ → Type 0) (before times : ℕ) → P ((before + times) + 1) → P (before + (times + 1))
 read_more P before times h = subst P (omega arith) h
+
+-- a read after those that gave at most as many bytes as a script may have
+pub few_reads : (old mid new : ℕ → Type 0) (times bytes : ℕ) → times ≤ bytes → bytes ≤ 2 ^ 20 → ((before : ℕ) → old before → mid (before + times)) → ((n : ℕ) → mid n → new (n + 1)) → HasFewReads old new
+few_reads old mid new times bytes each few so_far once = λ before h. (times + 1, omega (arith, each, few), read_more new before times (once (before + times) (so_far before h)))
 
 -- a fault of the reading tells what was read
 pub read_by : (e : RunFault) (old new : Option (List ℕ)) → ReadFault e old new → HasReadScript e old new

@@ -169,7 +169,10 @@ pub fn serve_pass<G: Gate>(
 }
 
 /// Reads a whole script.
-pub(crate) fn read_script<R: ScriptReader>(alloc: Global, reader: &mut R) -> Result<Vec<u8>, RunFault>
+pub(crate) fn read_script<R: ScriptReader>(
+    alloc: Global,
+    reader: &mut R,
+) -> Result<Vec<u8>, RunFault>
     ensures ok { IfOk result (λ script. spec.ReadsAll (R.remaining reader.old) (R.remaining reader.new) script.items) }
     ensures fits { IfOk result (λ script. vec_len script ≤ 2 ^ 20) }
     ensures err { IfErr result (λ e. spec.ReadFault e (R.remaining reader.old) (R.remaining reader.new)) }

@@ -19,16 +19,16 @@ pub trait ScriptReader {
     ghost was_read: { Self → ℕ → Type 0 } = { λ _ _. Unit {0} };
 
     /// One read, as that of `Read`.
-    fn read_once(&mut self, buffer: &mut [u8]) -> io::Result<usize>
-        ensures bound { ReadsAtMost result buffer.new }
-        ensures bytes { ReadConsumes (remaining self.old) (remaining self.new) result buffer.new }
+    fn read_once(&mut self, buf: &mut [u8]) -> io::Result<usize>
+        ensures bound { ReadsAtMost result buf.new }
+        ensures bytes { ReadConsumes (remaining self.old) (remaining self.new) result buf.new }
         ensures counted { (times : ℕ) → was_read self.old times → was_read self.new (times + 1) };
 }
 
 impl<R: Read> ScriptReader for R {
     ghost remaining = { R.remaining };
 
-    fn read_once(&mut self, buffer: &mut [u8]) -> io::Result<usize> {
-        self.read(buffer)
+    fn read_once(&mut self, buf: &mut [u8]) -> io::Result<usize> {
+        self.read(buf)
     }
 }
