@@ -1,5 +1,5 @@
 -- A pattern matches the bytes of characters exactly where it matches the characters.
-use Rattle.std.proofs.Common.{◌≡◌, ℕ, ◌+◌, ◌*◌, ◌/◌, ◌%◌, ◌<◌, ◌≤◌, Bool, true, false, List, [], ◌∷◌, ◌++◌, map, length, drop, ◌&&◌, ◌||◌, refl, sym, ap, ◌∙◌, subst, arith, append_assoc}
+use Rattle.std.proofs.Common.{◌≡◌, ℕ, ◌+◌, ◌/◌, ◌%◌, ◌<◌, ◌≤◌, Bool, true, false, List, [], ◌∷◌, ◌++◌, map, length, ◌&&◌, ◌||◌, refl, sym, ap, ◌∙◌, subst, arith}
 use Rattle.std.specs.Cmp.{both_ways}
 use Rattle.std.specs.Char.{encode_utf8}
 use Rattle.std.specs.Prelude.{nat_eq, nat_lt, IsUtf8, encode_utf8_all}
@@ -37,12 +37,12 @@ unfolding encode_utf8
 spelled c = ⊎_elim
     (λ one. record { lead = c; more = []; bytes = cond-true _ _ _ one; begins = λ h. let k = ltb-true c 128 one in omega (arith, k, h.0); inside = tt })
     (λ more. ⊎_elim
-      (λ two. record { lead = 192 + c / 64; more = (128 + c % 64) ∷ []; bytes = cond-false _ _ _ more ∙ cond-true _ _ _ two; begins = λ h. omega (arith, h.1); inside = (next_inside c, tt) })
-      (λ three. ⊎_elim
-        (λ is. record { lead = 224 + c / 4096; more = (128 + (c / 64) % 64) ∷ (128 + c % 64) ∷ []; bytes = cond-false _ _ _ more ∙ cond-false _ _ _ three ∙ cond-true _ _ _ is; begins = λ h. omega (arith, h.1); inside = (next_inside (c / 64), (next_inside c, tt)) })
-        (λ not. record { lead = 240 + c / 262144; more = (128 + (c / 4096) % 64) ∷ (128 + (c / 64) % 64) ∷ (128 + c % 64) ∷ []; bytes = cond-false _ _ _ more ∙ cond-false _ _ _ three ∙ cond-false _ _ _ not; begins = λ h. omega (arith, h.1); inside = (next_inside (c / 4096), (next_inside (c / 64), (next_inside c, tt))) })
-        (cases_Bool (nat_lt c 65536)))
-      (cases_Bool (nat_lt c 2048)))
+    (λ two. record { lead = 192 + c / 64; more = (128 + c % 64) ∷ []; bytes = cond-false _ _ _ more ∙ cond-true _ _ _ two; begins = λ h. omega (arith, h.1); inside = (next_inside c, tt) })
+    (λ three. ⊎_elim
+    (λ is. record { lead = 224 + c / 4096; more = (128 + (c / 64) % 64) ∷ (128 + c % 64) ∷ []; bytes = cond-false _ _ _ more ∙ cond-false _ _ _ three ∙ cond-true _ _ _ is; begins = λ h. omega (arith, h.1); inside = (next_inside (c / 64), (next_inside c, tt)) })
+    (λ not. record { lead = 240 + c / 262144; more = (128 + (c / 4096) % 64) ∷ (128 + (c / 64) % 64) ∷ (128 + c % 64) ∷ []; bytes = cond-false _ _ _ more ∙ cond-false _ _ _ three ∙ cond-false _ _ _ not; begins = λ h. omega (arith, h.1); inside = (next_inside (c / 4096), (next_inside (c / 64), (next_inside c, tt))) })
+    (cases_Bool (nat_lt c 65536)))
+    (cases_Bool (nat_lt c 2048)))
     (cases_Bool (nat_lt c 128))
 
 -- What is matched from inside a character is matched from its end too.
@@ -87,9 +87,9 @@ run_bytes ps alone same (c ∷ cs) =
     let whole : encode_utf8 c ++ rest ≡ s.lead ∷ (s.more ++ rest) = ap (λ l. l ++ rest) s.bytes in
     let here : p (s.lead ∷ (s.more ++ rest)) ≡ matches ps (c ∷ cs) = ap p (sym whole) ∙ same (c ∷ cs) in
     let later : some_tail p (s.more ++ rest) ≡ some_tail (matches ps) cs =
-        both_ways _ _ (tails_in p (from_inside ps alone) s.more rest s.inside)
-            (λ h. tail_further p (s.more ++ rest) (length s.more) (ap (some_tail p) (drop-append_seam s.more rest) ∙ h))
-        ∙ run_bytes ps alone same cs in
+    both_ways _ _ (tails_in p (from_inside ps alone) s.more rest s.inside)
+    (λ h. tail_further p (s.more ++ rest) (length s.more) (ap (some_tail p) (drop-append_seam s.more rest) ∙ h))
+    ∙ run_bytes ps alone same cs in
     ap (some_tail p) whole ∙ (λ i. here i || later i)
 
 literal_bytes : (d : ℕ) (ps : List Part) → ((cs : List ℕ) → matches (byte_parts ps) (encode_utf8_all cs) ≡ matches ps cs)
@@ -97,8 +97,8 @@ literal_bytes : (d : ℕ) (ps : List Part) → ((cs : List ℕ) → matches (byt
 literal_bytes d ps same [] = literal_ended d (byte_parts ps)
 literal_bytes d ps same (c ∷ cs) = ⊎_elim
     (λ is. let e : c ≡ d = eqb-true c d is in
-      ap (λ x. matches (map Only (encode_utf8 d) ++ byte_parts ps) (encode_utf8 x ++ encode_utf8_all cs)) e
-      ∙ run_taken (encode_utf8 d) (encode_utf8_all cs) (byte_parts ps) ∙ same cs ∙ sym (ap (λ b. b && matches ps cs) is))
+    ap (λ x. matches (map Only (encode_utf8 d) ++ byte_parts ps) (encode_utf8 x ++ encode_utf8_all cs)) e
+    ∙ run_taken (encode_utf8 d) (encode_utf8_all cs) (byte_parts ps) ∙ same cs ∙ sym (ap (λ b. b && matches ps cs) is))
     (λ not. other_literal c d (encode_utf8_all cs) (byte_parts ps) (eqb-false c d not) ∙ sym (ap (λ b. b && matches ps cs) not))
     (cases_Bool (nat_eq c d))
 

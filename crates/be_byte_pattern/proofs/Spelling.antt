@@ -1,12 +1,11 @@
 -- What begins a canonical text.
-use Rattle.std.proofs.Common.{◌≡◌, ℕ, Bool, true, false, List, [], ◌∷◌, ◌++◌, map, length, ◌&&◌, ◌||◌, ◌==◌, refl, sym, ap, ◌∙◌, arith, append_assoc, append-nil}
+use Rattle.std.proofs.Common.{◌≡◌, ℕ, true, false, List, [], ◌∷◌, ◌++◌, map, ◌||◌, ◌==◌, refl, sym, ap, ◌∙◌, arith, append_assoc, append-nil}
 use Rattle.std.specs.Prelude.{encode_utf8, encode_utf8_all}
-use Rattle.std.specs.List.{flat_map}
 use Rattle.std.proofs.Math.Logic.{⊎_elim}
-use Rattle.std.proofs.lemmas.Bool.{true≢false, both_ways, cases_Bool, cond-true, cond-false, eqb-false, or_parts}
+use Rattle.std.proofs.lemmas.Bool.{both_ways, cases_Bool, cond-true, cond-false, eqb-false, or_parts}
 use Rattle.std.proofs.lemmas.Str.{cons_from_encodes, encodes_same}
 use Rattle.be_pattern.specs.Match.{Part, Run, One, Among, Only}
-use Rattle.be_pattern.specs.Canonical.{canonical, is_special, class_opening, marked, literal_char, part_text}
+use Rattle.be_pattern.specs.Canonical.{canonical, is_special}
 use Rattle.be_byte_pattern.specs.Runs.{BeginsWith, Leaves, byte_parts, has_runs_alone, after_stars, begins_wildcard}
 
 same_first : (x y : ℕ) (xs ys : List ℕ) → x ∷ xs ≡ y ∷ ys → x ≡ y
@@ -144,7 +143,7 @@ leaves_further ps old new rest shorter c grown begins leaves =
     record {
       after = b.after;
       bytes = leaves.bytes ∙ ap (λ qs. map Only old ++ byte_parts qs) b.first ∙ sym (append_assoc (map Only old) (map Only (encode_utf8 c)) (byte_parts b.after))
-        ∙ ap (λ l. l ++ byte_parts b.after) (sym (map_append old (encode_utf8 c)) ∙ ap (map Only) (sym grown));
+          ∙ ap (λ l. l ++ byte_parts b.after) (sym (map_append old (encode_utf8 c)) ∙ ap (map Only) (sym grown));
       alone = leaves.alone ∙ ap has_runs_alone b.first;
       text = b.text;
     }
@@ -165,9 +164,9 @@ leaves_run ps front rs new rest middle shorter r grown star run leaves =
     record {
       after = t.after;
       bytes = leaves.bytes ∙ ap (λ l. (front ++ after_stars rs) ++ l) both
-        ∙ sym (append_assoc (front ++ after_stars rs) (Run ∷ map Only r) (byte_parts t.after))
-        ∙ ap (λ l. l ++ byte_parts t.after) (append_assoc front (after_stars rs) (Run ∷ map Only r)
-            ∙ ap (λ l. front ++ l) (sym (stars_append rs r)) ∙ ap (λ l. front ++ after_stars l) (sym grown));
+          ∙ sym (append_assoc (front ++ after_stars rs) (Run ∷ map Only r) (byte_parts t.after))
+          ∙ ap (λ l. l ++ byte_parts t.after) (append_assoc front (after_stars rs) (Run ∷ map Only r)
+          ∙ ap (λ l. front ++ l) (sym (stars_append rs r)) ∙ ap (λ l. front ++ after_stars l) (sym grown));
       alone = leaves.alone ∙ s.alone ∙ t.alone;
       text = t.text;
     }

@@ -3,7 +3,6 @@ use Rattle.std.proofs.Common.{◌≡◌, ℕ, ◌+◌, ◌-◌, ◌<◌, ◌≤�
 use Rattle.std.specs.Bool.{Decides}
 use Rattle.std.specs.Cmp.{both_ways}
 use Rattle.std.specs.Prelude.{nat_eq}
-use Rattle.std.specs.Cmp.Lexicographic.{pointwise}
 use Rattle.std.specs.List.{ends_with}
 use Rattle.std.proofs.Math.Logic.{⊎_elim}
 use Rattle.std.proofs.lemmas.List.{drop-drop, drop_all, append-nil}
@@ -58,9 +57,9 @@ first_serves r after ps = both_ways _ _ there back
         let w = which_tail (matches (map Only r ++ (Run ∷ ps))) (r ++ after) h in
         let t = takes_run r (drop w.0 (r ++ after)) (Run ∷ ps) w.1 in
         let place : t.0 ≡ drop w.0 after =
-            sym (drop-append_seam r t.0) ∙ ap (drop (length r)) (sym t.1.0) ∙ drop-drop (length r) w.0 (r ++ after)
-            ∙ ap (λ n. drop n (r ++ after)) (let e : w.0 + length r ≡ length r + w.0 = omega arith in e)
-            ∙ sym (drop-drop w.0 (length r) (r ++ after)) ∙ ap (drop w.0) (drop-append_seam r after) in
+        sym (drop-append_seam r t.0) ∙ ap (drop (length r)) (sym t.1.0) ∙ drop-drop (length r) w.0 (r ++ after)
+        ∙ ap (λ n. drop n (r ++ after)) (let e : w.0 + length r ≡ length r + w.0 = omega arith in e)
+        ∙ sym (drop-drop w.0 (length r) (r ++ after)) ∙ ap (drop w.0) (drop-append_seam r after) in
         tail_further (matches ps) after w.0 (subst (λ l. some_tail (matches ps) l ≡ true) place t.1.1)
 
     back : some_tail (matches ps) after ≡ true → some_tail (matches (map Only r ++ (Run ∷ ps))) (r ++ after) ≡ true
@@ -92,9 +91,9 @@ end_place r cs n e =
     ⊎_elim
     (λ (few : n < length cs). let g : length cs - length r ≡ n = omega (arith, f, few) in ap (λ k. drop k cs) g ∙ e)
     (λ (many : length cs ≤ n).
-      let none : length r ≡ 0 = omega (arith, f, many) in
-      let at : length cs ≤ length cs - length r = omega (arith, none) in
-      drop_all (length cs - length r) cs at ∙ sym (drop_all n cs many) ∙ e)
+    let none : length r ≡ 0 = omega (arith, f, many) in
+    let at : length cs ≤ length cs - length r = omega (arith, none) in
+    drop_all (length cs - length r) cs at ∙ sym (drop_all n cs many) ∙ e)
     (cases_lt n (length cs))
 
 decides : (r cs : List ℕ) → Decides (ends_with nat_eq cs r) (r ≡ drop (length cs - length r) cs)

@@ -9,5 +9,7 @@
 mod byte_pattern;
 mod reading;
 mod runs;
+#[cfg(test)]
+mod tests;
 
 pub use byte_pattern::BytePattern;

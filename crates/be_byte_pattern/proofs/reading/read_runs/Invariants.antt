@@ -11,7 +11,7 @@ abbrev pub invariant-stars : goal.invariant-stars
 invariant-stars l = record {
   utf8 : shadow (Utf8 l.rest);
   leaves : (ps : List Part) → l.text ≡ encode_utf8_all (canonical ps) →
-    Leaves ps (map Only (string_bytes l.front) ++ after_stars (map string_bytes l.later.items)) l.rest;
+      Leaves ps (map Only (string_bytes l.front) ++ after_stars (map string_bytes l.later.items)) l.rest;
 }
 
 abbrev pub decreases-stars : goal.decreases-stars

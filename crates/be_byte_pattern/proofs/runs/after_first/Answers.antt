@@ -1,4 +1,4 @@
-use Rattle.std.proofs.Common.{◌≡◌, ◌∷◌, ◌++◌, length, map, false, sym, ap, ◌∙◌, arith, rules}
+use Rattle.std.proofs.Common.{◌≡◌, ◌∷◌, ◌++◌, map, false, sym, ap, ◌∙◌, rules}
 use Rattle.be_pattern.specs.Match.{Run, Only, matches, some_tail}
 use Rattle.be_byte_pattern.proofs.Standing.{first_serves, next_place, nothing_fits, run_missing, run_too_long}
 use Rattle.be_byte_pattern.proofs.runs.after_first.Goals as goal
