@@ -1,13 +1,13 @@
 -- Runs of literal parts in a list, with any run of the list between two.
-use Rattle.std.proofs.Common.{◌≡◌, ℕ, ◌+◌, ◌-◌, ◌<◌, ◌≤◌, Bool, true, false, List, [], ◌∷◌, ◌++◌, map, length, drop, ◌&&◌, ◌||◌, refl, sym, ap, ◌∙◌, subst, arith, zero, suc, length-append, length-drop}
+use Rattle.std.proofs.Common.{◌≡◌, ℕ, ◌+◌, ◌-◌, ◌<◌, ◌≤◌, Bool, true, false, List, [], ◌∷◌, ◌++◌, map, length, drop, ◌&&◌, ◌||◌, refl, sym, ap, ◌∙◌, subst, arith, zero, suc, take, length-append, length-drop}
 use Rattle.std.specs.Bool.{Decides}
 use Rattle.std.specs.Cmp.{both_ways}
 use Rattle.std.specs.Prelude.{nat_eq}
 use Rattle.std.specs.List.{ends_with}
 use Rattle.std.proofs.Math.Logic.{⊎_elim}
-use Rattle.std.proofs.lemmas.List.{drop-drop, drop_all, append-nil}
+use Rattle.std.proofs.lemmas.List.{drop-drop, drop_all, append-nil, take_all}
 use Rattle.std.proofs.Math.Seq.{drop-append_seam}
-use Rattle.std.proofs.lemmas.Bool.{true≢false, or_left, or_right, or_cases, and_parts, eq-eqb, eqb-true, cases_lt, false_from_ne_true}
+use Rattle.std.proofs.lemmas.Bool.{true≢false, or_left, or_right, or_cases, and_parts, eq-eqb, eqb-true, cases_lt, false_from_ne_true, true_from_ne_false}
 use Rattle.std.proofs.lemmas.Bool.Decides.{Decides-eqb}
 use Rattle.std.proofs.lemmas.Slice.Eq.{slice_eq-Decides}
 use Rattle.be_pattern.specs.Match.{Part, Run, Only, matches, some_tail}
@@ -151,3 +151,13 @@ none_mapped f (x ∷ xs) e = absurd (omega (arith, e))
 pub some_mapped : {X : Type 0} (f : X → List ℕ) (xs : List X) → (length xs ≡ 0 → ⊥) → map f xs ≡ [] → ⊥
 some_mapped f [] some e = some refl
 some_mapped f (x ∷ xs) some e = cc
+
+-- The end of a list is looked at.
+
+pub end_found : (run bytes end : List ℕ) (b : Bool) → end ≡ drop (length bytes - length run) bytes → length run ≤ length bytes
+    → (b ≡ true → take (length run) end ≡ run) → (b ≡ false → (rest : List ℕ) → end ≡ run ++ rest → ⊥) → b ≡ ends_with nat_eq bytes run
+end_found run bytes end b is fits begins differs = both_ways _ _
+    (λ h.
+      let short : length end ≤ length run = omega (arith, ap length is, length-drop (length bytes - length run) bytes, fits) in
+      (decides run bytes).1 (sym (begins h) ∙ take_all (length run) end short ∙ is))
+    (λ h. true_from_ne_false b (λ k. differs k [] (is ∙ sym ((decides run bytes).0 h) ∙ sym (append-nil run))))

@@ -1,5 +1,6 @@
 //! Runs of literal bytes with a `*` between two.
-ghost use Rattle.std.specs.Prelude.{◌≡◌, ◌++◌, ◌∷◌, List, ℕ, false, map, IfNone, IfSome, string_bytes};
+ghost use Rattle.std.specs.Prelude.{◌≡◌, ◌≤◌, ◌++◌, ◌∷◌, List, ℕ, true, false, map, length, take, nat_eq, IfNone, IfSome, string_bytes};
+ghost use Rattle.std.specs.List.{ends_with};
 ghost use Rattle.be_pattern.specs.Match.{Part, Only, Run, matches, some_tail};
 ghost use Rattle.be_byte_pattern.specs.Runs.{after_stars, parts_of_runs};
 
@@ -24,12 +25,43 @@ impl Runs {
     }
 }
 
+/// Whether bytes begin with a run that is no longer than they are. Most don't, and differ in the first byte.
+#[inline(always)]
+fn begins_with(bytes: &[u8], run: &[u8]) -> bool
+    requires { length run.now ≤ length bytes.now }
+    ensures yes { result ≡ true → take (length run.now) bytes.now ≡ run.now }
+    ensures no { result ≡ false → (rest : List ℕ) → bytes.now ≡ run.now ++ rest → ⊥ }
+{
+    for i in 0..run.len() {
+        if bytes[i] != run[i] {
+            return false;
+        }
+    }
+    true
+}
+
 /// The bytes after a run with which they begin.
+#[inline(always)]
 fn after_run<'a>(bytes: &'a [u8], run: &[u8]) -> Option<&'a [u8]>
     ensures some { IfSome result (λ rest. bytes.now ≡ run.now ++ rest.now) }
     ensures none { IfNone result ((rest : List ℕ) → bytes.now ≡ run.now ++ rest → ⊥) }
 {
-    bytes.strip_prefix(run)
+    if bytes.len() < run.len() || !begins_with(bytes, run) {
+        return None;
+    }
+    Some(&bytes[run.len()..])
+}
+
+/// Whether bytes end with a run.
+#[inline(always)]
+fn ends_with(bytes: &[u8], run: &[u8]) -> bool
+    ensures { result ≡ ends_with nat_eq bytes.now run.now }
+{
+    if bytes.len() < run.len() {
+        return false;
+    }
+    let (_, end) = bytes.split_at(bytes.len() - run.len());
+    begins_with(end, run)
 }
 
 /// The bytes after the first place at which a run is found.
@@ -59,7 +91,7 @@ fn follow(runs: &[String], bytes: &[u8]) -> bool
     let mut rest = bytes;
     'runs: while let Some((run, after)) = left.split_first() {
         if after.is_empty() {
-            return rest.ends_with(run.as_bytes());
+            return ends_with(rest, run.as_bytes());
         }
         let Some(shorter) = after_first(rest, run.as_bytes()) else {
             return false;

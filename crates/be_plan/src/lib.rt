@@ -24,6 +24,7 @@ mod running;
 mod sorting;
 mod source;
 mod spine;
+mod texts;
 mod walks;
 
 pub use asking::{answer, answer_into};
@@ -37,3 +38,4 @@ pub use prepared::PreparedQuery;
 pub use running::run;
 pub use sorting::put_in_order;
 pub use source::{KeyRange, Source};
+pub use texts::{TextTest, text_of};

@@ -21,8 +21,8 @@ ghost use Rattle.be_plan.specs.Walk.{IsNodeWithin, Keeps, HasWithin};
 use crate::evaluating::{asks_name, is_true, satisfies};
 use crate::ranges::Range;
 use crate::sorting::put_in_order;
-use crate::{KeyRange, Source};
-use be_query::Tree;
+use crate::{KeyRange, Source, TextTest};
+use be_query::{Comparison, Tree};
 use be_value::{Kind, Name, Refusal, read_key};
 use std::alloc::Global;
 
@@ -148,6 +148,35 @@ fn ask_each<S: Source>(
     Ok(())
 }
 
+/// The comparison that is left to ask of the texts of the index, if this is all that is left.
+fn asked_of_texts<'t>(rest: &'t Tree, name: &Name, kind: Kind) -> Option<&'t Comparison>
+{
+    match rest {
+        Tree::Leaf(comparison) if kind == Kind::Cstr && comparison.name == *name => {
+            Some(comparison)
+        }
+        _ => None,
+    }
+}
+
+/// Adds the nodes of the keys in the range of whose texts the comparison is true. The source asks it of each key where the key is.
+fn test_all<S: Source>(
+    alloc: Global,
+    source: &mut S,
+    comparison: &Comparison,
+    range: &Range,
+    found: &mut Vec<u64>,
+) -> Result<(), Refusal>
+{
+    let test = TextTest::new(alloc, comparison)?;
+    let keys = KeyRange {
+        name: &comparison.name,
+        low: range.low(),
+        high: range.high(),
+    };
+    source.nodes_passing(keys, &test, found)
+}
+
 /// Adds the nodes of the keys in the range of which the tree is true, where this part is left to ask of them. Where no comparison on the index's
 /// name is left, a key tells no more than its node. It stands by itself, so that a walk whose range decides the tree needs no room for keys.
 #[inline(never)]
@@ -173,6 +202,9 @@ fn walk_rest<S: Source>(
     ensures has { OnOk result (HasWithin volume (formula tree.now) name.now range.now.low.items
         (high_of range.now) found.new.items) }
 {
+    if let Some(comparison) = asked_of_texts(rest, name, kind) {
+        return test_all(alloc, source, comparison, range, found);
+    }
     if asks_name(rest, name) {
         visit_all(source, tree, name, kind, range, found)
     } else {

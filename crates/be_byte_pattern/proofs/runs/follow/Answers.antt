@@ -9,7 +9,7 @@ returns-then-is_empty c =
     let e : c.runs.left.now ≡ c.in-Some.run'.now ∷ c.in-Some.after.now = search rules in
     let none : length c.in-Some.after.now ≡ 0 = grind (arith, common_steps) in
     run_ends (map string_bytes c.runs.left.now) (map string_bytes c.in-Some.after.now) (string_bytes c.in-Some.run'.now) c.as_bytes.result.now c.runs.rest.now _ _
-    (ap (map string_bytes) e) (none_mapped string_bytes c.in-Some.after.now none) c.as_bytes.ensures.value c.ends_with.ensures.value c.runs.invariant
+    (ap (map string_bytes) e) (none_mapped string_bytes c.in-Some.after.now none) c.as_bytes.ensures.value c.ends_with.ensures c.runs.invariant
 
 pub returns-in_default-after_first : goal.returns-in_default-after_first
 returns-in_default-after_first c =
