@@ -158,6 +158,6 @@ pub end_found : (run bytes end : List ℕ) (b : Bool) → end ≡ drop (length b
     → (b ≡ true → take (length run) end ≡ run) → (b ≡ false → (rest : List ℕ) → end ≡ run ++ rest → ⊥) → b ≡ ends_with nat_eq bytes run
 end_found run bytes end b is fits begins differs = both_ways _ _
     (λ h.
-      let short : length end ≤ length run = omega (arith, ap length is, length-drop (length bytes - length run) bytes, fits) in
-      (decides run bytes).1 (sym (begins h) ∙ take_all (length run) end short ∙ is))
+    let short : length end ≤ length run = omega (arith, ap length is, length-drop (length bytes - length run) bytes, fits) in
+    (decides run bytes).1 (sym (begins h) ∙ take_all (length run) end short ∙ is))
     (λ h. true_from_ne_false b (λ k. differs k [] (is ∙ sym ((decides run bytes).0 h) ∙ sym (append-nil run))))

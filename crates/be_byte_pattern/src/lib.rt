@@ -9,7 +9,5 @@
 mod byte_pattern;
 mod reading;
 mod runs;
-#[cfg(test)]
-mod tests;
 
 pub use byte_pattern::BytePattern;

@@ -35,7 +35,6 @@ mod prepared;
 mod reading;
 mod rows;
 mod spelling;
-mod texts;
 mod version;
 mod writes;
 

@@ -8,8 +8,7 @@ ghost use Rattle.be_volume.specs.Sound.{IsSound};
 ghost use Rattle.be_plan.specs.Narrow.{is_above};
 ghost use Rattle.be_plan.specs.Walk.{HasNodes, HasOnly, Keeps};
 
-use crate::texts::text_of;
-use crate::{KeyRange, Source, TextTest};
+use crate::{KeyRange, Source};
 use arrayvec::ArrayVec;
 use be_value::{Kind, Name, Refusal, Value, node_of};
 use be_volume::Volume;
@@ -64,15 +63,6 @@ impl Source for VolumeSource<'_> {
         nodes_in(self.volume, keys.name, keys.low, keys.high, found)
     }
 
-    fn nodes_passing(
-        &mut self,
-        keys: KeyRange<'_>,
-        test: &TextTest<'_>,
-        found: &mut Vec<u64>,
-    ) -> Result<(), Refusal> {
-        nodes_passing_in(self.volume, keys.name, keys.low, keys.high, test, found)
-    }
-
     fn has_key(&mut self, name: &Name, key: &[u8]) -> bool {
         self.volume.has_key(name, key)
     }
@@ -102,29 +92,6 @@ fn nodes_in(
             return Ok(());
         }
         found.push(node_of(key.as_slice()))?;
-        next = volume.next_key(name, key.as_slice(), true);
-    }
-    Ok(())
-}
-
-/// Adds the nodes of the keys of these of which the text passes the test, in the same way.
-fn nodes_passing_in(
-    volume: &Volume,
-    name: &Name,
-    low: &[u8],
-    high: Option<&[u8]>,
-    test: &TextTest<'_>,
-    found: &mut Vec<u64>,
-) -> Result<(), Refusal>
-{
-    let mut next = volume.next_key(name, low, false);
-    'keys: while let Some(key) = &next {
-        if is_past(high, key.as_slice()) {
-            return Ok(());
-        }
-        if test.passes(text_of(key.as_slice())) {
-            found.push(node_of(key.as_slice()))?;
-        }
         next = volume.next_key(name, key.as_slice(), true);
     }
     Ok(())

@@ -16,7 +16,6 @@ ghost use Rattle.be_volume.specs.Keys.{IsKey, IsNextKey};
 ghost use Rattle.be_volume.specs.Sound.{IsSound};
 ghost use Rattle.be_plan.specs.Walk.{HasNodes, HasOnly, Keeps};
 
-use crate::TextTest;
 use arrayvec::ArrayVec;
 use be_query::Comparison;
 use be_value::{Kind, Name, Refusal, Value, key_of};
@@ -69,14 +68,6 @@ pub trait Source {
             HasNodes volume keys.entry.name.now keys.entry.low.now (option_copied keys.entry.high) found.new.items) }
         ensures stays { kept self.new ≡ kept self.old }
         ensures answers { (volume : State) → answers_for self.old volume → answers_for self.new volume };
-
-    /// Adds the node of each of these keys whose text passes the test.
-    fn nodes_passing(
-        &mut self,
-        keys: KeyRange<'_>,
-        test: &TextTest<'_>,
-        found: &mut Vec<u64>,
-    ) -> Result<(), Refusal>;
 
     /// Whether the index of that name has the key; false without an index.
     fn has_key(&mut self, name: &Name, key: &[u8]) -> bool

@@ -4,9 +4,7 @@ ghost use Rattle.be_volume.specs.Volume.{State};
 ghost use Rattle.be_plan.specs.Sources.{IsVolume};
 
 use arrayvec::{ArrayString, ArrayVec};
-use be_plan::{
-    Cover, KeyRange, Source, TextTest, VolumeSource, choose_from, covers, run, volume_source,
-};
+use be_plan::{Cover, KeyRange, Source, VolumeSource, choose_from, covers, run, volume_source};
 use be_query::Query;
 use be_value::{Kind, Name, Refusal, Value};
 use be_volume::Volume;
@@ -110,17 +108,6 @@ impl Source for Counting<'_> {
         let count = keys_within(self.volume, keys.name, keys.low, keys.high);
         write_steps(&mut self.counts, keys.name, count);
         self.source.nodes_within(keys, found)
-    }
-
-    fn nodes_passing(
-        &mut self,
-        keys: KeyRange<'_>,
-        test: &TextTest<'_>,
-        found: &mut Vec<u64>,
-    ) -> Result<(), Refusal> {
-        let count = keys_within(self.volume, keys.name, keys.low, keys.high);
-        write_steps(&mut self.counts, keys.name, count);
-        self.source.nodes_passing(keys, test, found)
     }
 
     fn has_key(&mut self, name: &Name, key: &[u8]) -> bool {

@@ -1,6 +1,5 @@
-//! Patterns and texts, with what has to come by the rules of `docs/QUERIES.md`. No contract says which texts the definition of a
-//! match admits.
-use crate::BytePattern;
+//! Patterns and texts, by bytes and by characters, with what has to come by the rules of `docs/QUERIES.md`.
+use be_byte_pattern::BytePattern;
 use be_pattern::Pattern;
 use be_value::Refusal;
 use std::alloc::Global;
