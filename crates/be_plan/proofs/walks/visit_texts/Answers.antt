@@ -49,7 +49,7 @@ keys-init g c =
     }
 
 pub visit_text-requires : goal.visit_text-requires
-visit_text-requires g c κs within =
+visit_text-requires g c =
     let f = Leaf c.args.name.now c.args.test.now.0 c.args.test.now.1 in
     let name = c.args.name.now in
     let next = c.in-Some.key.items in
@@ -58,7 +58,7 @@ visit_text-requires g c κs within =
     let C : Option (List ℕ) → Type 0 = λ o. HasCome g.volume (wanted g.volume f) name low high o c.keys.found.items in
     let come : HasCome g.volume (wanted g.volume f) name low high (Some next) c.keys.found.items = subst C (ap (λ o. option_map (λ b. b.items) o) c.in-Some.is) c.keys.invariant.come in
     let P : List ℕ → Type 0 = λ k. IsKey g.volume name k in
-    (within, (g.met.S.Source.sound c.args.source.now g.volume c.requires.1.0, (c.requires.1.1, subst P (sym c.as_slice-in-Some.ensures.value) come.is_next.0)))
+    (g.met.S.Source.sound c.args.source.now g.volume c.requires.1.0, (c.requires.1.1, subst P (sym c.as_slice-in-Some.ensures.value) come.is_next.0))
 
 pub keys-smaller : goal.keys-smaller
 keys-smaller g c =
