@@ -73,7 +73,7 @@ pub(crate) fn held_key(node: u64, name: &HeldName) -> ArrayVec<u8, 72>
     key
 }
 
-/// Puts items at a place behind those that were put, as many as there are places.
+/// Puts items at a place after those that were put, as many as there are places.
 fn put_at<T: Copy>(places: &mut [T], at: usize, items: &[T])
     ensures { (before all : List T) → length before ≡ at → places.old ≡ over before all → places.new ≡ over (before ++ items.now) all }
 {
@@ -187,7 +187,7 @@ fn value_cell<L: Look>(look: &mut L, page: u64, at: usize, offset: usize) -> Opt
     }
 }
 
-/// The bytes behind the first one.
+/// The bytes after the first one.
 fn after_first(payload: &[u8]) -> &[u8]
     ensures { result.now ≡ drop 1 payload.now }
 {

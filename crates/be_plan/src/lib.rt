@@ -24,6 +24,7 @@ mod running;
 mod sorting;
 mod source;
 mod spine;
+mod texts;
 mod walks;
 
 pub use asking::{answer, answer_into};

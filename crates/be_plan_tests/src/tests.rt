@@ -4,8 +4,8 @@
 //! the attribute of nodes 1, 2, .. to one of these values each. What is asked of it stands
 //! in lines `COMMAND QUERY => REPLY`. The command `explain` asks what the query is answered from, and `query` for its nodes
 //! by these picks; `list` explains what the list of the indices chooses. Digits are a command too: the nodes by these picks, a
-//! digit for each. Behind the nodes stands of which indices a key was asked, the first letter of the name for each call, and for a
-//! range that is asked for whole, one for each key that lies in it and one for its end: `nodes 2 3 asks nnn`. The commands `keys`,
+//! digit for each. After the nodes come the indices of which a key was asked, by the first letter of the name for each call; of a
+//! range that is asked for whole, a letter for each key that lies in it and one for its end: `nodes 2 3 asks nnn`. The commands `keys`,
 //! `looks` and `kinds` count what is asked for where the source tells the kinds, and `ranges` counts the ranges that answer a query
 //! whole.
 

@@ -1,5 +1,6 @@
 //! A file for each crate that is tested, or for each part of one.
 
+mod byte_pattern;
 mod counting_look;
 mod journal;
 mod lines;
