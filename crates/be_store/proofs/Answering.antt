@@ -66,9 +66,9 @@ part_kept xs others from end le short lacking was is before added =
     let seam : take from xs ++ part ≡ take end xs = sym (take-add from m xs) ∙ ap (λ e. take e xs) sum in
     let long : length part ≤ m = take_short m (drop from xs) in
     let kept : without part others ≡ part = all_kept part others (λ i lt.
-        let inside : i < m = omega (arith, lt, long) in
-        let at : get_or part i 0 ≡ get_or xs (from + i) 0 = get_or-take m (drop from xs) i 0 inside ∙ get_or-drop from xs i 0 in
-        ap (is_among others) at ∙ lacking (from + i) (omega arith) (omega (arith, inside, sum))) in
+    let inside : i < m = omega (arith, lt, long) in
+    let at : get_or part i 0 ≡ get_or xs (from + i) 0 = get_or-take m (drop from xs) i 0 inside ∙ get_or-drop from xs i 0 in
+    ap (is_among others) at ∙ lacking (from + i) (omega arith) (omega (arith, inside, sum))) in
     added ∙ (ap (λ l. l ++ part) before ∙ (ap (λ l. without (take from xs) others ++ l) (sym kept)
     ∙ (sym (without_append (take from xs) part others) ∙ ap (λ l. without l others) seam)))
 

@@ -97,9 +97,9 @@ pub(crate) fn find_prepared(
 {
     match prepared.find(session) {
         Ok(()) => {
-            let found = prepared.found();
-            *count = found.len() as u64;
-            put(nodes, found);
+            let kept = prepared.found();
+            *count = kept.len() as u64;
+            put(nodes, kept);
             0
         }
         Err(fault) => refuse(fault, count),

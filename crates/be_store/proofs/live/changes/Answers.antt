@@ -22,8 +22,8 @@ loop-node-preserved c =
     let not_below = c.first_not_below-next.ensures.not_below in
     let more : take (k + 1) now ≡ take k now ++ n ∷ [] = take_more now k 0 inside in
     let gone : c.push_part.new.list.items ≡ without (take next last) now =
-        part_kept last now at next range.0 range.1 (between_lack now last up up_last k at next inside was.below between not_below was.above range.1)
-            c.loop-node.removed.items c.push_part.new.list.items was.removed c.in_ok-push_part.ensures.ok in
+    part_kept last now at next range.0 range.1 (between_lack now last up up_last k at next inside was.below between not_below was.above range.1)
+    c.loop-node.removed.items c.push_part.new.list.items was.removed c.in_ok-push_part.ensures.ok in
     record {
       created = elim c.if-is_at.branch [
         | then-is_at w ↦
@@ -73,6 +73,6 @@ returns-clause-ok c =
     let was = c.loop-node.invariant in
     let all : length now ≤ k = omega (arith, c.loop-node-test.false) in
     let gone : c.push_part-2.new.list.items ≡ without (take (length last) last) now =
-        part_kept last now c.loop-node.at (length last) was.inside (omega arith) (rest_lack now last k c.loop-node.at all was.above)
-            c.loop-node.removed.items c.push_part-2.new.list.items was.removed c.in_ok-push_part-2.ensures.ok in
+    part_kept last now c.loop-node.at (length last) was.inside (omega arith) (rest_lack now last k c.loop-node.at all was.above)
+    c.loop-node.removed.items c.push_part-2.new.list.items was.removed c.in_ok-push_part-2.ensures.ok in
     (was.created ∙ ap (λ l. without l last) (take_all k now all), gone ∙ ap (λ l. without l now) (take_all (length last) last (omega arith)))
