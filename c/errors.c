@@ -117,6 +117,7 @@ static void of_queries(void)
     RETURNS(BES_NOT_PINNED, bes_query_items(&pass, uncovered, 3, (const uint8_t *)"a", 1, nodes, 4, &count));
     RETURNS(BES_CLOSED, bes_query_prepared(&pass, &unprepared, nodes, 4, &count));
     RETURNS(BES_NOT_PINNED, bes_query_prepared(&pass, &prepared, nodes, 4, &count));
+    RETURNS(BES_CLOSED, bes_found(&unprepared, 0, nodes, 4, &count));
     RETURNS(BES_CLOSED, bes_refresh(&pass, &unprepared, &updates));
     RETURNS(BES_NOT_PINNED, bes_refresh(&pass, &prepared, &updates));
 }

@@ -93,6 +93,7 @@ static uint32_t call_journal(void) { return bes_journal(&mine, out.bytes, 64, &o
 static uint32_t call_nodes(void) { return bes_nodes(&mine, 0, out.nodes, 4, &out.count); }
 static uint32_t call_status(void) { return bes_status(&mine, &out.usage, &out.number); }
 static uint32_t call_changes(void) { return bes_changes(&kept, out.nodes, 4, out.more, 4); }
+static uint32_t call_found(void) { return bes_found(&kept, 0, out.nodes, 4, &out.count); }
 static uint32_t call_get(void) { return bes_read(&mine, 1, "size", &out.told, out.bytes, 64); }
 static uint32_t call_columns(void)
 {
@@ -158,7 +159,7 @@ static void refuse_all(void)
         call_another, call_prepare, call_prepare_items, call_query, call_items, call_prepared, call_explain, call_attributes,
         call_indices, call_nodes, call_state, call_journal, call_journal_from, call_prepared_text, call_apply, call_retry
     };
-    uint32_t (*const without[])(void) = {call_changes, call_get, call_columns, call_status, call_next, call_number,
+    uint32_t (*const without[])(void) = {call_changes, call_found, call_get, call_columns, call_status, call_next, call_number,
                                          call_move_prepared, call_move_place, call_unpin, call_pin, call_move};
     CHECK(bes_open(64, 2, 100, &mine) == BES_OK);
     CHECK(bes_make_index(&mine, "size", BES_INT32_TYPE) == BES_OK && bes_make_index(&mine, "name", BES_STRING_TYPE) == BES_OK);

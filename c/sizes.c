@@ -53,6 +53,9 @@ static void found(bes_pass *pass, const char *query, const bes_item *items, size
     OK(bes_prepare_text(query, &prepared, &place));
     OK(bes_query_prepared(pass, &prepared, nodes, MOST_NODES, &told_count));
     CHECK(told_count == count && are_from_one(nodes, count));
+    nodes[0] = 0;
+    OK(bes_found(&prepared, 0, nodes, MOST_NODES, &told_count));
+    CHECK(told_count == count && are_from_one(nodes, count));
     for (uint64_t created = count, i = 0; i < 2; created = 0, i++) {
         OK(bes_refresh(pass, &prepared, &updates));
         CHECK(updates.created == created && updates.removed == 0);

@@ -151,6 +151,8 @@ static void queries()
     Prepared other = std::move(prepared);
     CHECK(pin.query(other) == Nodes{299, 300});
     refused(BES_CLOSED, [&] { pin.query(prepared); });
+    Prepared positive("n>0");
+    CHECK(pin.query(positive) == all && pin.count(positive) == 300 && pin.query(positive) == all);
     refused(BES_SYNTAX, at_byte(3), [] { Prepared("n>="); });
 }
 

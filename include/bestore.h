@@ -20,8 +20,8 @@
  * by bes_forget, bes_forget_prepared or bes_forget_place, which free nothing, and may then open a store of its own.
  *
  * ERRORS. Each call returns BES_OK or the number of an error. A call's comment lists its errors in the order in which the call
- * looks for them; if two hold, the first is returned. After an error the store, the handles and your memory are as they were,
- * except for the parameter number, count, seen or place. The error sets it to the value that the comment names, or to 0. What the
+ * looks for them; if two hold, the first is returned. After an error the store, the handles and your memory are as they were, if
+ * the comment names no exception, but for the parameter number, count, seen or place. The error sets it to the value that the comment names, or to 0. What the
  * pass has seen of the journal may have grown. Pointers must be valid and may not overlap. A length of 0 needs a pointer that isn't
  * null as well, for instance to any variable.
  *
@@ -351,10 +351,10 @@ uint32_t bes_prepare(const uint8_t *text, size_t text_length, bes_prepared *prep
 uint32_t bes_prepare_items(const bes_item *items, size_t items_count, const uint8_t *bytes, size_t bytes_count,
                            bes_prepared *prepared, uint64_t *place);
 
-/* Closes the handle, and frees the query and what its last refresh found. BES_CLOSED. */
+/* Closes the handle, and frees the query with what it found. BES_CLOSED. */
 uint32_t bes_release(bes_prepared *prepared);
 
-/* Moves a prepared query into other, with what its last refresh found, and closes its handle.
+/* Moves a prepared query into other, with what it found, and closes its handle.
  * [out] other    a closed handle, which is opened
  * BES_CLOSED (of prepared), BES_OPEN (of other). */
 uint32_t bes_move_prepared(bes_prepared *prepared, bes_prepared *other);
@@ -367,9 +367,23 @@ uint32_t bes_move_prepared(bes_prepared *prepared, bes_prepared *other);
  * Cost: memory for the text. */
 uint32_t bes_prepared_text(bes_prepared *prepared, uint8_t *bytes, size_t bytes_room, uint64_t *count);
 
-/* As bes_query, for a prepared query: nothing is parsed. What the last refresh found stays.
- * BES_CLOSED (of pass, then of prepared), BES_NOT_PINNED, BES_NOT_COVERED, BES_NO_MEMORY. */
+/* As bes_query, for a prepared query: nothing is parsed. The handle keeps the result for bes_found until it is asked again. What the
+ * last refresh found stays.
+ * BES_CLOSED (of pass, then of prepared), BES_NOT_PINNED, BES_NOT_COVERED, BES_NO_MEMORY. After the last three the handle keeps no
+ * result.
+ * Cost: that of bes_query without parsing. If all comparisons are on one attribute and none is under ||, the range of keys that they
+ * leave is made once, and most queries cost one descent of a tree and a walk over that range. Memory for the result stays with the
+ * handle, and is used again. */
 uint32_t bes_query_prepared(bes_pass *pass, bes_prepared *prepared, uint64_t *nodes, size_t nodes_room, uint64_t *count);
+
+/* Writes the nodes that the handle's last bes_query_prepared found, from an index on. So a result for which there was no room is read
+ * without asking again, and a long one in parts. Needs no pin.
+ * [in] from      the index of the first node to write, from 0
+ * [out] nodes    the nodes, ascending; as many as nodes_room
+ * [out] count    how many nodes the whole result has; 0 before the first asking, and after one that returned an error
+ * BES_CLOSED.
+ * Cost: the time to copy them. */
+uint32_t bes_found(bes_prepared *prepared, uint64_t from, uint64_t *nodes, size_t nodes_room, uint64_t *count);
 
 /* Refreshes a prepared query: asks it in the pinned snapshot, and compares with its result at the last refresh, which at first is
  * empty. The handle keeps which nodes came and went until the next refresh, for bes_changes. Nodes are compared by their numbers, so
@@ -377,7 +391,7 @@ uint32_t bes_query_prepared(bes_pass *pass, bes_prepared *prepared, uint64_t *no
  * to.
  * [out] updates  how many nodes came and how many went
  * BES_CLOSED (of pass, then of prepared), BES_NOT_PINNED, BES_NOT_COVERED, BES_NO_MEMORY. The query keeps its last result.
- * Cost: that of bes_query without parsing, and a search in one result for each node of the other. */
+ * Cost: that of bes_query_prepared, and a walk over both results. Memory for the nodes that came and went. */
 uint32_t bes_refresh(bes_pass *pass, bes_prepared *prepared, bes_updates *updates);
 
 /* Writes the nodes that came at the last refresh, and those that went, each ascending. Needs no pin.

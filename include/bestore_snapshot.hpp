@@ -231,7 +231,14 @@ public:
     }
     std::vector<Node> query(Prepared &prepared)
     {
-        return found([&](auto... room) { return asked(prepared, room...); }, detail::Place::none);
+        std::vector<Node> nodes(256);
+        std::uint64_t count = 0;
+        const auto room = nodes.size();
+        detail::check(bes_query_prepared(handle(), prepared.handle(), nodes.data(), room, &count));
+        nodes.resize(count);
+        if (count > room)
+            detail::check(bes_found(prepared.handle(), room, nodes.data() + room, count - room, &count));
+        return nodes;
     }
 
     // How many nodes meet the query, with none listed.

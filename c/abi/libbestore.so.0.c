@@ -170,6 +170,7 @@ CALL(bes_check_name, const uint8_t *, size_t, bes_name *)
 CALL(bes_get_named, bes_pass *, uint64_t, const bes_name *, bes_attribute *, uint8_t *, size_t)
 CALL(bes_columns, bes_pass *, const uint64_t *, size_t, const bes_name *, size_t, bes_cell *, size_t, uint8_t *, size_t,
      uint64_t *)
+CALL(bes_found, bes_prepared *, uint64_t, uint64_t *, size_t, uint64_t *)
 NUMBER(BES_CONFLICT, 76)
 
 SIZE(bes_name, 72)

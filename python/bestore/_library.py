@@ -120,6 +120,7 @@ def _arguments() -> dict[str, List[Any]]:
         "bes_prepared_text": [handle, text, size, words],
         "bes_release": [handle],
         "bes_query_prepared": [handle, handle, *put_out],
+        "bes_found": [handle, word, *put_out],
         "bes_refresh": [handle, handle, ctypes.POINTER(Updates)],
         "bes_changes": [handle, words, size, words, size],
         "bes_explain": [handle, text, size, text, size, words],

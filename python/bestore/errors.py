@@ -139,7 +139,7 @@ class PartialIndex(Error, ValueError):
 
 
 class Behind(Error):
-    """The journals did not get so long in time."""
+    """The journals were shorter than expected at the end of the time."""
 
     def __init__(self, expected: Sequence[int], found: Sequence[int]) -> None:
         super().__init__(expected, found)

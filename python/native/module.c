@@ -16,8 +16,8 @@ typedef struct Named {
 
 static const Named calls[] = {
     CALL(pin), CALL(unpin), CALL(close), CALL(release), CALL(leave), CALL(next), CALL(apply), CALL(apply_if), CALL(query),
-    CALL(query_items), CALL(query_prepared), CALL(refresh), CALL(changes), CALL(nodes), CALL(get), CALL(check_name), CALL(columns),
-    CALL(attributes), CALL(indices), CALL(state), CALL(journal_from),
+    CALL(query_items), CALL(query_prepared), CALL(found), CALL(refresh), CALL(changes), CALL(nodes), CALL(get), CALL(check_name),
+    CALL(columns), CALL(attributes), CALL(indices), CALL(state), CALL(journal_from),
 };
 
 /* Takes the calls of the library that was loaded: a dict of their names and addresses. */

@@ -34,6 +34,7 @@ typedef struct Library {
     uint32_t (*query)(bes_pass *, const uint8_t *, size_t, uint64_t *, size_t, uint64_t *);
     uint32_t (*query_items)(bes_pass *, const bes_item *, size_t, const uint8_t *, size_t, uint64_t *, size_t, uint64_t *);
     uint32_t (*query_prepared)(bes_pass *, bes_prepared *, uint64_t *, size_t, uint64_t *);
+    uint32_t (*found)(bes_prepared *, uint64_t, uint64_t *, size_t, uint64_t *);
     uint32_t (*refresh)(bes_pass *, bes_prepared *, bes_updates *);
     uint32_t (*changes)(bes_prepared *, uint64_t *, size_t, uint64_t *, size_t);
     uint32_t (*nodes)(bes_pass *, uint64_t, uint64_t *, size_t, uint64_t *);

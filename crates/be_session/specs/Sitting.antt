@@ -98,7 +98,7 @@ abbrev pub AtPin : {X : Type 0} → Option ℕ → Result X Fault → Type 0 →
 AtPin None answer told = answer ≡ Err NotPinned
 AtPin (Some n) answer told = told
 
--- why a live query wasn't refreshed: there is no pin; or there is one, and the query has no answer there, or a growth was refused
+-- why a live query wasn't asked or refreshed: there is no pin; or there is one, and the query has no answer there, or a growth was refused
 abbrev pub IsUnrefreshed : Option ℕ → Result (List ℕ) Refusal → Fault → Type 0
 IsUnrefreshed None meant e = e ≡ NotPinned
 IsUnrefreshed (Some n) meant e = IsUnanswered meant e

@@ -1,5 +1,5 @@
 //! Queries that are parsed once and kept, to be asked again.
-ghost use Rattle.std.specs.Prelude.{◌≡◌, ℕ, IfOk, IfErr, string_bytes};
+ghost use Rattle.std.specs.Prelude.{◌≡◌, ℕ, [], Ok, IfOk, IfErr, OnOk, string_bytes};
 ghost use Rattle.be_value.specs.declared.refusals.Refusal.TheVariants.{OutOfMemory};
 ghost use Rattle.be_query.specs.Grammar.{Formula, IsTextOf};
 ghost use Rattle.be_query.specs.Printing.{or_text};
@@ -8,8 +8,8 @@ ghost use Rattle.be_table.specs.Seats.{pinned_number};
 ghost use Rattle.be_store.specs.Live.{Refreshes};
 ghost use Rattle.be_store.specs.Passes.{HasRead, IsPinnedTo, volume_pinned};
 ghost use Rattle.be_session.specs.Items.{IsBuilt, IsUnbuilt};
-ghost use Rattle.be_session.specs.Prepared.{IsUnasked};
-ghost use Rattle.be_session.specs.Sitting.{AtPin, IsNoQuery, IsUnrefreshed, ReadAnswers};
+ghost use Rattle.be_session.specs.Prepared.{IsUnasked, with_found};
+ghost use Rattle.be_session.specs.Sitting.{IsNoQuery, IsUnrefreshed};
 ghost use Rattle.be_session.specs.declared.faults.Fault.TheVariants.{Refused};
 
 use crate::session::{Session, query_of};
@@ -19,11 +19,12 @@ use be_store::{Live, Query, Updates};
 use std::alloc::{AllocError, Global};
 use std::marker::Model;
 
-/// A query that is parsed once and kept, with its answer at the last refresh, and with which nodes came and which went then.
-/// It belongs to no session, and may be asked by any.
+/// A query that is parsed once and kept, with what it found when it was asked last, and with its answer at the last refresh
+/// and which nodes came and which went then. It belongs to no session, and may be asked by any.
 #[derive(Drop)]
 pub struct Prepared {
     live: Live,
+    found: Vec<u64>,
     updates: Updates,
 }
 
@@ -34,19 +35,33 @@ impl Model for Prepared {
 
     ghost coded = { coded_prepared };
 
-    ghost view = { λ p. record { live = p.live; came = p.updates.created.items; went = p.updates.removed.items } };
+    ghost view = { λ p. record { live = p.live; found = p.found.items; came = p.updates.created.items; went = p.updates.removed.items } };
 }
 
 impl Prepared {
-    /// The nodes of which the query is true in the session's pinned version, ascending. The last answer stays as it was.
-    pub fn find(&self, alloc: Global, session: &mut Session) -> Result<Vec<u64>, Fault>
+    /// Asks the query in the session's pinned version, and keeps the nodes of which it is true there, in place of what it found
+    /// before. After an error it keeps none. What the last refresh found stays.
+    ///
+    /// It costs what `Store::query_prepared` costs. The list of an earlier asking is used again, so it takes memory only if that
+    /// has no room.
+    #[tactic(auto, using(crate::proofs::Same::same_but_found))]
+    pub fn find(&mut self, session: &mut Session) -> Result<(), Fault>
         ensures store { (session.new.store ≡ session.old.store) × (session.new.spare ≡ session.old.spare) }
         ensures read { HasRead session.old.knows session.new.knows }
-        ensures nodes { AtPin (pinned_number session.old.knows.phase) result
-            (ReadAnswers (λ nodes. nodes.items) result (scan (volume_pinned session.old.knows) self.now.live.query)) }
+        ensures nodes { OnOk result (scan (volume_pinned session.old.knows) self.old.live.query ≡ Ok self.new.found) }
+        ensures pin { OnOk result ((n : ℕ) × IsPinnedTo session.old.knows n) }
+        ensures same { self.new ≡ with_found self.old self.new.found }
+        ensures err { IfErr result (λ e. (self.new.found ≡ [])
+            × IsUnrefreshed (pinned_number session.old.knows.phase) (scan (volume_pinned session.old.knows) self.old.live.query) e) }
     {
-        let asked = self.live.query();
-        session.query(alloc, asked)
+        session.query_into(&mut self.live, &mut self.found)
+    }
+
+    /// The nodes that the last asking found, ascending; none before the first, or after an error.
+    pub fn found(&self) -> &[u64]
+        ensures { result.now ≡ self.now.found }
+    {
+        self.found.as_slice()
     }
 
     /// Asks the query in the session's pinned version, and keeps which nodes came and which went since the last refresh. A fault
@@ -97,6 +112,7 @@ fn in_box(alloc: Global, query: Query) -> Result<Box<Prepared, Global>, AllocErr
 {
     let prepared = Prepared {
         live: Live::new(alloc, query),
+        found: Vec::new(alloc),
         updates: Updates {
             created: Vec::new(alloc),
             removed: Vec::new(alloc),

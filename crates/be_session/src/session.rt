@@ -377,6 +377,30 @@ impl Session {
         Ok(store.query(alloc, &mut self.pass, query)?.nodes)
     }
 
+    /// Puts the nodes of which a live query is true in the pinned version into a list, ascending, in place of what it had. A list
+    /// that has room for them takes no memory. After an error it is empty. What the last refresh found stays.
+    pub fn query_into(&mut self, live: &mut Live, nodes: &mut Vec<u64>) -> Result<(), Fault>
+        ensures store { (self.new.store ≡ self.old.store) × (self.new.spare ≡ self.old.spare) }
+        ensures read { HasRead self.old.knows self.new.knows }
+        ensures nodes { OnOk result (scan (volume_pinned self.old.knows) live.old.query ≡ Ok nodes.new.items) }
+        ensures pin { OnOk result ((n : ℕ) × IsPinnedTo self.old.knows n) }
+        ensures same { live.new ≡ live.old }
+        ensures err { IfErr result (λ e. (nodes.new.items ≡ [])
+            × IsUnrefreshed (pinned_number self.old.knows.phase) (scan (volume_pinned self.old.knows) live.old.query) e) }
+    {
+        let Some(_) = self.pass.pinned() else {
+            nodes.clear();
+            return Err(Fault::NotPinned);
+        };
+        match live.query_into(self.shared.store(), &mut self.pass, nodes) {
+            Ok(_) => Ok(()),
+            Err(refusal) => {
+                nodes.clear();
+                Err(Fault::Refused(refusal))
+            }
+        }
+    }
+
     /// Asks a live query in the pinned version, and tells which nodes came and which went since its last refresh. A fault
     /// leaves it as it was.
     pub fn refresh(&mut self, live: &mut Live) -> Result<Updates, Fault>

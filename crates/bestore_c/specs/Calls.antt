@@ -1,5 +1,5 @@
 -- What calls make of handles.
-use Rattle.std.specs.Prelude.{◌≡◌, ◌⊎◌, ◌<◌, ℕ, ◌+◌, ◌*◌, ◌^◌, IsUtf8, List, length, map, slice_get, Option, None, Some, Ok, Err}
+use Rattle.std.specs.Prelude.{◌≡◌, ◌⊎◌, ◌<◌, ℕ, ◌+◌, ◌*◌, ◌^◌, IsUtf8, List, [], drop, length, map, slice_get, Option, None, Some, Ok, Err}
 use Rattle.std.specs.declared.result.Result.{Result}
 use Rattle.be_journal.specs.declared.entries.Entry.{Entry}
 use Rattle.be_journal.specs.Journal.{IsLegal}
@@ -13,7 +13,7 @@ use Rattle.be_session.specs.Items.{IsBuilt, IsUnbuilt}
 use Rattle.be_session.specs.Meaning.{HasNoMore, IsNoName, IsValueMeant}
 use Rattle.be_session.specs.Operations.{AreMeant, AreSpelled, IsMisspelt, IsWriteCount, TellNodes}
 use Rattle.be_session.specs.Explained.{explanation_in}
-use Rattle.be_session.specs.Prepared.{IsUnasked, PreparedQuery}
+use Rattle.be_session.specs.Prepared.{IsUnasked, PreparedQuery, with_found}
 use Rattle.be_session.specs.Sitting.{IsHandedOut, IsNoQuery, IsOpened, IsUnrefreshed, IsUnwritten, IsUnwrittenIf, Sitting}
 use Rattle.be_session.specs.declared.faults.Fault.{Fault}
 use Rattle.be_session.specs.declared.faults.Fault.TheVariants.{BadCount, NotPinned, Refused}
@@ -213,11 +213,27 @@ Prepares is_meant is_fault (Some p) None place code = ⊥
 Prepares is_meant is_fault None (Some q) place code = (code ≡ 0) × (place ≡ 0) × (query : Formula) × is_meant query × IsUnasked query q
 Prepares is_meant is_fault None None place code = (e : Fault) × (code ≡ fault_code e) × is_fault e place
 
--- A prepared query: its handle is closed, and then nothing has happened; or its answer in the pinned version is put out.
-abbrev pub FindsPrepared : Sitting → Sitting → Option PreparedQuery → List ℕ → List ℕ → ℕ → ℕ → Type 0
-FindsPrepared s t None places filled count code = IsClosed count code × (t ≡ s)
-FindsPrepared s t (Some p) places filled count code =
-    HasRead s.knows t.knows × PutsOutAtPin (pinned_number s.knows.phase) (scan (volume_pinned s.knows) p.live.query) places filled count code
+-- A query was asked in the pinned version, and keeps what it found: how many nodes these are is returned, and up to as many of them
+-- as there are places. Or an error, with what it carries: then it keeps none. What its last refresh found stays.
+abbrev pub Asked : Sitting → PreparedQuery → PreparedQuery → List ℕ → List ℕ → ℕ → ℕ → Type 0
+Asked s p q places filled count code =
+    (q ≡ with_found p q.found)
+    × (((code ≡ 0) × (n : ℕ) × IsPinnedTo s.knows n × (scan (volume_pinned s.knows) p.live.query ≡ Ok q.found)
+    × (count ≡ length q.found) × (filled ≡ over q.found places))
+    ⊎ ((e : Fault) × Refuses e count code × (q.found ≡ []) × IsUnrefreshed (pinned_number s.knows.phase) (scan (volume_pinned s.knows) p.live.query) e))
+
+-- An asking of a prepared query: its handle is closed and stays so, and then nothing has happened; or it stays open, and is asked.
+abbrev pub AsksPrepared : Sitting → Sitting → Option PreparedQuery → Option PreparedQuery → List ℕ → List ℕ → ℕ → ℕ → Type 0
+AsksPrepared s t None None places filled count code = IsClosed count code × (t ≡ s)
+AsksPrepared s t None (Some q) places filled count code = ⊥
+AsksPrepared s t (Some p) None places filled count code = ⊥
+AsksPrepared s t (Some p) (Some q) places filled count code = HasRead s.knows t.knows × Asked s p q places filled count code
+
+-- What a prepared query found when it was asked last: how many nodes these are, and from an index on up to as many of them as there
+-- are places. Or its handle is closed.
+abbrev pub ShowsFound : Option PreparedQuery → ℕ → List ℕ → List ℕ → ℕ → ℕ → Type 0
+ShowsFound None from places filled count code = IsClosed count code
+ShowsFound (Some p) from places filled count code = (code ≡ 0) × (count ≡ length p.found) × (filled ≡ over (drop from p.found) places)
 
 -- A query was asked in the pinned version, and keeps which nodes came and which went: how many these are is told; or it stays
 -- as it was.

@@ -5,11 +5,9 @@ ghost use Rattle.std.specs.declared.result.Result.{Result as AnyResult};
 ghost use Rattle.be_query.specs.Grammar.{IsTextOf};
 ghost use Rattle.be_session.specs.Sitting.{AtPin, IsNoQuery, ReadAnswers};
 ghost use Rattle.be_session.specs.declared.faults.Fault.{Fault as AnyFault};
-ghost use Rattle.be_store.specs.Passes.{HasRead, volume_pinned};
-ghost use Rattle.be_table.specs.Seats.{pinned_number};
+ghost use Rattle.be_store.specs.Passes.{HasRead};
 ghost use Rattle.be_value.specs.declared.refusals.Refusal.{Refusal as AnyRefusal};
-ghost use Rattle.be_volume.specs.Query.{scan};
-ghost use Rattle.bestore_c.specs.Calls.{IsClosed, PutsOutAtPin, Refreshed, Refuses};
+ghost use Rattle.bestore_c.specs.Calls.{Asked, IsClosed, PutsOutAtPin, Refreshed, Refuses};
 ghost use Rattle.bestore_c.specs.Places.{over};
 
 use crate::CLOSED;
@@ -85,22 +83,27 @@ pub(crate) fn tell_text(answer: Result<String, Fault>, bytes: &mut [u8], count: 
     }
 }
 
-/// Asks a prepared query in the session's pinned version, and puts out what `tell` does.
+/// Asks a prepared query in the session's pinned version, and puts out what `tell` does of what it found.
 pub(crate) fn find_prepared(
-    alloc: Global,
     session: &mut Session,
-    prepared: &Prepared,
+    prepared: &mut Prepared,
     nodes: &mut [u64],
     count: &mut u64,
 ) -> u32
     ensures store { (session.new.store ≡ session.old.store) × (session.new.spare ≡ session.old.spare) }
     ensures read { HasRead session.old.knows session.new.knows }
-    ensures found { PutsOutAtPin (pinned_number session.old.knows.phase) (scan (volume_pinned session.old.knows) prepared.now.live.query)
-        nodes.old nodes.new count.new result }
+    ensures asked { Asked session.old prepared.old prepared.new nodes.old nodes.new count.new result }
     ensures kept { (result ≡ 0) ⊎ (nodes.new ≡ nodes.old) }
 {
-    let answer = prepared.find(alloc, session);
-    tell(answer, nodes, count)
+    match prepared.find(session) {
+        Ok(()) => {
+            let kept = prepared.found();
+            *count = kept.len() as u64;
+            put(nodes, kept);
+            0
+        }
+        Err(fault) => refuse(fault, count),
+    }
 }
 
 /// Refreshes a prepared query in the session's pinned version, and puts out how many nodes came and how many went.

@@ -18,8 +18,8 @@ ghost use Rattle.be_table.specs.Seats.{pinned_number};
 ghost use Rattle.be_table.specs.Steps.{unpins};
 ghost use Rattle.be_table.specs.Trace.{with_history};
 ghost use Rattle.be_volume.specs.Reading.{attributes_at, index_kinds};
-ghost use Rattle.bestore_c.specs.Calls.{AnswersWhetherOpen, Calls, Explains, Finds, FindsBuilt, FindsPrepared, GivesAnother, IsClosed};
-ghost use Rattle.bestore_c.specs.Calls.{IsTextFault, Listed, MovesHandle, Opens, Prepares, PrintsPrepared, PutsOutAtPin, Reads, RefreshesPrepared, Refuses};
+ghost use Rattle.bestore_c.specs.Calls.{AnswersWhetherOpen, AsksPrepared, Calls, Explains, Finds, FindsBuilt, GivesAnother, IsClosed};
+ghost use Rattle.bestore_c.specs.Calls.{IsTextFault, Listed, MovesHandle, Opens, Prepares, PrintsPrepared, PutsOutAtPin, Reads, RefreshesPrepared, Refuses, ShowsFound};
 ghost use Rattle.bestore_c.specs.Calls.{HoldsName, ReadsHeld, ShowsChanges, TellsAtPin, TellsEntry, TellsJournal, TellsNumber, WritesSpelled, WritesSpelledIf};
 ghost use Rattle.bestore_c.specs.States.{TellsState, untold_at};
 ghost use Rattle.bestore_c.specs.Usage.{TellsUsage};
@@ -50,7 +50,7 @@ use listing::{tell_attributes, tell_indices};
 use owned::Owned;
 use owned_place::OwnedPlace;
 use owned_query::OwnedQuery;
-use places::{put, put_nodes};
+use places::{from_on, put, put_nodes};
 use reading::read;
 use refusing::{refuse, refuse_list};
 use states::{begin, tell_state};
@@ -168,7 +168,7 @@ pub extern "C" fn bes_close(alloc: Global, pass: &mut Handle) -> u32
     DONE
 }
 
-/// Meets a pass that was given back: both have then seen what either had. Puts out how much that is.
+/// Meets a pass that was given back: both have then seen what either had. Returns how much that is.
 #[unsafe(no_mangle)]
 pub extern "C" fn bes_meet(pass: &mut Handle, seen: &mut u64) -> u32
     ensures pass { Calls pass.old.owned.value pass.new.owned.value (IsClosed seen.new result)
@@ -187,7 +187,7 @@ pub extern "C" fn bes_meet(pass: &mut Handle, seen: &mut u64) -> u32
     }
 }
 
-/// Pins the current version, and puts out its number.
+/// Pins the current version, and returns its number.
 #[unsafe(no_mangle)]
 pub extern "C" fn bes_pin(pass: &mut Handle, number: &mut u64) -> u32
     ensures pass { Calls pass.old.owned.value pass.new.owned.value (IsClosed number.new result)
@@ -221,7 +221,7 @@ pub extern "C" fn bes_unpin(pass: &mut Handle) -> u32
     }
 }
 
-/// Writes 1 to 64 operations, all or none. Puts out the journal's length with them, and for each operation the number of
+/// Writes 1 to 64 operations, all or none. Returns the journal's length with them, and for each operation the number of
 /// the node that it made, or 0, as far as there is room.
 #[unsafe(no_mangle)]
 pub extern "C" fn bes_apply(
@@ -291,7 +291,7 @@ pub extern "C" fn bes_apply_if(
     }
 }
 
-/// Tells the number of the handle's pass.
+/// Returns the number of the handle's pass.
 #[unsafe(no_mangle)]
 pub extern "C" fn bes_number(pass: &mut Handle, number: &mut u64) -> u32
     ensures pass { Calls pass.old.owned.value pass.new.owned.value (IsClosed number.new result)
@@ -305,7 +305,7 @@ pub extern "C" fn bes_number(pass: &mut Handle, number: &mut u64) -> u32
     DONE
 }
 
-/// Tells the number that the next new node gets, in the pinned version.
+/// Returns the number that the next new node gets, in the pinned version.
 #[unsafe(no_mangle)]
 pub extern "C" fn bes_next(pass: &mut Handle, node: &mut u64) -> u32
     ensures pass { Calls pass.old.owned.value pass.new.owned.value (IsClosed node.new result)
@@ -324,7 +324,7 @@ pub extern "C" fn bes_next(pass: &mut Handle, node: &mut u64) -> u32
     }
 }
 
-/// Tells one entry of the journal, that of an index from 0: by which pass it is, and its operations, each that made a node with
+/// Returns one entry of the journal, that of an index from 0: by which pass it is, and its operations, each that made a node with
 /// that node, as much as there is room for. At the journal's end there are none. Returns the journal's length in `number`.
 #[unsafe(no_mangle)]
 pub extern "C" fn bes_journal_from(
@@ -355,7 +355,7 @@ pub extern "C" fn bes_journal_from(
     }
 }
 
-/// Asks the query of this text in the pinned version. Puts out how many nodes meet it, and as many of them as there is
+/// Asks the query of this text in the pinned version. Returns how many nodes meet it, and as many of them as there is
 /// room for.
 #[unsafe(no_mangle)]
 pub extern "C" fn bes_query(
@@ -401,7 +401,7 @@ pub extern "C" fn bes_query_items(
     tell(answer, nodes, count)
 }
 
-/// Says what the query of this text would be answered from in the pinned version. Puts out how many bytes that text has, and
+/// Says what the query of this text would be answered from in the pinned version. Returns how many bytes that text has, and
 /// as many of them as there is room for.
 #[unsafe(no_mangle)]
 pub extern "C" fn bes_explain(
@@ -422,7 +422,7 @@ pub extern "C" fn bes_explain(
     tell_text(answer, bytes, count)
 }
 
-/// Lists the nodes of the pinned version from a number on, ascending, as many as there is room for. Puts out how many these are.
+/// Lists the nodes of the pinned version from a number on, ascending, as many as there is room for. Returns how many these are.
 #[unsafe(no_mangle)]
 pub extern "C" fn bes_nodes(
     alloc: Global,
@@ -445,7 +445,7 @@ pub extern "C" fn bes_nodes(
     tell(answer, nodes, count)
 }
 
-/// Tells how full the store is, and the oldest version that a pass has announced.
+/// Returns how full the store is, and the oldest version that a pass has announced.
 #[unsafe(no_mangle)]
 pub extern "C" fn bes_status(pass: &mut Handle, usage: &mut Usage, number: &mut u64) -> u32
     ensures pass { Calls pass.old.owned.value pass.new.owned.value (IsClosed number.new result)
@@ -465,7 +465,7 @@ pub extern "C" fn bes_status(pass: &mut Handle, usage: &mut Usage, number: &mut 
     }
 }
 
-/// Reads a node's attribute in the pinned version. Puts out its type code, its number and its length in bytes, and as many
+/// Reads a node's attribute in the pinned version. Returns its type code, its number and its length in bytes, and as many
 /// of its bytes as there is room for.
 #[unsafe(no_mangle)]
 pub extern "C" fn bes_get(
@@ -519,8 +519,8 @@ pub extern "C" fn bes_get_named(
     read(pass.owned.lent(), node, held, attribute, bytes)
 }
 
-/// Tells what each node has at each name in the pinned version: a cell for each, and the bytes of all texts end to end, of both as
-/// many as there are places. Puts out how many bytes there are.
+/// Returns what each node has at each name in the pinned version: a cell for each, and the bytes of all texts end to end, of both as
+/// many as there are places. Returns how many bytes there are.
 #[unsafe(no_mangle)]
 pub extern "C" fn bes_columns(
     pass: &mut Handle,
@@ -548,7 +548,7 @@ pub extern "C" fn bes_columns(
     }
 }
 
-/// Lists a node's attributes in the pinned version, as the operations that set them. Puts out how many they are, and how many
+/// Lists a node's attributes in the pinned version, as the operations that set them. Returns how many they are, and how many
 /// bytes their parts are in, and of both as much as there is room for.
 #[unsafe(no_mangle)]
 pub extern "C" fn bes_attributes(
@@ -592,7 +592,7 @@ pub extern "C" fn bes_indices(
     tell_indices(alloc, answer, counts, listed, bytes)
 }
 
-/// Puts out the next operations that make the pinned version again, 64 at most and none after the last. Puts out how many they
+/// Returns the next operations that make the pinned version again, 64 at most and none after the last, with how many they
 /// are, and how many bytes their parts are in, and of both as much as there is room for: where that is all, the place goes behind
 /// them.
 #[unsafe(no_mangle)]
@@ -695,7 +695,7 @@ pub extern "C" fn bes_prepare_items(
     }
 }
 
-/// Tells the canonical text of a prepared query. Puts out how many bytes it has, and as many of them as there is room for.
+/// Returns the canonical text of a prepared query. Returns how many bytes it has, and as many of them as there is room for.
 #[unsafe(no_mangle)]
 pub extern "C" fn bes_prepared_text(
     alloc: Global,
@@ -781,18 +781,17 @@ pub extern "C" fn bes_release(alloc: Global, prepared: &mut PreparedHandle) -> u
     DONE
 }
 
-/// Asks a prepared query in the pinned version, as `bes_query` does. What its last refresh found stays.
+/// Asks a prepared query in the pinned version, as `bes_query` does, and keeps what it found for `bes_found`. What its last
+/// refresh found stays.
 #[unsafe(no_mangle)]
 pub extern "C" fn bes_query_prepared(
-    alloc: Global,
     pass: &mut Handle,
     prepared: &mut PreparedHandle,
     nodes: &mut [u64],
     count: &mut u64,
 ) -> u32
-    ensures pass { Calls pass.old.owned.value pass.new.owned.value (IsClosed count.new result)
-        (λ s t. FindsPrepared s t prepared.old.owned.value nodes.old nodes.new count.new result) }
-    ensures prepared { prepared.new.owned.value ≡ prepared.old.owned.value }
+    ensures pass { Calls pass.old.owned.value pass.new.owned.value (IsClosed count.new result × (prepared.new.owned.value ≡ prepared.old.owned.value))
+        (λ s t. AsksPrepared s t prepared.old.owned.value prepared.new.owned.value nodes.old nodes.new count.new result) }
     ensures kept { (result ≡ 0) ⊎ (nodes.new ≡ nodes.old) }
 {
     if !pass.live {
@@ -804,10 +803,33 @@ pub extern "C" fn bes_query_prepared(
         return CLOSED;
     }
     let query = prepared.owned.lent();
-    find_prepared(alloc, pass.owned.lent(), query, nodes, count)
+    find_prepared(pass.owned.lent(), query, nodes, count)
 }
 
-/// Refreshes a prepared query in the pinned version. Puts out how many nodes came since its last refresh, and how many went;
+/// Returns the nodes that a prepared query found when it was asked last, from an index on, as many as there is room for, and how
+/// many it found in all.
+#[unsafe(no_mangle)]
+pub extern "C" fn bes_found(
+    prepared: &mut PreparedHandle,
+    from: u64,
+    nodes: &mut [u64],
+    count: &mut u64,
+) -> u32
+    ensures prepared { prepared.new.owned.value ≡ prepared.old.owned.value }
+    ensures found { ShowsFound prepared.old.owned.value from nodes.old nodes.new count.new result }
+    ensures kept { (result ≡ 0) ⊎ (nodes.new ≡ nodes.old) }
+{
+    *count = 0;
+    if !prepared.live {
+        return CLOSED;
+    }
+    let found = prepared.owned.lent().found();
+    *count = found.len() as u64;
+    put(nodes, from_on(found, from));
+    DONE
+}
+
+/// Refreshes a prepared query in the pinned version. Returns how many nodes came since its last refresh, and how many went;
 /// `bes_changes` tells which.
 #[unsafe(no_mangle)]
 pub extern "C" fn bes_refresh(
@@ -828,7 +850,7 @@ pub extern "C" fn bes_refresh(
     refresh_prepared(pass.owned.lent(), prepared.owned.lent(), counts)
 }
 
-/// Puts out the nodes that came at the last refresh of a prepared query, and those that went, of both as many as there is room
+/// Returns the nodes that came at the last refresh of a prepared query, and those that went, of both as many as there is room
 /// for.
 #[unsafe(no_mangle)]
 pub extern "C" fn bes_changes(
@@ -849,7 +871,7 @@ pub extern "C" fn bes_changes(
     DONE
 }
 
-/// Tells the journal's text up to now. Puts out how many bytes it has, and as many of them as there is room for.
+/// Returns the journal's text up to now. Returns how many bytes it has, and as many of them as there is room for.
 #[unsafe(no_mangle)]
 pub extern "C" fn bes_journal(pass: &mut Handle, bytes: &mut [u8], count: &mut u64) -> u32
     ensures pass { Calls pass.old.owned.value pass.new.owned.value (IsClosed count.new result) (λ s t. TellsJournal s t bytes.old bytes.new count.new result) }

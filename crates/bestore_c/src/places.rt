@@ -1,5 +1,5 @@
 //! What is put where C has room for it.
-ghost use Rattle.std.specs.Prelude.{◌≡◌, map};
+ghost use Rattle.std.specs.Prelude.{◌≡◌, drop, map};
 ghost use Rattle.bestore_c.specs.Places.{over, node_of};
 
 use be_store::Done;
@@ -13,6 +13,14 @@ pub(crate) fn put<T: Copy>(places: &mut [T], numbers: &[T])
     } else {
         places.copy_from_slice(&numbers[..places.len()]);
     }
+}
+
+/// The numbers from an index on, none from the end on.
+pub(crate) fn from_on(numbers: &[u64], from: u64) -> &[u64]
+    ensures { result.now ≡ drop from numbers.now }
+{
+    let from = from.min(numbers.len() as u64);
+    &numbers[from as usize..]
 }
 
 fn node_of(done: Done) -> u64

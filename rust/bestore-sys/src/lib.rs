@@ -270,6 +270,13 @@ extern "C" {
         nodes_room: usize,
         count: *mut u64,
     ) -> u32;
+    pub fn bes_found(
+        prepared: *mut bes_prepared,
+        from: u64,
+        nodes: *mut u64,
+        nodes_room: usize,
+        count: *mut u64,
+    ) -> u32;
     pub fn bes_refresh(pass: *mut bes_pass, prepared: *mut bes_prepared, updates: *mut bes_updates) -> u32;
     pub fn bes_changes(
         prepared: *mut bes_prepared,

@@ -311,9 +311,16 @@ impl RawPass {
 
     pub(crate) fn query_prepared(&self, prepared: &RawPrepared) -> Answer<Vec<u64>> {
         let (pass, prepared) = (self.handle.get()?, prepared.0.get()?);
+        let mut is_asked = false;
         found(&self.room, |nodes, room, count| {
             // SAFETY: as the module says.
-            unsafe { sys::bes_query_prepared(pass, prepared, nodes, room, count) }
+            unsafe {
+                if is_asked {
+                    return sys::bes_found(prepared, 0, nodes, room, count);
+                }
+                is_asked = true;
+                sys::bes_query_prepared(pass, prepared, nodes, room, count)
+            }
         })
     }
 
