@@ -281,6 +281,9 @@ static void long_queries(void)
         memcpy(text, "k==", 3);
         text[size] = 0;
         found(&pass, text, NULL, 0, 1);
+        for (size_t i = 4; i < size; i += 2)
+            text[i] = 'x';
+        found(&pass, text, NULL, 0, size <= 6);
         memset(text + 3, 'x', size - 3);
         found(&pass, text, NULL, 0, size == 4);
         memcpy(expected, "\"k\"==\"", 6);
