@@ -19,6 +19,12 @@ ghost use Rattle.be_tree.specs.Tree.{pairs_at, pairs_below, pages_below};
 ghost use Rattle.be_tree.specs.Writing.{Changes};
 
 use crate::item::Item;
+use crate::path::{Path, find_path};
+use crate::rising::{Changed, rise};
+use crate::settling::settle;
+use crate::splicing::{Cut, splice};
+use crate::siblings::count_of;
+use crate::page::MOST_ITEMS;
 use crate::lookup::rank;
 use crate::page::{HEADER_WORDS, ITEM_WORDS, child_at, cmp_at, fill_slots};
 use crate::siblings::{append, sharing_children, slots_with};
@@ -238,6 +244,32 @@ fn put_shared<R: Room>(
     Ok(branches)
 }
 
+/// Puts a pair where a path leads.
+pub(crate) fn put_on<R: Room>(
+    room: &mut R,
+    root: u64,
+    path: &Path,
+    pair: &Item,
+) -> Result<u64, Refusal> {
+    let (cut, same_least) = match path.place {
+        Ok(at) => (Cut { at, gone: 1 }, true),
+        Err(at) => (Cut { at, gone: 0 }, at > 0),
+    };
+    if cut.gone == 0 && count_of(room, path.leaf) == MOST_ITEMS {
+        let mut slots = ArrayVec::new();
+        fill_slots(room, path.leaf, &mut slots);
+        slots.insert(cut.at, Slot::New);
+        return settle(room, root, &path.above, path.leaf, slots, pair);
+    }
+    let page = splice(room, path.leaf, cut, &[Slot::New], pair)?;
+    let changed = Changed {
+        was: path.leaf,
+        page,
+        same_least,
+    };
+    rise(room, root, &path.above, changed)
+}
+
 /// Puts a pair into a tree, in place of any pair of its key, and gives the new root. The old tree's pages that the new
 /// one has not are given up; those that this write had taken before may be written over. After an error the tree stands
 /// again once the room is undone.
@@ -255,15 +287,7 @@ pub fn insert<R: Room>(room: &mut R, root: u64, key: &[u8], payload: &[u8]) -> R
     if root == 0 {
         return write_first_root(room, &[Slot::New], &pair);
     }
-    let page = root - 1;
-    let level = room.word(page, 0);
-    let mut slots = ArrayVec::new();
-    put_at(room, level, page, &pair, &mut slots)?;
-    let node = Node {
-        slots: &slots,
-        pair: &pair,
-        level,
-    };
-    let new = write_root(room, page, node)?;
-    Ok(new)
+    let mut path = Path::new();
+    find_path(room, root, pair.key(), &mut path);
+    put_on(room, root, &path, &pair)
 }

@@ -291,7 +291,7 @@ pub(crate) fn store_item<R: Room>(room: &mut R, page: u64, at: usize, item: &Ite
 }
 
 /// Copies the words of an item to a place of a page that has a word filled. An item that stands there is left alone.
-fn copy_item<R: Room>(room: &mut R, page: u64, at: usize, from: u64, place: usize)
+pub(crate) fn copy_item<R: Room>(room: &mut R, page: u64, at: usize, from: u64, place: usize)
     requires filled { R.standing room.old page ≡ Filled }
     requires in_page { at + 42 ≤ 512 }
     requires readable { IsTrue (is_readable (R.standing room.old from)) }
@@ -342,7 +342,7 @@ fn store_branch<R: Room>(room: &mut R, page: u64, at: usize, child: u64)
 }
 
 /// Writes the item of a slot at a place of a page that has a word filled.
-fn store_slot<R: Room>(room: &mut R, page: u64, at: usize, slot: Slot, pair: &Item)
+pub(crate) fn store_slot<R: Room>(room: &mut R, page: u64, at: usize, slot: Slot, pair: &Item)
     requires filled { R.standing room.old page ≡ Filled }
     requires in_page { at + 42 ≤ 512 }
     requires ready { IsReady (R.standing room.old) (R.words room.old) slot }

@@ -26,6 +26,11 @@ ghost use Rattle.be_tree.specs.Writing.{CanBeWritten, Changes, IsApart, Replaces
 
 use crate::edit::is_branch_to;
 use crate::item::Item;
+use crate::path::{Path, Step, find_path};
+use crate::rising::{Changed, rise};
+use crate::settling::settle;
+use crate::splicing::{Cut, splice};
+use crate::page::LEAST_ITEMS;
 use crate::lookup::{is_key_at, rank};
 use crate::page::{HEADER_WORDS, ITEM_WORDS, child_at, cmp_at, fill_slots};
 use crate::siblings::{
@@ -54,27 +59,41 @@ pub fn remove<R: Room>(room: &mut R, root: u64, key: &[u8]) -> Result<u64, Refus
     if root == 0 {
         return Ok(root);
     }
-    let pair = Item::new(&[], &[]);
-    let page = root - 1;
-    let level = room.word(page, 0);
-    let mut slots = ArrayVec::new();
-    match remove_at(room, level, page, key, &pair, &mut slots) {
-        Ok(()) => {}
-        Err(Stop::Absent) => return Ok(root),
-        Err(Stop::Refused(refusal)) => return Err(refusal),
+    let mut path = Path::new();
+    find_path(room, root, key, &mut path);
+    match path.place {
+        Ok(at) => take_out(room, root, &path, at),
+        Err(_) => Ok(root),
     }
-    let node = Node {
-        level,
-        slots: &slots,
-        pair: &pair,
+}
+
+/// Takes out the item that a path leads to.
+fn take_out<R: Room>(room: &mut R, root: u64, path: &Path, at: usize) -> Result<u64, Refusal> {
+    let none = Item::new(&[], &[]);
+    let count = count_of(room, path.leaf);
+    if count <= least_of_leaf(&path.above) {
+        let mut slots = ArrayVec::new();
+        fill_slots(room, path.leaf, &mut slots);
+        slots.remove(at);
+        return settle(room, root, &path.above, path.leaf, slots, &none);
+    }
+    let page = splice(room, path.leaf, Cut { at, gone: 1 }, &[], &none)?;
+    let changed = Changed {
+        was: path.leaf,
+        page,
+        same_least: at > 0,
     };
-    let new = write_rest(room, page, node)?;
-    Ok(new)
+    rise(room, root, &path.above, changed)
+}
+
+/// How many items a leaf below these pages keeps at least.
+fn least_of_leaf(above: &[Step]) -> usize {
+    if above.len() == 0 { 1 } else { LEAST_ITEMS }
 }
 
 /// Writes what is left of a root as a tree, and gives its root: none where nothing is left, and the page of the one
 /// branch that is left of an inner root. The old root's page is given up where it isn't written over.
-fn write_rest<R: Room>(room: &mut R, old: u64, node: Node<'_>) -> Result<u64, Refusal>
+pub(crate) fn write_rest<R: Room>(room: &mut R, old: u64, node: Node<'_>) -> Result<u64, Refusal>
     requires low { node.level < 2 ^ 32 }
     requires node { CanBeWritten node.level (R.standing room.old) (R.words room.old) node.pair.now node.slots.now }
     requires few { length node.slots.now ≤ 18 }
