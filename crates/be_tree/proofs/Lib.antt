@@ -4,6 +4,7 @@ pub mod Order
 pub mod Ranges
 pub mod Frame
 pub mod TreeFacts
+pub mod Splices
 pub mod Trees
 pub mod Bytes
 pub mod Nodes

@@ -10,3 +10,5 @@ pub mod Range
 pub mod Cursor
 pub mod Forest
 pub mod Words
+pub mod Splicing
+pub mod Path

@@ -1,4 +1,12 @@
 //! The way down to a key.
+//!
+//! A change goes down a tree once. It keeps which page it met on each level and which branch it took there, so it goes up
+//! again with no other search.
+ghost use Rattle.std.specs.Prelude.{◌≡◌, ◌≤◌, ◌<◌, [], length};
+ghost use Rattle.be_pages.specs.Pages.{IsUnchanged};
+ghost use Rattle.be_tree.specs.Path.{IsPathTo};
+ghost use Rattle.be_tree.specs.Tree.{IsTree};
+
 use crate::lookup::{branch_for, search};
 use crate::page::{HEADER_WORDS, ITEM_WORDS, child_at, first_word};
 use arrayvec::ArrayVec;
@@ -30,7 +38,9 @@ pub(crate) struct Path {
 
 impl Path {
     /// A path to be filled.
-    pub(crate) fn new() -> Path {
+    pub(crate) fn new() -> Path
+        ensures { result.above.items ≡ [] }
+    {
         Path {
             above: ArrayVec::new(),
             leaf: 0,
@@ -40,7 +50,13 @@ impl Path {
 }
 
 /// Goes down a tree that isn't empty to a key, and keeps the way in an empty path. It costs one descent.
-pub(crate) fn find_path<L: Look>(look: &mut L, root: u64, key: &[u8], path: &mut Path) {
+pub(crate) fn find_path<L: Look>(look: &mut L, root: u64, key: &[u8], path: &mut Path)
+    requires tree { IsTree (L.standing look.old) (L.words look.old) root }
+    requires some { 0 < root }
+    requires empty { path.old.above.items ≡ [] }
+    ensures path { IsPathTo (L.standing look.old) (L.words look.old) root key.now path.new }
+    ensures unchanged { IsUnchanged L.kept L.standing L.words look.old look.new }
+{
     let first = first_word(key);
     let mut page = root - 1;
     let mut level = look.word(page, 0);
