@@ -278,7 +278,7 @@ written_swaps kept_of standing_of words_of page old new kept free filled stands 
     step q P n m s t once free filled =
         subst (λ n. PageStep P zero n s t) (sym once) (subst (λ u. PageStep P zero 1 u t) (sym free) (subst (λ u. PageStep P zero 1 Free u) (sym filled) fresh))
 
-filled_is : (s : Standing) → IsTrue (is_kept s) → IsTrue (is_taken s) → s ≡ Filled
+pub filled_is : (s : Standing) → IsTrue (is_kept s) → IsTrue (is_taken s) → s ≡ Filled
 filled_is Free used taken = absurd (false≢true used)
 filled_is Old used taken = absurd (false≢true taken)
 filled_is GivenUp used taken = absurd (false≢true used)

@@ -52,6 +52,22 @@ fn copy_up<R: Room>(room: &mut R, page: u64, first: usize, at: usize, count: usi
     }
 }
 
+/// Copies items of a page to other places of it, so that none is written over before it is copied.
+fn move_items<R: Room>(room: &mut R, page: u64, first: usize, at: usize, count: usize)
+    requires filled { R.standing room.old page ≡ Filled }
+    requires in_page { (at + count ≤ 12) × (first + count ≤ 12) }
+    requires items { (k : ℕ) → k < count → IsItem (R.words room.old page) (item_place (first + k)) }
+    requires open { IsTrue (R.is_open (R.kept room.old)) }
+    ensures copied { AreCopies (R.words room.old page) (R.words room.new page) first at count }
+    ensures only { OnlyWrites R.kept R.standing R.words page (item_place at) (item_place (at + count)) room.old room.new }
+{
+    if first < at {
+        copy_up(room, page, first, at, count);
+        return;
+    }
+    copy_down(room, page, first, page, at, count);
+}
+
 /// Which of a node's items are left out: `gone` of them from number `at` on.
 #[derive(Clone, Copy)]
 pub(crate) struct Cut {
@@ -73,11 +89,7 @@ fn open_here<R: Room>(room: &mut R, page: u64, cut: Cut, more: usize)
     let next = cut.at + cut.gone;
     let rest = count - next;
     room.fill(page, 1, (cut.at + more + rest) as u64);
-    if cut.gone < more {
-        copy_up(room, page, next, cut.at + more, rest);
-    } else {
-        copy_down(room, page, next, page, cut.at + more, rest);
-    }
+    move_items(room, page, next, cut.at + more, rest);
 }
 
 /// Copies a page to one that is taken for it, with room for `more` items in the place of a cut, and gives the copy.

@@ -10,8 +10,8 @@ use Rattle.be_tree.proofs.splicing.store_slots.Goals as goal
 
 pub store_slot-requires-clause-ready : goal.store_slot-requires-clause-ready
 store_slot-requires-clause-ready g c =
-    off_ready g.R.Look.kept g.R.Look.standing g.R.Look.words c.args.page (item_place c.args.at) (item_place (c.args.at + c.loop-i.i)) c.args.room.now c.loop-i.room c.loop-i.invariant.only
-    _ (c.requires.off c.loop-i.i _ (omega (arith, c.loop-i-test.true))) (c.requires.ready c.loop-i.i _ (omega (arith, c.loop-i-test.true)))
+    off_ready c.args.page (g.R.Look.standing c.args.room.now) (g.R.Look.standing c.loop-i.room) (g.R.Look.words c.args.room.now) (g.R.Look.words c.loop-i.room)
+    (λ q ne. c.loop-i.invariant.only.standing q) c.loop-i.invariant.only.others _ (c.requires.off c.loop-i.i _ (omega (arith, c.loop-i-test.true))) (c.requires.ready c.loop-i.i _ (omega (arith, c.loop-i-test.true)))
 
 pub store_slot-requires-clause-may_move : goal.store_slot-requires-clause-may_move
 store_slot-requires-clause-may_move g c = off_moves c.args.page (item_place (c.args.at + c.loop-i.i)) _ (c.requires.off c.loop-i.i _ (omega (arith, c.loop-i-test.true)))
@@ -24,7 +24,7 @@ loop-i-preserved g c =
     let old = g.R.Look.words c.args.room.now in
     let only = c.loop-i.invariant.only in
     let this = λ (d : Slot). c.store_slot.ensures.item
-    ∙ off_pair g.R.Look.kept g.R.Look.standing g.R.Look.words c.args.page (item_place c.args.at) here c.args.room.now c.loop-i.room only c.args.pair.now _ (c.requires.off i _ lt)
+    ∙ off_pair c.args.page (g.R.Look.standing c.args.room.now) (g.R.Look.standing c.loop-i.room) old (g.R.Look.words c.loop-i.room) (λ q ne. only.standing q) only.others c.args.pair.now _ (c.requires.off i _ lt)
     ∙ ap (pair_of old c.args.pair.now) (get_or_default c.args.slots.now i _ d lt) in
     record {
       stored = λ k d less. elim (cases_lt k i) [
