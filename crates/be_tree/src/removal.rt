@@ -26,18 +26,17 @@ ghost use Rattle.be_tree.specs.Writing.{CanBeWritten, Changes, IsApart, Replaces
 
 use crate::edit::is_branch_to;
 use crate::item::Item;
+use crate::lookup::{is_key_at, rank};
+use crate::page::{HEADER_WORDS, ITEM_WORDS, LEAST_ITEMS, child_at, cmp_at, fill_slots};
 use crate::path::{Path, Step, find_path};
 use crate::rising::{Changed, rise};
 use crate::settling::settle;
-use crate::splicing::{Cut, splice};
-use crate::page::LEAST_ITEMS;
-use crate::lookup::{is_key_at, rank};
-use crate::page::{HEADER_WORDS, ITEM_WORDS, child_at, cmp_at, fill_slots};
 use crate::siblings::{
     Side, count_of, pages_in_order, slots_beside, slots_with, slots_with_one, spare_child,
     two_children,
 };
 use crate::slot::{Node, Slot};
+use crate::splicing::{Cut, splice};
 use crate::stop::Stop;
 use crate::writing::{pack_two, write_branch, write_root};
 use arrayvec::ArrayVec;

@@ -32,8 +32,17 @@ pub(crate) fn rise<R: Room>(
             return Ok(root);
         }
         let step = above[above.len() - 1 - i];
-        let cut = Cut { at: step.at, gone: 1 };
-        let page = splice(room, step.page, cut, &[Slot::Branch(below.page as u32)], &none)?;
+        let cut = Cut {
+            at: step.at,
+            gone: 1,
+        };
+        let page = splice(
+            room,
+            step.page,
+            cut,
+            &[Slot::Branch(below.page as u32)],
+            &none,
+        )?;
         below = Changed {
             was: step.page,
             page,

@@ -28,7 +28,10 @@ fn settle_alone<R: Room>(
     node: Node<'_>,
 ) -> Result<Settled, Refusal> {
     let branches = pack(room, was, node)?;
-    let cut = Cut { at: step.at, gone: 1 };
+    let cut = Cut {
+        at: step.at,
+        gone: 1,
+    };
     Ok(Settled { cut, branches })
 }
 
@@ -73,7 +76,10 @@ fn settle_right<R: Room>(
         pair: node.pair,
     };
     let branches = pack_two(room, was, right, both)?;
-    let cut = Cut { at: step.at, gone: 2 };
+    let cut = Cut {
+        at: step.at,
+        gone: 2,
+    };
     Ok(Settled { cut, branches })
 }
 

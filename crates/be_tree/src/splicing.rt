@@ -31,7 +31,13 @@ fn copy_down<R: Room>(room: &mut R, from: u64, first: usize, page: u64, at: usiz
 {
     for i in 0..count {
         let place = HEADER_WORDS + ITEM_WORDS * (first + i);
-        copy_item(room, page, HEADER_WORDS + ITEM_WORDS * (at + i), from, place);
+        copy_item(
+            room,
+            page,
+            HEADER_WORDS + ITEM_WORDS * (at + i),
+            from,
+            place,
+        );
     }
 }
 
@@ -48,7 +54,13 @@ fn copy_up<R: Room>(room: &mut R, page: u64, first: usize, at: usize, count: usi
     for i in 0..count {
         let j = count - 1 - i;
         let place = HEADER_WORDS + ITEM_WORDS * (first + j);
-        copy_item(room, page, HEADER_WORDS + ITEM_WORDS * (at + j), page, place);
+        copy_item(
+            room,
+            page,
+            HEADER_WORDS + ITEM_WORDS * (at + j),
+            page,
+            place,
+        );
     }
 }
 
@@ -127,7 +139,13 @@ fn store_slots<R: Room>(room: &mut R, page: u64, at: usize, slots: &[Slot], pair
     ensures only { OnlyWrites R.kept R.standing R.words page (item_place at) (item_place (at + length slots.now)) room.old room.new }
 {
     for i in 0..slots.len() {
-        store_slot(room, page, HEADER_WORDS + ITEM_WORDS * (at + i), slots[i], pair);
+        store_slot(
+            room,
+            page,
+            HEADER_WORDS + ITEM_WORDS * (at + i),
+            slots[i],
+            pair,
+        );
     }
 }
 

@@ -34,9 +34,11 @@ returns-then-is_taken-clause-ok g c =
     let only = c.store_slots.ensures.only in
     let f = pair_of (g.R.Look.words c.args.room.now) given in
     let stored : (k : ℕ) (d : Slot) → k < length slots → IsStored w (cut.at + k) (f (get_or slots k d)) = λ k d lt.
-    let this = c.store_slots.ensures.items k d lt in
-    (this.0 ∙ off_pair c.args.page (g.R.Look.standing c.args.room.now) (g.R.Look.standing c.open_here.new.room) (g.R.Look.words c.args.room.now) (g.R.Look.words c.open_here.new.room) (λ q ne. moved.standing q) moved.others
-    given (get_or slots k d) (c.requires.cut.off k d lt), this.1) in
+    let this = c.store_slots.ensures.items k d lt in (
+      this.0 ∙ off_pair c.args.page (g.R.Look.standing c.args.room.now) (g.R.Look.standing c.open_here.new.room) (g.R.Look.words c.args.room.now) (g.R.Look.words c.open_here.new.room) (λ q ne. moved.standing q) moved.others
+          given (get_or slots k d) (c.requires.cut.off k d lt),
+      this.1,
+    ) in
     record {
       is_page = spliced_page u v w cut slots f c.open_here.ensures.gap c.requires.cut.in_range stored only.before only.after c.requires.cut.few;
       same_level = only.before 0 (omega arith) ∙ c.open_here.ensures.gap.same_level;
@@ -97,9 +99,11 @@ returns-clause-ok g c =
     let f = pair_of old given in
     let gap = c.in_ok-copy.ensures.gap in
     let stored : (k : ℕ) (d : Slot) → k < length slots → IsStored w (cut.at + k) (f (get_or slots k d)) = λ k d lt.
-    let this = c.store_slots-2.ensures.items k d lt in
-    (this.0 ∙ off_pair copy s t old (g.R.Look.words c.open_copy.new.room) (stands_else s t copy Filled took.standing) took.others
-    given (get_or slots k d) (off_free copy s old (get_or slots k d) took.was_free (c.requires.cut.ready k d lt)), this.1) in
+    let this = c.store_slots-2.ensures.items k d lt in (
+      this.0 ∙ off_pair copy s t old (g.R.Look.words c.open_copy.new.room) (stands_else s t copy Filled took.standing) took.others
+          given (get_or slots k d) (off_free copy s old (get_or slots k d) took.was_free (c.requires.cut.ready k d lt)),
+      this.1,
+    ) in
     let same = ap (λ x. x copy) c.give_up.ensures.words in
     record {
       is_page = subst IsPage (sym same) (spliced_page u v w cut slots f gap c.requires.cut.in_range stored only.before only.after c.requires.cut.few);
