@@ -6,6 +6,7 @@ pub mod Frame
 pub mod TreeFacts
 pub mod Splices
 pub mod Trees
+pub mod Ways
 pub mod Bytes
 pub mod Nodes
 pub mod Shape
