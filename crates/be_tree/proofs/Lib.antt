@@ -7,6 +7,8 @@ pub mod TreeFacts
 pub mod Splices
 pub mod Trees
 pub mod Ways
+pub mod Rises
+pub mod Raises
 pub mod Bytes
 pub mod Nodes
 pub mod Shape

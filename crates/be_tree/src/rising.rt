@@ -1,4 +1,13 @@
 //! The pages above a page that was changed are changed, as far as they have to be.
+//!
+//! A page that is copied has another number, so the branch to it is changed. A page of which the least key is another one is
+//! named by it above. Where neither is, the pages above stay as they are.
+ghost use Rattle.std.specs.Prelude.{◌≡◌, ◌+◌, ◌<◌, ◌⊎◌, IfOk, IsTrue, true};
+ghost use Rattle.be_tree.specs.Page.{level_of};
+ghost use Rattle.be_tree.specs.Path.{IsChanged, whole};
+ghost use Rattle.be_tree.specs.Tree.{BecomesTree, pages, pairs_at};
+ghost use Rattle.be_tree.specs.Writing.{Refuses};
+
 use crate::item::Item;
 use crate::path::Step;
 use crate::slot::Slot;
@@ -17,6 +26,13 @@ pub(crate) struct Changed {
     pub(crate) same_least: bool,
 }
 
+/// Whether the least key below a page is known to be the same, where the child of its branch of this number was changed.
+fn keeps_least(child: Changed, at: usize) -> bool
+    ensures { result ≡ true → (0 < at) ⊎ (child.same_least ≡ true) }
+{
+    child.same_least || at > 0
+}
+
 /// Writes the branches to a changed page and to those above it that change with it, the lowest first, and gives the new
 /// root. Above a page that was changed where it is, with its least key, nothing changes.
 pub(crate) fn rise<R: Room>(
@@ -24,7 +40,14 @@ pub(crate) fn rise<R: Room>(
     root: u64,
     above: &[Step],
     changed: Changed,
-) -> Result<u64, Refusal> {
+) -> Result<u64, Refusal>
+    requires changed { (start : R) × IsChanged R.kept R.standing R.words root above.now changed (level_of (R.words start changed.was)) start room.old }
+    requires open { IsTrue (R.is_open (R.kept room.old)) }
+    ensures ok { IfOk result (λ new. (start : R) → IsChanged R.kept R.standing R.words root above.now changed (level_of (R.words start changed.was)) start room.old
+        → BecomesTree R.kept R.standing R.words (pages (R.words start) root)
+        (whole (R.words start) above.now (pairs_at (level_of (R.words start changed.was)) (R.words room.old) changed.page)) new start room.new) }
+    ensures refused { Refuses R.kept R.standing R.words R.full result room.old room.new }
+{
     let none = Item::new(&[], &[]);
     let mut below = changed;
     for i in 0..above.len() {
@@ -46,7 +69,7 @@ pub(crate) fn rise<R: Room>(
         below = Changed {
             was: step.page,
             page,
-            same_least: below.same_least || step.at > 0,
+            same_least: keeps_least(below, step.at),
         };
     }
     Ok(below.page + 1)
