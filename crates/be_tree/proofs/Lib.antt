@@ -9,6 +9,7 @@ pub mod Trees
 pub mod Ways
 pub mod Rises
 pub mod Raises
+pub mod Leaves
 pub mod Bytes
 pub mod Nodes
 pub mod Shape

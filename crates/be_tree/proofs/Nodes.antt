@@ -7,4 +7,3 @@ pub mod Children
 pub mod Joins
 pub mod Alone
 pub mod Writes
-pub mod Sides

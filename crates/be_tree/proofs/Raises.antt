@@ -23,7 +23,7 @@ use Rattle.be_tree.proofs.Shape.Roots.{root_tree}
 use Rattle.be_tree.proofs.TreeFacts.{times_part}
 use Rattle.be_tree.proofs.Ways.{IsPopped, branch_is, rising_inside, step_leads, way_down, way_pop, whole_push}
 
-top : (standing : ℕ → Standing) (words : ℕ → ℕ → ℕ) (root : ℕ) → IsTree standing words root → 0 < root → IsTreeAt (level_of (words (root - 1))) (least_of_root (level_of (words (root - 1)))) standing words (root - 1)
+pub top : (standing : ℕ → Standing) (words : ℕ → ℕ → ℕ) (root : ℕ) → IsTree standing words root → 0 < root → IsTreeAt (level_of (words (root - 1))) (least_of_root (level_of (words (root - 1)))) standing words (root - 1)
 top standing words root tree some = root_tree root (root - 1) (level_of (words (root - 1))) standing words (omega (arith, some)) refl tree
 
 -- the tree at the end of a way

@@ -88,7 +88,7 @@ way_down standing words page (s ∷ below) last way tree =
 -- a change that goes down a way changes the pairs at its end, and no others
 module _ (change : List Pair → List Pair) (k : List ℕ) (standing : ℕ → Standing) (words : ℕ → ℕ → ℕ)
     (goes : (level : ℕ) (items : List Pair) (at : ℕ) (d : Pair) → IsBelow (suc level) standing words items → 0 < length items → IsBranchFor k items at → at < length items
-        → change (pairs_below (suc level) words items) ≡ pairs_below (suc level) words (take at items) ++ (change (pairs_at level words (child (get_or items at d))) ++ pairs_below (suc level) words (drop (suc at) items))) where
+    → change (pairs_below (suc level) words items) ≡ pairs_below (suc level) words (take at items) ++ (change (pairs_at level words (child (get_or items at d))) ++ pairs_below (suc level) words (drop (suc at) items))) where
   pub change_down : (page least : ℕ) (above : List Step) (last : ℕ) → 0 < least → IsWay words page above last → All (λ step. IsBranchFor k (items_of (words step.page)) step.at) above
       → IsTreeAt (level_of (words page)) least standing words page
       → change (pairs_at (level_of (words page)) words page) ≡ whole words above (change (pairs_at (level_of (words last)) words last))

@@ -26,6 +26,7 @@
 mod clearing;
 mod cursor;
 mod edit;
+mod inserting;
 mod item;
 mod laws;
 mod lookup;
@@ -33,13 +34,14 @@ mod numbers;
 mod page;
 mod path;
 mod payload;
+
 mod removal;
 mod rising;
 mod settling;
 mod siblings;
 mod slot;
 mod splicing;
-mod stop;
+mod taking;
 mod walk;
 mod writing;
 

@@ -455,51 +455,6 @@ fn stands_to(page: u64, place: usize, slot: Slot) -> bool
     }
 }
 
-/// Whether a slot's item is the one at this place of this page.
-fn stands_at(page: u64, place: usize, slot: Slot) -> bool
-    ensures { result ≡ true → slot ≡ At place page }
-{
-    match slot {
-        Slot::At(at, from) => from as u64 == page && at as usize == place,
-        Slot::Branch(_) | Slot::New => false,
-    }
-}
-
-/// Whether a node's items are the first ones of this page, each at its place.
-fn all_stand_at(page: u64, slots: &[Slot]) -> bool
-    requires { length slots.now ≤ 12 }
-    ensures { result ≡ true → StandsWhole page slots.now }
-{
-    for j in 0..slots.len() {
-        if !stands_at(page, HEADER_WORDS + ITEM_WORDS * j, slots[j]) {
-            return false;
-        }
-    }
-    true
-}
-
-/// Whether a node is what stands on this page already.
-pub(crate) fn is_whole<L: Look>(look: &mut L, level: u64, page: u64, slots: &[Slot]) -> bool
-    requires readable { IsTrue (is_readable (L.standing look.old page)) }
-    requires few { length slots.now ≤ 12 }
-    requires ready { All (IsReady (L.standing look.old) (L.words look.old)) slots.now }
-    ensures page { result ≡ true → IsPage (L.words look.old page) }
-    ensures level { result ≡ true → level_of (L.words look.old page) ≡ level }
-    ensures items { result ≡ true → (given : Pair) → items_of (L.words look.old page) ≡ pairs_of (L.words look.old) given slots.now }
-    ensures unchanged { IsUnchanged L.kept L.standing L.words look.old look.new }
-{
-    let count = look.word(page, 1) as usize;
-    let len = slots.len();
-    if count != len {
-        return false;
-    }
-    let found = look.word(page, 0);
-    if found != level {
-        return false;
-    }
-    all_stand_at(page, slots)
-}
-
 /// Whether those of a node's items that stand on a page move down there, or stay.
 pub(crate) fn move_down(page: u64, slots: &[Slot]) -> bool
     requires { length slots.now ≤ 12 }

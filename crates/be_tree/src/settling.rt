@@ -1,14 +1,14 @@
 //! A node that has too many items or too few is settled: it is split, or shares items with a neighbour, or joins one.
-use crate::edit::replace_at;
+ghost use Rattle.std.specs.Prelude.{◌≡◌, ◌≤◌, ◌+◌, ◌<◌, ◌++◌, suc, take, drop, length, IsTrue};
+
 use crate::item::Item;
 use crate::page::{HEADER_WORDS, ITEM_WORDS, LEAST_ITEMS, MOST_ITEMS, child_at, fill_slots};
 use crate::path::Step;
-use crate::removal::write_rest;
 use crate::rising::{Changed, rise};
-use crate::siblings::{append, count_of, two_children};
+use crate::siblings::{append, count_of};
 use crate::slot::{Node, Slot};
 use crate::splicing::{Cut, splice};
-use crate::writing::{pack, pack_two};
+use crate::writing::{pack, pack_two, write_rest};
 use arrayvec::ArrayVec;
 use be_pages::{Look, Room};
 use be_value::Refusal;
@@ -120,6 +120,34 @@ fn slots_with<L: Look>(look: &mut L, page: u64, settled: Settled) -> ArrayVec<Sl
     }
     replace_at(&mut slots, settled.cut.at, settled.branches);
     slots
+}
+
+/// Inserts slots at a place.
+fn insert_all(slots: &mut ArrayVec<Slot, 24>, at: usize, mut more: ArrayVec<Slot, 2>)
+    requires in_range { at ≤ length slots.old.items }
+    requires room { length slots.old.items + length more.items ≤ 24 }
+    ensures { slots.new.items ≡ take at slots.old.items ++ (more.items ++ drop at slots.old.items) }
+{
+    while let Some(slot) = more.pop() {
+        slots.insert(at, slot);
+    }
+}
+
+/// Puts slots in the place of the one at a number. Where one replaces one, as mostly, no other is moved.
+fn replace_at(slots: &mut ArrayVec<Slot, 24>, at: usize, mut more: ArrayVec<Slot, 2>)
+    requires in_range { at < length slots.old.items }
+    requires room { length slots.old.items + length more.items ≤ 25 }
+    ensures { slots.new.items ≡ take at slots.old.items ++ (more.items ++ drop (suc at) slots.old.items) }
+{
+    match more.pop() {
+        Some(last) => {
+            slots[at] = last;
+            insert_all(slots, at, more);
+        }
+        None => {
+            slots.remove(at);
+        }
+    }
 }
 
 /// How many items a page keeps at least: a root needs two branches.

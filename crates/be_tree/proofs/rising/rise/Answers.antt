@@ -12,8 +12,6 @@ use Rattle.be_tree.proofs.Shape.Parts.{on_err}
 use Rattle.be_tree.proofs.rising.rise.Given.{Over}
 use Rattle.be_tree.proofs.rising.rise.Goals as goal
 
-
-
 -- the lowest step that is left
 last_step : (xs : List Step) (i : ℕ) → i < length xs → take (length xs - i) xs ≡ take (length xs - 1 - i) xs ++ get_or xs (length xs - 1 - i) (record { page = 0; at = 0 }) ∷ []
 last_step xs i lt =

@@ -3,7 +3,7 @@ use Rattle.be_tree.specs.declared.slot.Slot.{Slot}
 use Rattle.be_tree.specs.Slot.{IsReady, pair_of}
 use Rattle.be_tree.specs.Tree.{child}
 use Rattle.be_tree.proofs.Nodes.Slots.{child_branch}
-use Rattle.be_tree.proofs.removal.child_of.Goals as goal
+use Rattle.be_tree.proofs.writing.child_of.Goals as goal
 
 pub returns-in-Branch-clause-child : goal.returns-in-Branch-clause-child
 returns-in-Branch-clause-child g c =

@@ -9,9 +9,9 @@ use Rattle.be_tree.proofs.Putting.Puts.{held_after}
 use Rattle.be_tree.proofs.Shape.Levels.{kept_not_free}
 use Rattle.be_tree.proofs.Shape.Roots.{tree_given_up}
 use Rattle.be_tree.proofs.Removing.Rests.{one_mapped, one_used, tree_none, tree_one, tree_until}
-use Rattle.be_tree.proofs.removal.write_rest.Given.{Over}
-use Rattle.be_tree.proofs.removal.write_rest.Goals as goal
-use Rattle.be_tree.proofs.removal.write_rest.Goals.{After-child_of-child}
+use Rattle.be_tree.proofs.writing.write_rest.Given.{Over}
+use Rattle.be_tree.proofs.writing.write_rest.Goals as goal
+use Rattle.be_tree.proofs.writing.write_rest.Goals.{After-child_of-child}
 
 pub give_up-requires-clause-held : goal.give_up-requires-clause-held
 give_up-requires-clause-held g c =

@@ -3,7 +3,7 @@ use Rattle.std.specs.List.{refill}
 use Rattle.std.proofs.lemmas.List.{length-set}
 use Rattle.be_tree.specs.declared.slot.Slot.{Slot}
 use Rattle.be_tree.proofs.Nodes.SlotLists.{refilled, replaced}
-use Rattle.be_tree.proofs.edit.replace_at.Goals as goal
+use Rattle.be_tree.proofs.settling.replace_at.Goals as goal
 
 pub returns-in-Some : goal.returns-in-Some
 returns-in-Some c =
