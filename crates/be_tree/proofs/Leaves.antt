@@ -1,12 +1,13 @@
 -- A leaf at the end of a path that has changed.
-use Rattle.std.proofs.Common.{◌≡◌, ℕ, zero, suc, ◌+◌, ◌-◌, ◌<◌, ◌≤◌, ◌^◌, List, [], ◌∷◌, ◌++◌, Bool, true, length, get_or, take, drop, All, IfOk, IfErr, Ok, Err, Some, None, ap, sym, subst, ◌∙◌, refl, arith, append_assoc, if◌then◌else◌}
+use Rattle.std.proofs.Common.{◌≡◌, ℕ, zero, suc, ◌+◌, ◌-◌, ◌<◌, ◌≤◌, ◌^◌, List, [], ◌∷◌, ◌++◌, Bool, true, length, get_or, take, drop, All, Result, Ok, Err, ap, sym, subst, ◌∙◌, refl, arith, append_assoc, if◌then◌else◌}
 use Rattle.std.specs.declared.cmp.Ordering.TheVariants.{Less, Equal, Greater}
 use Rattle.std.specs.List.{flat_map}
 use Rattle.std.specs.Ordering.{is_eq}
 use Rattle.std.proofs.Math.Seq.{take-suc}
 use Rattle.std.proofs.lemmas.List.{append-nil, get_or_default}
 use Rattle.be_pages.specs.declared.room.Standing.{Standing}
-use Rattle.be_pages.specs.Pages.{times, Swaps}
+use Rattle.be_value.specs.declared.refusals.Refusal.{Refusal}
+use Rattle.be_pages.specs.Pages.{KeepsStart}
 use Rattle.be_tree.specs.declared.path.Step.{Step}
 use Rattle.be_tree.specs.declared.rising.Changed.{Changed}
 use Rattle.be_tree.specs.declared.slot.Slot.{Slot}
@@ -15,10 +16,11 @@ use Rattle.be_tree.specs.Pair.{Pair}
 use Rattle.be_tree.specs.Key.{IsBranchFor, IsGap, IsRising, StartsAt, key_cmp, put, put_before, without}
 use Rattle.be_tree.specs.Page.{IsPage, item_at, item_place, items_of, level_of}
 use Rattle.be_tree.specs.Path.{BecomesNode, IsChanged, IsPathTo, IsWay, IsWayIn, KeepsLeast, least_at, whole}
-use Rattle.be_tree.specs.Slot.{pairs_of}
-use Rattle.be_tree.specs.Splicing.{IsSpliced, spliced}
-use Rattle.be_tree.specs.Tree.{IsBelow, IsTree, IsTreeAt, least_of_root, pages_at, pages_below, pairs, pairs_at, pairs_below}
-use Rattle.be_tree.proofs.Frame.{one_page}
+use Rattle.be_tree.specs.Slot.{IsReady, pairs_of}
+use Rattle.be_tree.specs.Splicing.{CanBeSpliced, IsOff, IsSpliced, spliced}
+use Rattle.be_tree.specs.Writing.{Refuses}
+use Rattle.be_tree.specs.Tree.{BecomesTree, IsBelow, IsTree, IsTreeAt, least_of_root, pages, pages_at, pages_below, pairs, pairs_at, pairs_below}
+use Rattle.be_tree.proofs.Frame.{one_page, start_trans}
 use Rattle.be_tree.proofs.Nodes.Slots.{item_get, items_count}
 use Rattle.be_tree.proofs.Order.{key_exact}
 use Rattle.be_tree.proofs.Putting.Puts.{put_at_item, rising_put}
@@ -139,3 +141,37 @@ without_leaf k standing words root above leaf way for is_leaf =
       tree = subst (λ n. IsTreeAt n (least_at above n) standing words leaf) is_leaf (tree_on_way standing words root above leaf way);
       pairs_rise = subst IsRising (sym is) tree.below.rising;
     }
+
+-- a refusal since a change
+pub refuses_since : {S K A : Type 0} (kept_of : S → K) (standing_of : S → ℕ → Standing) (words_of : S → ℕ → ℕ → ℕ) (full : S → ℕ → Type 0) (r : Result A Refusal) (old mid new : S) → KeepsStart kept_of standing_of words_of old mid
+    → Refuses kept_of standing_of words_of full r mid new → Refuses kept_of standing_of words_of full r old new
+refuses_since kept_of standing_of words_of full (Ok a) old mid new starts h = (tt, tt)
+refuses_since kept_of standing_of words_of full (Err e) old mid new starts h = (start_trans kept_of standing_of words_of old mid new starts h.0, h.1)
+
+-- a change of a leaf alone, and of the pages above it then
+module _ {S K : Type 0} (kept_of : S → K) (standing_of : S → ℕ → Standing) (words_of : S → ℕ → ℕ → ℕ) (change : List Pair → List Pair) (rises : (xs : List Pair) → IsRising xs → IsRising (change xs))
+    (root : ℕ) (above : List Step) (leaf : ℕ) (cut : Cut) (given : Pair) (slots : List Slot) (start : S)
+    (way : IsWayIn (standing_of start) (words_of start) root above leaf) (is_leaf : level_of (words_of start leaf) ≡ 0) (leafy : ChangesLeaf change (standing_of start) (words_of start) root above leaf)
+    (is : change (items_of (words_of start leaf)) ≡ spliced cut (items_of (words_of start leaf)) (pairs_of (words_of start) given slots)) where
+  all_is : change (pairs (words_of start) root) ≡ whole (words_of start) above (spliced cut (items_of (words_of start leaf)) (pairs_of (words_of start) given slots))
+  all_is = leafy.all ∙ ap (whole (words_of start) above) is
+
+  all_rise : IsRising (whole (words_of start) above (spliced cut (items_of (words_of start leaf)) (pairs_of (words_of start) given slots)))
+  all_rise = subst IsRising all_is (rises (pairs (words_of start) root) leafy.pairs_rise)
+
+  -- its page can be spliced
+  pub can_splice : cut.at + cut.gone ≤ words_of start leaf 1 → words_of start leaf 1 + length slots ≤ 12 + cut.gone → All (IsReady (standing_of start) (words_of start)) slots → All (IsOff leaf) slots → length given.key ≤ 264
+      → CanBeSpliced (standing_of start) (words_of start) leaf cut given slots
+  can_splice in_range few ready off fits = record { is_page = leafy.tree.node.is_page; in_use = leafy.tree.page_in_use; in_range = in_range; few = few; ready = ready; off = off; key_fits = fits }
+
+  module _ (to : ℕ) (mid : S) (s : IsSpliced kept_of standing_of words_of leaf cut given slots to start mid)
+      (enough : least_at above 0 ≤ length (spliced cut (items_of (words_of start leaf)) (pairs_of (words_of start) given slots))) where
+    pub edited : (b : Bool) → (b ≡ true → KeepsLeast (items_of (words_of start leaf)) (spliced cut (items_of (words_of start leaf)) (pairs_of (words_of start) given slots)))
+        → IsChanged kept_of standing_of words_of root above (record { was = leaf; page = to; same_least = b }) (level_of (words_of start leaf)) start mid
+    edited = leaf_changed kept_of standing_of words_of root above leaf cut given slots to start mid way is_leaf s enough all_rise
+
+    pub edited_tree : (new_root : ℕ) (new : S) → BecomesTree kept_of standing_of words_of (pages (words_of start) root) (whole (words_of start) above (pairs_at (level_of (words_of start leaf)) (words_of mid) to)) new_root start new
+        → BecomesTree kept_of standing_of words_of (pages (words_of start) root) (change (pairs (words_of start) root)) new_root start new
+    edited_tree new_root new h =
+        subst (λ ps. BecomesTree kept_of standing_of words_of (pages (words_of start) root) ps new_root start new)
+        (ap (whole (words_of start) above) (leaf_pairs kept_of standing_of words_of root above leaf cut given slots to start mid way is_leaf s enough all_rise) ∙ sym all_is) h
