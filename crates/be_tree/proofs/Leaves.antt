@@ -1,10 +1,10 @@
 -- A leaf at the end of a path that has changed.
-use Rattle.std.proofs.Common.{◌≡◌, ℕ, zero, suc, ◌+◌, ◌-◌, ◌<◌, ◌≤◌, ◌^◌, List, [], ◌∷◌, ◌++◌, Bool, true, length, get_or, take, drop, All, Result, Ok, Err, ap, sym, subst, ◌∙◌, refl, arith, append_assoc, if◌then◌else◌}
+use Rattle.std.proofs.Common.{◌≡◌, ℕ, zero, suc, ◌+◌, ◌-◌, ◌<◌, ◌≤◌, ◌^◌, List, [], ◌∷◌, ◌++◌, Bool, true, length, get_or, take, drop, All, Result, Ok, Err, ap, sym, subst, ◌∙◌, refl, arith, append_assoc, if◌then◌else◌, length-append, length-drop}
 use Rattle.std.specs.declared.cmp.Ordering.TheVariants.{Less, Equal, Greater}
 use Rattle.std.specs.List.{flat_map}
 use Rattle.std.specs.Ordering.{is_eq}
 use Rattle.std.proofs.Math.Seq.{take-suc}
-use Rattle.std.proofs.lemmas.List.{append-nil, get_or_default}
+use Rattle.std.proofs.lemmas.List.{get_or_default, length-take-le}
 use Rattle.be_pages.specs.declared.room.Standing.{Standing}
 use Rattle.be_value.specs.declared.refusals.Refusal.{Refusal}
 use Rattle.be_pages.specs.Pages.{KeepsStart}
@@ -148,30 +148,16 @@ pub refuses_since : {S K A : Type 0} (kept_of : S → K) (standing_of : S → �
 refuses_since kept_of standing_of words_of full (Ok a) old mid new starts h = (tt, tt)
 refuses_since kept_of standing_of words_of full (Err e) old mid new starts h = (start_trans kept_of standing_of words_of old mid new starts h.0, h.1)
 
--- a change of a leaf alone, and of the pages above it then
-module _ {S K : Type 0} (kept_of : S → K) (standing_of : S → ℕ → Standing) (words_of : S → ℕ → ℕ → ℕ) (change : List Pair → List Pair) (rises : (xs : List Pair) → IsRising xs → IsRising (change xs))
-    (root : ℕ) (above : List Step) (leaf : ℕ) (cut : Cut) (given : Pair) (slots : List Slot) (start : S)
-    (way : IsWayIn (standing_of start) (words_of start) root above leaf) (is_leaf : level_of (words_of start leaf) ≡ 0) (leafy : ChangesLeaf change (standing_of start) (words_of start) root above leaf)
-    (is : change (items_of (words_of start leaf)) ≡ spliced cut (items_of (words_of start leaf)) (pairs_of (words_of start) given slots)) where
-  all_is : change (pairs (words_of start) root) ≡ whole (words_of start) above (spliced cut (items_of (words_of start leaf)) (pairs_of (words_of start) given slots))
-  all_is = leafy.all ∙ ap (whole (words_of start) above) is
+-- what a change of a tree is once it is one of its leaf's items
+module _ (change : List Pair → List Pair) (rises : (xs : List Pair) → IsRising xs → IsRising (change xs)) (standing : ℕ → Standing) (words : ℕ → ℕ → ℕ) (root : ℕ) (above : List Step) (leaf : ℕ) (cut : Cut) (more : List Pair)
+    (leafy : ChangesLeaf change standing words root above leaf) (is : change (items_of (words leaf)) ≡ spliced cut (items_of (words leaf)) more) where
+  pub all_is : change (pairs words root) ≡ whole words above (spliced cut (items_of (words leaf)) more)
+  all_is = leafy.all ∙ ap (whole words above) is
 
-  all_rise : IsRising (whole (words_of start) above (spliced cut (items_of (words_of start leaf)) (pairs_of (words_of start) given slots)))
-  all_rise = subst IsRising all_is (rises (pairs (words_of start) root) leafy.pairs_rise)
+  pub all_rise : IsRising (whole words above (spliced cut (items_of (words leaf)) more))
+  all_rise = subst IsRising all_is (rises (pairs words root) leafy.pairs_rise)
 
-  -- its page can be spliced
-  pub can_splice : cut.at + cut.gone ≤ words_of start leaf 1 → words_of start leaf 1 + length slots ≤ 12 + cut.gone → All (IsReady (standing_of start) (words_of start)) slots → All (IsOff leaf) slots → length given.key ≤ 264
-      → CanBeSpliced (standing_of start) (words_of start) leaf cut given slots
-  can_splice in_range few ready off fits = record { is_page = leafy.tree.node.is_page; in_use = leafy.tree.page_in_use; in_range = in_range; few = few; ready = ready; off = off; key_fits = fits }
-
-  module _ (to : ℕ) (mid : S) (s : IsSpliced kept_of standing_of words_of leaf cut given slots to start mid)
-      (enough : least_at above 0 ≤ length (spliced cut (items_of (words_of start leaf)) (pairs_of (words_of start) given slots))) where
-    pub edited : (b : Bool) → (b ≡ true → KeepsLeast (items_of (words_of start leaf)) (spliced cut (items_of (words_of start leaf)) (pairs_of (words_of start) given slots)))
-        → IsChanged kept_of standing_of words_of root above (record { was = leaf; page = to; same_least = b }) (level_of (words_of start leaf)) start mid
-    edited = leaf_changed kept_of standing_of words_of root above leaf cut given slots to start mid way is_leaf s enough all_rise
-
-    pub edited_tree : (new_root : ℕ) (new : S) → BecomesTree kept_of standing_of words_of (pages (words_of start) root) (whole (words_of start) above (pairs_at (level_of (words_of start leaf)) (words_of mid) to)) new_root start new
-        → BecomesTree kept_of standing_of words_of (pages (words_of start) root) (change (pairs (words_of start) root)) new_root start new
-    edited_tree new_root new h =
-        subst (λ ps. BecomesTree kept_of standing_of words_of (pages (words_of start) root) ps new_root start new)
-        (ap (whole (words_of start) above) (leaf_pairs kept_of standing_of words_of root above leaf cut given slots to start mid way is_leaf s enough all_rise) ∙ sym all_is) h
+-- how many items there are then
+pub length_spliced : (cut : Cut) (items more : List Pair) → cut.at + cut.gone ≤ length items → length (spliced cut items more) + cut.gone ≡ length items + length more
+length_spliced cut items more in_range =
+    omega (arith, in_range, length-append (take cut.at items) (more ++ drop (cut.at + cut.gone) items), length-append more (drop (cut.at + cut.gone) items), length-take-le cut.at items (omega (arith, in_range)), length-drop (cut.at + cut.gone) items)

@@ -6,11 +6,13 @@ use Rattle.be_pages.specs.Pages.{Swaps}
 use Rattle.be_tree.specs.declared.path.Step.{Step}
 use Rattle.be_tree.specs.declared.path.Path.{Path}
 use Rattle.be_tree.specs.declared.rising.Changed.{Changed}
+use Rattle.be_tree.specs.declared.rising.Edit.{Edit}
 use Rattle.be_tree.specs.declared.slot.Slot.{Slot}
 use Rattle.be_tree.specs.Pair.{Pair}
 use Rattle.be_tree.specs.Key.{IsBranchFor, IsGap, IsRising, StartsAt, key_cmp}
 use Rattle.be_tree.specs.Page.{item_at, item_place, items_of, level_of}
 use Rattle.be_tree.specs.Slot.{IsReady, pairs_of}
+use Rattle.be_tree.specs.Splicing.{spliced}
 use Rattle.be_tree.specs.Tree.{Becomes, IsTree, IsTreeAt, child, least_of_root, pages_at, pages_below, pairs_at, pairs_below}
 
 -- a step of a way: one of an inner page's branches
@@ -72,6 +74,13 @@ pub record IsChanged {S K : Type 0} (kept_of : S → K) (standing_of : S → ℕ
   pub node : BecomesNode kept_of standing_of words_of (pages_at level (words_of start) changed.was) level (least_at above level) changed.page start now
   pub least : changed.same_least ≡ true → KeepsLeast (pairs_at level (words_of start) changed.was) (pairs_at level (words_of now) changed.page)
   pub rising : IsRising (whole (words_of start) above (pairs_at level (words_of now) changed.page))
+
+-- slots in the place of a cut of a leaf leave it enough items, and the tree's keys rise; where it says so, the first key is the same
+pub record IsEdit (words : ℕ → ℕ → ℕ) (above : List Step) (leaf : ℕ) (edit : Edit) (given : Pair) (slots : List Slot) : Type 0 where
+  pub is_leaf : level_of (words leaf) ≡ 0
+  pub enough : least_at above 0 ≤ length (spliced edit.cut (items_of (words leaf)) (pairs_of words given slots))
+  pub least : edit.same_least ≡ true → KeepsLeast (items_of (words leaf)) (spliced edit.cut (items_of (words leaf)) (pairs_of words given slots))
+  pub rising : IsRising (whole words above (spliced edit.cut (items_of (words leaf)) (pairs_of words given slots)))
 
 -- what stands below that page has become what stands below these slots' items
 pub record IsInHand {S K : Type 0} (kept_of : S → K) (standing_of : S → ℕ → Standing) (words_of : S → ℕ → ℕ → ℕ)

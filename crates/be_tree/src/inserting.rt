@@ -8,11 +8,11 @@ ghost use Rattle.be_tree.specs.Writing.{Refuses};
 use crate::item::Item;
 use crate::page::{MOST_ITEMS, fill_slots};
 use crate::path::Path;
-use crate::rising::{Changed, rise};
+use crate::rising::{Edit, change_leaf};
 use crate::settling::settle;
 use crate::siblings::count_of;
 use crate::slot::Slot;
-use crate::splicing::{Cut, splice};
+use crate::splicing::Cut;
 use arrayvec::ArrayVec;
 use be_pages::Room;
 use be_value::Refusal;
@@ -51,13 +51,11 @@ fn put_over<R: Room>(
     ensures ok { IfOk result (λ new. BecomesTree R.kept R.standing R.words (pages (R.words room.old) root) (put pair.now (pairs (R.words room.old) root)) new room.old room.new) }
     ensures refused { Refuses R.kept R.standing R.words R.full result room.old room.new }
 {
-    let page = splice(room, path.leaf, Cut { at, gone: 1 }, &[Slot::New], pair)?;
-    let changed = Changed {
-        was: path.leaf,
-        page,
+    let edit = Edit {
+        cut: Cut { at, gone: 1 },
         same_least: true,
     };
-    rise(room, root, &path.above, changed)
+    change_leaf(room, root, path, edit, &[Slot::New], pair)
 }
 
 /// Puts a pair between two others, where none has its key.
@@ -78,13 +76,11 @@ fn put_in<R: Room>(
     if count_of(room, path.leaf) == MOST_ITEMS {
         return overflow(room, root, path, at, pair);
     }
-    let page = splice(room, path.leaf, Cut { at, gone: 0 }, &[Slot::New], pair)?;
-    let changed = Changed {
-        was: path.leaf,
-        page,
+    let edit = Edit {
+        cut: Cut { at, gone: 0 },
         same_least: at > 0,
     };
-    rise(room, root, &path.above, changed)
+    change_leaf(room, root, path, edit, &[Slot::New], pair)
 }
 
 /// Puts a pair into a full leaf.

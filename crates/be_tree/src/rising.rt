@@ -3,13 +3,15 @@
 //! A page that is copied has another number, so the branch to it is changed. A page of which the least key is another one is
 //! named by it above. Where neither is, the pages above stay as they are.
 ghost use Rattle.std.specs.Prelude.{◌≡◌, ◌+◌, ◌<◌, ◌⊎◌, IfOk, IsTrue, true};
-ghost use Rattle.be_tree.specs.Page.{level_of};
-ghost use Rattle.be_tree.specs.Path.{IsChanged, whole};
+ghost use Rattle.be_tree.specs.Page.{items_of, level_of};
+ghost use Rattle.be_tree.specs.Path.{IsChanged, IsEdit, IsWayIn, whole};
+ghost use Rattle.be_tree.specs.Slot.{pairs_of};
+ghost use Rattle.be_tree.specs.Splicing.{CanBeSpliced, spliced};
 ghost use Rattle.be_tree.specs.Tree.{BecomesTree, pages, pairs_at};
 ghost use Rattle.be_tree.specs.Writing.{Refuses};
 
 use crate::item::Item;
-use crate::path::Step;
+use crate::path::{Path, Step};
 use crate::slot::Slot;
 use crate::splicing::{Cut, splice};
 use be_pages::Room;
@@ -73,4 +75,37 @@ pub(crate) fn rise<R: Room>(
         };
     }
     Ok(below.page + 1)
+}
+
+/// Which items of a leaf are left out, and whether its first key is known to be the same once others are put there.
+#[derive(Clone, Copy)]
+pub(crate) struct Edit {
+    pub(crate) cut: Cut,
+    pub(crate) same_least: bool,
+}
+
+/// Puts slots in the place of a cut of the leaf that a path leads to, and gives the new root.
+pub(crate) fn change_leaf<R: Room>(
+    room: &mut R,
+    root: u64,
+    path: &Path,
+    edit: Edit,
+    slots: &[Slot],
+    pair: &Item,
+) -> Result<u64, Refusal>
+    requires way { IsWayIn (R.standing room.old) (R.words room.old) root path.now.above.items path.now.leaf }
+    requires cut { CanBeSpliced (R.standing room.old) (R.words room.old) path.now.leaf edit.cut pair.now slots.now }
+    requires edit { IsEdit (R.words room.old) path.now.above.items path.now.leaf edit pair.now slots.now }
+    requires open { IsTrue (R.is_open (R.kept room.old)) }
+    ensures ok { IfOk result (λ new. BecomesTree R.kept R.standing R.words (pages (R.words room.old) root)
+        (whole (R.words room.old) path.now.above.items (spliced edit.cut (items_of (R.words room.old path.now.leaf)) (pairs_of (R.words room.old) pair.now slots.now))) new room.old room.new) }
+    ensures refused { Refuses R.kept R.standing R.words R.full result room.old room.new }
+{
+    let page = splice(room, path.leaf, edit.cut, slots, pair)?;
+    let changed = Changed {
+        was: path.leaf,
+        page,
+        same_least: edit.same_least,
+    };
+    rise(room, root, &path.above, changed)
 }

@@ -8,10 +8,10 @@ ghost use Rattle.be_tree.specs.Writing.{Refuses};
 use crate::item::Item;
 use crate::page::{LEAST_ITEMS, fill_slots};
 use crate::path::{Path, Step};
-use crate::rising::{Changed, rise};
+use crate::rising::{Edit, change_leaf};
 use crate::settling::settle;
 use crate::siblings::count_of;
-use crate::splicing::{Cut, splice};
+use crate::splicing::Cut;
 use arrayvec::ArrayVec;
 use be_pages::Room;
 use be_value::Refusal;
@@ -34,13 +34,11 @@ pub(crate) fn take_out<R: Room>(
         return underflow(room, root, key, path, at);
     }
     let none = Item::new(&[], &[]);
-    let page = splice(room, path.leaf, Cut { at, gone: 1 }, &[], &none)?;
-    let changed = Changed {
-        was: path.leaf,
-        page,
+    let edit = Edit {
+        cut: Cut { at, gone: 1 },
         same_least: at > 0,
     };
-    rise(room, root, &path.above, changed)
+    change_leaf(room, root, path, edit, &[], &none)
 }
 
 /// Takes an item out of a leaf that has no more than it has to keep.
