@@ -10,3 +10,4 @@ pub mod Forest
 pub mod Words
 pub mod Splicing
 pub mod Path
+pub mod Settling

@@ -11,9 +11,9 @@ ghost use Rattle.be_pages.specs.Refusal.{IsFullOf};
 ghost use Rattle.be_tree.specs.Key.{put};
 ghost use Rattle.be_tree.specs.Tree.{BecomesTree, IsTree, pairs, pages};
 
+use crate::inserting::put_on;
 use crate::item::Item;
 use crate::path::{Path, find_path};
-use crate::inserting::put_on;
 use crate::slot::Slot;
 use crate::writing::write_first_root;
 use be_pages::Room;

@@ -34,7 +34,6 @@ mod numbers;
 mod page;
 mod path;
 mod payload;
-
 mod removal;
 mod rising;
 mod settling;

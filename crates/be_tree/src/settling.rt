@@ -1,5 +1,19 @@
 //! A node that has too many items or too few is settled: it is split, or shares items with a neighbour, or joins one.
-ghost use Rattle.std.specs.Prelude.{◌≡◌, ◌≤◌, ◌+◌, ◌<◌, ◌++◌, suc, take, drop, length, IsTrue};
+//!
+//! A node of thirteen items is written with those of its left neighbour, where that one has room: it takes all that it can
+//! hold. Else it is split. A node of five is written with those of a neighbour, the next one where there is one: in one page
+//! where they fit, else in two. So the page above has one branch more or less, or as many as before, and may be too large or
+//! too small in turn.
+ghost use Rattle.std.specs.Prelude.{◌≡◌, ◌≢◌, ◌≤◌, ◌+◌, ◌<◌, ◌⊎◌, ◌++◌, [], suc, take, drop, length, true, IfOk, IsTrue, All};
+ghost use Rattle.be_pages.specs.Pages.{IsUnchanged, is_readable};
+ghost use Rattle.be_tree.specs.Page.{IsPage, item_at, item_place, items_of, level_of};
+ghost use Rattle.be_tree.specs.Pair.{Pair};
+ghost use Rattle.be_tree.specs.Path.{IsInHand, whole};
+ghost use Rattle.be_tree.specs.Settling.{IsChildInHand, IsSettled, beside};
+ghost use Rattle.be_tree.specs.Slot.{IsReady, pairs_of};
+ghost use Rattle.be_tree.specs.Splicing.{spliced};
+ghost use Rattle.be_tree.specs.Tree.{BecomesTree, child, pages, pairs_below};
+ghost use Rattle.be_tree.specs.Writing.{Refuses};
 
 use crate::item::Item;
 use crate::page::{HEADER_WORDS, ITEM_WORDS, LEAST_ITEMS, MOST_ITEMS, child_at, fill_slots};
@@ -15,18 +29,26 @@ use be_value::Refusal;
 
 /// What stands in the place of some of a node's branches: the branches to the pages that were written.
 #[derive(Drop)]
-struct Settled {
-    cut: Cut,
-    branches: ArrayVec<Slot, 2>,
+pub(crate) struct Settled {
+    pub(crate) cut: Cut,
+    pub(crate) branches: ArrayVec<Slot, 2>,
 }
 
-/// Writes a node in hand, whose page is the child of a step, alone: in one page, or split in two.
-fn settle_alone<R: Room>(
+/// Writes a node in hand that is too large, whose page is the child of a step, in two pages.
+fn settle_split<R: Room>(
     room: &mut R,
     step: Step,
     was: u64,
     node: Node<'_>,
-) -> Result<Settled, Refusal> {
+) -> Result<Settled, Refusal>
+    requires child { (start : R) × IsChildInHand R.kept R.standing R.words step was node.level node.pair.now node.slots.now start room.old }
+    requires crowded { 12 < length node.slots.now }
+    requires open { IsTrue (R.is_open (R.kept room.old)) }
+    ensures ok { IfOk result (λ settled. (start : R) → IsChildInHand R.kept R.standing R.words step was node.entry.level node.entry.pair.now node.entry.slots.now start room.old
+        → IsSettled R.kept R.standing R.words step node.entry.level node.entry.pair.now
+        (beside (suc node.entry.level) (R.words start) step (pairs_below node.entry.level (R.words room.old) (pairs_of (R.words room.old) node.entry.pair.now node.entry.slots.now))) settled start room.new) }
+    ensures refused { Refuses R.kept R.standing R.words R.full result room.old room.new }
+{
     let branches = pack(room, was, node)?;
     let cut = Cut {
         at: step.at,
@@ -35,13 +57,22 @@ fn settle_alone<R: Room>(
     Ok(Settled { cut, branches })
 }
 
-/// The same together with the items of the neighbour before it.
+/// Writes it together with the items of the child before it.
 fn settle_left<R: Room>(
     room: &mut R,
     step: Step,
     was: u64,
     node: Node<'_>,
-) -> Result<Settled, Refusal> {
+) -> Result<Settled, Refusal>
+    requires child { (start : R) × IsChildInHand R.kept R.standing R.words step was node.level node.pair.now node.slots.now start room.old }
+    requires behind { 0 < step.at }
+    requires room { R.words room.old (child (item_at (R.words room.old step.page) (item_place (step.at - 1)))) 1 + length node.slots.now ≤ 24 }
+    requires open { IsTrue (R.is_open (R.kept room.old)) }
+    ensures ok { IfOk result (λ settled. (start : R) → IsChildInHand R.kept R.standing R.words step was node.entry.level node.entry.pair.now node.entry.slots.now start room.old
+        → IsSettled R.kept R.standing R.words step node.entry.level node.entry.pair.now
+        (beside (suc node.entry.level) (R.words start) step (pairs_below node.entry.level (R.words room.old) (pairs_of (R.words room.old) node.entry.pair.now node.entry.slots.now))) settled start room.new) }
+    ensures refused { Refuses R.kept R.standing R.words R.full result room.old room.new }
+{
     let at = step.at - 1;
     let left = child_at(room, step.page, HEADER_WORDS + ITEM_WORDS * at);
     let mut slots = ArrayVec::new();
@@ -57,13 +88,22 @@ fn settle_left<R: Room>(
     Ok(Settled { cut, branches })
 }
 
-/// The same together with the items of the neighbour after it.
+/// Writes it together with the items of the child after it.
 fn settle_right<R: Room>(
     room: &mut R,
     step: Step,
     was: u64,
     node: Node<'_>,
-) -> Result<Settled, Refusal> {
+) -> Result<Settled, Refusal>
+    requires child { (start : R) × IsChildInHand R.kept R.standing R.words step was node.level node.pair.now node.slots.now start room.old }
+    requires before { step.at + 1 < R.words room.old step.page 1 }
+    requires few { length node.slots.now ≤ 12 }
+    requires open { IsTrue (R.is_open (R.kept room.old)) }
+    ensures ok { IfOk result (λ settled. (start : R) → IsChildInHand R.kept R.standing R.words step was node.entry.level node.entry.pair.now node.entry.slots.now start room.old
+        → IsSettled R.kept R.standing R.words step node.entry.level node.entry.pair.now
+        (beside (suc node.entry.level) (R.words start) step (pairs_below node.entry.level (R.words room.old) (pairs_of (R.words room.old) node.entry.pair.now node.entry.slots.now))) settled start room.new) }
+    ensures refused { Refuses R.kept R.standing R.words R.full result room.old room.new }
+{
     let right = child_at(room, step.page, HEADER_WORDS + ITEM_WORDS * (step.at + 1));
     let mut others = ArrayVec::new();
     fill_slots(room, right, &mut others);
@@ -83,13 +123,18 @@ fn settle_right<R: Room>(
     Ok(Settled { cut, branches })
 }
 
-/// Whether the child before a step's has room for an item.
-fn left_has_room<L: Look>(look: &mut L, step: Step) -> bool {
+/// Whether the child before a step's is there and has room for an item.
+fn left_has_room<R: Room>(room: &mut R, step: Step, was: u64, node: Node<'_>) -> bool
+    requires child { (start : R) × IsChildInHand R.kept R.standing R.words step was node.level node.pair.now node.slots.now start room.old }
+    ensures behind { result ≡ true → 0 < step.at }
+    ensures room { result ≡ true → R.words room.old (child (item_at (R.words room.old step.page) (item_place (step.at - 1)))) 1 < 12 }
+    ensures unchanged { IsUnchanged R.kept R.standing R.words room.old room.new }
+{
     if step.at == 0 {
         return false;
     }
-    let left = child_at(look, step.page, HEADER_WORDS + ITEM_WORDS * (step.at - 1));
-    count_of(look, left) < MOST_ITEMS
+    let left = child_at(room, step.page, HEADER_WORDS + ITEM_WORDS * (step.at - 1));
+    count_of(room, left) < MOST_ITEMS
 }
 
 /// Settles a node in hand, whose page is the child of a step.
@@ -98,12 +143,19 @@ fn settle_child<R: Room>(
     step: Step,
     was: u64,
     node: Node<'_>,
-) -> Result<Settled, Refusal> {
+) -> Result<Settled, Refusal>
+    requires child { (start : R) × IsChildInHand R.kept R.standing R.words step was node.level node.pair.now node.slots.now start room.old }
+    requires open { IsTrue (R.is_open (R.kept room.old)) }
+    ensures ok { IfOk result (λ settled. (start : R) → IsChildInHand R.kept R.standing R.words step was node.entry.level node.entry.pair.now node.entry.slots.now start room.old
+        → IsSettled R.kept R.standing R.words step node.entry.level node.entry.pair.now
+        (beside (suc node.entry.level) (R.words start) step (pairs_below node.entry.level (R.words room.old) (pairs_of (R.words room.old) node.entry.pair.now node.entry.slots.now))) settled start room.new) }
+    ensures refused { Refuses R.kept R.standing R.words R.full result room.old room.new }
+{
     if node.slots.len() > MOST_ITEMS {
-        if left_has_room(room, step) {
+        if left_has_room(room, step, was, node) {
             return settle_left(room, step, was, node);
         }
-        return settle_alone(room, step, was, node);
+        return settle_split(room, step, was, node);
     }
     if step.at + 1 < count_of(room, step.page) {
         return settle_right(room, step, was, node);
@@ -112,7 +164,17 @@ fn settle_child<R: Room>(
 }
 
 /// The slots of a page's items, with others in the place of a cut.
-fn slots_with<L: Look>(look: &mut L, page: u64, settled: Settled) -> ArrayVec<Slot, 24> {
+fn slots_with<L: Look>(look: &mut L, page: u64, settled: Settled) -> ArrayVec<Slot, 24>
+    requires readable { IsTrue (is_readable (L.standing look.old page)) }
+    requires page { IsPage (L.words look.old page) }
+    requires in_range { settled.cut.at + settled.cut.gone ≤ L.words look.old page 1 }
+    requires gone { (0 < settled.cut.gone) × (settled.cut.gone ≤ 2) }
+    requires some { (0 < length settled.branches.items) × (length settled.branches.items ≤ 2) }
+    requires ready { All (IsReady (L.standing look.old) (L.words look.old)) settled.branches.items }
+    ensures items { (given : Pair) → pairs_of (L.words look.old) given result.items ≡ spliced settled.cut (items_of (L.words look.old page)) (pairs_of (L.words look.old) given settled.branches.items) }
+    ensures ready { All (IsReady (L.standing look.old) (L.words look.old)) result.items }
+    ensures unchanged { IsUnchanged L.kept L.standing L.words look.old look.new }
+{
     let mut slots = ArrayVec::new();
     fill_slots(look, page, &mut slots);
     if settled.cut.gone == 2 {
@@ -150,9 +212,16 @@ fn replace_at(slots: &mut ArrayVec<Slot, 24>, at: usize, mut more: ArrayVec<Slot
     }
 }
 
-/// How many items a page keeps at least: a root needs two branches.
-fn least_at(is_root: bool) -> usize {
-    if is_root { 2 } else { LEAST_ITEMS }
+/// Whether a page may have so many items: a root needs two branches, and each other page six.
+fn fits(count: usize, is_root: bool) -> bool
+    ensures most { result ≡ true → count ≤ 12 }
+    ensures least { result ≡ true → 2 ≤ count }
+    ensures least_below { result ≡ true → (is_root ≡ true) ⊎ (6 ≤ count) }
+{
+    if count > MOST_ITEMS || count < 2 {
+        return false;
+    }
+    is_root || count >= LEAST_ITEMS
 }
 
 /// Settles a node in hand and the pages above it that have too many items or too few then, and writes the others above.
@@ -165,7 +234,16 @@ pub(crate) fn settle<R: Room>(
     was: u64,
     in_hand: ArrayVec<Slot, 24>,
     pair: &Item,
-) -> Result<u64, Refusal> {
+) -> Result<u64, Refusal>
+    requires in_hand { (start : R) × IsInHand R.kept R.standing R.words root above.now was pair.now in_hand.items (level_of (R.words start was)) start room.old }
+    requires few { length in_hand.items ≤ 13 }
+    requires some { 0 < length above.now → 5 ≤ length in_hand.items }
+    requires open { IsTrue (R.is_open (R.kept room.old)) }
+    ensures ok { IfOk result (λ new. (start : R) → IsInHand R.kept R.standing R.words root above.now was pair.now in_hand.items (level_of (R.words start was)) start room.old
+        → BecomesTree R.kept R.standing R.words (pages (R.words start) root)
+        (whole (R.words start) above.now (pairs_below (level_of (R.words start was)) (R.words room.old) (pairs_of (R.words room.old) pair.now in_hand.items))) new start room.new) }
+    ensures refused { Refuses R.kept R.standing R.words R.full result room.old room.new }
+{
     let mut slots = in_hand;
     let mut was = was;
     for i in 0..above.len() {
@@ -179,7 +257,7 @@ pub(crate) fn settle<R: Room>(
         };
         let settled = settle_child(room, step, was, node)?;
         let count = count_of(room, step.page) - settled.cut.gone + settled.branches.len();
-        if count <= MOST_ITEMS && count >= least_at(over == 0) {
+        if fits(count, over == 0) {
             let page = splice(room, step.page, settled.cut, &settled.branches, pair)?;
             let changed = Changed {
                 was: step.page,

@@ -21,9 +21,11 @@ changed g c =
 
 pub rise-requires-clause-changed : goal.rise-requires-clause-changed
 rise-requires-clause-changed g c =
-    let leaf = c.args.path.now.leaf in
-    (c.args.room.now, subst (λ xs. IsChanged g.R.Look.kept g.R.Look.standing g.R.Look.words c.args.root xs (record { was = leaf; page = c.in_ok-page.page; same_least = c.args.edit.same_least })
-    (level_of (g.R.Look.words c.args.room.now leaf)) c.args.room.now c.splice.new.room) (sym c.deref.ensures.0) (changed g (goal.at.rise-requires-clause-changed g c).In_ok-page))
+    let leaf = c.args.path.now.leaf in (
+      c.args.room.now,
+      subst (λ xs. IsChanged g.R.Look.kept g.R.Look.standing g.R.Look.words c.args.root xs (record { was = leaf; page = c.in_ok-page.page; same_least = c.args.edit.same_least })
+          (level_of (g.R.Look.words c.args.room.now leaf)) c.args.room.now c.splice.new.room) (sym c.deref.ensures.0) (changed g (goal.at.rise-requires-clause-changed g c).In_ok-page),
+    )
 
 pub returns-clause-ok : goal.returns-clause-ok
 returns-clause-ok g c =
