@@ -10,6 +10,7 @@ pub mod Ways
 pub mod Rises
 pub mod Raises
 pub mod Leaves
+pub mod Settles
 pub mod Bytes
 pub mod Nodes
 pub mod Shape
