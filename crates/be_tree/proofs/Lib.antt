@@ -11,6 +11,7 @@ pub mod Rises
 pub mod Raises
 pub mod Leaves
 pub mod Settles
+pub mod Balances
 pub mod Bytes
 pub mod Nodes
 pub mod Shape

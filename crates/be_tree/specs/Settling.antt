@@ -7,7 +7,7 @@ use Rattle.be_tree.specs.declared.slot.Slot.{Slot}
 use Rattle.be_tree.specs.Key.{IsRising}
 use Rattle.be_tree.specs.Page.{item_at, item_place, items_of}
 use Rattle.be_tree.specs.Pair.{Pair}
-use Rattle.be_tree.specs.Slot.{IsReady, pairs_of}
+use Rattle.be_tree.specs.Slot.{IsBranchSlot, IsReady, pairs_of}
 use Rattle.be_tree.specs.Splicing.{spliced}
 use Rattle.be_tree.specs.Tree.{Becomes, IsTreeAt, child, pages_below, pairs_below}
 
@@ -35,6 +35,7 @@ pub record IsSettled {S K : Type 0} (kept_of : S → K) (standing_of : S → ℕ
   pub in_range : settled.cut.at + settled.cut.gone ≤ words_of start step.page 1
   pub gone : (0 < settled.cut.gone) × (settled.cut.gone ≤ 2)
   pub some : (0 < length settled.branches.items) × (length settled.branches.items ≤ 2)
-  pub ready : All (IsReady (standing_of now) (words_of now)) settled.branches.items
+  pub before : settled.cut.at ≤ step.at
+  pub branches : All IsBranchSlot settled.branches.items
   pub becomes : Becomes kept_of standing_of words_of (pages_below (suc level) (words_of start) (items_of (words_of start step.page))) all (suc level)
       (spliced settled.cut (items_of (words_of start step.page)) (pairs_of (words_of now) given settled.branches.items)) start now

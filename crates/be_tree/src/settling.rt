@@ -4,13 +4,12 @@
 //! hold. Else it is split. A node of five is written with those of a neighbour, the next one where there is one: in one page
 //! where they fit, else in two. So the page above has one branch more or less, or as many as before, and may be too large or
 //! too small in turn.
-ghost use Rattle.std.specs.Prelude.{◌≡◌, ◌≢◌, ◌≤◌, ◌+◌, ◌<◌, ◌⊎◌, ◌++◌, [], suc, take, drop, length, true, IfOk, IsTrue, All};
+ghost use Rattle.std.specs.Prelude.{◌≡◌, ◌≤◌, ◌+◌, ◌-◌, ◌<◌, ◌⊎◌, ◌++◌, [], suc, take, drop, length, true, IfOk, IsTrue};
 ghost use Rattle.be_pages.specs.Pages.{IsUnchanged, is_readable};
-ghost use Rattle.be_tree.specs.Page.{IsPage, item_at, item_place, items_of, level_of};
-ghost use Rattle.be_tree.specs.Pair.{Pair};
+ghost use Rattle.be_tree.specs.Page.{IsPage, item_at, item_place, level_of};
 ghost use Rattle.be_tree.specs.Path.{IsInHand, whole};
 ghost use Rattle.be_tree.specs.Settling.{IsChildInHand, IsSettled, beside};
-ghost use Rattle.be_tree.specs.Slot.{IsReady, pairs_of};
+ghost use Rattle.be_tree.specs.Slot.{loaded, pairs_of};
 ghost use Rattle.be_tree.specs.Splicing.{spliced};
 ghost use Rattle.be_tree.specs.Tree.{BecomesTree, child, pages, pairs_below};
 ghost use Rattle.be_tree.specs.Writing.{Refuses};
@@ -163,6 +162,17 @@ fn settle_child<R: Room>(
     settle_left(room, step, was, node)
 }
 
+/// Leaves out one slot of a cut of two.
+fn leave_one(slots: &mut ArrayVec<Slot, 24>, cut: Cut)
+    requires in_range { cut.at + cut.gone ≤ length slots.old.items }
+    requires gone { (0 < cut.gone) × (cut.gone ≤ 2) }
+    ensures { slots.new.items ≡ take cut.at slots.old.items ++ drop (cut.at + cut.gone - 1) slots.old.items }
+{
+    if cut.gone == 2 {
+        slots.remove(cut.at);
+    }
+}
+
 /// The slots of a page's items, with others in the place of a cut.
 fn slots_with<L: Look>(look: &mut L, page: u64, settled: Settled) -> ArrayVec<Slot, 24>
     requires readable { IsTrue (is_readable (L.standing look.old page)) }
@@ -170,16 +180,12 @@ fn slots_with<L: Look>(look: &mut L, page: u64, settled: Settled) -> ArrayVec<Sl
     requires in_range { settled.cut.at + settled.cut.gone ≤ L.words look.old page 1 }
     requires gone { (0 < settled.cut.gone) × (settled.cut.gone ≤ 2) }
     requires some { (0 < length settled.branches.items) × (length settled.branches.items ≤ 2) }
-    requires ready { All (IsReady (L.standing look.old) (L.words look.old)) settled.branches.items }
-    ensures items { (given : Pair) → pairs_of (L.words look.old) given result.items ≡ spliced settled.cut (items_of (L.words look.old page)) (pairs_of (L.words look.old) given settled.branches.items) }
-    ensures ready { All (IsReady (L.standing look.old) (L.words look.old)) result.items }
+    ensures slots { result.items ≡ spliced settled.cut (loaded page (L.words look.old page 1)) settled.branches.items }
     ensures unchanged { IsUnchanged L.kept L.standing L.words look.old look.new }
 {
     let mut slots = ArrayVec::new();
     fill_slots(look, page, &mut slots);
-    if settled.cut.gone == 2 {
-        slots.remove(settled.cut.at);
-    }
+    leave_one(&mut slots, settled.cut);
     replace_at(&mut slots, settled.cut.at, settled.branches);
     slots
 }

@@ -351,9 +351,8 @@ pub(crate) fn pack_two<R: Room>(
     requires open { IsTrue (R.is_open (R.kept room.old)) }
     ensures ok { IfOk result (λ branches. Replaces R.kept R.standing R.words node.entry.level node.entry.pair.now node.entry.slots.now (left ∷ right ∷ [])
         (pairs_of (R.words room.new) node.entry.pair.now branches.items) room.old room.new) }
-    ensures ready { IfOk result (λ branches. All (IsReady (R.standing room.new) (R.words room.new)) branches.items) }
+    ensures branches { IfOk result (λ branches. All IsBranchSlot branches.items) }
     ensures some { IfOk result (λ branches. (0 < length branches.items) × (length branches.items ≤ 2)) }
-    ensures two { IfOk result (λ branches. 12 < length node.entry.slots.now → length branches.items ≡ 2) }
     ensures err { OnErr result (KeepsStart R.kept R.standing R.words room.old room.new) }
     ensures full { IfErr result (IsFullOf (R.full room.new)) }
 {

@@ -1,6 +1,5 @@
 use Rattle.std.proofs.Common.{◌+◌, arith}
 use Rattle.be_tree.specs.Slot.{pairs_of}
-use Rattle.be_tree.proofs.Nodes.Slots.{branches_ready}
 use Rattle.be_tree.proofs.Settles.{alone_apart, alone_settled}
 use Rattle.be_tree.proofs.settling.settle_split.Goals as goal
 
@@ -17,6 +16,7 @@ returns-clause-ok g c = λ start h.
       in_range = omega (arith, h.in_range);
       gone = (omega arith, omega arith);
       some = c.in_ok-branches.ensures.some;
-      ready = branches_ready c.args.node.level (g.R.Look.standing new) (g.R.Look.words new) given branches c.in_ok-branches.ensures.branches c.in_ok-branches.ensures.ok.below;
+      before = omega arith;
+      branches = c.in_ok-branches.ensures.branches;
       becomes = alone_settled g.R.Look.kept g.R.Look.standing g.R.Look.words c.args.step c.args.was c.args.node.level given c.args.node.slots.now start c.args.room.now h (pairs_of (g.R.Look.words new) given branches) new c.in_ok-branches.ensures.ok;
     }
