@@ -1,6 +1,7 @@
 -- A node that is settled, on the way up a tree.
-use Rattle.std.proofs.Common.{◌≡◌, ◌≢◌, ℕ, suc, ◌+◌, ◌-◌, ◌<◌, ◌≤◌, ◌⊎◌, List, [], ◌∷◌, ◌++◌, Bool, true, length, get_or, map, take, drop, All, IsTrue, ap, sym, subst, ◌∙◌, refl, inl, inr, arith, length-append, length-drop}
+use Rattle.std.proofs.Common.{◌≡◌, ◌≢◌, ℕ, suc, ◌+◌, ◌-◌, ◌<◌, ◌≤◌, ◌⊎◌, List, [], ◌∷◌, ◌++◌, Bool, true, eqb, length, get_or, map, take, drop, All, IsTrue, ap, sym, subst, ◌∙◌, refl, inl, inr, arith, length-append, length-drop}
 use Rattle.std.specs.List.{range_with_len, take-map, drop-map}
+use Rattle.std.proofs.lemmas.Bool.Decides.{nat_tests}
 use Rattle.std.proofs.lemmas.List.{get_or-map, length-map, length-take-le, map-append, take-append-drop}
 use Rattle.std.proofs.lemmas.List.Elements.{All-append}
 use Rattle.std.proofs.lemmas.List.FromFn.{length-map-range_with_len}
@@ -19,24 +20,27 @@ use Rattle.be_tree.specs.Path.{BecomesNode, IsChanged, IsInHand, IsWayIn, KeepsL
 use Rattle.be_tree.specs.Settling.{IsChildInHand, IsSettled, beside}
 use Rattle.be_tree.specs.Slot.{IsBranchSlot, IsReady, branch_to, loaded, pair_of, pairs_of}
 use Rattle.be_tree.specs.Splicing.{CanBeSpliced, IsOff, IsSpliced, spliced}
-use Rattle.be_tree.specs.Tree.{Becomes, IsBelow, IsTreeAt, child, least_of_root, pages_at, pages_below, pairs_at, pairs_below}
+use Rattle.be_tree.specs.Tree.{Becomes, BecomesTree, IsBelow, IsTreeAt, child, least_of_root, pages, pages_at, pages_below, pairs_at, pairs_below}
+use Rattle.be_tree.specs.Writing.{IsApart}
 use Rattle.be_tree.proofs.Frame.{readable_kept, swaps_same, swaps_stands}
+use Rattle.be_tree.proofs.Nodes.Neighbours.{ready_until}
 use Rattle.be_tree.proofs.Nodes.Slots.{branches_ready, child_branch, items_count, loaded_pairs, loaded_ready}
 use Rattle.be_tree.proofs.Putting.Puts.{becomes_until, given_up_page, kept_after}
 use Rattle.be_tree.proofs.Raises.{tree_on_way}
 use Rattle.be_tree.proofs.Rises.{around_is, least_up, node_over, over_pairs}
 use Rattle.be_tree.proofs.Shape.Below.{all_left, all_right, below_left, below_right, child_page, times_pages}
+use Rattle.be_tree.proofs.Shape.Roots.{tree_over}
 use Rattle.be_tree.proofs.Ways.{IsPopped, rising_inside, step_leads, way_pop, whole_push}
 
 -- lists with others in the place of a cut
-map_spliced : {A B : Type 0} (f : A → B) (cut : Cut) (xs more : List A) → map f (spliced cut xs more) ≡ spliced cut (map f xs) (map f more)
+pub map_spliced : {A B : Type 0} (f : A → B) (cut : Cut) (xs more : List A) → map f (spliced cut xs more) ≡ spliced cut (map f xs) (map f more)
 map_spliced f cut xs more =
     map-append f (take cut.at xs) (more ++ drop (cut.at + cut.gone) xs)
     ∙ ap (λ ys. map f (take cut.at xs) ++ ys) (map-append f more (drop (cut.at + cut.gone) xs))
     ∙ ap (λ ys. ys ++ (map f more ++ map f (drop (cut.at + cut.gone) xs))) (sym (take-map f cut.at xs))
     ∙ ap (λ ys. take cut.at (map f xs) ++ (map f more ++ ys)) (sym (drop-map f (cut.at + cut.gone) xs))
 
-all_spliced : {A : Type 0} (P : A → Type 0) (cut : Cut) (xs more : List A) → All P xs → All P more → All P (spliced cut xs more)
+pub all_spliced : {A : Type 0} (P : A → Type 0) (cut : Cut) (xs more : List A) → All P xs → All P more → All P (spliced cut xs more)
 all_spliced P cut xs more all new =
     All-append P (take cut.at xs) (more ++ drop (cut.at + cut.gone) xs) (all_left P (take cut.at xs) (drop cut.at xs) (subst (All P) (sym (take-append-drop cut.at xs)) all))
     (All-append P more (drop (cut.at + cut.gone) xs) new (all_right P (take (cut.at + cut.gone) xs) (drop (cut.at + cut.gone) xs) (subst (All P) (sym (take-append-drop (cut.at + cut.gone) xs)) all)))
@@ -45,7 +49,7 @@ length_slots : {A : Type 0} (cut : Cut) (xs more : List A) → cut.at + cut.gone
 length_slots cut xs more in_range =
     omega (arith, in_range, length-append (take cut.at xs) (more ++ drop (cut.at + cut.gone) xs), length-append more (drop (cut.at + cut.gone) xs), length-take-le cut.at xs (omega (arith, in_range)), length-drop (cut.at + cut.gone) xs)
 
-loaded_length : (page n : ℕ) → length (loaded page n) ≡ n
+pub loaded_length : (page n : ℕ) → length (loaded page n) ≡ n
 loaded_length page n = length-map-range_with_len (λ (j : ℕ). At (item_place j) page) 0 n
 
 module _ {S K : Type 0} (kept_of : S → K) (standing_of : S → ℕ → Standing) (words_of : S → ℕ → ℕ → ℕ) (root : ℕ) (front : List Step) (step : Step) (was level : ℕ) (given : Pair) (slots : List Slot) (start mid : S)
@@ -236,3 +240,84 @@ module _ {S K : Type 0} (kept_of : S → K) (standing_of : S → ℕ → Standin
             key_fits = h.key_fits;
             rising = subst IsRising (sym out_whole) h.rising;
           }
+
+-- how many items a page keeps at the end of the steps before one
+pub least_front : (above : List Step) (m level n : ℕ) → m < length above → 2 ≤ n → (eqb m 0 ≡ true) ⊎ (6 ≤ n) → least_at (take m above) (suc level) ≤ n
+least_front above zero level n lt two six = omega (arith, two)
+least_front [] (suc m) level n lt two six = absurd (omega (arith, lt))
+least_front (s ∷ below) (suc m) level n lt two six = elim six [
+  | inl e ↦ absurd (not_zero m e)
+  | inr many ↦ many
+]
+  where
+    not_zero : (m : ℕ) → eqb (suc m) 0 ≡ true → ⊥
+    not_zero m e = grind (arith, nat_tests)
+
+pub least_six : (above : List Step) → 0 < length above → least_at above 0 ≡ 6
+least_six [] some = absurd (omega (arith, some))
+least_six (s ∷ below) some = refl
+
+pub six_below : (above : List Step) (m level : ℕ) → m < length above → 0 < m → least_at (take m above) (suc level) ≡ 6
+six_below above zero level lt some = absurd (omega (arith, some))
+six_below [] (suc m) level lt some = absurd (omega (arith, lt))
+six_below (s ∷ below) (suc m) level lt some = refl
+
+module _ {S K : Type 0} (kept_of : S → K) (standing_of : S → ℕ → Standing) (words_of : S → ℕ → ℕ → ℕ) (root : ℕ) (above : List Step) (was level : ℕ) (given : Pair) (slots : List Slot) (start mid : S)
+    (h : IsInHand kept_of standing_of words_of root above was given slots level start mid) where
+  pub hand_tree_at : IsTreeAt level (least_at above level) (standing_of start) (words_of start) was
+  hand_tree_at = subst (λ n. IsTreeAt n (least_at above n) (standing_of start) (words_of start) was) h.at_level (tree_on_way (standing_of start) (words_of start) root above was h.way)
+
+  -- the node's page has its words still
+  pub hand_same : words_of mid was ≡ words_of start was
+  hand_same =
+      swaps_same kept_of standing_of words_of (pages_below level (words_of start) (items_of (words_of start was))) (pages_below level (words_of mid) (pairs_of (words_of mid) given slots)) start mid h.node.swaps was hand_tree_at.page_once
+      (readable_kept (standing_of start was) hand_tree_at.page_in_use)
+
+  pub hand_apart : IsApart level (standing_of mid) (words_of mid) given slots was
+  hand_apart =
+      let before = pages_below level (words_of start) (items_of (words_of start was)) in
+      let after = pages_below level (words_of mid) (pairs_of (words_of mid) given slots) in
+      (kept_after kept_of standing_of words_of before after was start mid h.node.swaps hand_tree_at.page_once hand_tree_at.page_in_use, given_up_page kept_of standing_of words_of before after was start mid h.node.swaps hand_tree_at.page_once hand_tree_at.page_in_use)
+
+  -- since the room was only read
+  pub hand_read : (read : S) → IsUnchanged kept_of standing_of words_of mid read → IsInHand kept_of standing_of words_of root above was given slots level start read
+  hand_read read same =
+      let before = pages_below level (words_of start) (items_of (words_of start was)) in
+      record {
+        way = h.way;
+        at_level = h.at_level;
+        node = subst (λ w. Becomes kept_of standing_of words_of before (pairs_below level w (pairs_of w given slots)) level (pairs_of w given slots) start read) (sym same.words)
+            (becomes_until kept_of standing_of words_of before (pairs_below level (words_of mid) (pairs_of (words_of mid) given slots)) level (pairs_of (words_of mid) given slots) start mid read same h.node);
+        ready = ready_until kept_of standing_of words_of slots mid read same h.ready;
+        key_fits = h.key_fits;
+        rising = subst (λ w. IsRising (whole (words_of start) above (pairs_below level w (pairs_of w given slots)))) (sym same.words) h.rising;
+      }
+
+-- a root's node that was written
+pub hand_rest : {S K : Type 0} (kept_of : S → K) (standing_of : S → ℕ → Standing) (words_of : S → ℕ → ℕ → ℕ) (root : ℕ) (above : List Step) (was level : ℕ) (given : Pair) (slots : List Slot) (start mid : S)
+    → IsInHand kept_of standing_of words_of root above was given slots level start mid → above ≡ [] → (new_root : ℕ) (new : S)
+    → BecomesTree kept_of standing_of words_of (was ∷ pages_below level (words_of mid) (pairs_of (words_of mid) given slots)) (pairs_below level (words_of mid) (pairs_of (words_of mid) given slots)) new_root mid new
+    → BecomesTree kept_of standing_of words_of (pages (words_of start) root) (whole (words_of start) above (pairs_below level (words_of mid) (pairs_of (words_of mid) given slots))) new_root start new
+hand_rest kept_of standing_of words_of root [] was level given slots start mid h empty new_root new written =
+    let tree = hand_tree_at kept_of standing_of words_of root [] was level given slots start mid h in
+    let ps = pairs_below level (words_of mid) (pairs_of (words_of mid) given slots) in
+    let over = tree_over kept_of standing_of words_of (pages_below level (words_of start) (items_of (words_of start was))) ps level was (pairs_of (words_of mid) given slots) new_root start mid new h.node tree.page_once tree.below.once tree.page_in_use written in
+    let e : suc (root - 1) ≡ root = omega (arith, h.way.some) in
+    subst (λ qs. BecomesTree kept_of standing_of words_of qs ps new_root start new)
+    (ap (λ n. pages_at n (words_of start) was) (sym h.at_level) ∙ ap (λ p. pages (words_of start) (suc p)) (sym h.way.way) ∙ ap (pages (words_of start)) e) over
+hand_rest kept_of standing_of words_of root (s ∷ below) was level given slots start mid h empty new_root new written = absurd (omega (arith, ap length empty))
+
+-- what was settled, since the room was only read
+pub settled_read : {S K : Type 0} (kept_of : S → K) (standing_of : S → ℕ → Standing) (words_of : S → ℕ → ℕ → ℕ) (step : Step) (level : ℕ) (given : Pair) (all : List Pair) (settled : Settled) (start new read : S) → IsUnchanged kept_of standing_of words_of new read
+    → IsSettled kept_of standing_of words_of step level given all settled start new → IsSettled kept_of standing_of words_of step level given all settled start read
+settled_read kept_of standing_of words_of step level given all settled start new read same s =
+    let before = pages_below (suc level) (words_of start) (items_of (words_of start step.page)) in
+    let us = λ (w : ℕ → ℕ → ℕ). spliced settled.cut (items_of (words_of start step.page)) (pairs_of w given settled.branches.items) in
+    record {
+      in_range = s.in_range;
+      gone = s.gone;
+      some = s.some;
+      before = s.before;
+      branches = s.branches;
+      becomes = subst (λ w. Becomes kept_of standing_of words_of before all (suc level) (us w) start read) (sym same.words) (becomes_until kept_of standing_of words_of before all (suc level) (us (words_of new)) start new read same s.becomes);
+    }

@@ -1,5 +1,5 @@
 -- A leaf at the end of a path that has changed.
-use Rattle.std.proofs.Common.{◌≡◌, ℕ, zero, suc, ◌+◌, ◌-◌, ◌<◌, ◌≤◌, ◌^◌, List, [], ◌∷◌, ◌++◌, Bool, true, length, get_or, take, drop, All, Result, Ok, Err, ap, sym, subst, ◌∙◌, refl, arith, append_assoc, if◌then◌else◌, length-append, length-drop}
+use Rattle.std.proofs.Common.{◌≡◌, ℕ, zero, suc, ◌+◌, ◌-◌, ◌<◌, ◌≤◌, ◌^◌, List, [], ◌∷◌, ◌++◌, Bool, true, length, get_or, take, drop, All, Result, IfOk, IfErr, Ok, Err, ap, sym, subst, ◌∙◌, refl, arith, append_assoc, if◌then◌else◌, length-append, length-drop}
 use Rattle.std.specs.declared.cmp.Ordering.TheVariants.{Less, Equal, Greater}
 use Rattle.std.specs.List.{flat_map}
 use Rattle.std.specs.Ordering.{is_eq}
@@ -7,7 +7,8 @@ use Rattle.std.proofs.Math.Seq.{take-suc}
 use Rattle.std.proofs.lemmas.List.{get_or_default, length-take-le}
 use Rattle.be_pages.specs.declared.room.Standing.{Standing}
 use Rattle.be_value.specs.declared.refusals.Refusal.{Refusal}
-use Rattle.be_pages.specs.Pages.{KeepsStart}
+use Rattle.be_pages.specs.Pages.{IsUnchanged, KeepsStart, Swaps}
+use Rattle.be_tree.specs.declared.path.Path.{Path}
 use Rattle.be_tree.specs.declared.path.Step.{Step}
 use Rattle.be_tree.specs.declared.rising.Changed.{Changed}
 use Rattle.be_tree.specs.declared.slot.Slot.{Slot}
@@ -15,17 +16,18 @@ use Rattle.be_tree.specs.declared.splicing.Cut.{Cut}
 use Rattle.be_tree.specs.Pair.{Pair}
 use Rattle.be_tree.specs.Key.{IsBranchFor, IsGap, IsRising, StartsAt, key_cmp, put, put_before, without}
 use Rattle.be_tree.specs.Page.{IsPage, item_at, item_place, items_of, level_of}
-use Rattle.be_tree.specs.Path.{BecomesNode, IsChanged, IsPathTo, IsWay, IsWayIn, KeepsLeast, least_at, whole}
+use Rattle.be_tree.specs.Path.{BecomesNode, IsChanged, IsInHand, IsPathTo, IsWayIn, KeepsLeast, least_at, whole}
 use Rattle.be_tree.specs.Slot.{IsReady, pairs_of}
 use Rattle.be_tree.specs.Splicing.{CanBeSpliced, IsOff, IsSpliced, spliced}
 use Rattle.be_tree.specs.Writing.{Refuses}
 use Rattle.be_tree.specs.Tree.{BecomesTree, IsBelow, IsTree, IsTreeAt, least_of_root, pages, pages_at, pages_below, pairs, pairs_at, pairs_below}
-use Rattle.be_tree.proofs.Frame.{one_page, start_trans}
+use Rattle.be_tree.proofs.Frame.{one_page, start_trans, swaps_since}
 use Rattle.be_tree.proofs.Nodes.Slots.{item_get, items_count}
 use Rattle.be_tree.proofs.Order.{key_exact}
 use Rattle.be_tree.proofs.Putting.Puts.{put_at_item, rising_put}
 use Rattle.be_tree.proofs.Raises.{top, tree_on_way}
 use Rattle.be_tree.proofs.Reading.Cursors.{root_pairs}
+use Rattle.be_tree.proofs.Removing.Clears.{swaps_none}
 use Rattle.be_tree.proofs.Removing.Removes.{without_split}
 use Rattle.be_tree.proofs.Rises.{node_written}
 use Rattle.be_tree.proofs.Searching.{rank_of_equal, rank_of_gap}
@@ -161,3 +163,87 @@ module _ (change : List Pair → List Pair) (rises : (xs : List Pair) → IsRisi
 pub length_spliced : (cut : Cut) (items more : List Pair) → cut.at + cut.gone ≤ length items → length (spliced cut items more) + cut.gone ≡ length items + length more
 length_spliced cut items more in_range =
     omega (arith, in_range, length-append (take cut.at items) (more ++ drop (cut.at + cut.gone) items), length-append more (drop (cut.at + cut.gone) items), length-take-le cut.at items (omega (arith, in_range)), length-drop (cut.at + cut.gone) items)
+
+-- a leaf's items in hand, changed
+module _ {S K : Type 0} (kept_of : S → K) (standing_of : S → ℕ → Standing) (words_of : S → ℕ → ℕ → ℕ) (change : List Pair → List Pair) (rises : (xs : List Pair) → IsRising xs → IsRising (change xs))
+    (root : ℕ) (above : List Step) (leaf : ℕ) (given : Pair) (slots : List Slot) (start read : S) (same : IsUnchanged kept_of standing_of words_of start read)
+    (way : IsWayIn (standing_of start) (words_of start) root above leaf) (is_leaf : level_of (words_of start leaf) ≡ 0) (leafy : ChangesLeaf change (standing_of start) (words_of start) root above leaf)
+    (is : pairs_of (words_of start) given slots ≡ change (items_of (words_of start leaf))) (fit : All (λ x. length x.key ≤ 264) (change (items_of (words_of start leaf))))
+    (ready : All (IsReady (standing_of start) (words_of start)) slots) (key_fits : length given.key ≤ 264) where
+  now_is : pairs_of (words_of read) given slots ≡ change (items_of (words_of start leaf))
+  now_is = ap (λ w. pairs_of w given slots) same.words ∙ is
+
+  hand_all : whole (words_of start) above (pairs_of (words_of read) given slots) ≡ change (pairs (words_of start) root)
+  hand_all = ap (whole (words_of start) above) now_is ∙ sym leafy.all
+
+  pub leaf_in_hand : IsInHand kept_of standing_of words_of root above leaf given slots (level_of (words_of start leaf)) start read
+  leaf_in_hand =
+      let items = pairs_of (words_of read) given slots in
+      let below : IsBelow 0 (standing_of read) (words_of read) items = record {
+        keys_fit = subst (All (λ x. length x.key ≤ 264)) (sym now_is) fit;
+        shaped = tt;
+        rising = rising_inside (words_of start) above items (subst IsRising (sym hand_all) (rises (pairs (words_of start) root) leafy.pairs_rise));
+        once = λ q. omega arith;
+        in_use = λ q some. absurd (omega (arith, some));
+      } in
+      let here : IsInHand kept_of standing_of words_of root above leaf given slots 0 start read = record {
+        way = way;
+        at_level = is_leaf;
+        node = record { below = below; has_pairs = refl; swaps = swaps_none kept_of standing_of words_of start read same };
+        ready = subst (λ s. All (IsReady s (words_of read)) slots) (sym same.standing) (subst (λ w. All (IsReady (standing_of start) w) slots) (sym same.words) ready);
+        key_fits = key_fits;
+        rising = subst IsRising (sym hand_all) (rises (pairs (words_of start) root) leafy.pairs_rise);
+      } in
+      subst (λ n. IsInHand kept_of standing_of words_of root above leaf given slots n start read) (sym is_leaf) here
+
+  pub hand_tree : (new_root : ℕ) (new : S) → BecomesTree kept_of standing_of words_of (pages (words_of start) root) (whole (words_of start) above (pairs_below (level_of (words_of start leaf)) (words_of read) (pairs_of (words_of read) given slots))) new_root start new
+      → BecomesTree kept_of standing_of words_of (pages (words_of start) root) (change (pairs (words_of start) root)) new_root start new
+  hand_tree new_root new h =
+      subst (λ ps. BecomesTree kept_of standing_of words_of (pages (words_of start) root) ps new_root start new)
+      (ap (λ n. whole (words_of start) above (pairs_below n (words_of read) (pairs_of (words_of read) given slots))) is_leaf ∙ hand_all) h
+
+-- what a path tells of a put where its leaf has no pair of the key, and of one where it has
+pub record PutsAt (standing : ℕ → Standing) (words : ℕ → ℕ → ℕ) (root : ℕ) (path : Path) (pair : Pair) (cut : Cut) : Type 0 where
+  pub leafy : ChangesLeaf (put pair) standing words root path.above.items path.leaf
+  pub in_range : cut.at + cut.gone ≤ length (items_of (words path.leaf))
+  pub is : put pair (items_of (words path.leaf)) ≡ spliced cut (items_of (words path.leaf)) (pair ∷ [])
+
+pub puts_in : (standing : ℕ → Standing) (words : ℕ → ℕ → ℕ) (root : ℕ) (path : Path) (pair : Pair) (at : ℕ) → IsPathTo standing words root pair.key path → path.place ≡ Err at → PutsAt standing words root path pair (record { at = at; gone = 0 })
+puts_in standing words root path pair at h place =
+    let leafy = put_leaf pair standing words root path.above.items path.leaf h.way h.branches h.is_leaf in
+    let items = items_of (words path.leaf) in
+    let gap = subst (λ r. IfErr r (IsGap pair.key items)) place h.absent in
+    record { leafy = leafy; in_range = omega (arith, gap.in_range); is = put_gap standing words items leafy.tree.below pair at gap }
+
+pub record TakesAt (standing : ℕ → Standing) (words : ℕ → ℕ → ℕ) (root : ℕ) (path : Path) (k : List ℕ) (at : ℕ) : Type 0 where
+  pub leafy : ChangesLeaf (without k) standing words root path.above.items path.leaf
+  pub in_range : at < length (items_of (words path.leaf))
+  pub is : without k (items_of (words path.leaf)) ≡ spliced (record { at = at; gone = 1 }) (items_of (words path.leaf)) []
+
+pub takes_at : (standing : ℕ → Standing) (words : ℕ → ℕ → ℕ) (root : ℕ) (path : Path) (k : List ℕ) (at : ℕ) → IsPathTo standing words root k path → path.place ≡ Ok at → TakesAt standing words root path k at
+takes_at standing words root path k at h place =
+    let leafy = without_leaf k standing words root path.above.items path.leaf h.way h.branches h.is_leaf in
+    let items = items_of (words path.leaf) in
+    let found = subst (λ r. IfOk r (λ at. (at < words path.leaf 1) × (key_cmp (item_at (words path.leaf) (item_place at)).key k ≡ Equal))) place h.found in
+    let d = item_at (words path.leaf) (item_place at) in
+    let lt : at < length items = omega (arith, found.0, items_count (words path.leaf)) in
+    record {
+      leafy = leafy;
+      in_range = lt;
+      is = without_equal items leafy.tree.below.rising k at d lt (ap (λ x. key_cmp x.key k) (item_get (words path.leaf) at d found.0) ∙ found.1);
+    }
+
+-- since a room was only read
+module _ {S K : Type 0} (kept_of : S → K) (standing_of : S → ℕ → Standing) (words_of : S → ℕ → ℕ → ℕ) (old read : S) (same : IsUnchanged kept_of standing_of words_of old read) where
+  pub path_read : (root : ℕ) (k : List ℕ) (path : Path) → IsPathTo (standing_of old) (words_of old) root k path → IsPathTo (standing_of read) (words_of read) root k path
+  path_read root k path h =
+      subst (λ s. IsPathTo s (words_of read) root k path) (sym same.standing) (subst (λ w. IsPathTo (standing_of old) w root k path) (sym same.words) h)
+
+  pub tree_since : (f : List Pair → List Pair) (root new_root : ℕ) (new : S) → BecomesTree kept_of standing_of words_of (pages (words_of read) root) (f (pairs (words_of read) root)) new_root read new
+      → BecomesTree kept_of standing_of words_of (pages (words_of old) root) (f (pairs (words_of old) root)) new_root old new
+  tree_since f root new_root new h = record {
+    tree = h.tree;
+    has_pairs = h.has_pairs ∙ ap (λ w. f (pairs w root)) same.words;
+    swaps = subst (λ w. Swaps kept_of standing_of words_of (pages w root) (pages (words_of new) new_root) old new) same.words
+        (swaps_since kept_of standing_of words_of (pages (words_of read) root) (pages (words_of new) new_root) old read new same h.swaps);
+  }
