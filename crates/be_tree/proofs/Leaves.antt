@@ -1,9 +1,10 @@
 -- A leaf at the end of a path that has changed.
-use Rattle.std.proofs.Common.{◌≡◌, ℕ, zero, suc, ◌+◌, ◌-◌, ◌<◌, ◌≤◌, ◌^◌, List, [], ◌∷◌, ◌++◌, Bool, true, length, get_or, take, drop, All, Result, IfOk, IfErr, Ok, Err, ap, sym, subst, ◌∙◌, refl, arith, append_assoc, if◌then◌else◌, length-append, length-drop}
+use Rattle.std.proofs.Common.{◌≡◌, ◌≢◌, ℕ, zero, suc, ◌+◌, ◌-◌, ◌<◌, ◌≤◌, ◌^◌, List, [], ◌∷◌, ◌++◌, Bool, true, length, get_or, take, drop, All, Result, IfOk, IfErr, Ok, Err, None, is_some, ap, sym, subst, ◌∙◌, refl, arith, append_assoc, if◌then◌else◌, length-append, length-drop}
 use Rattle.std.specs.declared.cmp.Ordering.TheVariants.{Less, Equal, Greater}
 use Rattle.std.specs.List.{flat_map}
 use Rattle.std.specs.Ordering.{is_eq}
 use Rattle.std.proofs.Math.Seq.{take-suc}
+use mathlib.Core.Bool.{false≢true}
 use Rattle.std.proofs.lemmas.List.{get_or_default, length-take-le}
 use Rattle.be_pages.specs.declared.room.Standing.{Standing}
 use Rattle.be_value.specs.declared.refusals.Refusal.{Refusal}
@@ -14,7 +15,7 @@ use Rattle.be_tree.specs.declared.rising.Changed.{Changed}
 use Rattle.be_tree.specs.declared.slot.Slot.{Slot}
 use Rattle.be_tree.specs.declared.splicing.Cut.{Cut}
 use Rattle.be_tree.specs.Pair.{Pair}
-use Rattle.be_tree.specs.Key.{IsBranchFor, IsGap, IsRising, StartsAt, key_cmp, put, put_before, without}
+use Rattle.be_tree.specs.Key.{IsBranchFor, IsGap, IsRising, StartsAt, key_cmp, payload_at, put, put_before, without}
 use Rattle.be_tree.specs.Page.{IsPage, item_at, item_place, items_of, level_of}
 use Rattle.be_tree.specs.Path.{BecomesNode, IsChanged, IsInHand, IsPathTo, IsWayIn, KeepsLeast, least_at, whole}
 use Rattle.be_tree.specs.Slot.{IsReady, pairs_of}
@@ -30,10 +31,10 @@ use Rattle.be_tree.proofs.Reading.Cursors.{root_pairs}
 use Rattle.be_tree.proofs.Removing.Clears.{swaps_none}
 use Rattle.be_tree.proofs.Removing.Removes.{without_split}
 use Rattle.be_tree.proofs.Rises.{node_written}
-use Rattle.be_tree.proofs.Searching.{rank_of_equal, rank_of_gap}
+use Rattle.be_tree.proofs.Searching.{found_equal, found_gap, rank_of_equal, rank_of_gap}
 use Rattle.be_tree.proofs.Shape.Roots.{root_some}
 use Rattle.be_tree.proofs.TreeFacts.{IsSplit, as_branches, leaf_split, page_keys}
-use Rattle.be_tree.proofs.Ways.{change_down, put_goes, rising_inside, without_goes}
+use Rattle.be_tree.proofs.Ways.{change_down, payload_down, put_goes, rising_inside, without_goes}
 
 put_first : (pair : Pair) (items : List Pair) → ((d : Pair) → 0 < length items → key_cmp (get_or items 0 d).key pair.key ≡ Greater) → put pair items ≡ pair ∷ items
 put_first pair [] above = refl
@@ -247,3 +248,30 @@ module _ {S K : Type 0} (kept_of : S → K) (standing_of : S → ℕ → Standin
     swaps = subst (λ w. Swaps kept_of standing_of words_of (pages w root) (pages (words_of new) new_root) old new) same.words
         (swaps_since kept_of standing_of words_of (pages (words_of read) root) (pages (words_of new) new_root) old read new same h.swaps);
   }
+
+-- what a path tells of a look-up
+module _ (standing : ℕ → Standing) (words : ℕ → ℕ → ℕ) (root : ℕ) (k : List ℕ) (path : Path) (h : IsPathTo standing words root k path) where
+  leaf_least : 0 < least_at path.above.items 0
+  leaf_least = some_least path.above.items
+    where
+      some_least : (above : List Step) → 0 < least_at above 0
+      some_least [] = omega arith
+      some_least (s ∷ below) = omega arith
+
+  payload_is : payload_at (pairs words root) k ≡ payload_at (pairs_at 0 words path.leaf) k
+  payload_is =
+      let up = level_of (words (root - 1)) in
+      ap (λ ps. payload_at ps k) (root_pairs root (root - 1) up words (omega (arith, h.way.some)) refl)
+      ∙ payload_down k standing words (root - 1) (least_of_root up) path.above.items path.leaf (root_some up) h.way.way h.branches (top standing words root h.way.tree h.way.some)
+      ∙ ap (λ n. payload_at (pairs_at n words path.leaf) k) h.is_leaf
+
+  pub path_found : (at : ℕ) → path.place ≡ Ok at → payload_at (pairs words root) k ≢ None
+  path_found at place none =
+      let leafy = without_leaf k standing words root path.above.items path.leaf h.way h.branches h.is_leaf in
+      let found = subst (λ r. IfOk r (λ at. (at < words path.leaf 1) × (key_cmp (item_at (words path.leaf) (item_place at)).key k ≡ Equal))) place h.found in
+      false≢true (ap is_some (sym none ∙ payload_is ∙ found_equal 0 (least_at path.above.items 0) standing words path.leaf k at refl leafy.tree leaf_least found.0 found.1))
+
+  pub path_absent : (at : ℕ) → path.place ≡ Err at → payload_at (pairs words root) k ≡ None
+  path_absent at place =
+      let leafy = without_leaf k standing words root path.above.items path.leaf h.way h.branches h.is_leaf in
+      payload_is ∙ found_gap 0 (least_at path.above.items 0) standing words path.leaf k at refl leafy.tree leaf_least (subst (λ r. IfErr r (IsGap k (items_of (words path.leaf)))) place h.absent)

@@ -4,7 +4,7 @@ use Rattle.std.proofs.lemmas.List.{append-nil}
 use Rattle.be_pages.specs.declared.room.Standing.{Standing}
 use Rattle.be_tree.specs.declared.path.Step.{Step}
 use Rattle.be_tree.specs.Pair.{Pair}
-use Rattle.be_tree.specs.Key.{IsBranchFor, IsRising, put, without}
+use Rattle.be_tree.specs.Key.{IsBranchFor, IsRising, payload_at, put, without}
 use Rattle.be_tree.specs.Page.{item_at, item_place, items_of, level_of}
 use Rattle.be_tree.specs.Path.{IsStep, IsWay, around, whole}
 use Rattle.be_tree.specs.Tree.{IsBelow, IsBranch, IsTreeAt, child, pages_at, pairs_at, pairs_below}
@@ -12,7 +12,7 @@ use Rattle.be_tree.proofs.Nodes.Slots.{item_get, items_count}
 use Rattle.be_tree.proofs.Order.{IsRising_left, IsRising_right}
 use Rattle.be_tree.proofs.Putting.Puts.{put_at_item}
 use Rattle.be_tree.proofs.Removing.Removes.{without_split}
-use Rattle.be_tree.proofs.TreeFacts.{branch_tree, in_three, inner_split}
+use Rattle.be_tree.proofs.TreeFacts.{branch_tree, in_three, inner_split, steps_down}
 
 -- one step more at the end, and one less
 pub way_push : (words : ℕ → ℕ → ℕ) (page : ℕ) (above : List Step) (last : ℕ) (step : Step) → IsWay words page above last → IsStep words last step
@@ -130,3 +130,15 @@ without_goes k standing words level items at d below some branch lt =
     let split = inner_split level standing words items below k branch.rank branch.is_rank some in
     subst (λ n. without k (pairs_below (suc level) words items) ≡ pairs_below (suc level) words (take n items) ++ (without k (pairs_at level words (child (get_or items n d))) ++ pairs_below (suc level) words (drop (suc n) items))) (sym branch.before)
     (without_split (λ b. pairs_at level words (child b)) k items (branch.rank - 1) split d)
+
+-- so does a look-up
+pub payload_down : (k : List ℕ) (standing : ℕ → Standing) (words : ℕ → ℕ → ℕ) (page least : ℕ) (above : List Step) (last : ℕ) → 0 < least → IsWay words page above last → All (λ step. IsBranchFor k (items_of (words step.page)) step.at) above
+    → IsTreeAt (level_of (words page)) least standing words page → payload_at (pairs_at (level_of (words page)) words page) k ≡ payload_at (pairs_at (level_of (words last)) words last) k
+payload_down k standing words page least [] last some way for tree = ap (λ p. payload_at (pairs_at (level_of (words p)) words p) k) way
+payload_down k standing words page least (s ∷ below) last some way for tree =
+    let leads = step_leads standing words page least s way.0 tree in
+    let d = item_at (words page) (item_place s.at) in
+    let next = child d in
+    let branch = subst (λ p. IsBranchFor k (items_of (words p)) s.at) way.0.is_page (for 0 s (omega arith)) in
+    (steps_down (level_of (words page)) (level_of (words next)) least standing words page k (items_of (words page)) branch.rank s.at d leads.level_is tree some refl branch.is_rank branch.before (sym (item_get (words page) s.at d way.0.in_range))).same
+    ∙ payload_down k standing words next 6 below last (omega arith) way.1 (λ i e lt. for (suc i) e (omega (arith, lt))) leads.tree

@@ -1,0 +1,60 @@
+use Rattle.std.proofs.Common.{◌≡◌, ◌∙◌, ℕ, List, IfOk, None, refl, subst, sym}
+use Rattle.std.proofs.lemmas.Result.{IfOk-weaker}
+use Rattle.be_tree.specs.Pair.{Pair}
+use Rattle.be_tree.specs.Key.{payload_at, without}
+use Rattle.be_tree.specs.Tree.{BecomesTree, pages, pairs}
+use Rattle.be_tree.proofs.Frame.{unchanged_start}
+use Rattle.be_tree.proofs.Leaves.{path_absent, path_found, path_read, refuses_since, tree_since}
+use Rattle.be_tree.proofs.Removing.Rests.{tree_same, tree_until, without_absent}
+use Rattle.be_tree.proofs.removal.remove.Goals as goal
+
+pub returns-then-root-eq0-clause-ok : goal.returns-then-root-eq0-clause-ok
+returns-then-root-eq0-clause-ok g c =
+    let old = c.args.room.now in
+    let words = g.R.Look.words old in
+    let k = c.args.key.now in
+    let root = c.args.root in
+    let none = subst (λ (r : ℕ). payload_at (pairs words r) k ≡ None) (sym c.if-root-eq0.true) refl in
+    subst (λ (xs : List Pair). BecomesTree g.R.Look.kept g.R.Look.standing g.R.Look.words (pages words root) xs root old old) (sym (without_absent k (pairs words root) none))
+    (tree_same g.R.Look.kept g.R.Look.standing g.R.Look.words root old c.requires.tree)
+
+pub take_out-requires-clause-path : goal.take_out-requires-clause-path
+take_out-requires-clause-path g c =
+    path_read g.R.Look.kept g.R.Look.standing g.R.Look.words c.args.room.now c.find_path.new.look c.find_path.ensures.unchanged c.args.root c.args.key.now c.find_path.new.path c.find_path.ensures.path
+
+pub returns-in-Ok-clause-ok : goal.returns-in-Ok-clause-ok
+returns-in-Ok-clause-ok g c =
+    let old = c.args.room.now in
+    let read = c.find_path.new.look in
+    let new = c.take_out.new.room in
+    let key = c.args.key.now in
+    IfOk-weaker c.take_out.result (λ root. BecomesTree g.R.Look.kept g.R.Look.standing g.R.Look.words (pages (g.R.Look.words read) c.args.root) (without key (pairs (g.R.Look.words read) c.args.root)) root read new)
+    (λ root. BecomesTree g.R.Look.kept g.R.Look.standing g.R.Look.words (pages (g.R.Look.words old) c.args.root) (without key (pairs (g.R.Look.words old) c.args.root)) root old new)
+    (λ root h. tree_since g.R.Look.kept g.R.Look.standing g.R.Look.words old read c.find_path.ensures.unchanged (without key) c.args.root root new h) c.take_out.ensures.ok
+
+pub returns-in-Ok-clause-absent : goal.returns-in-Ok-clause-absent
+returns-in-Ok-clause-absent g c = λ none.
+    absurd (path_found (g.R.Look.standing c.args.room.now) (g.R.Look.words c.args.room.now) c.args.root c.args.key.now c.find_path.new.path c.find_path.ensures.path c.in-Ok.at c.in-Ok.is none)
+
+pub returns-in-Ok-clause-still : goal.returns-in-Ok-clause-still
+returns-in-Ok-clause-still g c = λ none.
+    absurd (path_found (g.R.Look.standing c.args.room.now) (g.R.Look.words c.args.room.now) c.args.root c.args.key.now c.find_path.new.path c.find_path.ensures.path c.in-Ok.at c.in-Ok.is none)
+
+pub returns-in-Ok-clause-err : goal.returns-in-Ok-clause-err
+returns-in-Ok-clause-err g c =
+    (refuses_since g.R.Look.kept g.R.Look.standing g.R.Look.words g.R.Room.full c.take_out.result c.args.room.now c.find_path.new.look c.take_out.new.room
+    (unchanged_start g.R.Look.kept g.R.Look.standing g.R.Look.words c.args.room.now c.find_path.new.look c.find_path.ensures.unchanged) c.take_out.ensures.refused).0
+
+pub returns-in-Ok-clause-full : goal.returns-in-Ok-clause-full
+returns-in-Ok-clause-full g c = c.take_out.ensures.refused.1
+
+pub returns-in-Err-clause-ok : goal.returns-in-Err-clause-ok
+returns-in-Err-clause-ok g c =
+    let old = c.args.room.now in
+    let words = g.R.Look.words old in
+    let k = c.args.key.now in
+    let root = c.args.root in
+    let none = path_absent (g.R.Look.standing old) words root k c.find_path.new.path c.find_path.ensures.path c.in-Err.field-0 c.in-Err.is in
+    tree_until g.R.Look.kept g.R.Look.standing g.R.Look.words (pages words root) (without k (pairs words root)) root old old c.find_path.new.look c.find_path.ensures.unchanged
+    (subst (λ (xs : List Pair). BecomesTree g.R.Look.kept g.R.Look.standing g.R.Look.words (pages words root) xs root old old) (sym (without_absent k (pairs words root) none))
+    (tree_same g.R.Look.kept g.R.Look.standing g.R.Look.words root old c.requires.tree))
