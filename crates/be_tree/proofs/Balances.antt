@@ -1,6 +1,7 @@
 -- A node that is settled, on the way up a tree.
 use Rattle.std.proofs.Common.{◌≡◌, ◌≢◌, ℕ, suc, ◌+◌, ◌-◌, ◌<◌, ◌≤◌, ◌⊎◌, List, [], ◌∷◌, ◌++◌, Bool, true, eqb, length, get_or, map, take, drop, All, IsTrue, ap, sym, subst, ◌∙◌, refl, inl, inr, arith, length-append, length-drop}
 use Rattle.std.specs.List.{range_with_len, take-map, drop-map}
+use Rattle.std.proofs.Math.Seq.{take-suc}
 use Rattle.std.proofs.lemmas.Bool.Decides.{nat_tests}
 use Rattle.std.proofs.lemmas.List.{get_or-map, length-map, length-take-le, map-append, take-append-drop}
 use Rattle.std.proofs.lemmas.List.Elements.{All-append}
@@ -193,6 +194,14 @@ module _ {S K : Type 0} (kept_of : S → K) (standing_of : S → ℕ → Standin
         rising = subst IsRising (sym settled_whole) h.rising;
       }
 
+      pub settled_at : (b : Bool) → (b ≡ true → 0 < settled.cut.at) → IsChanged kept_of standing_of words_of root front (record { was = step.page; page = to; same_least = b }) (level_of (words_of start step.page)) start last
+      settled_at b how = subst (λ n. IsChanged kept_of standing_of words_of root front (record { was = step.page; page = to; same_least = b }) n start last) (sym up) (settled_changed b how)
+
+      pub settled_tree : (new_root : ℕ) (final : S) → BecomesTree kept_of standing_of words_of (pages (words_of start) root) (whole (words_of start) front (pairs_at (level_of (words_of start step.page)) (words_of last) to)) new_root start final
+          → BecomesTree kept_of standing_of words_of (pages (words_of start) root) (whole (words_of start) (front ++ step ∷ []) (pairs_below level (words_of mid) (pairs_of (words_of mid) given slots))) new_root start final
+      settled_tree new_root final h =
+          subst (λ qs. BecomesTree kept_of standing_of words_of (pages (words_of start) root) qs new_root start final) (ap (λ n. whole (words_of start) front (pairs_at n (words_of last) to)) up ∙ settled_whole) h
+
     -- the page above is in hand in turn
     module _ (out : List Slot) (read : S) (same : IsUnchanged kept_of standing_of words_of new read) (is : out ≡ spliced settled.cut (loaded step.page (words_of new step.page 1)) settled.branches.items) where
       out_pairs : pairs_of (words_of read) given out ≡ spliced settled.cut (items_of (words_of start step.page)) (pairs_of (words_of new) given settled.branches.items)
@@ -321,3 +330,32 @@ settled_read kept_of standing_of words_of step level given all settled start new
       branches = s.branches;
       becomes = subst (λ w. Becomes kept_of standing_of words_of before all (suc level) (us w) start read) (sym same.words) (becomes_until kept_of standing_of words_of before all (suc level) (us (words_of new)) start new read same s.becomes);
     }
+
+-- the lowest step that is left, and the node in hand below it once its page's level was read
+pub last_step : (xs : List Step) (i : ℕ) → i < length xs → take (length xs - i) xs ≡ take (length xs - 1 - i) xs ++ get_or xs (length xs - 1 - i) (record { page = 0; at = 0 }) ∷ []
+last_step xs i lt =
+    let e : length xs - i ≡ suc (length xs - 1 - i) = omega (arith, lt) in
+    ap (λ n. take n xs) e ∙ take-suc xs (length xs - 1 - i) (record { page = 0; at = 0 }) (omega (arith, lt))
+
+module _ {S K : Type 0} (kept_of : S → K) (standing_of : S → ℕ → Standing) (words_of : S → ℕ → ℕ → ℕ) (root : ℕ) (above : List Step) (i was level : ℕ) (given : Pair) (slots : List Slot) (room read : S)
+    (same : IsUnchanged kept_of standing_of words_of room read) (is : level ≡ words_of room was 0) where
+  pub read_hand : (start : S) → IsInHand kept_of standing_of words_of root (take (length above - i) above) was given slots (level_of (words_of start was)) start room
+      → IsInHand kept_of standing_of words_of root (take (length above - i) above) was given slots level start read
+  read_hand start h =
+      let e : level_of (words_of start was) ≡ level = sym (is ∙ ap (λ (w : ℕ → ℕ). w 0) (hand_same kept_of standing_of words_of root (take (length above - i) above) was (level_of (words_of start was)) given slots start room h)) in
+      subst (λ n. IsInHand kept_of standing_of words_of root (take (length above - i) above) was given slots n start read) e
+      (hand_read kept_of standing_of words_of root (take (length above - i) above) was (level_of (words_of start was)) given slots start room h read same)
+
+  pub turn_hand : i < length above → (start : S) → IsInHand kept_of standing_of words_of root (take (length above - i) above) was given slots (level_of (words_of start was)) start room
+      → IsInHand kept_of standing_of words_of root (take (length above - 1 - i) above ++ get_or above (length above - 1 - i) (record { page = 0; at = 0 }) ∷ []) was given slots level start read
+  turn_hand lt start h = subst (λ xs. IsInHand kept_of standing_of words_of root xs was given slots level start read) (last_step above i lt) (read_hand start h)
+
+  -- what its pairs make of the tree's is as it was
+  pub turn_same : i < length above → (start : S) → IsInHand kept_of standing_of words_of root (take (length above - i) above) was given slots (level_of (words_of start was)) start room
+      → whole (words_of start) (take (length above - 1 - i) above ++ get_or above (length above - 1 - i) (record { page = 0; at = 0 }) ∷ []) (pairs_below level (words_of read) (pairs_of (words_of read) given slots))
+      ≡ whole (words_of start) (take (length above - i) above) (pairs_below (level_of (words_of start was)) (words_of room) (pairs_of (words_of room) given slots))
+  turn_same lt start h =
+      let e : level_of (words_of start was) ≡ level = sym (is ∙ ap (λ (w : ℕ → ℕ). w 0) (hand_same kept_of standing_of words_of root (take (length above - i) above) was (level_of (words_of start was)) given slots start room h)) in
+      ap (λ xs. whole (words_of start) xs (pairs_below level (words_of read) (pairs_of (words_of read) given slots))) (sym (last_step above i lt))
+      ∙ ap (λ n. whole (words_of start) (take (length above - i) above) (pairs_below n (words_of read) (pairs_of (words_of read) given slots))) (sym e)
+      ∙ ap (λ w. whole (words_of start) (take (length above - i) above) (pairs_below (level_of (words_of start was)) w (pairs_of w given slots))) same.words
