@@ -78,9 +78,11 @@ module _ (g : Over) (c : After-insert g) (at : PutsAt (g.R.Look.standing c.args.
 pub settle-requires-clause-in_hand : goal.settle-requires-clause-in_hand
 settle-requires-clause-in_hand g c =
     let start = (goal.at.settle-requires-clause-in_hand g c).Start in
-    let at = (goal.at.settle-requires-clause-in_hand g c).After-insert in
-    (c.args.room.now, subst (λ xs. IsInHand g.R.Look.kept g.R.Look.standing g.R.Look.words c.args.root xs c.args.path.now.leaf c.args.pair.now c.insert.new.self.items (level_of (g.R.Look.words c.args.room.now c.args.path.now.leaf)) c.args.room.now c.fill_slots.new.look)
-    (sym c.deref.ensures.0) (hand g at (puts g start)))
+    let at = (goal.at.settle-requires-clause-in_hand g c).After-insert in (
+      c.args.room.now,
+      subst (λ xs. IsInHand g.R.Look.kept g.R.Look.standing g.R.Look.words c.args.root xs c.args.path.now.leaf c.args.pair.now c.insert.new.self.items (level_of (g.R.Look.words c.args.room.now c.args.path.now.leaf)) c.args.room.now c.fill_slots.new.look)
+          (sym c.deref.ensures.0) (hand g at (puts g start)),
+    )
 
 pub settle-requires-clause-few : goal.settle-requires-clause-few
 settle-requires-clause-few g c = omega (arith, c.insert.ensures.len, c.fill_slots.ensures.len, c.requires.full)
