@@ -5,5 +5,4 @@ pub mod SlotLists
 pub mod Neighbours
 pub mod Children
 pub mod Joins
-pub mod Alone
 pub mod Writes

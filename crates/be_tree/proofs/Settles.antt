@@ -84,10 +84,6 @@ module _ {S K : Type 0} (kept_of : S → K) (standing_of : S → ℕ → Standin
       subst (λ (w : ℕ → ℕ). length (item_at w (item_place i)).payload ≡ 8) (sym above_same)
       (names_page (suc level) level 2 step.page (standing_of start) (words_of start) refl h.tree i (subst (λ (w : ℕ → ℕ). i < w 1) above_same lt))
 
-  -- what writing the node alone takes
-  pub alone_written : CanBeWritten level (standing_of mid) (words_of mid) given slots
-  alone_written = (h.node.below, (h.ready, h.key_fits))
-
   pub alone_apart : IsApart level (standing_of mid) (words_of mid) given slots was
   alone_apart =
       let before = pages_below level (words_of start) (items_of (words_of start was)) in
