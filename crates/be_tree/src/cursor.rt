@@ -105,10 +105,10 @@ impl Cursor {
         let mut level = look.word(page, 0);
         while level > 0 {
             let at = branch_for(look, page, from, first);
-            let child = child_at(look, page, HEADER_WORDS + ITEM_WORDS * at);
+            let child = child_at(look, page, at);
             self.path.push(Place {
                 page: page as u32,
-                next: (at + 1) as u8,
+                next: (item_number(at) + 1) as u8,
                 level: level as u8,
             });
             page = child;
@@ -243,6 +243,14 @@ impl Cursor {
     }
 }
 
+/// The number of the item that stands at a place of a page.
+fn item_number(at: usize) -> usize
+    requires { 2 ≤ at }
+    ensures { result ≡ (at - 2) / 42 }
+{
+    (at - HEADER_WORDS) / ITEM_WORDS
+}
+
 /// How many of a leaf's items stand before the pairs at or after a key.
 fn leaf_from<L: Look>(look: &mut L, page: u64, from: &[u8], first: u64, after: bool) -> usize
     requires tree { IsTreeAt 0 1 (L.standing look.old) (L.words look.old) page }
@@ -252,7 +260,10 @@ fn leaf_from<L: Look>(look: &mut L, page: u64, from: &[u8], first: u64, after: b
     ensures unchanged { IsUnchanged L.kept L.standing L.words look.old look.new }
 {
     match search(look, page, from, first) {
-        Ok(at) => if after { at + 1 } else { at },
-        Err(at) => at,
+        Ok(at) => {
+            let number = item_number(at);
+            if after { number + 1 } else { number }
+        }
+        Err(at) => item_number(at),
     }
 }

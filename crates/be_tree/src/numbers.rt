@@ -14,7 +14,7 @@ ghost use Rattle.be_tree.specs.Tree.{IsTree, IsTreeAt, pairs};
 ghost use Rattle.be_tree.specs.Words.{IsFirstOf};
 
 use crate::cursor::Cursor;
-use crate::lookup::is_above;
+use crate::lookup::{end_of, is_above};
 use crate::page::{HEADER_WORDS, ITEM_WORDS, LENGTH_BITS, first_word, number_behind};
 use be_pages::Look;
 use std::alloc::AllocError;
@@ -99,6 +99,7 @@ fn push_leaf<L: Look>(
 }
 
 /// Adds the numbers of a leaf's keys, from the item of a number on, up to the bound, and tells whether a key is above it.
+#[inline(always)]
 fn push_to<L: Look>(
     look: &mut L,
     page: u64,
@@ -108,6 +109,7 @@ fn push_to<L: Look>(
 ) -> Result<bool, AllocError>
     requires leaf { IsTreeAt 0 1 (L.standing look.old) (L.words look.old) page }
     requires long { AreLong (drop from (items_of (L.words look.old page))) }
+    requires in_range { from ≤ L.words look.old page 1 }
     ensures first { HasFirst found.old.items (numbers_to (drop from (items_of (L.words look.old page))) (option_copied high.entry)) found.new.items }
     ensures found { OnOk result (found.new.items
         ≡ found.old.items ++ numbers_to (drop from (items_of (L.words look.old page))) (option_copied high.entry)) }
@@ -115,14 +117,15 @@ fn push_to<L: Look>(
     ensures unchanged { IsUnchanged L.kept L.standing L.words look.old look.new }
 {
     let first = first_of(high);
-    let count = look.word(page, 1) as usize;
-    for at in from..count {
-        let place = HEADER_WORDS + ITEM_WORDS * at;
-        if is_past_at(look, page, place, high, first) {
+    let end = end_of(look, page);
+    let mut at = HEADER_WORDS + ITEM_WORDS * from;
+    'items: while at < end {
+        if is_past_at(look, page, at, high, first) {
             return Ok(true);
         }
-        let number = number_at(look, page, place);
+        let number = number_at(look, page, at);
         found.push(number)?;
+        at += ITEM_WORDS;
     }
     Ok(false)
 }
