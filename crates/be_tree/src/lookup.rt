@@ -149,7 +149,7 @@ pub(crate) fn branch_for<L: Look>(look: &mut L, page: u64, key: &[u8], first: u6
 {
     let end = end_of(look, page);
     let mut at = HEADER_WORDS + ITEM_WORDS;
-    'items: while at < end {
+    while at < end {
         if is_above(look, page, at, key, first) {
             return at - ITEM_WORDS;
         }
@@ -175,7 +175,7 @@ pub(crate) fn search<L: Look>(
 {
     let end = end_of(look, page);
     let mut at = HEADER_WORDS;
-    'items: while at < end {
+    while at < end {
         let order = order_at(look, page, at, key, first);
         if order.is_eq() {
             return Ok(at);

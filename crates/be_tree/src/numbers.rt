@@ -119,7 +119,7 @@ fn push_to<L: Look>(
     let first = first_of(high);
     let end = end_of(look, page);
     let mut at = HEADER_WORDS + ITEM_WORDS * from;
-    'items: while at < end {
+    while at < end {
         if is_past_at(look, page, at, high, first) {
             return Ok(true);
         }

@@ -7,8 +7,8 @@ use Rattle.be_tree.specs.Page.{item_place, items_of}
 use Rattle.be_tree.proofs.lookup.search.Given as goal
 
 -- the item that was asked last is below the key
-abbrev pub invariant-loop-items : goal.invariant-loop-items
-invariant-loop-items g l = record {
+abbrev pub invariant-loop-at : goal.invariant-loop-at
+invariant-loop-at g l = record {
   number : ℕ;
   is_place : l.at ≡ item_place number;
   in_range : number ≤ g.L.Look.words l.fn.look l.page 1;
@@ -16,5 +16,5 @@ invariant-loop-items g l = record {
   unchanged : IsUnchanged g.L.Look.kept g.L.Look.standing g.L.Look.words l.fn.look l.look;
 }
 
-abbrev pub decreases-loop-items : goal.decreases-loop-items
-decreases-loop-items g l = l.end - l.at
+abbrev pub decreases-loop-at : goal.decreases-loop-at
+decreases-loop-at g l = l.end - l.at
