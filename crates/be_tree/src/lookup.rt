@@ -87,7 +87,8 @@ pub fn find_place<L: Look>(look: &mut L, root: u64, key: &[u8]) -> Option<(u64, 
     let mut page = root - 1;
     let mut level = look.word(page, 0);
     while level > 0 {
-        let at = branch_for(look, page, key, first);
+        let end = end_of(look, page);
+        let at = branch_for(look, page, end, key, first);
         page = child_at(look, page, at);
         level -= 1;
     }
@@ -139,15 +140,21 @@ pub(crate) fn end_of<L: Look>(look: &mut L, page: u64) -> usize
 /// The place of the branch below which a key stands: the last one whose key is not greater, or the first one. So the first
 /// one's key isn't asked.
 #[inline(always)]
-pub(crate) fn branch_for<L: Look>(look: &mut L, page: u64, key: &[u8], first: u64) -> usize
+pub(crate) fn branch_for<L: Look>(
+    look: &mut L,
+    page: u64,
+    end: usize,
+    key: &[u8],
+    first: u64,
+) -> usize
     requires readable { IsTrue (is_readable (L.standing look.old page)) }
     requires page { IsPage (L.words look.old page) }
     requires some { 0 < L.words look.old page 1 }
+    requires end { end ≡ item_place (L.words look.old page 1) }
     requires first { IsFirst key.now first }
     ensures branch { IsBranchAt key.now (items_of (L.words look.old page)) result }
     ensures unchanged { IsUnchanged L.kept L.standing L.words look.old look.new }
 {
-    let end = end_of(look, page);
     let mut at = HEADER_WORDS + ITEM_WORDS;
     while at < end {
         if is_above(look, page, at, key, first) {

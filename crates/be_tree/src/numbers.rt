@@ -8,19 +8,31 @@ ghost use Rattle.std.specs.List.{list_any};
 ghost use Rattle.std.specs.Option.{option_copied};
 ghost use Rattle.be_pages.specs.Pages.{IsUnchanged, is_readable};
 ghost use Rattle.be_tree.specs.Cursor.{IsCursor, remaining};
-ghost use Rattle.be_tree.specs.Page.{IsItem, item_at, items_of};
+ghost use Rattle.be_tree.specs.Page.{IsItem, item_at, item_place, items_of};
+ghost use Rattle.be_tree.specs.Places.{number_at_place};
 ghost use Rattle.be_tree.specs.Range.{AreLong, HasFirst, is_past, number_of, numbers_to, pairs_from};
 ghost use Rattle.be_tree.specs.Tree.{IsTree, IsTreeAt, pairs};
 ghost use Rattle.be_tree.specs.Words.{IsFirstOf};
 
 use crate::cursor::Cursor;
-use crate::lookup::{end_of, is_above};
-use crate::page::{HEADER_WORDS, ITEM_WORDS, LENGTH_BITS, first_word, number_behind};
+use crate::lookup::{branch_for, end_of, is_above, search};
+use crate::page::{HEADER_WORDS, ITEM_WORDS, LENGTH_BITS, child_at, first_word, number_behind};
+use crate::walk::key_at;
 use be_pages::Look;
 use std::alloc::AllocError;
 
+/// Where the pairs from a key on begin: the place of an item in a leaf, or its end. `next` is the place of the branch after the
+/// leaf, in the page `next_page`, or 0 if no leaf is after it.
+#[derive(Clone, Copy)]
+struct Start {
+    page: u64,
+    at: usize,
+    next_page: u64,
+    next: usize,
+}
+
 /// Adds the numbers in the last eight bytes of the keys from `low` to `high`, both included, or to the last key, in the order of the
-/// keys. It costs one descent, and reads a few words for each key.
+/// keys. It costs one descent, or two if more than a leaf has such keys, and reads a few words for each key.
 pub fn numbers_within<L: Look>(
     look: &mut L,
     root: u64,
@@ -39,11 +51,67 @@ pub fn numbers_within<L: Look>(
     if root == 0 {
         return Ok(());
     }
-    let mut cursor = Cursor::new();
-    let (page, from) = cursor.descend(look, root, low, false);
-    let is_last = push_to(look, page, from, high, found)?;
-    if is_last {
+    let start = first_leaf(look, root, low);
+    let is_last = push_to(look, start.page, start.at, high, found)?;
+    if is_last || is_end(look, &start, high) {
         return Ok(());
+    }
+    push_past(look, root, &start, low, high, found)
+}
+
+/// The leaf in which the pairs from a key on begin.
+#[inline(always)]
+fn first_leaf<L: Look>(look: &mut L, root: u64, low: &[u8]) -> Start {
+    let first = first_word(low);
+    let mut page = root - 1;
+    let mut level = look.word(page, 0);
+    let mut next_page = 0;
+    let mut next = 0;
+    while level > 0 {
+        let end = end_of(look, page);
+        let at = branch_for(look, page, end, low, first);
+        if at + ITEM_WORDS < end {
+            next_page = page;
+            next = at + ITEM_WORDS;
+        }
+        page = child_at(look, page, at);
+        level -= 1;
+    }
+    let at = match search(look, page, low, first) {
+        Ok(at) => at,
+        Err(at) => at,
+    };
+    Start {
+        page,
+        at,
+        next_page,
+        next,
+    }
+}
+
+/// Whether no pair after the leaf is within the bound.
+#[inline(always)]
+fn is_end<L: Look>(look: &mut L, start: &Start, high: Option<&[u8]>) -> bool {
+    start.next == 0 || is_past_at(look, start.next_page, start.next, high, first_of(high))
+}
+
+/// Adds the numbers of the keys after the leaf, up to the bound.
+#[inline(never)]
+fn push_past<L: Look>(
+    look: &mut L,
+    root: u64,
+    start: &Start,
+    low: &[u8],
+    high: Option<&[u8]>,
+    found: &mut Vec<u64>,
+) -> Result<(), AllocError> {
+    let mut cursor = Cursor::new();
+    let end = end_of(look, start.page);
+    if start.at < end {
+        let last = key_at(look, start.page, end - ITEM_WORDS);
+        cursor.seek(look, root, last.as_slice(), true);
+    } else {
+        cursor.seek(look, root, low, false);
     }
     push_rest(look, &mut cursor, high, found)
 }
@@ -92,13 +160,13 @@ fn push_leaf<L: Look>(
     let count = look.word(page, 1) as usize;
     let last = HEADER_WORDS + ITEM_WORDS * (count - 1);
     if is_past_at(look, page, last, high, first_of(high)) {
-        push_to(look, page, from, high, found)
+        push_to(look, page, HEADER_WORDS + ITEM_WORDS * from, high, found)
     } else {
-        push_to(look, page, from, None, found)
+        push_to(look, page, HEADER_WORDS + ITEM_WORDS * from, None, found)
     }
 }
 
-/// Adds the numbers of a leaf's keys, from the item of a number on, up to the bound, and tells whether a key is above it.
+/// Adds the numbers of a leaf's keys, from the item at a place on, up to the bound, and tells whether a key is above it.
 #[inline(always)]
 fn push_to<L: Look>(
     look: &mut L,
@@ -108,17 +176,18 @@ fn push_to<L: Look>(
     found: &mut Vec<u64>,
 ) -> Result<bool, AllocError>
     requires leaf { IsTreeAt 0 1 (L.standing look.old) (L.words look.old) page }
-    requires long { AreLong (drop from (items_of (L.words look.old page))) }
-    requires in_range { from ≤ L.words look.old page 1 }
-    ensures first { HasFirst found.old.items (numbers_to (drop from (items_of (L.words look.old page))) (option_copied high.entry)) found.new.items }
+    requires place { from ≡ item_place (number_at_place from) }
+    requires in_range { number_at_place from ≤ L.words look.old page 1 }
+    requires long { AreLong (drop (number_at_place from) (items_of (L.words look.old page))) }
+    ensures first { HasFirst found.old.items (numbers_to (drop (number_at_place from) (items_of (L.words look.old page))) (option_copied high.entry)) found.new.items }
     ensures found { OnOk result (found.new.items
-        ≡ found.old.items ++ numbers_to (drop from (items_of (L.words look.old page))) (option_copied high.entry)) }
-    ensures past { IfOk result (λ past. past ≡ list_any (λ x. is_past (option_copied high.entry) x.key) (drop from (items_of (L.words look.old page)))) }
+        ≡ found.old.items ++ numbers_to (drop (number_at_place from) (items_of (L.words look.old page))) (option_copied high.entry)) }
+    ensures past { IfOk result (λ past. past ≡ list_any (λ x. is_past (option_copied high.entry) x.key) (drop (number_at_place from) (items_of (L.words look.old page)))) }
     ensures unchanged { IsUnchanged L.kept L.standing L.words look.old look.new }
 {
     let first = first_of(high);
     let end = end_of(look, page);
-    let mut at = HEADER_WORDS + ITEM_WORDS * from;
+    let mut at = from;
     while at < end {
         if is_past_at(look, page, at, high, first) {
             return Ok(true);
@@ -141,6 +210,7 @@ fn first_of(high: Option<&[u8]>) -> u64
 }
 
 /// Whether the key of the item at a place is above the bound, whose first word is at hand.
+#[inline(always)]
 fn is_past_at<L: Look>(look: &mut L, page: u64, at: usize, high: Option<&[u8]>, first: u64) -> bool
     requires readable { IsTrue (is_readable (L.standing look.old page)) }
     requires in_page { at + 42 ≤ 512 }
@@ -156,6 +226,7 @@ fn is_past_at<L: Look>(look: &mut L, page: u64, at: usize, high: Option<&[u8]>, 
 }
 
 /// The number in the last eight bytes of the key of the item at a place.
+#[inline(always)]
 fn number_at<L: Look>(look: &mut L, page: u64, at: usize) -> u64
     requires readable { IsTrue (is_readable (L.standing look.old page)) }
     requires in_page { at + 42 ≤ 512 }

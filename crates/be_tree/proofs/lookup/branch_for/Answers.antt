@@ -19,18 +19,18 @@ loop-at-init g c = record {
   some = omega arith;
   in_range = c.requires.some;
   not_above = λ j d e some gt. absurd (omega (arith, e, some));
-  unchanged = c.end_of-end.ensures.unchanged;
+  unchanged = record { kept = refl; standing = refl; words = refl };
 }
 
 -- the place is that of an item
 pub is_above-requires-clause-in_page : goal.is_above-requires-clause-in_page
-is_above-requires-clause-in_page g c = omega (arith, c.loop-at.invariant.is_place, c.loop-at-test.true, c.end_of-end.ensures.end, c.requires.page.few)
+is_above-requires-clause-in_page g c = omega (arith, c.loop-at.invariant.is_place, c.loop-at-test.true, c.requires.end, c.requires.page.few)
 
 pub is_above-requires-clause-item : goal.is_above-requires-clause-item
 is_above-requires-clause-item g c =
     let i = c.loop-at.invariant in
     subst (λ (w : ℕ → ℕ → ℕ). IsItem (w c.args.page) c.loop-at.at) (sym i.unchanged.words)
-    (subst (λ (p : ℕ). IsItem (g.L.Look.words c.args.look.now c.args.page) p) (sym i.is_place) (c.requires.page.each i.number (omega (arith, i.is_place, c.loop-at-test.true, c.end_of-end.ensures.end))))
+    (subst (λ (p : ℕ). IsItem (g.L.Look.words c.args.look.now c.args.page) p) (sym i.is_place) (c.requires.page.each i.number (omega (arith, i.is_place, c.loop-at-test.true, c.requires.end))))
 
 -- how the item that is asked compares
 asked : (g : Over) (c : After-is_above g) (d : Pair) → c.loop-at.invariant.number < g.L.Look.words c.args.look.now c.args.page 1
@@ -42,7 +42,7 @@ asked g c d lt =
     ∙ sym (c.is_above.ensures.above ∙ ap (λ (w : ℕ → ℕ → ℕ). is_gt (key_cmp (item_at (w c.args.page) c.loop-at.at).key c.args.key.now)) c.loop-at.invariant.unchanged.words)
 
 here : (g : Over) (c : After-is_above g) → c.loop-at.invariant.number < g.L.Look.words c.args.look.now c.args.page 1
-here g c = omega (arith, c.loop-at.invariant.is_place, c.loop-at-test.true, c.end_of-end.ensures.end)
+here g c = omega (arith, c.loop-at.invariant.is_place, c.loop-at-test.true, c.requires.end)
 
 never : {A : Type 0} → false ≡ true → A
 never e = cc
@@ -96,6 +96,6 @@ returns-clause-branch g c =
       is_branch = branch_of c.args.key.now (items_of words) i.number (i.number - 1) refl i.some
           (omega (arith, len, i.in_range))
           i.not_above
-          (λ d lt. absurd (omega (arith, lt, len, i.is_place, c.loop-at-test.false, c.end_of-end.ensures.end)));
+          (λ d lt. absurd (omega (arith, lt, len, i.is_place, c.loop-at-test.false, c.requires.end)));
       is_place = omega (arith, i.is_place, i.some);
     }
