@@ -3,16 +3,17 @@
 //! An index has a key for each of its entries, whose last eight bytes tell whose entry it is. A reader who wants just that of a
 //! range of keys gets it here: the words of each key are compared with the bound where they stand, and no key is unpacked. Of the
 //! leaves after the first, the last key is compared before the others: where it isn't above the bound, none of its leaf is.
-ghost use Rattle.std.specs.Prelude.{◌≡◌, ◌+◌, ◌<◌, ◌≤◌, ◌++◌, false, IsTrue, IfOk, OnOk, length, drop};
+ghost use Rattle.std.specs.Prelude.{◌≡◌, ◌+◌, ◌<◌, ◌≤◌, ◌++◌, [], List, true, false, IsTrue, IfOk, OnOk, length, drop};
 ghost use Rattle.std.specs.List.{list_any};
 ghost use Rattle.std.specs.Option.{option_copied};
 ghost use Rattle.be_pages.specs.Pages.{IsUnchanged, is_readable};
 ghost use Rattle.be_tree.specs.Cursor.{IsCursor, remaining};
 ghost use Rattle.be_tree.specs.Page.{IsItem, item_at, item_place, items_of};
-ghost use Rattle.be_tree.specs.Places.{number_at_place};
+ghost use Rattle.be_tree.specs.Pair.{Pair};
+ghost use Rattle.be_tree.specs.Places.{AreFrom, IsNext, number_at_place};
 ghost use Rattle.be_tree.specs.Range.{AreLong, HasFirst, is_past, number_of, numbers_to, pairs_from};
 ghost use Rattle.be_tree.specs.Tree.{IsTree, IsTreeAt, pairs};
-ghost use Rattle.be_tree.specs.Words.{IsFirstOf};
+ghost use Rattle.be_tree.specs.Words.{IsFirst, IsFirstOf};
 
 use crate::cursor::Cursor;
 use crate::lookup::{branch_for, end_of, is_above, search};
@@ -21,14 +22,20 @@ use crate::walk::key_at;
 use be_pages::Look;
 use std::alloc::AllocError;
 
-/// Where the pairs from a key on begin: the place of an item in a leaf, or its end. `next` is the place of the branch after the
-/// leaf, in the page `next_page`, or 0 if no leaf is after it.
+/// A branch by its place in a page: the one after a leaf, which has the least key after the leaf. At place 0 no key is after it.
 #[derive(Clone, Copy)]
-struct Start {
+struct NextBranch {
+    page: u64,
+    place: usize,
+}
+
+/// The leaf in which the keys from one on begin, the place of the first of them, which may be the end of the leaf's items, and
+/// the branch after the leaf.
+#[derive(Clone, Copy)]
+struct FirstLeaf {
     page: u64,
     at: usize,
-    next_page: u64,
-    next: usize,
+    next: NextBranch,
 }
 
 /// Adds the numbers in the last eight bytes of the keys from `low` to `high`, both included, or to the last key, in the order of the
@@ -51,69 +58,127 @@ pub fn numbers_within<L: Look>(
     if root == 0 {
         return Ok(());
     }
-    let start = first_leaf(look, root, low);
-    let is_last = push_to(look, start.page, start.at, high, found)?;
-    if is_last || is_end(look, &start, high) {
+    let leaf = first_leaf(look, root, low);
+    let is_last = push_to(look, leaf.page, leaf.at, high, found)?;
+    if is_last {
         return Ok(());
     }
-    push_past(look, root, &start, low, high, found)
+    let is_end = ends_before(look, leaf.next, high);
+    if is_end {
+        return Ok(());
+    }
+    push_past(look, root, leaf, low, high, found)
 }
 
-/// The leaf in which the pairs from a key on begin.
+/// The leaf in which the keys from one on begin.
 #[inline(always)]
-fn first_leaf<L: Look>(look: &mut L, root: u64, low: &[u8]) -> Start {
+fn first_leaf<L: Look>(look: &mut L, root: u64, low: &[u8]) -> FirstLeaf
+    requires tree { IsTree (L.standing look.old) (L.words look.old) root }
+    requires some { 0 < root }
+    ensures leaf { IsTreeAt 0 1 (L.standing look.old) (L.words look.old) result.page }
+    ensures from { (rest : List Pair) × (AreFrom (L.words look.old) result.page result.at (pairs_from (pairs (L.words look.old) root) low.now false) rest
+        × IsNext (L.standing look.old) (L.words look.old) result.next.page result.next.place rest) }
+    ensures unchanged { IsUnchanged L.kept L.standing L.words look.old look.new }
+{
     let first = first_word(low);
     let mut page = root - 1;
     let mut level = look.word(page, 0);
-    let mut next_page = 0;
-    let mut next = 0;
+    let mut next = NextBranch { page: 0, place: 0 };
     while level > 0 {
         let end = end_of(look, page);
         let at = branch_for(look, page, end, low, first);
-        if at + ITEM_WORDS < end {
-            next_page = page;
-            next = at + ITEM_WORDS;
-        }
+        next = next_of(page, at + ITEM_WORDS, end, next);
         page = child_at(look, page, at);
         level -= 1;
     }
-    let at = match search(look, page, low, first) {
-        Ok(at) => at,
-        Err(at) => at,
-    };
-    Start {
-        page,
-        at,
-        next_page,
-        next,
+    let at = first_from(look, page, low, first);
+    FirstLeaf { page, at, next }
+}
+
+/// The branch at a place of a page, unless the items end there: then the one that was found above.
+#[inline(always)]
+fn next_of(page: u64, place: usize, end: usize, above: NextBranch) -> NextBranch
+    ensures here { place < end → result ≡ record { page = page; place = place } }
+    ensures above { end ≤ place → result ≡ above }
+{
+    if place < end {
+        NextBranch { page, place }
+    } else {
+        above
     }
 }
 
-/// Whether no pair after the leaf is within the bound.
+/// The place of the first of a leaf's keys that isn't less than a key, or the end of its items.
 #[inline(always)]
-fn is_end<L: Look>(look: &mut L, start: &Start, high: Option<&[u8]>) -> bool {
-    start.next == 0 || is_past_at(look, start.next_page, start.next, high, first_of(high))
+fn first_from<L: Look>(look: &mut L, page: u64, low: &[u8], first: u64) -> usize
+    requires leaf { IsTreeAt 0 1 (L.standing look.old) (L.words look.old) page }
+    requires first { IsFirst low.now first }
+    ensures from { AreFrom (L.words look.old) page result (pairs_from (items_of (L.words look.old page)) low.now false) [] }
+    ensures unchanged { IsUnchanged L.kept L.standing L.words look.old look.new }
+{
+    match search(look, page, low, first) {
+        Ok(at) => at,
+        Err(at) => at,
+    }
 }
 
-/// Adds the numbers of the keys after the leaf, up to the bound.
+/// Whether none of the keys from a branch on is within the bound.
+#[inline(always)]
+fn ends_before<L: Look>(look: &mut L, next: NextBranch, high: Option<&[u8]>) -> bool
+    requires next { (rest : List Pair) × IsNext (L.standing look.old) (L.words look.old) next.page next.place rest }
+    ensures none { result ≡ true → (rest : List Pair) → IsNext (L.standing look.old) (L.words look.old) next.page next.place rest →
+        numbers_to rest (option_copied high.entry) ≡ [] }
+    ensures unchanged { IsUnchanged L.kept L.standing L.words look.old look.new }
+{
+    if next.place == 0 {
+        return true;
+    }
+    is_past_at(look, next.page, next.place, high, first_of(high))
+}
+
+/// Adds the numbers of the keys after the leaf in which the keys from one on begin, up to the bound.
 #[inline(never)]
 fn push_past<L: Look>(
     look: &mut L,
     root: u64,
-    start: &Start,
+    leaf: FirstLeaf,
     low: &[u8],
     high: Option<&[u8]>,
     found: &mut Vec<u64>,
-) -> Result<(), AllocError> {
+) -> Result<(), AllocError>
+    requires tree { IsTree (L.standing look.old) (L.words look.old) root }
+    requires long { AreLong (pairs (L.words look.old) root) }
+    requires leaf { IsTreeAt 0 1 (L.standing look.old) (L.words look.old) leaf.page }
+    requires from { (rest : List Pair) × AreFrom (L.words look.old) leaf.page leaf.at (pairs_from (pairs (L.words look.old) root) low.now false) rest }
+    ensures first { (rest : List Pair) → AreFrom (L.words look.old) leaf.page leaf.at (pairs_from (pairs (L.words look.old) root) low.now false) rest →
+        HasFirst found.old.items (numbers_to rest (option_copied high.entry)) found.new.items }
+    ensures found { OnOk result ((rest : List Pair) → AreFrom (L.words look.old) leaf.page leaf.at (pairs_from (pairs (L.words look.old) root) low.now false) rest →
+        found.new.items ≡ found.old.items ++ numbers_to rest (option_copied high.entry)) }
+    ensures unchanged { IsUnchanged L.kept L.standing L.words look.old look.new }
+{
     let mut cursor = Cursor::new();
-    let end = end_of(look, start.page);
-    if start.at < end {
-        let last = key_at(look, start.page, end - ITEM_WORDS);
+    seek_past(look, root, leaf, low, &mut cursor);
+    push_rest(look, &mut cursor, high, found)
+}
+
+/// Brings a cursor after the leaf in which the keys from one on begin: after its last key, or if none of them is in it, before
+/// the first of them.
+fn seek_past<L: Look>(look: &mut L, root: u64, leaf: FirstLeaf, low: &[u8], cursor: &mut Cursor)
+    requires tree { IsTree (L.standing look.old) (L.words look.old) root }
+    requires leaf { IsTreeAt 0 1 (L.standing look.old) (L.words look.old) leaf.page }
+    requires from { (rest : List Pair) × AreFrom (L.words look.old) leaf.page leaf.at (pairs_from (pairs (L.words look.old) root) low.now false) rest }
+    ensures cursor { IsCursor (L.standing look.old) (L.words look.old) cursor.new }
+    ensures remaining { (rest : List Pair) → AreFrom (L.words look.old) leaf.page leaf.at (pairs_from (pairs (L.words look.old) root) low.now false) rest →
+        remaining (L.words look.old) cursor.new ≡ rest }
+    ensures unchanged { IsUnchanged L.kept L.standing L.words look.old look.new }
+{
+    let end = end_of(look, leaf.page);
+    if leaf.at < end {
+        let last = key_at(look, leaf.page, end - ITEM_WORDS);
         cursor.seek(look, root, last.as_slice(), true);
     } else {
         cursor.seek(look, root, low, false);
     }
-    push_rest(look, &mut cursor, high, found)
 }
 
 /// Adds the numbers of the keys that a cursor has still to give, up to the bound, leaf by leaf.
