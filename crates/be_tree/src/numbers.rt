@@ -224,10 +224,11 @@ fn push_leaf<L: Look>(
 {
     let count = look.word(page, 1) as usize;
     let last = HEADER_WORDS + ITEM_WORDS * (count - 1);
+    let place = HEADER_WORDS + ITEM_WORDS * from;
     if is_past_at(look, page, last, high, first_of(high)) {
-        push_to(look, page, HEADER_WORDS + ITEM_WORDS * from, high, found)
+        push_to(look, page, place, high, found)
     } else {
-        push_to(look, page, HEADER_WORDS + ITEM_WORDS * from, None, found)
+        push_to(look, page, place, None, found)
     }
 }
 

@@ -4,6 +4,7 @@ use Rattle.std.specs.Option.{option_copied}
 use Rattle.std.proofs.lemmas.List.{append-nil}
 use Rattle.be_tree.specs.Pair.{Pair}
 use Rattle.be_tree.specs.Page.{IsItem, item_at, items_of}
+use Rattle.be_tree.specs.Places.{number_at_place}
 use Rattle.be_tree.specs.Range.{is_past, number_of, numbers_to}
 use Rattle.be_tree.proofs.Frame.{unchanged_trans}
 use Rattle.be_tree.proofs.Reading.LastBytes.{got_one, got_all, past_bound}
@@ -12,16 +13,10 @@ use Rattle.be_tree.proofs.numbers.push_to.Given.{Over}
 use Rattle.be_tree.proofs.numbers.push_to.Goals as goal
 use Rattle.be_tree.proofs.numbers.push_to.Goals.{After-is_past_at}
 
-pub overflow_mul-from : goal.overflow_mul-from
-overflow_mul-from g c = omega (arith, c.requires.in_range, c.requires.leaf.node.is_page.few)
-
-pub overflow_add-from : goal.overflow_add-from
-overflow_add-from g c = omega (arith, c.requires.in_range, c.requires.leaf.node.is_page.few)
-
 pub loop-at-init : goal.loop-at-init
 loop-at-init g c = record {
-  number = c.args.from;
-  is_place = refl;
+  number = number_at_place c.args.from;
+  is_place = c.requires.place;
   begun = omega arith;
   in_range = c.requires.in_range;
   has = record { got = []; parts = refl; is = sym (append-nil c.args.found.now.items) };
@@ -56,7 +51,7 @@ number_at-number-requires-clause-long g c =
     let i = c.loop-at.invariant in
     subst (λ (w : ℕ → ℕ → ℕ). 8 ≤ length (item_at (w c.args.page) c.loop-at.at).key) (sym (c.is_past_at.ensures.unchanged.words ∙ i.unchanged.words))
     (subst (λ (p : ℕ). 8 ≤ length (item_at (g.L.Look.words c.args.look.now c.args.page) p).key) (sym i.is_place)
-    (long_at (g.L.Look.words c.args.look.now c.args.page) c.args.from i.number i.begun (here g at) c.requires.long))
+    (long_at (g.L.Look.words c.args.look.now c.args.page) (number_at_place c.args.from) i.number i.begun (here g at) c.requires.long))
 
 pub number_at-number-requires-clause-item : goal.number_at-number-requires-clause-item
 number_at-number-requires-clause-item g c =
@@ -84,7 +79,7 @@ loop-at-preserved g c =
       is_place = omega (arith, c.loop-at.invariant.is_place);
       begun = omega (arith, c.loop-at.invariant.begun);
       in_range = omega (arith, here g at);
-      has = got_one c.args.found.now.items (numbers_to (drop c.args.from items) high) c.loop-at.found.items c.push.new.self.items (drop place items) (drop (place + 1) items) high x c.number_at-number.result
+      has = got_one c.args.found.now.items (numbers_to (drop (number_at_place c.args.from) items) high) c.loop-at.found.items c.push.new.self.items (drop place items) (drop (place + 1) items) high x c.number_at-number.result
           (ap (λ (xs : List Pair). slice_get xs 0) parts) (sym (ap (λ (xs : List Pair). drop 1 xs) parts)) within number c.in_ok-push.ensures.items c.loop-at.invariant.has;
       same = c.loop-at.invariant.same ∙ ap (any_past high) parts ∙ ap (λ b. b || any_past high (drop (place + 1) items)) within;
       unchanged = unchanged_trans g.L.Look.kept g.L.Look.standing g.L.Look.words c.args.look.now c.is_past_at.new.look c.number_at-number.new.look
@@ -101,7 +96,7 @@ returns-then-is_past_at-clause-found g c =
     let place = c.loop-at.invariant.number in
     let x = item_at (g.L.Look.words c.args.look.now c.args.page) (2 + 42 * place) in
     let parts = rest_at (g.L.Look.words c.args.look.now c.args.page) place (here g at) in
-    got_all c.args.found.now.items (numbers_to (drop c.args.from items) high) (numbers_to (drop place items) high) c.loop-at.found.items
+    got_all c.args.found.now.items (numbers_to (drop (number_at_place c.args.from) items) high) (numbers_to (drop place items) high) c.loop-at.found.items
     (past_bound (drop place items) high x (ap (λ (xs : List Pair). slice_get xs 0) parts) (asked g at ∙ c.if-is_past_at.true)) c.loop-at.invariant.has
 
 pub returns-then-is_past_at-clause-past : goal.returns-then-is_past_at-clause-past
@@ -120,7 +115,7 @@ returns-clause-found g c =
     let items = items_of (g.L.Look.words c.args.look.now c.args.page) in
     let i = c.loop-at.invariant in
     let none = none_left (g.L.Look.words c.args.look.now c.args.page) i.number (omega (arith, i.is_place, c.loop-at-test.false, c.end_of-end.ensures.end)) in
-    got_all c.args.found.now.items (numbers_to (drop c.args.from items) high) (numbers_to (drop i.number items) high) c.loop-at.found.items
+    got_all c.args.found.now.items (numbers_to (drop (number_at_place c.args.from) items) high) (numbers_to (drop i.number items) high) c.loop-at.found.items
     (ap (λ (xs : List Pair). numbers_to xs high) none) c.loop-at.invariant.has
 
 pub returns-clause-past : goal.returns-clause-past
