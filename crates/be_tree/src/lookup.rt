@@ -16,9 +16,7 @@ ghost use Rattle.be_tree.specs.Places.{IsBranchAt, IsFoundAt, IsGapAt};
 ghost use Rattle.be_tree.specs.Words.{IsFirst};
 ghost use Rattle.be_tree.specs.Tree.{IsTree, pairs};
 
-use crate::page::{
-    HEADER_WORDS, ITEM_WORDS, LENGTH_BITS, child_at, cmp_at, cmp_from, first_word,
-};
+use crate::page::{HEADER_WORDS, ITEM_WORDS, LENGTH_BITS, child_at, cmp_at, cmp_from, first_word};
 use crate::payload::fill_payload;
 use arrayvec::ArrayVec;
 use be_pages::Look;

@@ -1,19 +1,19 @@
 -- What is after a leaf, and the branch that has the first key of it.
-use Rattle.std.proofs.Common.{◌≡◌, ℕ, zero, suc, ◌+◌, ◌-◌, ◌*◌, ◌/◌, ◌<◌, ◌≤◌, true, Bool, List, [], ◌∷◌, ◌++◌, length, get_or, take, drop, map, ap, sym, subst, ◌∙◌, refl, arith, append_assoc, if◌then◌else◌}
+use Rattle.std.proofs.Common.{◌≡◌, ℕ, zero, suc, ◌+◌, ◌-◌, ◌*◌, ◌/◌, ◌<◌, ◌≤◌, true, false, Bool, List, [], ◌∷◌, ◌++◌, length, get_or, take, drop, map, ap, sym, subst, ◌∙◌, refl, arith, append_assoc, if◌then◌else◌}
 use Rattle.std.specs.declared.option.Option.{Option}
-use Rattle.std.proofs.lemmas.List.{drop-drop, take-append-drop}
+use Rattle.std.proofs.lemmas.List.{append-nil, drop-drop, take-append-drop}
 use Rattle.be_pages.specs.declared.room.Standing.{Standing}
 use Rattle.be_tree.specs.Pair.{Pair}
 use Rattle.be_tree.specs.Key.{IsRising, StartsAt}
 use Rattle.be_tree.specs.Page.{item_at, item_place, items_of}
 use Rattle.be_tree.specs.Places.{IsNext, number_at_place}
-use Rattle.be_tree.specs.Range.{is_past, number_of, numbers_to, pairs_from, pairs_to}
+use Rattle.be_tree.specs.Range.{HasFirst, HasGot, is_past, number_of, numbers_to, pairs_from, pairs_to}
 use Rattle.be_tree.specs.Tree.{IsTree, IsTreeAt, child, pairs, pairs_at, pairs_below}
 use Rattle.be_tree.proofs.Frame.{readable_kept}
 use Rattle.be_tree.proofs.Nodes.Slots.{item_get, items_count}
 use Rattle.be_tree.proofs.Ranges.{next_from}
 use Rattle.be_tree.proofs.Reading.Cursors.{leads_down, past_end}
-use Rattle.be_tree.proofs.Reading.Leaves.{none_left, rest_at}
+use Rattle.be_tree.proofs.Reading.Leaves.{any_past, first_of_two, got_first, last_leaf, none_left, rest_at, whole_leaf}
 
 -- the number of a place
 pub number_back : (place n : ℕ) → place ≡ item_place n → number_at_place place ≡ n
@@ -81,3 +81,17 @@ last_of words number last le e =
 pub root_rising : (root : ℕ) (standing : ℕ → Standing) (words : ℕ → ℕ → ℕ) → IsTree standing words root → IsRising (pairs words root)
 root_rising zero standing words tree = tt
 root_rising (suc page) standing words tree = tree.below.rising
+
+-- what a list has got of all numbers once those of the first leaf were pushed
+module _ (before mid : List ℕ) (all xs rest : List Pair) (high : Option (List ℕ)) (parts : all ≡ xs ++ rest) where
+  begun : HasGot before (numbers_to all high) (numbers_to (xs ++ rest) high) before
+  begun = record { got = []; parts = ap (λ (ps : List Pair). numbers_to ps high) parts; is = sym (append-nil before) }
+
+  pub leaf_first : HasFirst before (numbers_to xs high) mid → HasFirst before (numbers_to all high) mid
+  leaf_first first = got_first before (numbers_to all high) (numbers_to (xs ++ rest) high) before mid begun (first_of_two before mid xs rest high first)
+
+  pub leaf_last : true ≡ any_past high xs → mid ≡ before ++ numbers_to xs high → mid ≡ before ++ numbers_to all high
+  leaf_last e push = last_leaf before (numbers_to all high) before mid xs rest high begun e push
+
+  pub leaf_whole : false ≡ any_past high xs → mid ≡ before ++ numbers_to xs high → HasGot before (numbers_to all high) (numbers_to rest high) mid
+  leaf_whole e push = whole_leaf before (numbers_to all high) before mid xs rest high begun e push

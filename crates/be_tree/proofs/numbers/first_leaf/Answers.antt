@@ -178,11 +178,16 @@ returns-clause-from g c =
     let low = c.args.low.now in
     let i = c.loop-level.invariant in
     let leaf : c.loop-level.level ≡ 0 = omega (arith, c.loop-level-test.false) in
-    let of = subst (λ (w : ℕ → ℕ → ℕ). AreFrom w page c.first_from-at.result (pairs_from (items_of (w page)) low false) []) i.unchanged.words c.first_from-at.ensures.from in
-    (i.rest, (record {
-      number = of.number;
-      is_place = of.is_place;
-      in_range = of.in_range;
-      parts = sym i.same
-          ∙ ap (λ xs. xs ++ i.rest) (ap (λ l. pairs_from (pairs_at l words page) low false) leaf ∙ of.parts ∙ append-nil (drop of.number (items_of (words page))));
-    }, i.next))
+    let of = subst (λ (w : ℕ → ℕ → ℕ). AreFrom w page c.first_from-at.result (pairs_from (items_of (w page)) low false) []) i.unchanged.words c.first_from-at.ensures.from in (
+      i.rest,
+      (
+        record {
+          number = of.number;
+          is_place = of.is_place;
+          in_range = of.in_range;
+          parts = sym i.same
+              ∙ ap (λ xs. xs ++ i.rest) (ap (λ l. pairs_from (pairs_at l words page) low false) leaf ∙ of.parts ∙ append-nil (drop of.number (items_of (words page))));
+        },
+        i.next,
+      ),
+    )

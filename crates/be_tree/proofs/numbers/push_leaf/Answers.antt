@@ -61,14 +61,14 @@ push_to-requires-clause-in_range g c = inside g (goal.at.push_to-requires-clause
 pub push_to-requires-clause-long : goal.push_to-requires-clause-long
 push_to-requires-clause-long g c = long g (goal.at.push_to-requires-clause-long g c).After-is_past_at
 
-pub push_to-else-is_past_at-requires-clause-place : goal.push_to-else-is_past_at-requires-clause-place
-push_to-else-is_past_at-requires-clause-place g c = sym (ap (λ (n : ℕ). 2 + 42 * n) (number c.args.from))
+pub push_to-requires-else-is_past_at-clause-place : goal.push_to-requires-else-is_past_at-clause-place
+push_to-requires-else-is_past_at-clause-place g c = sym (ap (λ (n : ℕ). 2 + 42 * n) (number c.args.from))
 
-pub push_to-else-is_past_at-requires-clause-in_range : goal.push_to-else-is_past_at-requires-clause-in_range
-push_to-else-is_past_at-requires-clause-in_range g c = inside g (goal.at.push_to-else-is_past_at-requires-clause-in_range g c).After-is_past_at
+pub push_to-requires-else-is_past_at-clause-in_range : goal.push_to-requires-else-is_past_at-clause-in_range
+push_to-requires-else-is_past_at-clause-in_range g c = inside g (goal.at.push_to-requires-else-is_past_at-clause-in_range g c).After-is_past_at
 
-pub push_to-else-is_past_at-requires-clause-long : goal.push_to-else-is_past_at-requires-clause-long
-push_to-else-is_past_at-requires-clause-long g c = long g (goal.at.push_to-else-is_past_at-requires-clause-long g c).After-is_past_at
+pub push_to-requires-else-is_past_at-clause-long : goal.push_to-requires-else-is_past_at-clause-long
+push_to-requires-else-is_past_at-clause-long g c = long g (goal.at.push_to-requires-else-is_past_at-clause-long g c).After-is_past_at
 
 -- the items from the place on are those from the number on
 same_items : (g : Over) (c : After-is_past_at g) → drop (number_at_place (2 + 42 * c.args.from)) (items_of (g.L.Look.words c.is_past_at.new.look c.args.page)) ≡ drop c.args.from (items_of (g.L.Look.words c.args.look.now c.args.page))

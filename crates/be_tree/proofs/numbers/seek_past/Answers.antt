@@ -20,10 +20,10 @@ returns-then-leaf-end-clause-remaining g c = λ rest from.
     let place : c.end_of-end.result - 42 ≡ 2 + 42 * last = omega (arith, c.end_of-end.ensures.end, less) in
     let front = take (last - from.number) (drop from.number (items_of (words page))) in
     let parts : pairs_from all c.args.low.now false ≡ front ++ y ∷ rest =
-        from.parts ∙ ap (λ xs. xs ++ rest) (last_of (words page) from.number last (omega (arith, less)) (omega (arith, less))) ∙ append_assoc front (y ∷ []) rest in
+    from.parts ∙ ap (λ xs. xs ++ rest) (last_of (words page) from.number last (omega (arith, less)) (omega (arith, less))) ∙ append_assoc front (y ∷ []) rest in
     let key : c.as_slice.result.now ≡ y.key =
-        c.as_slice.ensures.value ∙ c.key_at-last.ensures.key ∙ ap (λ (w : ℕ → ℕ → ℕ). (item_at (w page) (c.end_of-end.result - 42)).key) c.end_of-end.ensures.unchanged.words
-        ∙ ap (λ (p : ℕ). (item_at (words page) p).key) place in
+    c.as_slice.ensures.value ∙ c.key_at-last.ensures.key ∙ ap (λ (w : ℕ → ℕ → ℕ). (item_at (w page) (c.end_of-end.result - 42)).key) c.end_of-end.ensures.unchanged.words
+    ∙ ap (λ (p : ℕ). (item_at (words page) p).key) place in
     subst (λ (w : ℕ → ℕ → ℕ). remaining w c.seek.new.self ≡ pairs_from (pairs w c.args.root) c.as_slice.result.now true) (c.key_at-last.ensures.unchanged.words ∙ c.end_of-end.ensures.unchanged.words) c.seek.ensures.remaining
     ∙ ap (λ (k : List ℕ). pairs_from all k true) key
     ∙ after_pair front all c.args.low.now false y rest (root_rising c.args.root (g.L.Look.standing c.args.look.now) words c.requires.tree) parts

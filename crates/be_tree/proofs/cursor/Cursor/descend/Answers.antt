@@ -123,7 +123,7 @@ loop-level-preserved g c =
     let lead = leads g at in
     let is = c.child_at-child.ensures.child ∙ ap (λ (w : ℕ → ℕ → ℕ). child (item_at (w page) c.branch_for-at.result)) (words_same g at) ∙ ap (λ (p : ℕ). child (item_at (words page) p)) (found g at).is_place in
     let pushed : c.push.new.self.items ≡ path ++ place ∷ [] =
-        c.push.ensures.items ∙ ap (λ (n : ℕ). path ++ record { page = page; next = n + 1; level = level } ∷ []) (c.item_number-next.ensures ∙ number_is g at) in
+    c.push.ensures.items ∙ ap (λ (n : ℕ). path ++ record { page = page; next = n + 1; level = level } ∷ []) (c.item_number-next.ensures ∙ number_is g at) in
     let here = pairs_from (pairs_at down words (child branch)) c.args.from.now c.args.after in
     record {
       least = 1;
