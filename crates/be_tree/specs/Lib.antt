@@ -11,3 +11,4 @@ pub mod Words
 pub mod Splicing
 pub mod Path
 pub mod Settling
+pub mod Places
