@@ -1,5 +1,10 @@
--- What a pass does that was told of commits.
-use Rattle.std.proofs.Common.{◌≡◌, ◌≤◌, List, [], ◌∷◌, ◌++◌, length, ap, ◌∙◌, arith, length-append, append_assoc}
+-- What a pass does that was told of commits, and pins in the order of the moves.
+use Rattle.std.proofs.Common.{◌≡◌, ℕ, suc, ◌+◌, ◌≤◌, ◌==◌, if◌then◌else◌, Bool, true, false, List, [], ◌∷◌, ◌++◌, length, Option, Some, None, refl, sym, ap, ◌∙◌, subst, arith, length-append, append_assoc}
+use Rattle.be_core.specs.Machine.{World, Holder, scanned_by, scanned_out, scanned_on}
+use Rattle.be_table.specs.declared.pass.Move.{Move}
+use Rattle.be_table.specs.declared.pass.Move.TheVariants.{Look, Announce, LookAgain, Unpin, Lock, Scan, Fill, Publish, Unlock, Return}
+use Rattle.be_table.specs.Rule.{Reaches}
+use Rattle.be_table.specs.Trace.{Run, after_move}
 use Rattle.be_table.specs.History.{StartsWith}
 use Rattle.be_table.specs.declared.pass.Commit.{Commit}
 use Rattle.be_table.specs.declared.pass.Knowledge.{Knowledge}
@@ -20,3 +25,60 @@ comes_after told d has = record {
       let front = length-append a.seen h.others in
       (starts_trans told a.seen z.seen next before, (let l = longer_seen a.seen told before in omega (arith, h.number, long, parts, front, l)));
 }
+
+-- ## Versions are counted by the moves that publish
+
+abbrev published_by : Move → ℕ
+published_by (Look k) = 0
+published_by (Announce k) = 0
+published_by (LookAgain k) = 0
+published_by (Unpin k) = 0
+published_by (Lock k) = 0
+published_by (Scan k j) = 0
+published_by (Fill k p i word) = 0
+published_by (Publish k page given) = 1
+published_by (Unlock k) = 0
+published_by (Return k p) = 0
+
+abbrev published : List Move → ℕ
+published [] = 0
+published (m ∷ ms) = published_by m + published ms
+
+scanned_current : (w : World) (o : Option Holder) (j : ℕ) → (scanned_by w o j).current ≡ w.current
+scanned_current w None j = refl
+scanned_current w (Some h) j = by (suc j == w.passes)
+  where
+    by : (b : Bool) → (if b then scanned_out w h j else scanned_on w h j).current ≡ w.current
+    by true = refl
+    by false = refl
+
+moved_current : (w : World) (m : Move) → (after_move w m).current ≡ published_by m + w.current
+moved_current w (Look k) = refl
+moved_current w (Announce k) = refl
+moved_current w (LookAgain k) = refl
+moved_current w (Unpin k) = refl
+moved_current w (Lock k) = refl
+moved_current w (Scan k j) = scanned_current w w.holder j
+moved_current w (Fill k p i word) = refl
+moved_current w (Publish k page given) = refl
+moved_current w (Unlock k) = refl
+moved_current w (Return k p) = refl
+
+run_current : (w v : World) (ms : List Move) → Run w ms v → v.current ≡ published ms + w.current
+run_current w v [] r = ap (λ (u : World). u.current) r
+run_current w v (m ∷ ms) r =
+    let one = moved_current w m in let rest = run_current (after_move w m) v ms r.1 in
+    omega (arith, one, rest)
+
+published_append : (ms ns : List Move) → published (ms ++ ns) ≡ published ms + published ns
+published_append [] ns = refl
+published_append (m ∷ ms) ns = omega (arith, published_append ms ns)
+
+-- the machine has published what the pass had seen whose history comes first
+pub current_later : (c d : Knowledge) (P Q : World → Type 0) (r : Reaches c P) (s : Reaches d Q) → StartsWith d.history c.history → length c.seen ≤ s.world.current
+current_later c d P Q r s front =
+    let first = run_current _ r.world c.history r.runs in
+    let last = run_current _ s.world d.history s.runs in
+    let parts = ap published front.1 in
+    let sum = published_append c.history front.0 in
+    omega (arith, r.known.seen, first, last, parts, sum)

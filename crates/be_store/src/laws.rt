@@ -19,7 +19,7 @@ ghost use Rattle.be_table.specs.declared.pass.Knowledge.{Knowledge};
 ghost use Rattle.be_store.specs.Alone.{IsAlone, WritesNext};
 ghost use Rattle.be_store.specs.History.{Accepts, Learns, IsReason, IsRefusedAt, Pins as IsPin};
 ghost use Rattle.be_store.specs.Passes.{IsPassOf, IsPinnedTo, volume_pinned, volume_seen};
-ghost use Rattle.be_store.specs.Told.{ComesAfter};
+ghost use Rattle.be_store.specs.Told.{ComesAfter, EndedBefore};
 
 use crate::{Pass, Store};
 use be_journal::replay_push;
@@ -50,6 +50,13 @@ pub fn told_order()
     ensures told { (told : List Commit) (d : Knowledge) → StartsWith d.seen told → ComesAfter told d }
     ensures write { (a c d : Knowledge) (ops : List Op) (n : ℕ) (dones : List Done) → Accepts a c ops n dones → StartsWith d.seen c.seen
         → ComesAfter c.seen d × (n ≡ length c.seen) }
+{}
+
+/// A pin has each write that ended before it, and is at each pin that ended before it or later, of whatever passes: of two calls
+/// the one ended first whose history the other one's begins with. `close` has both in one list of moves.
+pub fn pins_have_earlier_writes()
+    ensures writes { (a c b d : Knowledge) (ops : List Op) (n m : ℕ) (dones : List Done) → Accepts a c ops n dones → IsPin b d m → EndedBefore c d → n ≤ m }
+    ensures pins { (a c b d : Knowledge) (n m : ℕ) → IsPin a c n → IsPin b d m → EndedBefore c d → n ≤ m }
 {}
 
 /// The operations that `Store::state` reads of a pinned version are accepted by an empty volume, and make it that version's.

@@ -148,7 +148,7 @@ Me3 = Me (Option Ledger) View
 
 -- the seat has read the announcements ns, and reads n
 pub me_next : (a : Knowledge) (ns : List ℕ) (n : ℕ) (m r b : Me3) → m ≡ (alone (with_history (scans_all a ns) (pass_of m.0).history), b.1) → r ≡ (alone (scans (with_history (pass_of m.0) (pass_of r.0).history) n), m.1)
-    → r ≡ (with_history (scans_all a (ns ++ n ∷ [])) (pass_of r.0).history ∷ [], b.1)
+    → r ≡ (alone (with_history (scans_all a (ns ++ n ∷ [])) (pass_of r.0).history), b.1)
 me_next a ns n m r b e f =
     let h = (pass_of r.0).history in
     let before : with_history (pass_of m.0) h ≡ with_history (scans_all a ns) h = ap (λ (x : Me3). with_history (pass_of x.0) h) e in

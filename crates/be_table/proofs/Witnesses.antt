@@ -8,15 +8,15 @@ use Rattle.be_table.specs.declared.pass.Commit.{Commit}
 use Rattle.be_table.specs.declared.pass.Knowledge.{Knowledge}
 use Rattle.be_table.specs.declared.pass.View.{View}
 use Rattle.be_table.specs.Laws.{LearnIsNoEvent, NoEvent}
-use Rattle.be_table.specs.Rule.{Shows, page_at, alone, witnessing, informed, kept_seat, front_seat, front_of, pass_of, seats_together, one_step_on}
+use Rattle.be_table.specs.Rule.{Shows, page_at, alone, witnessing, informed, kept_seat, front_seat, pass_of, seats_together, one_step_on}
 use Rattle.be_table.specs.Seats.{IsTold}
-use Rattle.be_table.specs.Steps.{Learned, having_seen, longer, met}
+use Rattle.be_table.specs.Steps.{Learned, having_seen, longer}
 use Rattle.be_table.specs.Trace.{AllRest}
 use Rattle.be_table.proofs.Histories.{starts_itself}
 use Rattle.be_table.proofs.Deals.{attests}
 use Rattle.be_table.proofs.Frames.{Me1, views_change, is_pass, words_load}
 use Rattle.be_table.proofs.Meetings.{longer_starts, sees_fits}
-use Rattle.be_table.proofs.Told.{stepped_pass}
+use Rattle.be_table.proofs.Told.{stepped_pass, told_as}
 use Rattle.be_table.proofs.Traces.{resting}
 
 module _ (limits : Limits) (slots i : ℕ) (a : Knowledge) (front : List Commit) (carried : List (ℕ × Option Ledger)) where
@@ -59,11 +59,13 @@ module _ (a : Knowledge) (front : List Commit) (m n j l : Me1) (number seen : �
   pub learnt : Learned (step 0 0 0 0 none) (informed (one_step_on a) front, []) 0 l
   learnt = subst (λ (x : Me1). Learned (step 0 0 0 0 none) x 0 l) (joined_front a front m n j left right pair) learned
 
-  pub kept_joined : (r : Me1) → r ≡ (kept_seat l.0, l.1) → r ≡ (alone (met a (longer a.seen front)), [])
-  kept_joined r e = e ∙ ap (λ (x : Me1). (kept_seat x.0, x.1)) learnt.0
+  pub told_joined : (r : Me1) (both : ℕ) → r ≡ (kept_seat l.0, l.1) → length (longer a.seen front) ≡ both → IsTold a number seen → IsTold (pass_of r.0) number both
+  told_joined r both e long t =
+      told_as (one_step_on (having_seen (one_step_on a) (longer a.seen front))) r number both (ap (λ (x : Me1). pass_of x.0) e ∙ ap (λ (x : Me1). pass_of (kept_seat x.0)) learnt.0)
+      (record { number_is = t.number_is; seen_is = long; writes = t.writes; pass = stepped_pass (having_seen (one_step_on a) (longer a.seen front)) _ learnt.3 })
 
-  pub front_joined : (r : Me1) → r ≡ (front_seat l.0, []) → r ≡ (witnessing (longer a.seen front), [])
-  front_joined r e = e ∙ ap (λ (x : Me1). (front_seat x.0, [])) learnt.0
-
-  pub told_joined : (both : ℕ) → length (longer a.seen front) ≡ both → IsTold a number seen → IsTold (met a (longer a.seen front)) number both
-  told_joined both long t = record { number_is = t.number_is; seen_is = long; writes = t.writes; pass = stepped_pass (having_seen (one_step_on a) (longer a.seen front)) _ learnt.3 }
+-- what a seat tells of which a witness was made
+pub told_attested : (a : Knowledge) (m r : Me1) (number seen : ℕ) → m ≡ (alone a, []) → r ≡ (kept_seat m.0, m.1) → IsTold a number seen → IsTold (pass_of r.0) number seen
+told_attested a m r number seen is e t =
+    told_as (one_step_on a) r number seen (ap (λ (x : Me1). pass_of x.0) e ∙ ap (λ (x : Me1). pass_of (kept_seat x.0)) is)
+    (record { number_is = t.number_is; seen_is = t.seen_is; writes = t.writes; pass = stepped_pass a _ t.pass })

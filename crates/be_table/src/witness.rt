@@ -30,6 +30,13 @@ impl Model for Witness {
     ghost invariant = { IsWitness };
 }
 
+/// The same value. It compiles only if values of the type may go to another thread.
+fn sent<T: Send>(value: T) -> T
+    ensures { result ≡ value }
+{
+    value
+}
+
 impl Witness {
     pub(crate) fn of(base: Base, commits: u64) -> Witness
         requires front { base.me ≡ (witnessing (front_of base.me.0), []) }
@@ -58,6 +65,13 @@ impl Witness {
         ensures { result ≡ length self.now.seen }
     {
         self.commits
+    }
+
+    /// A law of the type: a witness may go to another thread. It does nothing.
+    pub fn may_move(self) -> Witness
+        ensures { result ≡ self }
+    {
+        sent(self)
     }
 
     /// The witness, of which a blank one is left. No step.
