@@ -16,7 +16,7 @@ use Rattle.be_journal.specs.Journal.{IsLegal, Log}
 use Rattle.be_table.specs.History.{AreOfPasses}
 use Rattle.be_table.specs.Laws.{ArrivalIsNoEvent}
 use Rattle.be_table.specs.Place.{SeatFacts}
-use Rattle.be_table.specs.Rule.{ViewFits, empty_view, Board, entries, is_holder, IsHome, AllFit, IsTrace, Shows, everyone, one_step_on, seats_together}
+use Rattle.be_table.specs.Rule.{ViewFits, empty_view, Board, entries, is_holder, IsHome, AllFit, IsTrace, Shows, everyone, one_step_on}
 use Rattle.be_table.specs.Steps.{Arrived, Has, AllIdle, KeepsSeen}
 use Rattle.be_table.specs.Versions.{CanSpellEach}
 use Rattle.be_table.specs.Works.{AllAt, Gathered}

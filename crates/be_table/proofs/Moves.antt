@@ -1,5 +1,5 @@
 -- Each step of a reader is its event of the machine, and keeps the rule.
-use Rattle.std.proofs.Common.{◌≡◌, ℕ, suc, ◌+◌, ◌-◌, ◌*◌, ◌<◌, ◌≤◌, List, [], ◌∷◌, length, set, Option, refl, sym, ap, ◌∙◌, subst, arith, IsTrue, slice_index}
+use Rattle.std.proofs.Common.{◌≡◌, ℕ, suc, ◌+◌, ◌-◌, ◌*◌, ◌<◌, ◌≤◌, List, length, set, Option, refl, sym, ap, ◌∙◌, subst, arith, IsTrue, slice_index}
 use mathlib.Core.Option.{none}
 use Rattle.atomic_table.specs.Table.{keeps, step, Allows}
 use Rattle.be_core.specs.declared.event.Phase.{Phase}

@@ -1,5 +1,5 @@
 -- Pinned readers.
-use Rattle.std.proofs.Common.{◌≡◌, ℕ, ◌<◌, ◌+◌, [], ◌∷◌, IsTrue, sym, ap, ◌∙◌, subst}
+use Rattle.std.proofs.Common.{◌≡◌, ℕ, ◌<◌, ◌+◌, [], IsTrue, sym, ap, ◌∙◌, subst}
 use Rattle.be_pages.specs.Pages.{is_readable}
 use Rattle.be_table.specs.declared.marks.Marks.{Marks}
 use Rattle.be_table.specs.declared.pass.Knowledge.{Knowledge}

@@ -1,5 +1,5 @@
 -- A witness is made of what a pass has seen, and a pass takes in what a witness has seen.
-use Rattle.std.proofs.Common.{◌≡◌, ℕ, ◌<◌, ◌≤◌, List, [], ◌∷◌, length, false, Option, refl, sym, ap, ◌∙◌, subst}
+use Rattle.std.proofs.Common.{◌≡◌, ℕ, List, [], length, false, Option, refl, sym, ap, ◌∙◌, subst}
 use mathlib.Core.Option.{none}
 use Rattle.atomic_table.specs.Table.{keeps, step, Allows, Splits}
 use Rattle.be_table.specs.declared.ledger.Ledger.{Ledger}

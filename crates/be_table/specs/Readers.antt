@@ -1,5 +1,5 @@
 -- What is true of each pinned reader.
-use Rattle.std.specs.Prelude.{◌≡◌, ◌<◌, [], ◌∷◌}
+use Rattle.std.specs.Prelude.{◌≡◌, ◌<◌, []}
 use Rattle.be_table.specs.declared.pinned.PinnedLook.TheInside.{Inside}
 use Rattle.be_table.specs.Place.{Pin}
 use Rattle.be_table.specs.Rule.{alone, pass_of}

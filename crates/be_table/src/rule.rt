@@ -2,6 +2,7 @@
 //!
 //! A step on a word is allowed where, whatever the table is then, the rule still holds after it. What the step tells
 //! its pass is the definition that its name carries.
+ghost use Rattle.std.specs.Prelude.{[]};
 ghost use Rattle.be_table.specs.Rule.{Shows, everyone, first_seat, other_seats, seats_together, empty_view, kept_seat, front_seat};
 ghost use Rattle.be_table.specs.Steps.{LookMoves, LockMoves, UnlockMoves, CompareMoves, Learned, Arrived, AnnounceMoves, LookAgainMoves, UnpinMoves, ScanMoves, PinnedRead, OwnRead, FillMoves, FoundFillMoves, TakeMoves, GiveUpMoves, PublishMoves};
 

@@ -307,11 +307,7 @@ impl VersionTable {
         shared.join_seat::<Deal>(&mut base, other);
         shared.load::<Learn>(&mut base, LOCK);
         let front = shared.split_seat::<Attest>(&mut base);
-        let both = if marks.seen < seen {
-            seen
-        } else {
-            marks.seen
-        };
+        let both = if marks.seen < seen { seen } else { marks.seen };
         marks.seen = both;
         *seat = Seat::of(base, marks);
         *witness = Witness::of(front, both);

@@ -1,6 +1,5 @@
-use Rattle.std.proofs.Common.{◌≡◌, List, [], ◌∷◌, length, suc, ◌+◌, ◌-◌, sym, ap, ◌∙◌, subst, arith, length-append, refl, None}
+use Rattle.std.proofs.Common.{◌≡◌, [], ◌∷◌, length, suc, ◌+◌, ◌-◌, sym, ap, ◌∙◌, subst, arith, length-append, refl, None}
 use Rattle.be_table.specs.declared.pass.View.{View}
-use Rattle.be_table.specs.declared.pass.Knowledge.{Knowledge}
 use Rattle.be_table.specs.Rule.{alone, newcomer, undealt, pass_of}
 use Rattle.be_table.specs.Seats.{IsTold, pin_of}
 use Rattle.be_table.specs.Works.{AreNewAt}

@@ -1,4 +1,4 @@
-use Rattle.std.proofs.Common.{◌≡◌, ◌≢◌, ◌<◌, [], ◌∷◌, length, ℕ, List}
+use Rattle.std.proofs.Common.{◌≡◌, ◌≢◌, ◌<◌, length, ℕ, List}
 use Rattle.be_pages.specs.Place.{place_of}
 use Rattle.be_pages.specs.declared.page_pool.Place.TheVariants.{Free}
 use Rattle.be_table.specs.Rule.{alone, pass_of}

@@ -1,4 +1,4 @@
-use Rattle.std.proofs.Common.{[], ◌∷◌, ◌≡◌, sym, ap, ◌∙◌}
+use Rattle.std.proofs.Common.{[], ◌≡◌, sym, ap, ◌∙◌}
 use Rattle.be_table.specs.declared.pass.Knowledge.{Knowledge}
 use Rattle.be_table.specs.Rule.{alone, pass_of}
 use Rattle.be_table.specs.Seats.{pin_of}

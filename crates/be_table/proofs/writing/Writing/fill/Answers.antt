@@ -1,4 +1,4 @@
-use Rattle.std.proofs.Common.{[], ◌∷◌, ◌≡◌, ◌<◌, length, IsTrue, refl, sym, ap, ◌∙◌, subst, arith, length-set, slice_set}
+use Rattle.std.proofs.Common.{◌≡◌, ◌<◌, length, IsTrue, refl, sym, ap, ◌∙◌, subst, arith, length-set, slice_set}
 use Rattle.be_table.specs.declared.pass.Knowledge.{Knowledge}
 use Rattle.be_pages.specs.declared.page_pool.Place.TheVariants.{Filled}
 use Rattle.be_pages.specs.Place.{is_in_hand, place_of}

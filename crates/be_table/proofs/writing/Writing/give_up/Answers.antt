@@ -1,4 +1,4 @@
-use Rattle.std.proofs.Common.{refl, [], ◌∷◌, ◌≡◌, ◌<◌, length, IsTrue, sym, ap, ◌∙◌, subst, arith, length-set, slice_set}
+use Rattle.std.proofs.Common.{refl, ◌≡◌, ◌<◌, length, IsTrue, sym, ap, ◌∙◌, subst, arith, length-set, slice_set}
 use Rattle.be_table.specs.declared.pass.Knowledge.{Knowledge}
 use Rattle.be_pages.specs.Place.{given_place, is_held_page, place_of}
 use Rattle.be_table.specs.Rule.{alone, ledger_places, pass_of}

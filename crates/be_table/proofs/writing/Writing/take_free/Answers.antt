@@ -1,4 +1,4 @@
-use Rattle.std.proofs.Common.{◌≡◌, ℕ, false, ◌+◌, ◌<◌, [], ◌∷◌, None, length, slice_set, sym, ap, ◌∙◌, subst}
+use Rattle.std.proofs.Common.{◌≡◌, ℕ, ◌+◌, ◌<◌, [], ◌∷◌, None, length, slice_set, sym, ap, ◌∙◌, subst}
 use Rattle.std.proofs.Common.{length-set}
 use Rattle.be_pages.specs.declared.page_pool.Place.TheVariants.{Reserved}
 use Rattle.be_table.specs.declared.limits.Limits.{Limits}
