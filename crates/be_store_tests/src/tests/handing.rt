@@ -1,5 +1,5 @@
 //! A witness that one thread hands to another.
-ghost use Rattle.std.specs.Prelude.{◌≡◌, ◌≤◌, length, None};
+ghost use Rattle.std.specs.Prelude.{◌≡◌, None};
 ghost use Rattle.be_store.specs.Passes.{IsPassOf};
 ghost use Rattle.be_store_tests.specs.Staying.{StaysPass};
 ghost use Rattle.be_table.specs.Seats.{pinned_number};
@@ -10,12 +10,11 @@ use be_store::{Pass, Store, Witness};
 use std::thread;
 use std::thread::Threads;
 
-/// Joins the witness and pins. The number of the pin, which is at least as much as the witness had seen.
+/// Joins the witness and pins. The number of the pin.
 fn pin_after(store: &Store, mut pass: Pass, mut witness: Witness) -> (Pass, u64)
     requires pass { IsPassOf store.now pass × (pinned_number pass.knows.phase ≡ None) }
     requires witness { IsWitnessOf store.now witness }
     ensures pass { StaysPass store.now pass result.0 }
-    ensures later { length witness.seen ≤ result.1 }
 {
     store.join(&mut pass, &mut witness);
     let number = store.pin(&mut pass);
@@ -34,7 +33,6 @@ pub(crate) fn hand_over<R: Threads + Sync>(
     requires second { IsPassOf store.now second × (pinned_number second.knows.phase ≡ None) }
     ensures first { StaysPass store.now first result.0.0 }
     ensures second { StaysPass store.now second result.1.0 }
-    ensures later { length first.knows.seen ≤ result.1.1 }
 {
     let witness = store.witness(&mut first);
     thread::join(

@@ -289,9 +289,12 @@ impl Room {
     /// Pass 0 hands what it has seen to pass 1, which pins on a thread of its own while pass 0 makes a hundred nodes. The number
     /// of the pin, and whether each node was accepted.
     pub(crate) fn hand<R: Threads + Sync>(&mut self, rt: &R) -> Result<(u64, bool), Refusal> {
-        if !self.has_second || self.second.pinned().is_some() {
+        if !self.has_second {
             return Err(Refusal::BadLimits);
         }
+        let None = self.second.pinned() else {
+            return Err(Refusal::BadLimits);
+        };
         let reader = self.second.move_out();
         let writer = self.first.move_out();
         let (written, pinned) = hand_over(rt, &self.store, writer, reader);
