@@ -228,7 +228,7 @@ class Writes(Indexed):
         entries = [status.entries for status in found]
         self.assertEqual(store.reach(entries, 0), tuple(entries))
         entries[1] += 1
-        with self.assertRaises(bestore.Behind) as caught:
+        with self.assertRaises(bestore.NotReached) as caught:
             store.reach(entries, 0.01)
         self.assertEqual(caught.exception.expected, tuple(entries))
 

@@ -138,7 +138,7 @@ class PartialIndex(Error, ValueError):
         return f"an index is made in all volumes, in a batch of its own (operation {self.operation}, counted from 0)"
 
 
-class Behind(Error):
+class NotReached(Error):
     """The journals were shorter than expected at the end of the time."""
 
     def __init__(self, expected: Sequence[int], found: Sequence[int]) -> None:

@@ -12,7 +12,7 @@ from itertools import groupby
 from typing import Callable, Iterator, List, NamedTuple, Optional, Sequence, Tuple, TypeVar, Union
 
 from .changes import Change
-from .errors import Behind, Conflict, Nested, NoIndex, NoVolume, PartialIndex, TooManyAttempts
+from .errors import NotReached, Conflict, Nested, NoIndex, NoVolume, PartialIndex, TooManyAttempts
 from .handles import Owner
 from .nodes import volume_of
 from .operations import MOST_OPERATIONS, Batch, Operation
@@ -165,7 +165,7 @@ class Pass(Owner, ABC):
 
     def reach(self, numbers: Union[int, Sequence[int]], within: float = 5) -> Tuple[int, ...]:
         """Waits until the journal has at least so many entries, or that of each volume, up to so many seconds. Returns how many
-        they have. Versions that the pass pins then have them. `Behind` if they aren't there in time."""
+        they have. Versions that the pass pins then have them. `NotReached` if they aren't there in time."""
         wanted = _numbers(numbers, self.volumes)
         until = time.monotonic() + within
         while True:
@@ -173,7 +173,7 @@ class Pass(Owner, ABC):
             if all(map(operator.le, wanted, found)):
                 return found
             if time.monotonic() >= until:
-                raise Behind(wanted, found)
+                raise NotReached(wanted, found)
             time.sleep(0.002)
 
     def change(self, function: Callable[[Change], _Result], attempts: int = ATTEMPTS, *, check_kinds: bool = True,

@@ -64,9 +64,9 @@ pub(crate) fn read_runs(alloc: Global, text: &str) -> Result<Option<Runs>, Alloc
     let (front, mut rest) = read_run(alloc, text)?;
     let mut later = Vec::new(alloc);
     'stars: while let Some(after) = split_star(rest) {
-        let (run, behind) = read_run(alloc, after)?;
+        let (run, left_over) = read_run(alloc, after)?;
         later.push(run)?;
-        rest = behind;
+        rest = left_over;
     }
     if rest.is_empty() {
         Ok(Some(Runs { front, later }))

@@ -14,7 +14,7 @@ use Rattle.bestore_c.specs.declared.owned.Owned.{Owned}
 use Rattle.bestore_c.specs.declared.owned_place.OwnedPlace.{OwnedPlace}
 use Rattle.bestore_c.specs.declared.owned_query.OwnedQuery.{OwnedQuery}
 
--- what is owned, with this session in the place of the one that it was
+-- the owner with another value in place of the one that it lends
 abbrev pub with_session : Owned → Sitting → Owned
 with_session o s = record o { value = Some s }
 

@@ -83,7 +83,7 @@ pub(crate) fn tell_text(answer: Result<String, Fault>, bytes: &mut [u8], count: 
     }
 }
 
-/// Asks a prepared query in the session's pinned version, and puts out what `tell` does of what it found.
+/// Asks a prepared query in the session's pinned version, and returns what `tell` returns of what it found.
 pub(crate) fn find_prepared(
     session: &mut Session,
     prepared: &mut Prepared,

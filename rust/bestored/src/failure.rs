@@ -55,7 +55,7 @@ impl Failure {
     #[cfg(feature = "log")]
     pub fn behind(expected: u64, found: u64) -> Self {
         let message = format!("the server has {found} entries of the log");
-        let failure = Self::new("Behind", message).with("expected", expected);
+        let failure = Self::new("NotReached", message).with("expected", expected);
         failure.with("found", found)
     }
 

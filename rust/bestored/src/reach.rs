@@ -43,7 +43,7 @@ fn numbers(commit: &Numbers, volumes: usize) -> Result<Vec<u64>, Failure> {
 }
 
 fn behind(wanted: &[u64], found: &[u64]) -> Failure {
-    let failure = Failure::new("Behind", "the journal isn't as long yet");
+    let failure = Failure::new("NotReached", "the journal isn't as long yet");
     match (wanted, found) {
         ([wanted], [found]) => failure.with("expected", *wanted).with("found", *found),
         _ => failure.with("expected", wanted.to_vec()).with("found", found.to_vec()),

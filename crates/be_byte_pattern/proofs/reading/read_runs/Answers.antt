@@ -20,7 +20,7 @@ stars-preserved c = record {
   leaves = λ ps e.
       let more : c.push.new.self.items ≡ c.stars.later.items ++ c.in_ok-run.run' ∷ [] = search rules in
       leaves_run ps (map Only (string_bytes c.in_ok-front.front)) (map string_bytes c.stars.later.items) (map string_bytes c.push.new.self.items)
-      c.stars.rest.now c.in-Some.after.now c.in_ok-run.behind.now (string_bytes c.in_ok-run.run')
+      c.stars.rest.now c.in-Some.after.now c.in_ok-run.left_over.now (string_bytes c.in_ok-run.run')
       (ap (map string_bytes) more ∙ pushed string_bytes c.stars.later.items c.in_ok-run.run')
       c.in-Some.ensures.star c.in_ok-run.ensures.leaves (c.stars.invariant.leaves ps e);
 }
