@@ -18,7 +18,7 @@ unfoldable pub entries_at : ℕ → List ℕ → List Entry
 entries_at zero bytes = []
 entries_at (suc count) bytes = option_map_or (λ x. (record { by = x.0; ops = x.1; dones = x.2 }) ∷ entries_at count x.3) (entry_at bytes) []
 
--- so many operations with their answers from the front of bytes on, as far as they stand there
+-- so many operations with their answers, read from the front of bytes as far as these have them
 unfoldable pub steps_in : ℕ → List ℕ → List (Op × Done)
 steps_in zero bytes = []
 steps_in (suc count) bytes = option_map_or (λ x. (x.0, x.1) ∷ steps_in count x.2) (step_at bytes) []
