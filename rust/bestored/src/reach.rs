@@ -27,7 +27,7 @@ pub fn reach(view: &View<'_, '_>, reach: &wire::Reach) -> Result<wire::Commit, F
             });
         }
         if Instant::now() >= until {
-            return Err(behind(&wanted, &found));
+            return Err(not_reached(&wanted, &found));
         }
         thread::sleep(LOOK);
     }
@@ -42,7 +42,7 @@ fn numbers(commit: &Numbers, volumes: usize) -> Result<Vec<u64>, Failure> {
     }
 }
 
-fn behind(wanted: &[u64], found: &[u64]) -> Failure {
+fn not_reached(wanted: &[u64], found: &[u64]) -> Failure {
     let failure = Failure::new("NotReached", "the journal isn't as long yet");
     match (wanted, found) {
         ([wanted], [found]) => failure.with("expected", *wanted).with("found", *found),
