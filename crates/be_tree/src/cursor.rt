@@ -8,7 +8,7 @@
 //!
 //! No page may have more than 12 items, and each but the root has 6 at least. So a tree of fewer than 2^32 pages has no
 //! level above 13, and the way down has at most 14 places.
-ghost use Rattle.std.specs.Prelude.{◌≡◌, ◌≢◌, ℕ, [], ◌+◌, ◌<◌, ◌≤◌, ◌++◌, IsTrue, length, option_map, drop, IfNone, IfSome, Some, slice_get};
+ghost use Rattle.std.specs.Prelude.{◌≡◌, ◌≢◌, ℕ, [], ◌+◌, ◌-◌, ◌/◌, ◌<◌, ◌≤◌, ◌++◌, IsTrue, length, option_map, drop, IfNone, IfSome, Some, slice_get};
 ghost use Rattle.be_pages.specs.declared.room.Standing.{Standing as Stands};
 ghost use Rattle.be_pages.specs.Pages.{IsUnchanged, is_readable};
 ghost use Rattle.be_tree.specs.Cursor.{IsCursor, IsPath, IsPlace, pairs_along, pairs_past, remaining};
@@ -17,7 +17,7 @@ ghost use Rattle.be_tree.specs.Range.{pair_in, pairs_from};
 ghost use Rattle.be_tree.specs.Tree.{IsTree, IsTreeAt, pairs, pairs_at};
 ghost use Rattle.be_tree.specs.Words.{IsFirst};
 
-use crate::lookup::{branch_for, search};
+use crate::lookup::{branch_for, end_of, search};
 use crate::page::{HEADER_WORDS, ITEM_WORDS, child_at, first_word};
 use crate::payload::fill_payload;
 use crate::walk::{TreeItem, fill_key, key_at};
@@ -104,11 +104,13 @@ impl Cursor {
         let mut page = root - 1;
         let mut level = look.word(page, 0);
         while level > 0 {
-            let at = branch_for(look, page, from, first);
-            let child = child_at(look, page, HEADER_WORDS + ITEM_WORDS * at);
+            let end = end_of(look, page);
+            let at = branch_for(look, page, end, from, first);
+            let next = item_number(at) + 1;
+            let child = child_at(look, page, at);
             self.path.push(Place {
                 page: page as u32,
-                next: (at + 1) as u8,
+                next: next as u8,
                 level: level as u8,
             });
             page = child;
@@ -243,6 +245,14 @@ impl Cursor {
     }
 }
 
+/// The number of the item that stands at a place of a page.
+fn item_number(at: usize) -> usize
+    requires { 2 ≤ at }
+    ensures { result ≡ (at - 2) / 42 }
+{
+    (at - HEADER_WORDS) / ITEM_WORDS
+}
+
 /// How many of a leaf's items stand before the pairs at or after a key.
 fn leaf_from<L: Look>(look: &mut L, page: u64, from: &[u8], first: u64, after: bool) -> usize
     requires tree { IsTreeAt 0 1 (L.standing look.old) (L.words look.old) page }
@@ -252,7 +262,13 @@ fn leaf_from<L: Look>(look: &mut L, page: u64, from: &[u8], first: u64, after: b
     ensures unchanged { IsUnchanged L.kept L.standing L.words look.old look.new }
 {
     match search(look, page, from, first) {
-        Ok(at) => if after { at + 1 } else { at },
-        Err(at) => at,
+        Ok(at) => {
+            let number = item_number(at);
+            if after { number + 1 } else { number }
+        }
+        Err(at) => {
+            let before = item_number(at);
+            before
+        }
     }
 }

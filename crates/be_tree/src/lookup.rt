@@ -11,13 +11,12 @@ ghost use Rattle.std.specs.Ordering.{is_eq, is_gt};
 ghost use Rattle.be_pages.specs.Pages.{IsUnchanged, is_readable};
 ghost use Rattle.std.specs.declared.cmp.Ordering.TheVariants.{Equal};
 ghost use Rattle.be_tree.specs.Page.{IsItem, IsPage, item_at, item_place, items_of};
-ghost use Rattle.be_tree.specs.Key.{IsBranchFor, IsGap, IsRank, key_cmp, payload_at};
+ghost use Rattle.be_tree.specs.Key.{IsRank, key_cmp, payload_at};
+ghost use Rattle.be_tree.specs.Places.{IsBranchAt, IsFoundAt, IsGapAt};
 ghost use Rattle.be_tree.specs.Words.{IsFirst};
 ghost use Rattle.be_tree.specs.Tree.{IsTree, pairs};
 
-use crate::page::{
-    HEADER_WORDS, ITEM_WORDS, LENGTH_BITS, child_at, cmp_at, cmp_second, first_word,
-};
+use crate::page::{HEADER_WORDS, ITEM_WORDS, LENGTH_BITS, child_at, cmp_at, cmp_from, first_word};
 use crate::payload::fill_payload;
 use arrayvec::ArrayVec;
 use be_pages::Look;
@@ -86,12 +85,13 @@ pub fn find_place<L: Look>(look: &mut L, root: u64, key: &[u8]) -> Option<(u64, 
     let mut page = root - 1;
     let mut level = look.word(page, 0);
     while level > 0 {
-        let at = branch_for(look, page, key, first);
-        page = child_at(look, page, HEADER_WORDS + ITEM_WORDS * at);
+        let end = end_of(look, page);
+        let at = branch_for(look, page, end, key, first);
+        page = child_at(look, page, at);
         level -= 1;
     }
     match search(look, page, key, first) {
-        Ok(at) => Some((page, HEADER_WORDS + ITEM_WORDS * at)),
+        Ok(at) => Some((page, at)),
         Err(_) => None,
     }
 }
@@ -124,27 +124,46 @@ pub(crate) fn rank<L: Look>(look: &mut L, page: u64, key: &[u8]) -> usize
     count
 }
 
-/// The number of the branch below which a key stands: the last one whose key is not greater, or the first one. So the first
+/// Where the items of a page end.
+#[inline(always)]
+pub(crate) fn end_of<L: Look>(look: &mut L, page: u64) -> usize
+    requires readable { IsTrue (is_readable (L.standing look.old page)) }
+    requires page { IsPage (L.words look.old page) }
+    ensures end { result ≡ item_place (L.words look.old page 1) }
+    ensures unchanged { IsUnchanged L.kept L.standing L.words look.old look.new }
+{
+    HEADER_WORDS + ITEM_WORDS * look.word(page, 1) as usize
+}
+
+/// The place of the branch below which a key stands: the last one whose key is not greater, or the first one. So the first
 /// one's key isn't asked.
 #[inline(always)]
-pub(crate) fn branch_for<L: Look>(look: &mut L, page: u64, key: &[u8], first: u64) -> usize
+pub(crate) fn branch_for<L: Look>(
+    look: &mut L,
+    page: u64,
+    end: usize,
+    key: &[u8],
+    first: u64,
+) -> usize
     requires readable { IsTrue (is_readable (L.standing look.old page)) }
     requires page { IsPage (L.words look.old page) }
     requires some { 0 < L.words look.old page 1 }
+    requires end { end ≡ item_place (L.words look.old page 1) }
     requires first { IsFirst key.now first }
-    ensures branch { IsBranchFor key.now (items_of (L.words look.old page)) result }
+    ensures branch { IsBranchAt key.now (items_of (L.words look.old page)) result }
     ensures unchanged { IsUnchanged L.kept L.standing L.words look.old look.new }
 {
-    let count = look.word(page, 1) as usize;
-    for at in 1..count {
-        if is_above(look, page, HEADER_WORDS + ITEM_WORDS * at, key, first) {
-            return at - 1;
+    let mut at = HEADER_WORDS + ITEM_WORDS;
+    while at < end {
+        if is_above(look, page, at, key, first) {
+            return at - ITEM_WORDS;
         }
+        at += ITEM_WORDS;
     }
-    count - 1
+    at - ITEM_WORDS
 }
 
-/// Where a key stands among a page's items: the number of the item that has it, or how many have lesser keys.
+/// Where a key stands among a page's items: the place of the item that has it, or the one after those with lesser keys.
 #[inline(always)]
 pub(crate) fn search<L: Look>(
     look: &mut L,
@@ -155,25 +174,27 @@ pub(crate) fn search<L: Look>(
     requires readable { IsTrue (is_readable (L.standing look.old page)) }
     requires page { IsPage (L.words look.old page) }
     requires first { IsFirst key.now first }
-    ensures found { IfOk result (λ at. at < L.words look.old page 1) }
-    ensures same { IfOk result (λ at. key_cmp (item_at (L.words look.old page) (item_place at)).key key.now ≡ Equal) }
-    ensures absent { IfErr result (IsGap key.now (items_of (L.words look.old page))) }
+    ensures found { IfOk result (IsFoundAt key.now (L.words look.old page)) }
+    ensures absent { IfErr result (IsGapAt key.now (L.words look.old page)) }
     ensures unchanged { IsUnchanged L.kept L.standing L.words look.old look.new }
 {
-    let count = look.word(page, 1) as usize;
-    for at in 0..count {
-        let order = order_at(look, page, HEADER_WORDS + ITEM_WORDS * at, key, first);
+    let end = end_of(look, page);
+    let mut at = HEADER_WORDS;
+    while at < end {
+        let order = order_at(look, page, at, key, first);
         if order.is_eq() {
             return Ok(at);
         }
         if order.is_gt() {
             return Err(at);
         }
+        at += ITEM_WORDS;
     }
-    Err(count)
+    Err(at)
 }
 
 /// Whether the key of the item at a place is greater than a key whose first word is at hand.
+#[inline(always)]
 pub(crate) fn is_above<L: Look>(look: &mut L, page: u64, at: usize, key: &[u8], first: u64) -> bool
     requires readable { IsTrue (is_readable (L.standing look.old page)) }
     requires in_page { at + 42 ≤ 512 }
@@ -185,8 +206,8 @@ pub(crate) fn is_above<L: Look>(look: &mut L, page: u64, at: usize, key: &[u8], 
     order_at(look, page, at, key, first).is_gt()
 }
 
-/// How the key of the item at a place compares with a key whose first word is at hand: mostly this decides. Of a key of no
-/// more than two words, as those of numbers and of most names, the second does.
+/// How the key of the item at a place compares with a key whose first word is at hand: mostly this decides. Where it is the
+/// same, the second words are next. Keys of less than a word are compared elsewhere.
 #[inline(always)]
 fn order_at<L: Look>(look: &mut L, page: u64, at: usize, key: &[u8], first: u64) -> Ordering
     requires readable { IsTrue (is_readable (L.standing look.old page)) }
@@ -200,11 +221,12 @@ fn order_at<L: Look>(look: &mut L, page: u64, at: usize, key: &[u8], first: u64)
     if mine < first {
         return Ordering::Less;
     }
-    if mine == first && key.len() >= 8 && key.len() <= 16 {
-        return cmp_second(look, page, at, key, first);
-    }
-    if mine > first && look.word(page, at) >> LENGTH_BITS >= 8 {
+    let len = (look.word(page, at) >> LENGTH_BITS) as usize;
+    if mine > first && len >= 8 {
         return Ordering::Greater;
+    }
+    if mine == first && len >= 8 && key.len() >= 8 {
+        return cmp_from(look, page, at, len, key, 1);
     }
     cmp_at(look, page, at, key)
 }

@@ -72,8 +72,8 @@ pub(crate) fn straddled(first: u64, second: u64, skip: usize) -> u64
     (first << (8 * skip)) + (second >> (64 - 8 * skip))
 }
 
-/// How the key of the item at a place compares with a key: word by word, where the item stands. Look-ups come here seldom, so
-/// it isn't put into their loops.
+/// How the key of the item at a place compares with a key: word by word, where the item is. Look-ups come here only with short
+/// keys, so it isn't put into their loops.
 #[inline(never)]
 pub(crate) fn cmp_at<L: Look>(look: &mut L, page: u64, at: usize, key: &[u8]) -> Ordering
     requires readable { IsTrue (is_readable (L.standing look.old page)) }
@@ -83,8 +83,31 @@ pub(crate) fn cmp_at<L: Look>(look: &mut L, page: u64, at: usize, key: &[u8]) ->
     ensures unchanged { IsUnchanged L.kept L.standing L.words look.old look.new }
 {
     let len = (look.word(page, at) >> LENGTH_BITS) as usize;
+    cmp_from(look, page, at, len, key, 0)
+}
+
+/// How the key of the item at a place compares with a key, if they have the same words before one of a number.
+#[inline(always)]
+pub(crate) fn cmp_from<L: Look>(
+    look: &mut L,
+    page: u64,
+    at: usize,
+    len: usize,
+    key: &[u8],
+    from: usize,
+) -> Ordering
+    requires readable { IsTrue (is_readable (L.standing look.old page)) }
+    requires in_page { at + 42 ≤ 512 }
+    requires item { IsItem (L.words look.old page) at }
+    requires len { len ≡ key_len (L.words look.old page) at }
+    requires long { (8 * from ≤ len) × (8 * from ≤ length key.now) }
+    requires so_far { key_cmp (drop (8 * from) (item_at (L.words look.old page) at).key) (drop (8 * from) key.now)
+        ≡ key_cmp (item_at (L.words look.old page) at).key key.now }
+    ensures order { result ≡ key_cmp (item_at (L.words look.old page) at).key key.now }
+    ensures unchanged { IsUnchanged L.kept L.standing L.words look.old look.new }
+{
     let common = least_of(len, key.len());
-    for i in 0..common / 8 {
+    for i in from..common / 8 {
         let mine = look.word(page, at + 1 + i);
         let other = whole_word(key, 8 * i);
         if mine != other {
@@ -96,43 +119,8 @@ pub(crate) fn cmp_at<L: Look>(look: &mut L, page: u64, at: usize, key: &[u8]) ->
         return len.cmp(&key.len());
     }
     let mine = look.word(page, at + 1 + common / 8);
-    let other = word_from(key, 8 * (common / 8));
+    let other = word_within(key, 8 * (common / 8));
     let shift = 64 - 8 * rest;
-    let mine_first = mine >> shift;
-    let other_first = other >> shift;
-    if mine_first != other_first {
-        return mine_first.cmp(&other_first);
-    }
-    len.cmp(&key.len())
-}
-
-/// How the key of the item at a place compares with a key of no more than two words that begins with the same word: by what the
-/// second words have of both.
-#[inline(never)]
-pub(crate) fn cmp_second<L: Look>(
-    look: &mut L,
-    page: u64,
-    at: usize,
-    key: &[u8],
-    first: u64,
-) -> Ordering
-    requires readable { IsTrue (is_readable (L.standing look.old page)) }
-    requires in_page { at + 42 ≤ 512 }
-    requires item { IsItem (L.words look.old page) at }
-    requires two_words { (8 ≤ length key.now) × (length key.now ≤ 16) }
-    requires first { IsFirst key.now first }
-    requires same { first ≡ L.words look.old page (at + 1) }
-    ensures order { result ≡ key_cmp (item_at (L.words look.old page) at).key key.now }
-    ensures unchanged { IsUnchanged L.kept L.standing L.words look.old look.new }
-{
-    let len = (look.word(page, at) >> LENGTH_BITS) as usize;
-    let common = least_of(len, key.len());
-    if common <= 8 {
-        return len.cmp(&key.len());
-    }
-    let mine = look.word(page, at + 2);
-    let other = word_from(key, 8);
-    let shift = 64 - 8 * (common - 8);
     let mine_first = mine >> shift;
     let other_first = other >> shift;
     if mine_first != other_first {
@@ -229,12 +217,33 @@ pub fn word_from(bytes: &[u8], from: usize) -> u64
     requires { from ≤ 328 }
     ensures { to_be_bytes w64 result ≡ map (λ k. slice_index bytes.now k) (range_with_len from 8) }
 {
+    if from < bytes.len() {
+        return word_within(bytes, from);
+    }
+    padded_word(bytes, from)
+}
+
+/// The same from a byte on that there is.
+#[inline(always)]
+fn word_within(bytes: &[u8], from: usize) -> u64
+    requires small { from ≤ 328 }
+    requires within { from < length bytes.now }
+    ensures { to_be_bytes w64 result ≡ map (λ k. slice_index bytes.now k) (range_with_len from 8) }
+{
     if from + 8 <= bytes.len() {
         return whole_word(bytes, from);
     }
-    if bytes.len() >= 8 && from < bytes.len() {
+    if bytes.len() >= 8 {
         return last_word(bytes, from);
     }
+    padded_word(bytes, from)
+}
+
+/// The same, byte by byte.
+fn padded_word(bytes: &[u8], from: usize) -> u64
+    requires { from ≤ 328 }
+    ensures { to_be_bytes w64 result ≡ map (λ k. slice_index bytes.now k) (range_with_len from 8) }
+{
     u64::from_be_bytes([
         byte_or_zero(bytes, from),
         byte_or_zero(bytes, from + 1),
