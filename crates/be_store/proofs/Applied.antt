@@ -105,6 +105,7 @@ module _ (a w : Knowledge) (t : TakesLock a w) where
           publish = makes_more a.number p.worked (Publish a.number p.commit.page p.given ∷ []) v.history (Unlock a.number ∷ []) c.history
               (subst (λ k. Makes k p.worked (Publish k p.commit.page p.given ∷ []) v.history) same_number p.made)
               (subst (λ k. Makes k v.history (Unlock k ∷ []) c.history) (p.same.pass ∙ same_number) unlocked.made);
+          at = unlocked.at;
         };
       }
 

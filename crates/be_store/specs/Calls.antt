@@ -15,7 +15,7 @@ use Rattle.be_volume.specs.declared.ops.Op.{Op}
 use Rattle.be_store.specs.History.{Accepts, Learns, Pins}
 use Rattle.be_store.specs.Passes.{HasRead, IsPinnedTo, volume_pinned}
 
--- One call of a pass: an accepted write; a refused one, the journal's text, or its entries; a pin; its end; a read at the pin; a meeting.
+-- One call of a pass: an accepted write; a refused one, the journal's text, or its entries; a pin; its end; a read at the pin, or a witness that it makes; a meeting with another pass or with a witness.
 abbrev pub Call : Knowledge → Knowledge → Type 0
 Call a c =
     ((ops : List Op) × (n : ℕ) × (dones : List Done) × Accepts a c ops n dones)

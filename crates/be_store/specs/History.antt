@@ -9,7 +9,7 @@ use Rattle.be_pages.specs.Refusal.{IsFullOf}
 use Rattle.be_table.specs.declared.pass.Commit.{Commit}
 use Rattle.be_table.specs.declared.pass.Knowledge.{Knowledge}
 use Rattle.be_table.specs.History.{StartsWith}
-use Rattle.be_table.specs.Rule.{entries}
+use Rattle.be_table.specs.Rule.{Reaches, entries}
 use Rattle.be_table.specs.Steps.{entry_by}
 use Rattle.be_table.specs.Trace.{Makes}
 use Rattle.be_table.specs.Working.{WorksOn}
@@ -23,7 +23,7 @@ use Rattle.be_volume.specs.declared.ops.Done.{Done}
 use Rattle.be_volume.specs.declared.ops.Op.{Op}
 use Rattle.be_store.specs.Passes.{IsPinnedTo, volume_seen}
 
--- The moves of an accepted write: the pass takes the lock and works on pages, publishes this version page by one move, and gives the lock back. A whole scan is made right after the lock, or where no page is free. Moves of other passes may lie between.
+-- The moves of an accepted write: the pass takes the lock and works on pages, publishes this version page by one move, and gives the lock back. A whole scan is made right after the lock, or where no page is free. Moves of other passes may lie between. After them the machine is as the pass knows it.
 pub record PublishesOnce (a c : Knowledge) (page : ℕ) : Type 0 where
   pub locked : List Move
   pub lock : Makes a.number a.history (Lock a.number ∷ []) locked
@@ -31,6 +31,7 @@ pub record PublishesOnce (a c : Knowledge) (page : ℕ) : Type 0 where
   pub work : WorksOn a.limits a.number locked worked
   pub given : List ℕ
   pub publish : Makes a.number worked (Publish a.number page given ∷ Unlock a.number ∷ []) c.history
+  pub at : Reaches c (λ w. Unit {0})
 
 -- The moves of a call that took the lock, worked on pages, and published nothing.
 pub record LocksOnly (a c : Knowledge) : Type 0 where

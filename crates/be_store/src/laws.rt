@@ -10,14 +10,16 @@ ghost use Rattle.be_volume.specs.declared.ops.Done.{Done};
 ghost use Rattle.be_volume.specs.declared.ops.Op.{Op};
 ghost use Rattle.be_journal.specs.Journal.{IsLegal, by_pass};
 ghost use Rattle.be_state.specs.Rebuilding.{state_ops};
-ghost use Rattle.be_table.specs.History.{AreOfPasses};
+ghost use Rattle.be_table.specs.History.{AreOfPasses, StartsWith};
 ghost use Rattle.be_table.specs.Rule.{entries};
 ghost use Rattle.be_table.specs.Steps.{IsPass};
 ghost use Rattle.be_table.specs.Versions.{CanSpellEach};
+ghost use Rattle.be_table.specs.declared.pass.Commit.{Commit};
 ghost use Rattle.be_table.specs.declared.pass.Knowledge.{Knowledge};
 ghost use Rattle.be_store.specs.Alone.{IsAlone, WritesNext};
 ghost use Rattle.be_store.specs.History.{Accepts, Learns, IsReason, IsRefusedAt, Pins as IsPin};
 ghost use Rattle.be_store.specs.Passes.{IsPassOf, IsPinnedTo, volume_pinned, volume_seen};
+ghost use Rattle.be_store.specs.Told.{ComesAfter, EndedBefore};
 
 use crate::{Pass, Store};
 use be_journal::replay_push;
@@ -40,6 +42,21 @@ pub fn seen_is_legal(store: &Store, pass: &Pass)
 /// A pass that has just pinned reads the volume after all that it has seen.
 pub fn pin_reads_all_seen()
     ensures { (a c : Knowledge) (n : ℕ) → IsPin a c n → volume_pinned c ≡ volume_seen c }
+{}
+
+/// Whoever has joined a witness pins what that had seen, or more, and its accepted writes come after it. So it is with a
+/// commit of another pass: a witness that this pass made after its write has seen that write.
+pub fn told_order()
+    ensures told { (told : List Commit) (d : Knowledge) → StartsWith d.seen told → ComesAfter told d }
+    ensures write { (a c d : Knowledge) (ops : List Op) (n : ℕ) (dones : List Done) → Accepts a c ops n dones → StartsWith d.seen c.seen
+        → ComesAfter c.seen d × (n ≡ length c.seen) }
+{}
+
+/// A pin has each write that ended before it, and is at each pin that ended before it or later, of whatever passes: of two calls
+/// the one ended first whose history the other one's begins with. `close` has both in one list of moves.
+pub fn pins_have_earlier_writes()
+    ensures writes { (a c b d : Knowledge) (ops : List Op) (n m : ℕ) (dones : List Done) → Accepts a c ops n dones → IsPin b d m → EndedBefore c d → n ≤ m }
+    ensures pins { (a c b d : Knowledge) (n m : ℕ) → IsPin a c n → IsPin b d m → EndedBefore c d → n ≤ m }
 {}
 
 /// The operations that `Store::state` reads of a pinned version are accepted by an empty volume, and make it that version's.

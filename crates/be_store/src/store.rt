@@ -16,7 +16,7 @@ use be_paged::{attrs, first_page, get, indices, next, nodes};
 use be_plan::{Cover, PreparedQuery};
 use be_query::Query;
 use be_state::Place;
-use be_table::{PinnedLook, Status, VersionTable, Writing};
+use be_table::{PinnedLook, Status, VersionTable, Witness, Writing};
 use be_value::{Kind, Name, Refusal, Value};
 use be_volume::{Done, Op};
 use std::alloc::Global;
@@ -51,12 +51,12 @@ impl Store {
     ghost use Rattle.be_paged.specs.Version.{IsVersion};
     ghost use Rattle.be_table.specs.History.{StartsWith, AreOfPasses};
     ghost use Rattle.be_table.specs.Reading.{pinned_standing, word_of_page};
-    ghost use Rattle.be_table.specs.Rule.{IsWithin, entries};
+    ghost use Rattle.be_table.specs.Rule.{IsWithin, entries, one_step_on};
     ghost use Rattle.be_table.specs.Seats.{pinned_number};
     ghost use Rattle.be_table.specs.Steps.{Has, KeepsSeen, longer, met, unpins};
     ghost use Rattle.be_table.specs.Trace.{HasTrace, with_history};
     ghost use Rattle.be_table.specs.Versions.{CanSpellEach};
-    ghost use Rattle.be_table.specs.Works.{AllAt, AreNew, FoundHeld, IsOpenRefused, Moves, TakesLock, knows_of};
+    ghost use Rattle.be_table.specs.Works.{AllAt, AreNew, FoundHeld, IsOpenRefused, IsWitnessOf, Moves, TakesLock, knows_of};
     ghost use Rattle.be_table.specs.declared.pass.Move.TheVariants as moves;
     ghost use Rattle.be_store.specs.Calls.{AreInOneTrace, HasWrites, ReadsFronts};
     ghost use Rattle.be_store.specs.Statuses.{TellsStatus};
@@ -513,6 +513,32 @@ impl Store {
         *left = first;
         *right = second;
         length
+    }
+
+    /// A witness of all that the pass has seen of the journal. Send it to another thread, by whatever channel: a pass that
+    /// joins it there has seen as much. One step, and no memory.
+    pub fn witness(&self, pass: &mut Pass) -> Witness
+        requires pass { IsPassOf self.now pass.old }
+        ensures pass { IsPassOf self.now pass.new × (pass.new.knows ≡ one_step_on pass.old.knows) }
+        ensures witness { IsWitnessOf self.now result × (result.seen ≡ pass.old.knows.seen) }
+    {
+        self.table.witness(pass)
+    }
+
+    /// The pass and the witness have then seen what either had: of two prefixes of one journal the longer. Returns its length.
+    /// A pin stays, and the witness can be sent on. What the pass does from then on comes after what the witness had seen
+    /// (`laws::told_order`). Three steps, no move, and no memory.
+    pub fn join(&self, pass: &mut Pass, witness: &mut Witness) -> u64
+        requires pass { IsPassOf self.now pass.old }
+        requires witness { IsWitnessOf self.now witness.old }
+        ensures of { IsPassOf self.now pass.new × IsWitnessOf self.now witness.new }
+        ensures pass { StartsWith (longer pass.old.knows.seen witness.old.seen) pass.old.knows.seen
+            × (pass.new.knows ≡ met pass.old.knows (longer pass.old.knows.seen witness.old.seen)) }
+        ensures witness { StartsWith (longer pass.old.knows.seen witness.old.seen) witness.old.seen
+            × (witness.new.seen ≡ longer pass.old.knows.seen witness.old.seen) }
+        ensures length { result ≡ length (longer pass.old.knows.seen witness.old.seen) }
+    {
+        self.table.join(pass, witness)
     }
 
     /// Closes the store and returns its journal. It takes all passes; they may be pinned. A store whose pass was dropped

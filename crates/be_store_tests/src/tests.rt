@@ -6,6 +6,7 @@
 mod calls;
 mod carrying;
 mod conditional;
+mod handing;
 mod races;
 mod room;
 mod sizes;
@@ -81,6 +82,14 @@ fn commits_spent(rt: HostRuntime) -> Result<(), Fail> {
 #[test]
 fn meeting(rt: HostRuntime) -> Result<(), Fail> {
     let lines = "0 new / seen / meet / seen => commit 1 / node 1 / seen 1 0 / met 1 / seen 1 1";
+    check_lines(rt.alloc(), &mut for_two(rt.alloc(), 64, 100)?, lines)
+}
+
+/// A pass that joins another one's witness has seen what that has, and one that has seen more keeps it.
+#[test]
+fn joining(rt: HostRuntime) -> Result<(), Fail> {
+    let lines = "0 new / seen / join / seen => commit 1 / node 1 / seen 1 0 / met 1 / seen 1 1
+1 new / join / seen => commit 2 / node 2 / met 2 / seen 1 2";
     check_lines(rt.alloc(), &mut for_two(rt.alloc(), 64, 100)?, lines)
 }
 
@@ -403,6 +412,18 @@ fn two_writers(rt: HostRuntime) -> Result<(), Fail> {
     let (journal, is_accepted) = room.race(&rt, rt.alloc())?;
     assert!(rt; is_accepted);
     assert!(rt; has_hundred_by_each(&journal)?);
+    Ok(())
+}
+
+/// A pass that joins a witness on a thread of its own pins what the witness had seen, or more, while the other pass writes on.
+#[test]
+fn handed_to_a_thread(rt: HostRuntime) -> Result<(), Fail> {
+    let mut room = for_two(rt.alloc(), 64, 1000)?;
+    let lines = "0 new;new / seen => commit 1 / node 1 / node 2 / seen 1 0";
+    check_lines(rt.alloc(), &mut room, lines)?;
+    let (number, is_accepted) = room.hand(&rt)?;
+    assert!(rt; is_accepted);
+    assert!(rt; number >= 1);
     Ok(())
 }
 

@@ -17,7 +17,6 @@ use Rattle.be_table.specs.History.{StartsWith}
 use Rattle.be_table.specs.Working.{HasReason, MakesForReason, HasWorked, WorksOn}
 use Rattle.be_table.specs.Works.{FindsNone, MakesScan, TakesPage}
 use Rattle.be_table.proofs.Scans.{makes_starts}
-use Rattle.be_table.proofs.Traces.{makes_more}
 
 -- ## The moves up to the last lock
 

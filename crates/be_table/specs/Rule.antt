@@ -14,6 +14,7 @@ use Rattle.be_table.specs.declared.limits.Limits.{Limits}
 use Rattle.be_table.specs.declared.pass.Commit.{Commit}
 use Rattle.be_table.specs.declared.pass.Knowledge.{Knowledge}
 use Rattle.be_table.specs.declared.pass.Move.{Move}
+use Rattle.be_table.specs.declared.pass.View.{View}
 use Rattle.be_pages.specs.Place.{is_retired, undone_place}
 use Rattle.be_table.specs.Ledger.{ShowsPlaces}
 use Rattle.be_journal.specs.Journal.{by_pass, replay}
@@ -110,7 +111,7 @@ pub record WordsAgree (w : World) (page : ℕ) (words : List ℕ) : Type 0 where
   pub unused : (k : ℕ) → IsUnused w.passes k → slice_index words k ≡ 0
 
 -- the words, the slot and the journal's length are those of the machine
-pub record ShowsBoard (b : Board) (s : State (Option Ledger) (List Knowledge)) : Type 0 where
+pub record ShowsBoard (b : Board) (s : State (Option Ledger) View) : Type 0 where
   pub words : WordsAgree b.world (page_at b.log (length b.log)) s.words
   pub home : IsHome b.world.holder b.world b.log s.homes
   pub version : b.world.current ≡ length b.log
@@ -196,23 +197,32 @@ abbrev pub AllFit : Limits → Board → ℕ → List Knowledge → Type 0
 AllFit limits b seat [] = Unit {0}
 AllFit limits b seat (a ∷ v) = Fits limits b seat a × IsAbsent a.number v × AllFit limits b seat v
 
-abbrev pub ViewsFit : Limits → Board → List (List Knowledge) → Type 0
-ViewsFit limits b views = (seat : ℕ) (v : List Knowledge) → get_elem? views seat ≡ some v → AllFit limits b seat v
+-- the journal begins with each of these
+abbrev pub AreFronts : List Commit → List (List Commit) → Type 0
+AreFronts log [] = Unit {0}
+AreFronts log (front ∷ fronts) = StartsWith log front × AreFronts log fronts
+
+-- what a seat knows is so
+abbrev pub ViewFits : Limits → Board → ℕ → View → Type 0
+ViewFits limits b seat v = AllFit limits b seat v.passes × AreFronts b.log v.fronts
+
+abbrev pub ViewsFit : Limits → Board → List View → Type 0
+ViewsFit limits b views = (seat : ℕ) (v : View) → get_elem? views seat ≡ some v → ViewFits limits b seat v
 
 -- ## The fourth part: the trace
 
 -- The moves lead from the first state to this one, and none after the history of a pass is by it.
-pub record IsTrace (limits : Limits) (w : World) (views : List (List Knowledge)) (trace : List Move) : Type 0 where
+pub record IsTrace (limits : Limits) (w : World) (views : List View) (trace : List Move) : Type 0 where
   pub words : ℕ → ℕ → ℕ
   pub runs : RunsTo limits words trace w
-  pub rests : (seat : ℕ) (v : List Knowledge) → get_elem? views seat ≡ some v → AllRest trace v
+  pub rests : (seat : ℕ) (v : View) → get_elem? views seat ≡ some v → AllRest trace v.passes
 
-pub record Stands (limits : Limits) (s : State (Option Ledger) (List Knowledge)) (b : Board) : Type 0 where
+pub record Stands (limits : Limits) (s : State (Option Ledger) View) (b : Board) : Type 0 where
   pub table : ShowsBoard b s
   pub sound : IsSoundBoard limits b
   pub views : ViewsFit limits b s.views
 
-abbrev pub Shows : Limits → State (Option Ledger) (List Knowledge) → Type 0
+abbrev pub Shows : Limits → State (Option Ledger) View → Type 0
 Shows limits s = (b : Board) × Stands limits s b × ((trace : List Move) × IsTrace limits b.world s.views trace)
 
 -- ## What a history tells
@@ -253,26 +263,68 @@ unfoldable pub newcomers : Limits → ℕ → ℕ → ℕ → List Knowledge
 newcomers limits steps k zero = []
 newcomers limits steps k (suc n) = newcomer limits steps k ∷ newcomers limits steps (suc k) n
 
-abbrev pub everyone : Limits → List Knowledge
-everyone limits = newcomers limits 0 0 limits.passes
+-- the view of a seat with this pass, with these two, with none
+abbrev pub alone : Knowledge → View
+alone a = record { passes = a ∷ []; fronts = [] }
+
+abbrev pub beside : Knowledge → Knowledge → View
+beside a c = record { passes = a ∷ c ∷ []; fronts = [] }
+
+abbrev pub empty_view : View
+empty_view = record { passes = []; fronts = [] }
+
+-- that of the seat which has the passes from k on, so many, before they are dealt
+abbrev pub undealt : Limits → ℕ → ℕ → ℕ → View
+undealt limits steps k n = record { passes = newcomers limits steps k n; fronts = [] }
+
+abbrev pub everyone : Limits → View
+everyone limits = undealt limits 0 0 limits.passes
 
 abbrev pub one_step_on : Knowledge → Knowledge
 one_step_on a = record a { steps = a.steps + 1 }
 
 -- the first pass gets a seat of its own
-abbrev pub first_seat : List Knowledge → List Knowledge
-first_seat v = map one_step_on (take 1 v)
+abbrev pub first_seat : View → View
+first_seat v = record { passes = map one_step_on (take 1 v.passes); fronts = [] }
 
-abbrev pub other_seats : List Knowledge → List Knowledge
-other_seats v = map one_step_on (drop 1 v)
+abbrev pub other_seats : View → View
+other_seats v = record { passes = map one_step_on (drop 1 v.passes); fronts = v.fronts }
 
-abbrev pub seats_together : List Knowledge → List Knowledge → List Knowledge
-seats_together v w = map one_step_on v ++ map one_step_on w
+abbrev pub seats_together : View → View → View
+seats_together v w = record { passes = map one_step_on v.passes ++ map one_step_on w.passes; fronts = v.fronts ++ w.fronts }
 
 abbrev pub nobody : Knowledge
 nobody = newcomer (record { pages = 0; passes = 0; commits = 0 }) 0 0
 
--- the pass of a seat that has one
-abbrev pub pass_of : List Knowledge → Knowledge
-pass_of [] = nobody
-pass_of (a ∷ v) = a
+-- the first of these passes, if there is one
+abbrev pub first_of : List Knowledge → Knowledge
+first_of [] = nobody
+first_of (a ∷ v) = a
+
+-- the pass of a seat that has one, and the second where it has two
+abbrev pub pass_of : View → Knowledge
+pass_of v = first_of v.passes
+
+abbrev pub second_of : View → Knowledge
+second_of v = first_of (drop 1 v.passes)
+
+-- ## Witnesses
+
+-- the view of a witness that the journal began so
+abbrev pub witnessing : List Commit → View
+witnessing front = record { passes = []; fronts = front ∷ [] }
+
+-- that of a pass that has taken in a witness's seat
+abbrev pub informed : Knowledge → List Commit → View
+informed a front = record { passes = a ∷ []; fronts = front ∷ [] }
+
+-- the front of a seat that has one
+abbrev pub front_of : View → List Commit
+front_of v = slice_index_or v.fronts 0 []
+
+-- a seat keeps its passes, and a new one has what the first of them has seen
+abbrev pub kept_seat : View → View
+kept_seat v = record v { passes = map one_step_on v.passes }
+
+abbrev pub front_seat : View → View
+front_seat v = witnessing (pass_of v).seen

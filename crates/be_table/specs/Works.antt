@@ -13,7 +13,7 @@ use Rattle.be_value.specs.declared.refusals.Refusal.TheVariants.{Busy, CommitsSp
 use Rattle.be_table.specs.History.{StartsWith}
 use Rattle.be_pages.specs.declared.page_pool.Place.TheVariants.{Free}
 use Rattle.be_pages.specs.Place.{undone_place, swept_place, place_of, is_in_hand, is_retired}
-use Rattle.be_table.specs.Place.{SeatFacts, Opened, Work}
+use Rattle.be_table.specs.Place.{SeatFacts, WitnessFacts, Opened, Work}
 use Rattle.be_table.specs.Reading.{standing_among, word_of_page}
 use Rattle.be_table.specs.Versions.{at_start, SpellsVolume}
 use Rattle.be_journal.specs.Journal.{replay}
@@ -24,6 +24,10 @@ use Rattle.be_table.specs.Steps.{Has, AllIdle, KeepsSeen, IsPass, looks, finds_h
 -- a seat of this table
 abbrev pub IsSeatOf : Opened → SeatFacts → Type 0
 IsSeatOf t s = (s.blank ≡ false) × (s.table ≡ t.id) × (s.knows.limits ≡ t.limits)
+
+-- a witness of this table
+abbrev pub IsWitnessOf : Opened → WitnessFacts → Type 0
+IsWitnessOf t w = (w.blank ≡ false) × (w.table ≡ t.id)
 
 -- seats of this table, of passes that have seen nothing, from the pass k on
 abbrev pub AreNewAt : TableId → Limits → ℕ → List SeatFacts → Type 0

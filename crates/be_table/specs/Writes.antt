@@ -2,7 +2,7 @@
 use Rattle.std.specs.Prelude.{◌≡◌, ◌+◌, ◌*◌, ◌<◌, true, false, [], ◌∷◌, None, length}
 use Rattle.be_table.specs.declared.writing.Writing.TheInside.{Inside}
 use Rattle.be_table.specs.Place.{Work}
-use Rattle.be_table.specs.Rule.{pass_of, entries, page_at, ledger_places, LeftAreRetired}
+use Rattle.be_table.specs.Rule.{alone, pass_of, entries, page_at, ledger_places, LeftAreRetired}
 use Rattle.be_table.specs.Seats.{pin_of}
 use Rattle.be_table.specs.Steps.{IsPass}
 use Rattle.be_table.specs.Working.{HasWorked}
@@ -13,7 +13,7 @@ work_of w = record { table = w.table.now; knows = pass_of w.base.me.0; reserved 
 -- the seat is at the table with the slot, the ledger has what the pass has seen, and until it publishes, the pass has only worked
 pub record IsOpen (w : Inside) : Type 0 where
   pub table_is : w.base.table_id ≡ w.table.now.id
-  pub me_is : w.base.me ≡ (pass_of w.base.me.0 ∷ [], (0, None) ∷ [])
+  pub me_is : w.base.me ≡ (alone (pass_of w.base.me.0), (0, None) ∷ [])
   pub number_is : (pass_of w.base.me.0).number ≡ w.marks.number
   pub limits_are : (pass_of w.base.me.0).limits ≡ w.table.now.limits
   pub small : w.marks.number < 64

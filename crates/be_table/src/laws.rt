@@ -6,11 +6,13 @@
 //! step; the state that the table shows before allows the event, and the one that it shows afterwards is the event's. A
 //! step whose word has no event leaves the machine as it was. The calls of the table are proved from the same lemmas.
 ghost use Rattle.std.specs.Prelude.{ℕ, List, Option};
-ghost use Rattle.be_table.specs.Laws.{GiveUpIsNoEvent, PublishIsItsEvent, UnlockIsItsEvent, CompareIsNoEvent, SplitIsNoEvent, JoinIsNoEvent, ArrivalIsNoEvent, EventsAreMoves, RunsAreSound, FrontsRun, UnusedAreZero, UnusedStayZero, LockIsItsEvent, ScanIsItsEvent, FillIsItsEvent, FoundFillIsItsEvent, OwnReadIsNoEvent, TakeIsItsEvent};
+ghost use Rattle.be_table.specs.Laws.{GiveUpIsNoEvent, PublishIsItsEvent, UnlockIsItsEvent, CompareIsNoEvent, LearnIsNoEvent, SplitIsNoEvent, AttestIsNoEvent, JoinIsNoEvent, ArrivalIsNoEvent, EventsAreMoves, RunsAreSound, FrontsRun, UnusedAreZero, UnusedStayZero, LockIsItsEvent, ScanIsItsEvent, FillIsItsEvent, FoundFillIsItsEvent, OwnReadIsNoEvent, TakeIsItsEvent};
 ghost use Rattle.be_table.specs.Laws.{LookIsItsEvent, AnnounceIsItsEvent, LookAgainIsItsEvent, UnpinIsItsEvent, PinnedReadIsItsEvent};
 ghost use Rattle.be_table.specs.declared.ledger.Ledger.{Ledger};
 ghost use Rattle.be_table.specs.declared.limits.Limits.{Limits};
+ghost use Rattle.be_table.specs.declared.pass.Commit.{Commit};
 ghost use Rattle.be_table.specs.declared.pass.Knowledge.{Knowledge};
+ghost use Rattle.be_table.specs.declared.pass.View.{View};
 
 /// A load of the current number is Look.
 pub fn look()
@@ -88,14 +90,24 @@ pub fn compare()
     ensures { (limits : Limits) (slots id : ℕ) (a c : Knowledge) (carried : List (ℕ × Option Ledger)) → CompareIsNoEvent limits slots id a c carried }
 {}
 
-/// The load by which a seat is cut in two is no event: its first pass gets a new seat.
-pub fn split()
-    ensures { (limits : Limits) (id : ℕ) (a : Knowledge) (v : List Knowledge) → SplitIsNoEvent limits id a v }
+/// The load by which a witness is made is no event: what a pass has seen gets a seat with no pass.
+pub fn attest()
+    ensures { (limits : Limits) (id : ℕ) (a : Knowledge) → AttestIsNoEvent limits id a }
 {}
 
-/// The load by which two seats are joined is no event: one has the passes of both, and the other has none.
+/// The load by which a pass takes in what a witness has seen is no event.
+pub fn learn()
+    ensures { (limits : Limits) (slots id : ℕ) (a : Knowledge) (front : List Commit) (carried : List (ℕ × Option Ledger)) → LearnIsNoEvent limits slots id a front carried }
+{}
+
+/// The load by which a seat is cut in two is no event: its first pass gets a new seat.
+pub fn split()
+    ensures { (limits : Limits) (id : ℕ) (a : Knowledge) (v : List Knowledge) (fronts : List (List Commit)) → SplitIsNoEvent limits id a v fronts }
+{}
+
+/// The load by which two seats are joined is no event: one has what both had, and the other has nothing.
 pub fn join()
-    ensures { (limits : Limits) (id : ℕ) (v : List Knowledge) (other : ℕ) (w : List Knowledge) → JoinIsNoEvent limits id v other w }
+    ensures { (limits : Limits) (id : ℕ) (v : View) (other : ℕ) (w : View) → JoinIsNoEvent limits id v other w }
 {}
 
 /// The load by which a seat with no pass is made is no event.

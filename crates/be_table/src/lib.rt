@@ -43,6 +43,7 @@ mod rule;
 mod seat;
 mod status;
 mod table;
+mod witness;
 mod writing;
 
 pub use limits::Limits;
@@ -50,4 +51,5 @@ pub use pinned::PinnedLook;
 pub use seat::Seat;
 pub use status::{Announcement, Status};
 pub use table::VersionTable;
+pub use witness::Witness;
 pub use writing::Writing;

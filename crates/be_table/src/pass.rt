@@ -67,5 +67,9 @@ pub struct Knowledge {
     pub history: LinkedList<Move>,
 }
 
-/// The knowledge of one pass, of several while seats are cut or joined, or of none.
-pub type View = LinkedList<Knowledge>;
+/// What a seat knows: the knowledge of one pass, of several while seats are cut or joined, or of none; and the beginnings of
+/// the journal that it has in place of a pass, as the seat of a witness does.
+pub struct View {
+    pub passes: LinkedList<Knowledge>,
+    pub fronts: LinkedList<LinkedList<Commit>>,
+}

@@ -3,10 +3,10 @@
 //! A seat is the right to step for one pass: no two seats have the same pass, so what a pass knows is known to one
 //! holder alone. Beside that right it carries three numbers which its steps told: the number of the pass, how much of
 //! the journal the pass has seen, and its pin.
-ghost use Rattle.std.specs.Prelude.{◌≡◌, ℕ, ◌<◌, true, false, [], ◌∷◌, length, IsTrue};
+ghost use Rattle.std.specs.Prelude.{◌≡◌, ℕ, ◌<◌, true, false, [], length, IsTrue};
 ghost use Rattle.be_core.specs.Machine.{has};
 ghost use Rattle.be_core.specs.declared.event.Phase.TheVariants.{Pinned};
-ghost use Rattle.be_table.specs.Rule.{pass_of, page_at, reach_at};
+ghost use Rattle.be_table.specs.Rule.{alone, pass_of, page_at, reach_at};
 
 use crate::ledger::Ledger;
 use crate::marks::Marks;
@@ -47,7 +47,7 @@ impl Seat {
 
     pub(crate) fn of(base: Base, marks: Marks) -> Seat
         requires number { marks.number < 64 }
-        requires pass { base.me ≡ (pass_of base.me.0 ∷ [], []) }
+        requires pass { base.me ≡ (alone (pass_of base.me.0), []) }
         requires told { IsTold (pass_of base.me.0) marks.number marks.seen }
         requires pin { marks.pin ≡ pin_of (pass_of base.me.0).phase (pass_of base.me.0).seen }
         ensures { (result.blank ≡ false) × (result.table ≡ base.table_id) × (result.knows ≡ pass_of base.me.0) }
@@ -61,7 +61,7 @@ impl Seat {
     /// The base's seat, with what it tells of the pass.
     pub(crate) fn into_base(self) -> (Base, Marks)
         requires { self.blank ≡ false }
-        ensures pass { (result.0.table_id ≡ self.table) × (result.0.me ≡ (self.knows ∷ [], [])) }
+        ensures pass { (result.0.table_id ≡ self.table) × (result.0.me ≡ (alone self.knows, [])) }
         ensures told { (result.1.number < 64) × IsTold self.knows result.1.number result.1.seen }
         ensures pin { result.1.pin ≡ pin_of self.knows.phase self.knows.seen }
     {

@@ -13,8 +13,11 @@ use crate::limits::Limits;
 use crate::marks::PinnedVersion;
 use crate::pass::View;
 use crate::pinned::PinnedLook;
-use crate::rule::{Announce, Arrive, Compare, Deal, Law, Lock, Look, LookAgain, PinnedWord, Unpin};
+use crate::rule::{
+    Announce, Arrive, Attest, Compare, Deal, Law, Learn, Lock, Look, LookAgain, PinnedWord, Unpin,
+};
 use crate::seat::Seat;
+use crate::witness::Witness;
 use crate::writing::Writing;
 use atomic_table::Table;
 use be_core::Phase;
@@ -70,7 +73,7 @@ impl VersionTable {
     ghost use Rattle.be_table.specs.Steps.{announces, unpins, met, longer, Has, KeepsSeen};
     ghost use Rattle.be_table.specs.Trace.{HasTrace, with_history};
     ghost use Rattle.be_table.specs.Versions.{at_start, CanSpellEach};
-    ghost use Rattle.be_table.specs.Works.{IsSeatOf, SeesMore, TakesLock, FoundHeld, PinsCurrent, Moves, AreNew, IsOpenRefused, AllAt, knows_of};
+    ghost use Rattle.be_table.specs.Works.{IsSeatOf, IsWitnessOf, SeesMore, TakesLock, FoundHeld, PinsCurrent, Moves, AreNew, IsOpenRefused, AllAt, knows_of};
     ghost use Rattle.be_table.specs.declared.pass.Move.TheVariants as moves;
 
     /// A table with an empty journal, and the seats of its passes in the order of their numbers. Version 0 is the page
@@ -272,6 +275,43 @@ impl VersionTable {
         marks.seen = both;
         other_marks.seen = both;
         (Seat::of(first, marks), Seat::of(base, other_marks), both)
+    }
+
+    /// A witness of all that the pass has seen of the journal, for any thread. One load.
+    pub fn witness(&self, seat: &mut Seat) -> Witness
+        requires { IsSeatOf self.now seat.old }
+        ensures seat { IsSeatOf self.now seat.new × (seat.new.knows ≡ one_step_on seat.old.knows) }
+        ensures witness { IsWitnessOf self.now result × (result.seen ≡ seat.old.knows.seen) }
+    {
+        let (mut base, marks) = seat.move_out().into_base();
+        let front = self.table.shared.split_seat::<Attest>(&mut base);
+        *seat = Seat::of(base, marks);
+        Witness::of(front, marks.seen)
+    }
+
+    /// The pass and the witness tell each other what they have seen, in three steps, as two passes do that meet: the
+    /// seats are joined, a load compares, and the witness gets a seat again. Both have then seen what either had: of two
+    /// beginnings of one journal the longer. Answers its length. No move.
+    pub fn join(&self, seat: &mut Seat, witness: &mut Witness) -> u64
+        requires { IsSeatOf self.now seat.old × IsWitnessOf self.now witness.old }
+        ensures of { IsSeatOf self.now seat.new × IsWitnessOf self.now witness.new }
+        ensures pass { StartsWith (longer seat.old.knows.seen witness.old.seen) seat.old.knows.seen
+            × (seat.new.knows ≡ met seat.old.knows (longer seat.old.knows.seen witness.old.seen)) }
+        ensures witness { StartsWith (longer seat.old.knows.seen witness.old.seen) witness.old.seen
+            × (witness.new.seen ≡ longer seat.old.knows.seen witness.old.seen) }
+        ensures length { result ≡ length (longer seat.old.knows.seen witness.old.seen) }
+    {
+        let (mut base, mut marks) = seat.move_out().into_base();
+        let (other, seen) = witness.move_out().into_base();
+        let shared = &self.table.shared;
+        shared.join_seat::<Deal>(&mut base, other);
+        shared.load::<Learn>(&mut base, LOCK);
+        let front = shared.split_seat::<Attest>(&mut base);
+        let both = if marks.seen < seen { seen } else { marks.seen };
+        marks.seen = both;
+        *seat = Seat::of(base, marks);
+        *witness = Witness::of(front, both);
+        both
     }
 
     /// The journal, once all seats are back. Their passes may be pinned.

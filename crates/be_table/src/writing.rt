@@ -8,7 +8,7 @@ ghost use Rattle.be_pages.specs.Place.{is_in_hand, is_held_page, is_retired, pla
 ghost use Rattle.be_pages.specs.declared.room.Standing.TheVariants.{Taken, Filled as Full};
 ghost use Rattle.be_volume.specs.Sound.{IsOperation};
 ghost use Rattle.be_table.specs.Reading.{standing_among};
-ghost use Rattle.be_table.specs.Rule.{Reaches, announce_word, pass_of, one_step_on, word_place, current_word};
+ghost use Rattle.be_table.specs.Rule.{Reaches, alone, announce_word, pass_of, one_step_on, word_place, current_word};
 ghost use Rattle.be_table.specs.Statuses.{FindsOldest, LieAt, Tells};
 ghost use Rattle.be_table.specs.Steps.{AreFound, take_moves, fill_moves, given_moves, given_of, scans_of, NoneRetiredLater, IsPass, IsFound, MayPublish, publishes, MayBeFilled, MayReadAnnouncement, IsPart, fills_word};
 ghost use Rattle.be_table.specs.Steps.{takes_page, gives_up, scans, scans_out, scans_all, least_found, IsLeastAnnounced, IsOwnLeast, UnreachedAreFree};
@@ -80,7 +80,7 @@ impl<'a> Writing<'a> {
         marks: Marks,
         ledger: Ledger,
     ) -> Writing<'a>
-        requires seat { (base.table_id ≡ table.now.id) × (base.me ≡ (pass_of base.me.0 ∷ [], (0, None) ∷ [])) }
+        requires seat { (base.table_id ≡ table.now.id) × (base.me ≡ (alone (pass_of base.me.0), (0, None) ∷ [])) }
         requires pass { ((pass_of base.me.0).number ≡ marks.number) × ((pass_of base.me.0).limits ≡ table.now.limits)
             × (marks.number < 64) × ((pass_of base.me.0).writes ≡ true) × IsPass (pass_of base.me.0) }
         requires ledger { IsFound ledger (pass_of base.me.0) }
@@ -370,10 +370,10 @@ fn store_version<E: NextVersion>(
 )
     requires told { (E.entry ≡ record { by = by; ops = ops.now; dones = dones.now }) × (page ≡ E.page) }
     requires seat { base.old.table_id ≡ table.now.id }
-    requires pass { (base.old.me.0 ≡ pass_of base.old.me.0 ∷ []) × MayPublish table.now.limits (pass_of base.old.me.0) E.entry page }
+    requires pass { (base.old.me.0 ≡ alone (pass_of base.old.me.0)) × MayPublish table.now.limits (pass_of base.old.me.0) E.entry page }
     requires word { word ≡ current_word (length (pass_of base.old.me.0).seen + 1) page }
     ensures seat { (base.new.table_id ≡ base.old.table_id) × (base.new.id ≡ base.old.id) }
-    ensures me { base.new.me ≡ (publishes (with_history (pass_of base.old.me.0) (pass_of base.new.me.0).history) E.entry page ∷ [], base.old.me.1) }
+    ensures me { base.new.me ≡ (alone (publishes (with_history (pass_of base.old.me.0) (pass_of base.new.me.0).history) E.entry page), base.old.me.1) }
     ensures moves { Moves (pass_of base.old.me.0) (moves.Publish (pass_of base.old.me.0).number page (given_of (pass_of base.old.me.0)) ∷ [])
         (pass_of base.new.me.0) }
     ensures pass { IsPass (pass_of base.new.me.0) }
@@ -385,12 +385,12 @@ fn store_version<E: NextVersion>(
 /// The load by which a page is taken.
 fn tell_taken(table: &VersionTable, base: &mut Base, page: u64)
     requires seat { base.old.table_id ≡ table.now.id }
-    requires pass { (base.old.me.0 ≡ pass_of base.old.me.0 ∷ []) × ((pass_of base.old.me.0).writes ≡ true) × ((pass_of base.old.me.0).published ≡ false) }
+    requires pass { (base.old.me.0 ≡ alone (pass_of base.old.me.0)) × ((pass_of base.old.me.0).writes ≡ true) × ((pass_of base.old.me.0).published ≡ false) }
     requires small { page < 16384 }
     requires page { (page < table.now.limits.pages) × (page < length (pass_of base.old.me.0).places)
         × (place_of (pass_of base.old.me.0).places page ≡ Place.Free) }
     ensures seat { (base.new.table_id ≡ base.old.table_id) × (base.new.id ≡ base.old.id) }
-    ensures me { base.new.me ≡ (takes_page (with_history (pass_of base.old.me.0) (pass_of base.new.me.0).history) page ∷ [], base.old.me.1) }
+    ensures me { base.new.me ≡ (alone (takes_page (with_history (pass_of base.old.me.0) (pass_of base.new.me.0).history) page), base.old.me.1) }
     ensures moves { Makes (pass_of base.old.me.0).number (pass_of base.old.me.0).history (take_moves (pass_of base.old.me.0) page) (pass_of base.new.me.0).history }
 {
     let at = PAGES + PAGE_WORDS * page as usize;
@@ -400,12 +400,12 @@ fn tell_taken(table: &VersionTable, base: &mut Base, page: u64)
 /// Stores a word of a page in hand, where it isn't there.
 fn fill_word(table: &VersionTable, base: &mut Base, page: u64, i: usize, word: u64)
     requires seat { base.old.table_id ≡ table.now.id }
-    requires pass { (base.old.me.0 ≡ pass_of base.old.me.0 ∷ []) × ((pass_of base.old.me.0).writes ≡ true) × ((pass_of base.old.me.0).published ≡ false) }
+    requires pass { (base.old.me.0 ≡ alone (pass_of base.old.me.0)) × ((pass_of base.old.me.0).writes ≡ true) × ((pass_of base.old.me.0).published ≡ false) }
     requires small { page < 16384 }
     requires page { (page < table.now.limits.pages) × MayBeFilled (pass_of base.old.me.0).places page }
     requires place { i < 512 }
     ensures seat { (base.new.table_id ≡ base.old.table_id) × (base.new.id ≡ base.old.id) }
-    ensures me { base.new.me ≡ (fills_word (with_history (pass_of base.old.me.0) (pass_of base.new.me.0).history) page i word ∷ [], base.old.me.1) }
+    ensures me { base.new.me ≡ (alone (fills_word (with_history (pass_of base.old.me.0) (pass_of base.new.me.0).history) page i word), base.old.me.1) }
     ensures moves { Makes (pass_of base.old.me.0).number (pass_of base.old.me.0).history (fill_moves (pass_of base.old.me.0) page i word)
         (pass_of base.new.me.0).history }
 {
@@ -422,7 +422,7 @@ fn read_announcement(table: &VersionTable, base: &mut Base, pass: u64) -> u64
     requires seat { base.old.table_id ≡ table.now.id }
     requires pass { MayReadAnnouncement table.now.limits base.old.me pass }
     ensures seat { (base.new.table_id ≡ base.old.table_id) × (base.new.id ≡ base.old.id) }
-    ensures me { base.new.me ≡ (scans (with_history (pass_of base.old.me.0) (pass_of base.new.me.0).history) result ∷ [], base.old.me.1) }
+    ensures me { base.new.me ≡ (alone (scans (with_history (pass_of base.old.me.0) (pass_of base.new.me.0).history) result), base.old.me.1) }
     ensures moves { Makes (pass_of base.old.me.0).number (pass_of base.old.me.0).history
         (moves.Scan (pass_of base.old.me.0).number (pass_of base.old.me.0).scanned ∷ []) (pass_of base.new.me.0).history }
     ensures found { Reaches (pass_of base.new.me.0) (λ w. result ≡ announce_word (w.phases (pass_of base.old.me.0).scanned)) }
@@ -455,7 +455,7 @@ fn read_all(table: &VersionTable, base: &mut Base, current: u64) -> Found
     requires current { ((pass_of base.old.me.0).limits ≡ table.now.limits) × (current ≡ length (pass_of base.old.me.0).seen) }
     ensures seat { (base.new.table_id ≡ base.old.table_id) × (base.new.id ≡ base.old.id) }
     ensures me { (found : List ℕ) × (length found ≡ table.now.limits.passes)
-        × (base.new.me ≡ (with_history (scans_all (pass_of base.old.me.0) found) (pass_of base.new.me.0).history ∷ [], base.old.me.1))
+        × (base.new.me ≡ (alone (with_history (scans_all (pass_of base.old.me.0) found) (pass_of base.new.me.0).history), base.old.me.1))
         × IsLeastAnnounced current found result.least
         × AreFound (pass_of base.old.me.0).limits (pass_of base.old.me.0).number (pass_of base.old.me.0).history (pass_of base.new.me.0).history found }
     ensures moves { Makes (pass_of base.old.me.0).number (pass_of base.old.me.0).history

@@ -4,6 +4,7 @@
 use crate::tests::calls::{Text, answer, ask_again, write};
 use crate::tests::carrying::carry_meanwhile;
 use crate::tests::conditional::answer_beside;
+use crate::tests::handing::hand_over;
 use crate::tests::races::{closed, journal_of, make_both};
 use crate::tests::states::{nodes_from, state_text};
 use be_store::{Journal, Limits, Live, Op, Pass, Refusal, Store, parse};
@@ -175,6 +176,20 @@ impl Room {
         Some(self.store.meet(&mut self.second, &mut self.first))
     }
 
+    /// Pass 1 joins a witness of pass 0. How much of the journal it has then seen.
+    fn join(&mut self) -> Option<u64> {
+        if !self.has_second {
+            return None;
+        }
+        let mut witness = self.store.witness(&mut self.first);
+        let length = self.store.join(&mut self.second, &mut witness);
+        if witness.seen() == length && self.second.seen() == length {
+            Some(length)
+        } else {
+            None
+        }
+    }
+
     /// Drops pass 1, whether it is pinned or not.
     pub(crate) fn lose_second(&mut self) {
         self.has_second = false;
@@ -226,6 +241,7 @@ impl Room {
             "again" => self.again(alloc),
             "seen" => seen_text(alloc, self.seen()),
             "meet" => met_text(alloc, self.meet()),
+            "join" => met_text(alloc, self.join()),
             "state" => self.state(alloc),
             _ => Err(Refusal::BadLimits),
         }
@@ -268,6 +284,23 @@ impl Room {
         let is_accepted = first.1 && second.1;
         let journal = journal_of(alloc, store, first.0, second.0)?;
         Ok((journal, is_accepted))
+    }
+
+    /// Pass 0 hands what it has seen to pass 1, which pins on a thread of its own while pass 0 makes a hundred nodes. The number
+    /// of the pin, and whether each node was accepted.
+    pub(crate) fn hand<R: Threads + Sync>(&mut self, rt: &R) -> Result<(u64, bool), Refusal> {
+        if !self.has_second {
+            return Err(Refusal::BadLimits);
+        }
+        let None = self.second.pinned() else {
+            return Err(Refusal::BadLimits);
+        };
+        let reader = self.second.move_out();
+        let writer = self.first.move_out();
+        let (written, pinned) = hand_over(rt, &self.store, writer, reader);
+        self.first = written.0;
+        self.second = pinned.0;
+        Ok((pinned.1, written.1))
     }
 
     /// The state at the pin of pass 0 is carried on, while pass 1 makes a hundred nodes, each on a thread of its own. The room to
