@@ -1,4 +1,4 @@
--- The values of the code, as the definitions see them. Of these only `formula`, `literal` and `IsMemory` stand in public contracts.
+-- The values of the code, as the definitions see them. Of these only `formula`, `literal` and `IsMemory` are in public contracts.
 use Rattle.std.specs.Prelude.{◌≡◌, ◌⊎◌, ◌<◌, ◌≤◌, ◌-◌, ℕ, Bool, true, if◌then◌else◌, ◌||◌, ◌==◌, ◌+◌, Option, Some, None, List, [], ◌∷◌, string_bytes, map, reverse, length, drop, IsUtf8, false}
 use Rattle.be_value.specs.Name.{name_from, has_nul}
 use Rattle.std.specs.Prelude.{get_or}

@@ -10,8 +10,8 @@ use Rattle.be_table.specs.declared.pass.Knowledge.{Knowledge}
 use Rattle.be_table.specs.declared.pass.Move.{Move}
 use Rattle.be_table.specs.declared.pass.Move.TheVariants.{Lock, Publish, Unlock}
 use Rattle.be_table.specs.Rule.{entries}
-use Rattle.be_table.specs.Steps.{IsPass, entry_by, without_lock}
-use Rattle.be_table.specs.Trace.{Makes, upto_lock, with_history}
+use Rattle.be_table.specs.Steps.{IsPass, entry_by, without_lock, with_history}
+use Rattle.be_table.specs.Trace.{Makes, upto_lock}
 use Rattle.be_table.specs.Working.{HasWorked, WorksOn}
 use Rattle.be_table.specs.Works.{Moves, TakesLock}
 use Rattle.be_table.proofs.Histories.{by_pass-append, by_pass-own}

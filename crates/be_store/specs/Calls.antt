@@ -5,8 +5,8 @@ use Rattle.be_journal.specs.Journal.{replay}
 use Rattle.be_table.specs.declared.pass.Commit.{Commit}
 use Rattle.be_table.specs.declared.pass.Knowledge.{Knowledge}
 use Rattle.be_table.specs.History.{StartsWith}
-use Rattle.be_table.specs.Steps.{IsPass, entry_by, met, unpins}
-use Rattle.be_table.specs.Trace.{HasTrace, Makes, with_history}
+use Rattle.be_table.specs.Steps.{IsPass, entry_by, met, unpins, with_history}
+use Rattle.be_table.specs.Trace.{HasTrace, Makes}
 use Rattle.be_table.specs.declared.limits.Limits.{Limits}
 use Rattle.be_table.specs.declared.pass.Move.{Move}
 use Rattle.be_table.specs.declared.pass.Move.TheVariants.{Unpin}

@@ -53,8 +53,8 @@ impl Store {
     ghost use Rattle.be_table.specs.Reading.{pinned_standing, word_of_page};
     ghost use Rattle.be_table.specs.Rule.{IsWithin, entries, one_step_on};
     ghost use Rattle.be_table.specs.Seats.{pinned_number};
-    ghost use Rattle.be_table.specs.Steps.{Has, KeepsSeen, longer, met, unpins};
-    ghost use Rattle.be_table.specs.Trace.{HasTrace, with_history};
+    ghost use Rattle.be_table.specs.Steps.{Has, KeepsSeen, longer, met, unpins, with_history};
+    ghost use Rattle.be_table.specs.Trace.{HasTrace};
     ghost use Rattle.be_table.specs.Versions.{CanSpellEach};
     ghost use Rattle.be_table.specs.Works.{AllAt, AreNew, FoundHeld, IsOpenRefused, IsWitnessOf, Moves, TakesLock, knows_of};
     ghost use Rattle.be_table.specs.declared.pass.Move.TheVariants as moves;

@@ -21,10 +21,10 @@ use Rattle.be_table.specs.Laws.{AllowsBy, NoEvent, IsFill, IsReturn, IsScan}
 use Rattle.be_pages.specs.Place.{place_of, is_in_hand, is_held_page, given_place, swept_place}
 use Rattle.be_table.specs.Ledger.{shows_taken, shows_free, retired_with}
 use Rattle.be_table.specs.Rule.{alone, Board, page_at, reach_at, announce_word, word_place, known_holder, WordsAgree, PagesAgree, Holds, Fits, Stands, Shows, Reaches, pass_of, one_step_on}
-use Rattle.be_table.specs.Steps.{fills, takes_page, gives_up, least_found, least_then, pages_from, scans_on, scans_out, scans, MayBeFilled, OwnRead, FilledAt, FilledFound, PageTaken, PageGivenUp, Scanned, FillMoves, FoundFillMoves, TakeMoves, GiveUpMoves, ScanMoves, given_moves}
+use Rattle.be_table.specs.Steps.{fills, takes_page, gives_up, least_found, least_then, pages_from, scans_on, scans_out, scans, MayBeFilled, OwnRead, FilledAt, FilledFound, PageTaken, PageGivenUp, Scanned, FillMoves, FoundFillMoves, TakeMoves, GiveUpMoves, ScanMoves, given_moves, with_history}
 use Rattle.be_table.proofs.Histories.{starts_itself}
 use Rattle.be_table.proofs.Frames.{Table, Me1, views_step, fits_counted, words_load, words_fill, pages_fill, same_place, not_holder, fits_world, sound_world}
-use Rattle.be_table.specs.Trace.{Makes, AllRest, with_history}
+use Rattle.be_table.specs.Trace.{Makes, AllRest}
 use Rattle.be_table.proofs.Traces.{IsOne, moving, moving_from, resting, retold, one_of}
 use Rattle.be_table.proofs.Locks.{at_work, held_by, same_some, unheld_by}
 use Rattle.be_table.proofs.Ledgers.{shows-fill, shows-take, shows-return, shows-place, shows-sweep}

@@ -19,7 +19,7 @@ use Rattle.be_table.specs.Laws.{AllowsBy, IsLock, IsUnlock}
 use Rattle.be_pages.specs.Place.{undone_place}
 use Rattle.be_table.specs.Ledger.{ShowsPlaces}
 use Rattle.be_table.specs.Rule.{alone, ledger_places, LeftAreRetired, Board, entries, reach_at, page_at, word_place, lock_word, is_holder, known_holder, IsHome, IsSoundBoard, Holds, Fits, Stands, Shows}
-use Rattle.be_table.specs.Steps.{takes_lock, finds_held, without_lock, Gets, LockIsHeld, Locked, Unlocked, Moving, LockMoves, UnlockMoves}
+use Rattle.be_table.specs.Steps.{takes_lock, finds_held, without_lock, Gets, LockIsHeld, Locked, Unlocked, Moving, LockMoves, UnlockMoves, with_history}
 use Rattle.be_table.proofs.Histories.{starts_itself}
 use Rattle.be_table.proofs.Frames.{Table, Me1, views_step, fits_late, longer_seen, is_pass, in_time_later, words_load, words_lock, not_holder, fits_world, not_other, sound_world}
 use Rattle.std.proofs.Math.Nat.{le_refl}
@@ -27,7 +27,7 @@ use Rattle.be_table.specs.Versions.{at_start, in_pages, SpellsVolume}
 use Rattle.be_table.specs.Reading.{word_of_page}
 use Rattle.be_table.proofs.Versions.{spells_same, clipped, take_all}
 use Rattle.be_table.proofs.Standings.{begun}
-use Rattle.be_table.specs.Trace.{AllRest, with_history}
+use Rattle.be_table.specs.Trace.{AllRest}
 use Rattle.be_table.proofs.Traces.{Goes, dated, stands_dated, set_at, moved, rested, moving, one_of}
 use Rattle.be_table.proofs.Ledgers.{shows-unlock, idle-idle}
 

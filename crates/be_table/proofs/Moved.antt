@@ -9,9 +9,9 @@ use Rattle.be_table.specs.declared.pass.Knowledge.{Knowledge}
 use Rattle.be_table.specs.declared.pass.Move.{Move}
 use Rattle.be_table.specs.declared.pass.Move.TheVariants.{Scan, Publish}
 use Rattle.be_table.specs.Rule.{alone, Reaches, announce_word, pass_of}
-use Rattle.be_table.specs.Steps.{IsPass, publishes, given_of, NoneRetiredLater, scans, ScanMoves, PublishMoves}
+use Rattle.be_table.specs.Steps.{IsPass, publishes, given_of, NoneRetiredLater, scans, ScanMoves, PublishMoves, with_history}
 use Rattle.be_table.specs.Ledger.{shows_free}
-use Rattle.be_table.specs.Trace.{Makes, with_history}
+use Rattle.be_table.specs.Trace.{Makes}
 use Rattle.be_table.specs.Working.{HasNoneFree, HasReason, MakesForReason}
 use Rattle.be_table.specs.Works.{Moves}
 use Rattle.be_table.proofs.Frames.{Me1}

@@ -12,8 +12,8 @@ use Rattle.be_table.specs.declared.pass.Knowledge.{Knowledge}
 use Rattle.be_table.specs.Laws.{AllowsBy, IsLook, IsAnnounce, IsLookAgain, IsRead, IsUnpin}
 use Rattle.be_table.specs.declared.pass.Move.TheVariants.{Look, Announce, LookAgain, Unpin}
 use Rattle.be_table.specs.Rule.{alone, reach_at, page_at, current_word, HasCurrent, announce_word, word_place, Shows, one_step_on}
-use Rattle.be_table.specs.Steps.{looks, announces, pins, unpins, LookTold, Told, PinnedAt, Unpinned, PinnedRead, LookMoves, AnnounceMoves, LookAgainMoves, UnpinMoves}
-use Rattle.be_table.specs.Trace.{AllRest, with_history}
+use Rattle.be_table.specs.Steps.{looks, announces, pins, unpins, LookTold, Told, PinnedAt, Unpinned, PinnedRead, LookMoves, AnnounceMoves, LookAgainMoves, UnpinMoves, with_history}
+use Rattle.be_table.specs.Trace.{AllRest}
 use Rattle.be_table.proofs.Histories.{starts_itself}
 use Rattle.be_table.proofs.Traces.{moving, resting, as_me, one_of}
 use Rattle.be_table.proofs.Frames.{Me1, views_step, fits_counted, longer_seen, reach-front, is_pass, words_load, words_phase, words_announce, stands_phase}

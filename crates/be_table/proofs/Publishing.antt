@@ -23,13 +23,12 @@ use Rattle.be_table.specs.Laws.{AllowsBy, IsPublish}
 use Rattle.be_pages.specs.Place.{retired_number, place_of, published_place}
 use Rattle.be_table.specs.Ledger.{ShowsPlaces, shows_free, shows_taken, is_current, is_of_next, is_given, retired_with}
 use Rattle.be_table.specs.Rule.{alone, Board, entries, nothing, reach_at, page_at, word_place, current_word, known_holder, WordsAgree, IsSoundBoard, ImageIs, Fits, Shows}
-use Rattle.be_table.specs.Steps.{pages_from, commit_of, publishes, MayPublish, Published, PublishMoves, NoneRetiredLater, given_of}
+use Rattle.be_table.specs.Steps.{pages_from, commit_of, publishes, MayPublish, Published, PublishMoves, NoneRetiredLater, given_of, with_history}
 use Rattle.be_table.specs.Reading.{word_of_page}
 use Rattle.be_table.specs.Versions.{in_pages, SpellsVolume}
 use Rattle.be_table.proofs.Versions.{spells_same, clipped, take_front, take_all}
 use Rattle.be_table.proofs.Histories.{starts_itself, starts_more, by_pass-own, by_pass-other, legal-push, below-push}
 use Rattle.be_table.proofs.Frames.{Me1, views_step, entries-append, reach-append, page-append, is_pass, in_time_later, longer_seen, not_holder, pages_else}
-use Rattle.be_table.specs.Trace.{with_history}
 use Rattle.be_table.proofs.Traces.{moving, as_me, one_of}
 use Rattle.be_table.proofs.Locks.{at_work, held_by, same_some, unheld_by}
 use Rattle.be_table.proofs.Ledgers.{place-map}

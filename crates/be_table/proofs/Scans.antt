@@ -12,7 +12,7 @@ use Rattle.be_table.specs.declared.pass.Knowledge.{Knowledge}
 use Rattle.be_table.specs.declared.pass.Move.{Move}
 use Rattle.be_table.specs.declared.pass.Move.TheVariants.{Scan}
 use Rattle.be_table.specs.History.{StartsWith}
-use Rattle.be_table.specs.Trace.{RunsTo, Makes, with_history}
+use Rattle.be_table.specs.Trace.{RunsTo, Makes}
 use Rattle.be_table.proofs.Histories.{starts_itself}
 use Rattle.be_table.proofs.Traces.{makes_more}
 use Rattle.std.proofs.Common.{Option}
@@ -20,7 +20,7 @@ use Rattle.atomic_table.specs.Table.{Me}
 use Rattle.be_table.specs.declared.ledger.Ledger.{Ledger}
 use Rattle.be_table.specs.Rule.{alone, Reaches, announce_word, pass_of}
 use Rattle.be_pages.specs.Place.{swept_place, is_in_hand}
-use Rattle.be_table.specs.Steps.{scans, scans_on, scans_out, scans_all, scan_from, least_found, IsLeastAnnounced, least_then, pages_from, IsPart, IsOwnLeast, own_least, UnreachedAreFree, FoundAt, AreFound, scans_of}
+use Rattle.be_table.specs.Steps.{scans, scans_on, scans_out, scans_all, scan_from, least_found, IsLeastAnnounced, least_then, pages_from, IsPart, IsOwnLeast, own_least, UnreachedAreFree, FoundAt, AreFound, scans_of, with_history}
 
 pub scans_all-push : (a : Knowledge) (ns : List ℕ) (n : ℕ) → scans_all a (ns ++ n ∷ []) ≡ scans (scans_all a ns) n
 scans_all-push a [] n = refl

@@ -7,8 +7,7 @@ use Rattle.be_table.specs.declared.pass.Knowledge.{Knowledge}
 use Rattle.be_table.specs.Rule.{alone, pass_of}
 use Rattle.be_table.specs.Seats.{IsTold}
 use Rattle.be_table.proofs.PinMarks.{any}
-use Rattle.be_table.specs.Steps.{IsPass, announces, finds_held, unpins, without_lock, AnnounceMoves, UnpinMoves}
-use Rattle.be_table.specs.Trace.{with_history}
+use Rattle.be_table.specs.Steps.{IsPass, announces, finds_held, unpins, without_lock, AnnounceMoves, UnpinMoves, with_history}
 use Rattle.be_table.proofs.Traces.{told_history}
 use Rattle.be_table.proofs.Frames.{Me1}
 

@@ -14,8 +14,8 @@ use Rattle.be_table.specs.declared.pass.Move.{Move}
 use Rattle.be_table.specs.Laws.{AllowsBy}
 use Rattle.be_table.specs.Rule.{alone, ViewFits, Board, Fits, AllFit, Stands, Shows, IsAt, Reaches, StoodBefore, pass_of, one_step_on}
 use Rattle.be_table.specs.Seats.{IsTold}
-use Rattle.be_table.specs.Steps.{IsPass}
-use Rattle.be_table.specs.Trace.{mover, after_move, Run, RunsTo, NoneBy, Makes, Rests, AllRest, with_history}
+use Rattle.be_table.specs.Steps.{IsPass, with_history}
+use Rattle.be_table.specs.Trace.{mover, after_move, Run, RunsTo, NoneBy, Makes, Rests, AllRest}
 use Rattle.be_table.proofs.Histories.{starts_itself}
 use Rattle.be_table.proofs.Frames.{Table, Me1, apart, views_step, longer_seen}
 

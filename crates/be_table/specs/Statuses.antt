@@ -1,4 +1,4 @@
--- What a table tells of itself.
+-- What a table reports of itself.
 use Rattle.std.specs.Prelude.{◌≡◌, ℕ, suc, ◌<◌, ◌≤◌, List, length, count_by, slice_index, Option, Some, None}
 use Rattle.be_core.specs.Machine.{World}
 use Rattle.be_pages.specs.declared.page_pool.Place.{Place}

@@ -1,4 +1,4 @@
--- What each step tells the pass that makes it.
+-- What the pass that makes a step knows by it.
 use Rattle.std.specs.Prelude.{◌≡◌, ◌≢◌, ◌⊎◌, ℕ, zero, suc, ◌+◌, ◌*◌, ◌<◌, ◌≤◌, ◌==◌, true, false, Bool, List, [], ◌∷◌, ◌++◌, length, map, MatchBool, Option, Some, take, min, ◌-◌, if◌then◌else◌, slice_index, slice_set, IsTrue, IsFalse, ◌||◌, Contains}
 use lib.Dec.{ltb}
 use Rattle.atomic_table.specs.Table.{Me, Step}
@@ -22,7 +22,7 @@ use Rattle.be_journal.specs.Journal.{HasOperations, Agrees, by_pass, replay}
 use Rattle.be_table.specs.History.{StartsWith, AreOfPasses, IsHistory}
 use Rattle.be_table.specs.Reading.{standing_among, word_of_page}
 use Rattle.be_table.specs.Versions.{at_start, CanSpellEach, SpellsVolume}
-use Rattle.be_table.specs.Trace.{RunsTo, Makes, HasTrace, with_history}
+use Rattle.be_table.specs.Trace.{RunsTo, Makes, HasTrace}
 use Rattle.be_table.specs.Rule.{Reaches, StoodBefore, HasCurrent, announce_word, ledger_places, LeftAreRetired, IsWithin, AreInside, OwnPages, alone, beside, empty_view, front_of, pass_of, second_of, one_step_on, current_word, page_at, reach_at, entries, word_place}
 
 -- what is always so of a pass
@@ -55,6 +55,10 @@ pins a x log image = record a { seen = log; phase = Pinned x (length log); image
 
 abbrev pub unpins : Knowledge → Knowledge
 unpins a = record a { phase = Idle; steps = a.steps + 1 }
+
+-- the pass with this history
+abbrev pub with_history : Knowledge → List Move → Knowledge
+with_history a history = record a { history = history }
 
 -- the least, after an announcement was found
 abbrev pub least_found : ℕ → ℕ → ℕ

@@ -86,10 +86,6 @@ pub record HasTrace (limits : Limits) (passes : List Knowledge) : Type 0 where
   pub runs : IsRun limits trace
   pub rests : AllRest trace passes
 
--- the pass with this history
-abbrev pub with_history : Knowledge → List Move → Knowledge
-with_history a history = record a { history = history }
-
 -- ## Between a lock and its unlock
 
 -- the move takes the lock for the pass k

@@ -17,9 +17,9 @@ use Rattle.be_table.specs.Place.{SeatFacts, WitnessFacts, Opened, Work}
 use Rattle.be_table.specs.Reading.{standing_among, word_of_page}
 use Rattle.be_table.specs.Versions.{at_start, SpellsVolume}
 use Rattle.be_journal.specs.Journal.{replay}
-use Rattle.be_table.specs.Trace.{AllRest, Makes, upto_lock, with_history}
+use Rattle.be_table.specs.Trace.{AllRest, Makes, upto_lock}
 use Rattle.be_table.specs.Rule.{Reaches, AreBad, IsWithin, entries, page_at, reach_at, newcomer}
-use Rattle.be_table.specs.Steps.{Has, AllIdle, KeepsSeen, IsPass, looks, finds_held, takes_lock, pins, takes_page, take_moves, scans_all, IsLeastAnnounced, IsOwnLeast, pages_from, UnreachedAreFree, NoCommitReaches, AreFound, scans_of}
+use Rattle.be_table.specs.Steps.{Has, AllIdle, KeepsSeen, IsPass, looks, finds_held, takes_lock, pins, takes_page, take_moves, scans_all, IsLeastAnnounced, IsOwnLeast, pages_from, UnreachedAreFree, NoCommitReaches, AreFound, scans_of, with_history}
 
 -- a seat of this table
 abbrev pub IsSeatOf : Opened → SeatFacts → Type 0

@@ -1,4 +1,4 @@
-//! What a table tells of itself: how full it is, and who is pinned.
+//! What a table reports of itself: how full it is, and who is pinned.
 ghost use Rattle.std.specs.Prelude.{◌≡◌, ◌++◌, ◌∷◌, [], ℕ, List, length};
 ghost use Rattle.be_table.specs.Statuses.{IsOldest};
 

@@ -70,8 +70,8 @@ impl VersionTable {
     ghost use Rattle.be_table.specs.History.{StartsWith, AreOfPasses};
     ghost use Rattle.be_table.specs.Reading.{pinned_standing, word_of_page};
     ghost use Rattle.be_table.specs.Rule.{IsWithin, entries};
-    ghost use Rattle.be_table.specs.Steps.{announces, unpins, met, longer, Has, KeepsSeen};
-    ghost use Rattle.be_table.specs.Trace.{HasTrace, with_history};
+    ghost use Rattle.be_table.specs.Steps.{announces, unpins, met, longer, Has, KeepsSeen, with_history};
+    ghost use Rattle.be_table.specs.Trace.{HasTrace};
     ghost use Rattle.be_table.specs.Versions.{at_start, CanSpellEach};
     ghost use Rattle.be_table.specs.Works.{IsSeatOf, IsWitnessOf, SeesMore, TakesLock, FoundHeld, PinsCurrent, Moves, AreNew, IsOpenRefused, AllAt, knows_of};
     ghost use Rattle.be_table.specs.declared.pass.Move.TheVariants as moves;

@@ -15,8 +15,7 @@ ghost use Rattle.be_session.specs.declared.faults.Fault.TheVariants.{AlreadyPinn
 ghost use Rattle.be_store.specs.History.{Pins};
 ghost use Rattle.be_store.specs.Passes.{HasRead, volume_pinned};
 ghost use Rattle.be_table.specs.Seats.{pinned_number};
-ghost use Rattle.be_table.specs.Steps.{unpins};
-ghost use Rattle.be_table.specs.Trace.{with_history};
+ghost use Rattle.be_table.specs.Steps.{unpins, with_history};
 ghost use Rattle.be_volume.specs.Reading.{attributes_at, index_kinds};
 ghost use Rattle.bestore_c.specs.Calls.{AnswersWhetherOpen, AsksPrepared, Calls, Explains, Finds, FindsBuilt, GivesAnother, IsClosed};
 ghost use Rattle.bestore_c.specs.Calls.{IsTextFault, Listed, MovesHandle, Opens, Prepares, PrintsPrepared, PutsOutAtPin, Reads, RefreshesPrepared, Refuses, ShowsFound};

@@ -3,8 +3,8 @@ use Rattle.be_pages.specs.Place.{place_of}
 use Rattle.be_pages.specs.declared.page_pool.Place.TheVariants.{Free}
 use Rattle.be_table.specs.Rule.{alone, pass_of}
 use Rattle.be_table.specs.Statuses.{IsOldest, LieAt}
-use Rattle.be_table.specs.Steps.{scans_all, scans_of, AreFound, IsLeastAnnounced, IsPart}
-use Rattle.be_table.specs.Trace.{Makes, with_history}
+use Rattle.be_table.specs.Steps.{scans_all, scans_of, AreFound, IsLeastAnnounced, IsPart, with_history}
+use Rattle.be_table.specs.Trace.{Makes}
 use Rattle.be_table.specs.Working.{MakesForReason}
 use Rattle.be_table.proofs.Scans.{IsOwnPart}
 use Rattle.be_table.proofs.writing.read_all.Given as goal

@@ -2,8 +2,7 @@ use Rattle.std.proofs.Common.{[], ◌∷◌, ◌+◌, length, sym, ap, ◌∙◌
 use Rattle.be_table.specs.declared.limits.Limits.{Limits}
 use Rattle.be_table.specs.Rule.{alone, pass_of, current_word}
 use Rattle.be_table.specs.declared.pass.Move.TheVariants.{Publish}
-use Rattle.be_table.specs.Steps.{MayPublish, given_of, publishes}
-use Rattle.be_table.specs.Trace.{with_history}
+use Rattle.be_table.specs.Steps.{MayPublish, given_of, publishes, with_history}
 use Rattle.be_table.specs.Works.{Moves}
 use Rattle.be_table.proofs.Moved.{publish_makes}
 use Rattle.be_table.proofs.Publishing.{publishes_as}

@@ -2,8 +2,8 @@ use Rattle.std.proofs.Common.{◌≡◌, ◌+◌, ◌*◌, ℕ, List, [], ◌∷
 use Rattle.be_table.specs.declared.pass.Move.{Move}
 use Rattle.be_table.specs.declared.pass.Move.TheVariants.{Fill}
 use Rattle.be_table.specs.Rule.{alone, pass_of, word_place}
-use Rattle.be_table.specs.Steps.{takes_page}
-use Rattle.be_table.specs.Trace.{Makes, with_history}
+use Rattle.be_table.specs.Steps.{takes_page, with_history}
+use Rattle.be_table.specs.Trace.{Makes}
 use Rattle.be_table.proofs.Frames.{Me1}
 use Rattle.be_table.proofs.Holding.{takes_as}
 use Rattle.be_table.proofs.writing.tell_taken.Goals as goal

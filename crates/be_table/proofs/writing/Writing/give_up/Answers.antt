@@ -3,8 +3,8 @@ use Rattle.be_table.specs.declared.pass.Knowledge.{Knowledge}
 use Rattle.be_pages.specs.Place.{given_place, is_held_page, place_of}
 use Rattle.be_table.specs.Rule.{alone, ledger_places, pass_of}
 use Rattle.be_table.specs.Place.{Work}
-use Rattle.be_table.specs.Steps.{gives_up, given_moves}
-use Rattle.be_table.specs.Trace.{Makes, with_history}
+use Rattle.be_table.specs.Steps.{gives_up, given_moves, with_history}
+use Rattle.be_table.specs.Trace.{Makes}
 use Rattle.be_table.specs.Writes.{work_of}
 use Rattle.be_table.proofs.Holding.{gives_as}
 use Rattle.be_table.proofs.Ledgers.{left-give}

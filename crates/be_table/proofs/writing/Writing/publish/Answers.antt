@@ -10,8 +10,7 @@ use Rattle.be_table.specs.Seats.{pin_of}
 use Rattle.be_table.specs.Ledger.{is_of_next}
 use Rattle.be_pages.specs.declared.room.Standing.TheVariants.{Taken}
 use Rattle.be_table.specs.Reading.{standing_among, word_of_page}
-use Rattle.be_table.specs.Steps.{commit_of, pages_from, publishes}
-use Rattle.be_table.specs.Trace.{with_history}
+use Rattle.be_table.specs.Steps.{commit_of, pages_from, publishes, with_history}
 use Rattle.be_table.specs.Working.{HasWorked}
 use Rattle.be_table.specs.Versions.{SpellsVolume}
 use Rattle.be_table.proofs.Keeping.{spells_kept}

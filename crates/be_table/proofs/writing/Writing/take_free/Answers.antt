@@ -6,8 +6,7 @@ use Rattle.be_table.specs.declared.pass.Knowledge.{Knowledge}
 use Rattle.be_pages.specs.Place.{is_retired}
 use Rattle.be_table.specs.Rule.{alone, entries, ledger_places, page_at, pass_of}
 use Rattle.be_table.specs.Seats.{pin_of}
-use Rattle.be_table.specs.Steps.{IsPass, takes_page, take_moves}
-use Rattle.be_table.specs.Trace.{with_history}
+use Rattle.be_table.specs.Steps.{IsPass, takes_page, take_moves, with_history}
 use Rattle.be_table.specs.Working.{HasWorked}
 use Rattle.be_table.proofs.Ledgers.{left-set}
 use Rattle.be_table.proofs.Opened.{going_pass}
