@@ -3,8 +3,8 @@ use Rattle.std.proofs.Common.{◌≡◌, ◌<◌, ℕ, zero, suc, ◌-◌, List,
 use Rattle.std.specs.declared.option.Option.{Option}
 use Rattle.be_volume.specs.declared.ops.Done.{Done}
 use Rattle.be_volume.specs.declared.ops.Op.{Op}
-use Rattle.be_encoding.specs.Decoding.{◌>>=◌, step_at, steps_at, head_at, entry_at}
-use Rattle.be_encoding.proofs.Entries.{entry_of_head, entry_of_none}
+use Rattle.be_entry_bytes.specs.Decoding.{◌>>=◌, step_at, steps_at, head_at, entry_at}
+use Rattle.be_entry_bytes.proofs.Entries.{entry_of_head, entry_of_none}
 use Rattle.be_journal.specs.Blocks.{entries_at, steps_in, AreEntries}
 use Rattle.be_journal.specs.declared.entries.Entry.{Entry}
 use Rattle.be_journal.proofs.NextLemmas.{read, never_read}

@@ -3,8 +3,8 @@ use Rattle.std.specs.Prelude.{◌≡◌, ◌<◌, ◌≤◌, ◌-◌, ◌*◌, �
 use Rattle.std.specs.Coded.{Coded, code_by, coded_ℕ, coded_list, coded×}
 use Rattle.std.specs.Option.{option_map_or}
 use Rattle.std.specs.declared.option.Option.{Option}
-use Rattle.be_encoding.specs.Decoding.{entry_at, step_at}
-use Rattle.be_encoding.specs.Encoding.{entry_bytes, most_bytes, CanBeEntry}
+use Rattle.be_entry_bytes.specs.Decoding.{entry_at, step_at}
+use Rattle.be_entry_bytes.specs.Encoding.{entry_bytes, most_bytes, CanBeEntry}
 use Rattle.be_volume.specs.declared.ops.Done.{Done}
 use Rattle.be_volume.specs.declared.ops.Op.{Op}
 use Rattle.be_journal.specs.Journal.{coded_entry, IsEntry}

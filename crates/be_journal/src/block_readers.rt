@@ -5,7 +5,7 @@ ghost use Rattle.be_journal.specs.Journal.{IsEntry};
 
 use crate::views::EntryView;
 use crate::{Entry, Items};
-use be_encoding::{read_entry, read_head, skip_entry};
+use be_entry_bytes::{read_entry, read_head, skip_entry};
 use std::alloc::{AllocError, Global};
 use std::marker::Model;
 

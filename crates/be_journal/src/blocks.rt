@@ -2,13 +2,13 @@
 //!
 //! A block has its room from the start, so what lies in it is never moved. An entry lies in one block, whole.
 ghost use Rattle.std.specs.Prelude.{◌≡◌, ◌+◌, ◌≤◌, ◌<◌, ◌^◌, ◌++◌, ◌∷◌, [], true, false, length, get_or, nat_le, vec_len, vec_capacity, IfOk, OnOk, IsSome};
-ghost use Rattle.be_encoding.specs.Encoding.{most_bytes as longest};
+ghost use Rattle.be_entry_bytes.specs.Encoding.{most_bytes as longest};
 ghost use Rattle.be_journal.specs.Blocks.{entries_of, has_room, with_place, AreFilled, IsSpare};
 ghost use Rattle.be_journal.specs.declared.entries.Entry.{Entry as AnyEntry};
 
 use crate::block_readers::BlockReader;
 use crate::views::EntryView;
-use be_encoding::{most_bytes, write_entry};
+use be_entry_bytes::{most_bytes, write_entry};
 use be_volume::{Done, Op};
 use std::alloc::{AllocError, Global};
 use std::marker::Model;

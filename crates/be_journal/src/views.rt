@@ -4,11 +4,11 @@
 //! operation with its answer when it is asked for, made in place. So none of it takes memory.
 ghost use Rattle.std.specs.Iterator.{YieldsFirst, item_count};
 ghost use Rattle.std.specs.Prelude.{◌≡◌, IfOk, IsSome, length, map};
-ghost use Rattle.be_encoding.specs.Decoding.{steps_at};
+ghost use Rattle.be_entry_bytes.specs.Decoding.{steps_at};
 ghost use Rattle.be_journal.specs.Blocks.{steps_in};
 
 use crate::{Entry, Items};
-use be_encoding::{read_step, read_steps};
+use be_entry_bytes::{read_step, read_steps};
 use be_volume::{Done, Op};
 use std::alloc::{AllocError, Global};
 use std::marker::Model;
@@ -26,7 +26,7 @@ pub struct EntryView<'a> {
 
 impl<'a> Model for EntryView<'a> {
     ghost use Rattle.std.specs.Prelude.{IsSome, map};
-    ghost use Rattle.be_encoding.specs.Decoding.{steps_at};
+    ghost use Rattle.be_entry_bytes.specs.Decoding.{steps_at};
     ghost use Rattle.be_journal.specs.Blocks.{steps_in};
     ghost use Rattle.be_journal.specs.Journal.{coded_entry};
     ghost use Rattle.be_journal.specs.declared.entries.Entry.{Entry as AnyEntry};

@@ -1,4 +1,4 @@
-//! A version, read whole: what be_state makes a volume again of.
+//! A version, read whole: what be_volume_state makes a volume again of.
 //!
 //! It keeps nothing of what it read. Whether an index has a node is asked of the index's tree by the key of the node's
 //! attribute, since a pair of an index is always its node's attribute.
@@ -6,7 +6,7 @@ ghost use Rattle.std.specs.Prelude.{◌≡◌, IfOk, None, true};
 ghost use Rattle.std.specs.FinMap as map;
 ghost use Rattle.std.specs.Option.{option_map};
 ghost use Rattle.be_pages.specs.Pages.{IsUnchanged};
-ghost use Rattle.be_state.specs.Rebuilding.{is_held};
+ghost use Rattle.be_volume_state.specs.Rebuilding.{is_held};
 ghost use Rattle.be_value.specs.declared.refusals.Refusal.TheVariants.{NoNode};
 ghost use Rattle.be_volume.specs.Keys.{IsKey};
 ghost use Rattle.be_volume.specs.Reading.{index_kinds};
@@ -16,7 +16,7 @@ ghost use Rattle.be_paged.specs.Version.{IsVersion};
 use crate::on_page::find_index;
 use crate::reading::{attrs, get, indices, next};
 use be_pages::Look;
-use be_state::Whole;
+use be_volume_state::Whole;
 use be_tree::has_key;
 use be_value::{Kind, Name, Refusal, Value, key_of};
 use std::alloc::{AllocError, Global};

@@ -20,7 +20,7 @@ ghost use Rattle.be_plan.specs.Explain.{are_places};
 use crate::tests::counting::{nodes_by, nodes_chosen};
 use be_plan::{Cover, Picks, Source, choose, choose_from, explain, volume_source};
 use be_query::{Query, parse};
-use be_testing::{Answers, check_lines, list_of};
+use be_test_tools::{Answers, check_lines, list_of};
 use be_value::{Kind, Name, Refusal, word_of};
 use be_volume::{Op, Volume};
 use std::alloc::{AllocError, Global};

@@ -14,7 +14,7 @@ mod pools;
 mod readings;
 mod tellings;
 
-use be_serving::{Limits, RunFault, run, serve};
+use be_script_runner::{Limits, RunFault, run, serve};
 use be_value::word_of;
 use plain::PlainStore;
 use std::alloc::{AllocError, Global};

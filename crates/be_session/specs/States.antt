@@ -2,7 +2,7 @@
 use Rattle.std.specs.Prelude.{◌≡◌, ◌⊎◌, ◌<◌, ◌≤◌, ◌++◌, ℕ, List, [], length}
 use Rattle.be_session.specs.declared.lists.Operation.{Operation}
 use Rattle.be_session.specs.declared.states.StatePlace.{StatePlace}
-use Rattle.be_state.specs.Places.{left}
+use Rattle.be_volume_state.specs.Places.{left}
 use Rattle.be_volume.specs.Volume.{State}
 use Rattle.be_volume.specs.declared.ops.Op.{Op}
 

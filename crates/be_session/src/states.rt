@@ -21,7 +21,7 @@ impl StatePlace {
     ghost use Rattle.std.specs.Prelude.{◌≡◌, IfOk, IfErr};
     ghost use Rattle.be_value.specs.declared.refusals.Refusal.TheVariants.{OutOfMemory};
     ghost use Rattle.be_volume.specs.Volume.{State};
-    ghost use Rattle.be_state.specs.Rebuilding.{state_ops};
+    ghost use Rattle.be_volume_state.specs.Rebuilding.{state_ops};
     ghost use Rattle.be_session.specs.Operations.{AreSpelled};
     ghost use Rattle.be_session.specs.States.{WaitBehind, unread, untold, waiting};
     ghost use Rattle.be_session.specs.declared.faults.Fault.TheVariants.{Refused};

@@ -2,9 +2,9 @@
 use Rattle.std.specs.Prelude.{◌≡◌, ◌⊎◌, ◌≤◌, ◌<◌, ℕ, false, All, List, [], ◌∷◌, ◌++◌, length, Some, None}
 use Rattle.std.specs.Io.KnownBytes.{Appends, Consumes, IsAtEnd, Keeps}
 use Rattle.std.specs.declared.option.Option.{Option}
-use Rattle.be_serving.specs.Output.{Session, IsOutputTo}
-use Rattle.be_serving.specs.Run.{is_line_end}
-use Rattle.be_serving.specs.Store.{Store}
+use Rattle.be_script_runner.specs.Output.{Session, IsOutputTo}
+use Rattle.be_script_runner.specs.Run.{is_line_end}
+use Rattle.be_script_runner.specs.Store.{Store}
 use Rattle.be_shell.specs.Conversation.{Heard, short_line, long_line, Event, hears, ends, says, flushes, fails}
 use Rattle.be_shell.specs.declared.ends.Ends.{Ends}
 

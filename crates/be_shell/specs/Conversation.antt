@@ -1,12 +1,12 @@
 -- What a conversation is: what is heard and said, and in which order.
 use Rattle.std.specs.Prelude.{◌≡◌, ◌⊎◌, ℕ, ◌+◌, ◌^◌, Bool, true, false, List, [], ◌∷◌, ◌++◌, length, map, Some, None}
 use Rattle.std.specs.declared.option.Option.{Option}
-use Rattle.be_language.specs.Reply.{Reply, text_of}
-use Rattle.be_language.specs.Request.{Request, malformed, asked}
-use Rattle.be_serving.specs.Output.{Session, Serves}
-use Rattle.be_serving.specs.Run.{IsFrontOf}
-use Rattle.be_serving.specs.declared.faults.RunFault.{RunFault}
-use Rattle.be_serving.specs.declared.faults.RunFault.TheVariants.{Limits, Read, TooLong, Write, Memory}
+use Rattle.be_script_language.specs.Reply.{Reply, text_of}
+use Rattle.be_script_language.specs.Request.{Request, malformed, asked}
+use Rattle.be_script_runner.specs.Output.{Session, Serves}
+use Rattle.be_script_runner.specs.Run.{IsFrontOf}
+use Rattle.be_script_runner.specs.declared.faults.RunFault.{RunFault}
+use Rattle.be_script_runner.specs.declared.faults.RunFault.TheVariants.{Limits, Read, TooLong, Write, Memory}
 use Rattle.be_shell.specs.declared.lines.Line.{Line}
 use Rattle.be_shell.specs.declared.lines.Line.TheVariants.{Short, Long}
 

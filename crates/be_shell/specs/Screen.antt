@@ -1,6 +1,6 @@
 -- A peer that shows control characters by their codes.
 use Rattle.std.specs.Prelude.{◌≡◌, ◌⊎◌, Bool, true, ℕ, List, [], ◌∷◌, ◌++◌, map}
-use Rattle.be_serving.specs.Run.{IsFrontOf}
+use Rattle.be_script_runner.specs.Run.{IsFrontOf}
 use Rattle.be_shell.specs.Conversation.{Event, hears, ends, says, flushes, fails, Happens}
 use Rattle.be_shell.specs.Escape.{shown}
 

@@ -1,17 +1,17 @@
 //! A store that is talked with, and whose journal is given back at the end.
 ghost use Rattle.std.specs.Prelude.{◌≡◌, ◌≤◌, ◌↔◌, IfErr, IfSome, OnOk, Err, length};
 ghost use Rattle.be_journal.specs.Journal.{IsLegal};
-ghost use Rattle.be_serving.specs.Output.{Session, opening};
-ghost use Rattle.be_serving.specs.Run.{IsNotLimits};
-ghost use Rattle.be_serving.specs.Store.{start};
-ghost use Rattle.be_serving.specs.View.{session, queued_ops};
+ghost use Rattle.be_script_runner.specs.Output.{Session, opening};
+ghost use Rattle.be_script_runner.specs.Run.{IsNotLimits};
+ghost use Rattle.be_script_runner.specs.Store.{start};
+ghost use Rattle.be_script_runner.specs.View.{session, queued_ops};
 ghost use Rattle.be_shell.specs.Conversation as spec;
 ghost use Rattle.be_table.specs.Rule.{AreBad};
 ghost use Rattle.be_table.specs.Versions.{CanSpellEach};
 
 use crate::conversations::converse;
 use crate::peers::Peer;
-use be_serving::{
+use be_script_runner::{
     Client, Journal, Limits, PassServer, RunFault, Server, close_alone, open_for_one,
 };
 use std::alloc::Global;

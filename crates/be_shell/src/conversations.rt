@@ -1,17 +1,17 @@
 //! Conversations: a line is heard, then its reply is said and sent off, and then the next line is heard.
 ghost use Rattle.std.specs.Prelude.{◌≡◌, ◌≤◌, ℕ, List, [], ◌∷◌, length, IfOk, IfErr, OnOk};
 ghost use Rattle.std.specs.String.{string_bytes};
-ghost use Rattle.be_language.specs.View.{request_of};
-ghost use Rattle.be_serving.specs.Run.{IsNotLimits};
-ghost use Rattle.be_serving.specs.Store.{Joins};
-ghost use Rattle.be_serving.specs.View.{session, queued_ops};
+ghost use Rattle.be_script_language.specs.View.{request_of};
+ghost use Rattle.be_script_runner.specs.Run.{IsNotLimits};
+ghost use Rattle.be_script_runner.specs.Store.{Joins};
+ghost use Rattle.be_script_runner.specs.View.{session, queued_ops};
 ghost use Rattle.be_shell.specs.Conversation as spec;
 ghost use Rattle.be_shell.specs.Conversation.{Event};
 
 use crate::Line;
 use crate::peers::Peer;
-use be_language::{Request, read_line, reply_text};
-use be_serving::{Client, RunFault, Server, answer};
+use be_script_language::{Request, read_line, reply_text};
+use be_script_runner::{Client, RunFault, Server, answer};
 use std::alloc::{AllocError, Global};
 
 /// What a line asks for.

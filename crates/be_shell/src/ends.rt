@@ -5,7 +5,7 @@ ghost use Rattle.be_shell.specs.Conversation.{IsDeaf, hearing, hears, ends, shor
 
 use crate::Line;
 use crate::peers::Peer;
-use be_serving::{RunFault, put};
+use be_script_runner::{RunFault, put};
 use std::alloc::Global;
 use std::io::{Read, Write};
 

@@ -1,8 +1,8 @@
 //! Laws of the definitions. Each does nothing; its contract is the law.
 ghost use Rattle.std.specs.Prelude.{◌≡◌, List, ℕ, [], ◌∷◌, ◌++◌};
-ghost use Rattle.be_language.specs.Request.{lines_of};
-ghost use Rattle.be_serving.specs.Output.{Session, IsOutputTo, Outputs, opening};
-ghost use Rattle.be_serving.specs.Store.{Store};
+ghost use Rattle.be_script_language.specs.Request.{lines_of};
+ghost use Rattle.be_script_runner.specs.Output.{Session, IsOutputTo, Outputs, opening};
+ghost use Rattle.be_script_runner.specs.Store.{Store};
 ghost use Rattle.be_shell.specs.Bytes.{AreShort, IsWhole, Known, known_do, knows};
 ghost use Rattle.be_shell.specs.Conversation.{Event, IsTalk, TalkedTo, all_short, said};
 

@@ -1,10 +1,10 @@
 //! Who the shell talks with.
 ghost use Rattle.std.specs.Prelude.{◌≡◌, ℕ, List, IfOk, IfErr, OnOk, OnErr};
-ghost use Rattle.be_serving.specs.Run.{IsFrontOf};
+ghost use Rattle.be_script_runner.specs.Run.{IsFrontOf};
 ghost use Rattle.be_shell.specs.Conversation.{Event, IsDeaf, hearing, says, flushes, fails};
 
 use crate::Line;
-use be_serving::RunFault;
+use be_script_runner::RunFault;
 use std::alloc::Global;
 
 /// Who the shell talks with: lines come from it, and replies go to it.

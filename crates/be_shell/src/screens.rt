@@ -1,6 +1,6 @@
 //! A peer that shows control characters by their codes.
 ghost use Rattle.std.specs.Prelude.{◌≡◌, ◌<◌, ◌≤◌, ◌++◌, ℕ, List, length, IfOk, IfErr, OnOk, OnErr, false};
-ghost use Rattle.be_serving.specs.Run.{IsFrontOf};
+ghost use Rattle.be_script_runner.specs.Run.{IsFrontOf};
 ghost use Rattle.be_shell.specs.Conversation.{says};
 ghost use Rattle.be_shell.specs.Escape.{shown};
 ghost use Rattle.be_shell.specs.Screen.{SaysAll};
@@ -8,7 +8,7 @@ ghost use Rattle.be_shell.specs.Screen.{SaysAll};
 use crate::Line;
 use crate::escapes::{control_at, mark, plain_len};
 use crate::peers::Peer;
-use be_serving::RunFault;
+use be_script_runner::RunFault;
 use std::alloc::Global;
 
 /// Says the front of a text as it is shown, and returns what follows.

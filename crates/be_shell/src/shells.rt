@@ -1,14 +1,14 @@
 //! A store that is talked with.
 ghost use Rattle.std.specs.Prelude.{◌≡◌, ◌↔◌, IfErr, OnOk, Err};
-ghost use Rattle.be_serving.specs.Output.{Session, opening};
-ghost use Rattle.be_serving.specs.Store.{start};
+ghost use Rattle.be_script_runner.specs.Output.{Session, opening};
+ghost use Rattle.be_script_runner.specs.Store.{start};
 ghost use Rattle.be_shell.specs.Conversation as spec;
 ghost use Rattle.be_table.specs.Rule.{AreBad};
 ghost use Rattle.be_table.specs.Versions.{CanSpellEach};
 
 use crate::conversations::converse;
 use crate::peers::Peer;
-use be_serving::{Client, Limits, PassServer, RunFault, open_for_one};
+use be_script_runner::{Client, Limits, PassServer, RunFault, open_for_one};
 use std::alloc::Global;
 
 /// Talks about an empty store of its own, which has the pages and commits of the limits and one pass: first with one peer to

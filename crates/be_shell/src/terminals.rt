@@ -9,7 +9,7 @@ use crate::peers::Peer;
 use crate::saves::save;
 use crate::scripts::{Script, next_line, open_script};
 use crate::usages::{hint, tell_help, tell_usage, wants_hint};
-use be_serving::RunFault;
+use be_script_runner::RunFault;
 use std::alloc::Global;
 use std::io::Eprint;
 use std::rt::Files;

@@ -1,9 +1,9 @@
 //! Conversations: with a peer that looks at the order of calls and fails at each of them, and with a reader and a writer.
 ghost use Rattle.std.specs.Prelude.{⊤};
 
-use be_serving::{Limits, RunFault};
+use be_script_runner::{Limits, RunFault};
 use be_shell::{Breaking, Ends, Line, Peer, Screen, shell};
-use be_testing::longest_list;
+use be_test_tools::longest_list;
 use std::alloc::{AllocError, Global};
 use std::io::{self, Write};
 use std::test::Fail;

@@ -9,7 +9,7 @@ ghost use Rattle.be_volume.specs.Volume.{empty, steps};
 ghost use Rattle.be_volume.specs.declared.ops.Done.{Done};
 ghost use Rattle.be_volume.specs.declared.ops.Op.{Op};
 ghost use Rattle.be_journal.specs.Journal.{IsLegal, by_pass};
-ghost use Rattle.be_state.specs.Rebuilding.{state_ops};
+ghost use Rattle.be_volume_state.specs.Rebuilding.{state_ops};
 ghost use Rattle.be_table.specs.History.{AreOfPasses, StartsWith};
 ghost use Rattle.be_table.specs.Rule.{entries};
 ghost use Rattle.be_table.specs.Steps.{IsPass};

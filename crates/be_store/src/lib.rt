@@ -40,7 +40,7 @@ pub use be_journal::{Entry, Items, Journal};
 pub use be_paged::{Cell, HeldName};
 pub use be_plan::{Cover, Picks, PreparedQuery, explain};
 pub use be_query::{Item, Query, from_rpn, parse};
-pub use be_state::Place;
+pub use be_volume_state::Place;
 pub use be_table::{Announcement, Limits, Seat as Pass, Status, Witness};
 pub use be_value::{Bytes, Kind, Name, Refusal, Text, Value};
 pub use be_volume::{Done, Op};

@@ -1,12 +1,12 @@
 //! The operations that make a version again, over any reader of its pages.
 ghost use Rattle.std.specs.Prelude.{◌≡◌, ◌<◌, ◌≤◌, ◌++◌, [], IfNone, IfOk, IfSome, length};
 ghost use Rattle.be_volume.specs.Volume.{State};
-ghost use Rattle.be_state.specs.Places.{given, left};
+ghost use Rattle.be_volume_state.specs.Places.{given, left};
 ghost use Rattle.be_paged.specs.Version.{IsVersion};
 
 use be_paged::whole;
 use be_pages::Look;
-use be_state::{Place, next_list};
+use be_volume_state::{Place, next_list};
 use be_volume::Op;
 use std::alloc::{AllocError, Global};
 

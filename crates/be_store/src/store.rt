@@ -15,7 +15,7 @@ use be_journal::{Entry, Journal};
 use be_paged::{attrs, first_page, get, indices, next, nodes};
 use be_plan::{Cover, PreparedQuery};
 use be_query::Query;
-use be_state::Place;
+use be_volume_state::Place;
 use be_table::{PinnedLook, Status, VersionTable, Witness, Writing};
 use be_value::{Kind, Name, Refusal, Value};
 use be_volume::{Done, Op};
@@ -44,7 +44,7 @@ impl Store {
     ghost use Rattle.be_volume.specs.Query.{scan, has_index, covered};
     ghost use Rattle.be_volume.specs.Reading.{attribute, attributes_at, index_kinds};
     ghost use Rattle.be_journal.specs.Journal.{IsLegal};
-    ghost use Rattle.be_state.specs.Places.{given, left};
+    ghost use Rattle.be_volume_state.specs.Places.{given, left};
     ghost use Rattle.be_plan.specs.Cover.{chosen, covers};
     ghost use Rattle.be_plan.specs.Explain.{are_places};
     ghost use Rattle.be_paged.specs.Nodes.{nodes_from};
@@ -399,7 +399,7 @@ impl Store {
     }
 
     /// The next batch of the operations that make the pinned version again on an empty store, 1 to 64 of them, and None after
-    /// the last. A new `Place` is before the first. From there on the batches of one pin, put end to end, are be_state's
+    /// the last. A new `Place` is before the first. From there on the batches of one pin, put end to end, are be_volume_state's
     /// `state_ops` of that version, and each but the last has 64. At another pin a place has no meaning: begin with a new one
     /// there.
     ///

@@ -16,7 +16,7 @@ mod writers;
 use crate::tests::room::{Room, for_one, for_two};
 use crate::tests::writers::change_by_four;
 use be_store::{Kind, Limits, Name, Op, Refusal, Store, Value};
-use be_testing::{OUTSIDE_LIMITS, check_lines, has_hundred_by_each, numbered};
+use be_test_tools::{OUTSIDE_LIMITS, check_lines, has_hundred_by_each, numbered};
 use std::alloc::{AllocError, Global};
 use std::test::Fail;
 use std::thread::Threads;

@@ -12,7 +12,7 @@ mod writes;
 use crate::tests::races::race;
 use crate::tests::room::{Room, count_seats, opened};
 use be_table::Limits;
-use be_testing::{OUTSIDE_LIMITS, check_lines, has_hundred_by_each};
+use be_test_tools::{OUTSIDE_LIMITS, check_lines, has_hundred_by_each};
 use be_value::Refusal;
 use be_volume::Op;
 use std::alloc::{AllocError, Global};

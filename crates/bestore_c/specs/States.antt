@@ -4,7 +4,7 @@ use Rattle.std.specs.declared.option.Option.{Option}
 use Rattle.be_session.specs.States.{untold}
 use Rattle.be_session.specs.declared.lists.Operation.{Operation}
 use Rattle.be_session.specs.declared.states.StatePlace.{StatePlace}
-use Rattle.be_state.specs.Rebuilding.{state_ops}
+use Rattle.be_volume_state.specs.Rebuilding.{state_ops}
 use Rattle.be_volume.specs.Volume.{State}
 use Rattle.be_volume.specs.declared.ops.Op.{Op}
 use Rattle.bestore_c.specs.Calls.{IsPutOut}

@@ -13,7 +13,7 @@ use crate::tests::run_lines;
 use crate::tests::test_looks::Before;
 use crate::tests::writing::{accepts, apply_pages};
 use be_pages::{Look, VecRoom};
-use be_testing::{Counted, EQUAL_VALUES};
+use be_test_tools::{Counted, EQUAL_VALUES};
 use be_value::Refusal;
 use be_volume::{Op, Volume};
 use std::alloc::Global;

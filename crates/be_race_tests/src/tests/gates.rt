@@ -1,6 +1,6 @@
 //! A line of a race runs behind the first call of its gate, and before the second.
 use super::races::{expect, raced};
-use be_serving::Gate;
+use be_script_runner::Gate;
 use std::sync::atomic::AtomicU64;
 use std::sync::atomic::Ordering::SeqCst;
 use std::test::Fail;

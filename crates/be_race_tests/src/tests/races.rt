@@ -1,6 +1,6 @@
 //! Races: scripts at once, each on a thread of its own.
-use be_serving::{Gate, Limits, OpenGate, RunFault, race};
-use be_testing::{Narrow, list_with_room, longest_list};
+use be_script_runner::{Gate, Limits, OpenGate, RunFault, race};
+use be_test_tools::{Narrow, list_with_room, longest_list};
 use be_value::word_of;
 use std::alloc::{AllocError, Global};
 use std::io::Write;

@@ -1,6 +1,6 @@
 //! Worked examples.
 use super::{check, check_behind, check_bytes};
-use be_testing::{COVERAGE, EXAMPLES, TEXTS, TWO_INDICES};
+use be_test_tools::{COVERAGE, EXAMPLES, TEXTS, TWO_INDICES};
 use std::test::Fail;
 
 /// The examples that other forms of a volume answer alike.

@@ -1,7 +1,7 @@
 //! Readers and writers that fail, and requests for memory that are refused.
 use super::{By, LIMITS, check_bytes, run_by};
-use be_serving::{RunFault, run};
-use be_testing::{Narrow, list_with_room};
+use be_script_runner::{RunFault, run};
+use be_test_tools::{Narrow, list_with_room};
 use std::alloc::Global;
 use std::io::Read;
 use std::test::Fail;

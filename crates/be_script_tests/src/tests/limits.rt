@@ -1,8 +1,8 @@
 //! What there may be most of.
 use super::faults::{dripped, end_of};
 use super::{LIMITS, check, check_bytes};
-use be_serving::{Limits, run};
-use be_testing::longest_list;
+use be_script_runner::{Limits, run};
+use be_test_tools::longest_list;
 use be_value::word_of;
 use std::alloc::{AllocError, Global};
 use std::test::Fail;

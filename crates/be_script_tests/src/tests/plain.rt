@@ -1,14 +1,14 @@
 //! A volume with its journal on one thread, as another server of scripts.
 ghost use Rattle.std.specs.Prelude.{◌≡◌, ◌≤◌, ◌<◌, ◌^◌, OnOk, IfErr, IsSome, true, length, unwrap_or};
 ghost use Rattle.be_value.specs.declared.refusals.Refusal.TheVariants.{OutOfMemory};
-ghost use Rattle.be_serving.specs.Store.{start, viewed, MayWrite};
+ghost use Rattle.be_script_runner.specs.Store.{start, viewed, MayWrite};
 
 use arrayvec::ArrayVec;
-use be_history::volume_text;
+use be_journal_text::volume_text;
 use be_journal::Journal;
 use be_plan::{Cover, choose_from, volume_source};
 use be_query::Query;
-use be_serving::Server;
+use be_script_runner::Server;
 use be_value::{Kind, Name, Refusal, Value};
 use be_volume::{Done, Op, Volume};
 use std::alloc::{AllocError, Global};
@@ -29,7 +29,7 @@ pub struct PlainStore {
 impl Model for PlainStore {
     ghost use Rattle.std.specs.Prelude.{unwrap_or};
     ghost use Rattle.std.specs.Option.{option_map};
-    ghost use Rattle.be_serving.specs.Store.{Store, coded_store};
+    ghost use Rattle.be_script_runner.specs.Store.{Store, coded_store};
 
     ghost Value = { Store };
 

@@ -1,6 +1,6 @@
 //! Scripts that fill a small pool of pages.
 use super::LIMITS;
-use be_serving::{Limits, run};
+use be_script_runner::{Limits, run};
 use std::alloc::{AllocError, Global};
 use std::test::Fail;
 

@@ -1,8 +1,8 @@
 //! Runs that tell their journal, and the scripts that make the journal again, or its state alone.
 use super::LIMITS;
-use be_history::{Finding, check, dump, dump_state, journal_told};
-use be_serving::{Limits, RunFault, run_and_tell};
-use be_testing::{Narrow, list_with_room};
+use be_journal_text::{Finding, check, dump, dump_state, journal_told};
+use be_script_runner::{Limits, RunFault, run_and_tell};
+use be_test_tools::{Narrow, list_with_room};
 use std::alloc::{AllocError, Global};
 use std::str;
 use std::test::Fail;

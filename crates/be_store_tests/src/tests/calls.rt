@@ -7,12 +7,12 @@ ghost use Rattle.be_store.specs.Passes.{IsPassOf, IsPinnedTo};
 ghost use Rattle.be_store.specs.Seats.{pinned_number};
 ghost use Rattle.be_store_tests.specs.Staying.{StaysPass};
 
-use be_language::{Reply, Request, read_line};
+use be_script_language::{Reply, Request, read_line};
 use be_store::{
     Answer, ArrayVec, Done, Kind, Live, Name, Op, Pass, Query, Refusal, Store, Updates, Value,
     parse,
 };
-use be_testing::{list_of, reply_lines};
+use be_test_tools::{list_of, reply_lines};
 use std::alloc::Global;
 
 /// The answer to a write: its number and those of its operations, or why it was refused.

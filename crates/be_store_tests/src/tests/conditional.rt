@@ -7,7 +7,7 @@ ghost use Rattle.be_store_tests.specs.Staying.{StaysPass};
 use crate::tests::calls::{Text, written_text};
 use be_journal::entry_line;
 use be_store::{ApplyIfError, Op, Pass, Refusal, Store};
-use be_testing::list_of;
+use be_test_tools::list_of;
 use std::alloc::Global;
 
 /// A write of a list if the journal has this many entries. BadLimits where it has no operation, or more than 64.

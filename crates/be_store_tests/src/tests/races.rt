@@ -4,7 +4,7 @@ ghost use Rattle.be_store.specs.Passes.{IsPassOf};
 ghost use Rattle.be_store_tests.specs.Staying.{StaysPass};
 
 use be_store::{Journal, Op, Pass, Refusal, Store};
-use be_testing::{is_legal, pair_of};
+use be_test_tools::{is_legal, pair_of};
 use std::alloc::Global;
 use std::thread;
 use std::thread::Threads;

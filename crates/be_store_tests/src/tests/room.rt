@@ -8,7 +8,7 @@ use crate::tests::handing::hand_over;
 use crate::tests::races::{closed, journal_of, make_both};
 use crate::tests::states::{nodes_from, state_text};
 use be_store::{Journal, Limits, Live, Op, Pass, Refusal, Store, parse};
-use be_testing::{Answers, answer_lines, both_of};
+use be_test_tools::{Answers, answer_lines, both_of};
 use std::alloc::Global;
 use std::marker::Model;
 use std::thread::Threads;

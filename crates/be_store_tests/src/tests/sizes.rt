@@ -6,7 +6,7 @@
 
 use crate::tests::room::{Room, for_one};
 use be_store::{Name, Op, Refusal, Value};
-use be_testing::check_lines;
+use be_test_tools::check_lines;
 use be_value::word_of;
 use std::alloc::{AllocError, Global};
 use std::test::Fail;

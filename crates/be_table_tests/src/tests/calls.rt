@@ -3,9 +3,9 @@ ghost use Rattle.be_table_tests.specs.Resting.{IsPinnedSeat, IsResting, StaysSea
 
 use crate::tests::reads::{Told, look_at, pin, read, tell, unpin};
 use crate::tests::writes::in_write;
-use be_language::{Reply, Request, read_line};
+use be_script_language::{Reply, Request, read_line};
 use be_table::{Seat, VersionTable};
-use be_testing::{list_of, reply_lines};
+use be_test_tools::{list_of, reply_lines};
 use be_value::{Kind, Name, Refusal, Value};
 use be_volume::Op;
 use std::alloc::{AllocError, Global};

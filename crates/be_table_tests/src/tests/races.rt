@@ -6,7 +6,7 @@ use crate::tests::room::open;
 use crate::tests::writes::enter_many;
 use be_journal::Journal;
 use be_table::{Limits, Seat, VersionTable};
-use be_testing::{both_of, pair_of};
+use be_test_tools::{both_of, pair_of};
 use be_value::Refusal;
 use std::alloc::Global;
 use std::thread;

@@ -8,7 +8,7 @@ use crate::tests::calls::{Text, answer, answers, both_texts, number_text, write_
 use crate::tests::writes::{act, enter_many, in_write};
 use be_paged::first_page;
 use be_table::{Limits, Seat, VersionTable};
-use be_testing::{Answers, answer_lines, both_of};
+use be_test_tools::{Answers, answer_lines, both_of};
 use be_value::{Refusal, word_of};
 use be_volume::Op;
 use std::alloc::Global;

@@ -1,0 +1,40 @@
+//! What a race lets in between the lines of its scripts.
+//!
+//! A gate tells a test where each script is, and lets it hold a script back, so that the test can see that the scripts run
+//! at once. A race for its own sake takes the open gate.
+ghost use Rattle.std.specs.Prelude.{ℕ};
+ghost use Rattle.be_script_runner.specs.Gates.{IsNext};
+
+/// Is told of each line of a race, once before it and once after it, on the thread that runs the line, and may keep it
+/// waiting. Lines count from 1 over all lines of a script, blank ones and comments too; what follows the last LF is one
+/// only where it isn't empty.
+///
+/// The two ghosts say which line of which pass has begun and has ended. A gate needn't define them: code that has any gate
+/// knows them from the calls alone, so that a clause of theirs tells which calls it made.
+pub trait Gate {
+    /// This gate was told that the pass is about to run the line.
+    ghost begun: { Self → ℕ → ℕ → Type 0 } = { λ _ _ _. Unit {0} };
+
+    /// It was told that the pass has run the line.
+    ghost ended: { Self → ℕ → ℕ → Type 0 } = { λ _ _ _. Unit {0} };
+
+    /// The pass is about to run this line.
+    fn before(&self, pass: u64, line: u64)
+        requires { IsNext (ended self.now pass) line }
+        ensures { begun self.now pass line };
+
+    /// The pass has run this line.
+    fn after(&self, pass: u64, line: u64)
+        requires { begun self.now pass line }
+        ensures { ended self.now pass line };
+}
+
+/// A gate at which nothing waits.
+#[derive(Clone, Copy)]
+pub struct OpenGate;
+
+impl Gate for OpenGate {
+    fn before(&self, _pass: u64, _line: u64) {}
+
+    fn after(&self, _pass: u64, _line: u64) {}
+}
