@@ -1,5 +1,6 @@
 -- Patterns of literal characters and `*` over bytes.
-use Rattle.std.specs.Prelude.{◌≡◌, ℕ, Bool, true, false, List, [], ◌∷◌, ◌++◌, map, ◌||◌, ◌==◌, encode_utf8, encode_utf8_all, string_bytes}
+use Rattle.std.specs.Prelude.{◌≡◌, ℕ, Bool, true, false, List, [], ◌∷◌, ◌++◌, map, ◌||◌, ◌==◌}
+use Rattle.std.specs.Prelude.{encode_utf8, encode_utf8_all, string_bytes}
 use Rattle.std.specs.List.{flat_map, list_all}
 use Rattle.be_pattern.specs.Match.{Part, Run, One, Among, Only}
 use Rattle.be_pattern.specs.Canonical.{canonical}
@@ -36,7 +37,8 @@ abbrev pub after_stars : List (List ℕ) → List Part
 after_stars [] = []
 after_stars (r ∷ rs) = Run ∷ (map Only r ++ after_stars rs)
 
--- The literal character with which the parts of a canonical text begin, and the text of the parts after it.
+-- The literal character with which the parts of a canonical text begin, and the text of the parts
+-- after it.
 pub record BeginsWith (parts : List Part) (char : ℕ) (rest : List ℕ) : Type 0 where
   pub after : List Part
   pub first : parts ≡ Only char ∷ after
@@ -51,7 +53,8 @@ pub record Leaves (parts read : List Part) (rest : List ℕ) : Type 0 where
 
 -- the parts that these runs are
 abbrev pub parts_of_runs : Runs → List Part
-parts_of_runs runs = map Only (string_bytes runs.front) ++ after_stars (map string_bytes runs.later.items)
+parts_of_runs runs = map Only (string_bytes runs.front)
+    ++ after_stars (map string_bytes runs.later.items)
 
 -- The pattern has no `?` and no set, and these are its runs.
 pub record IsOfRuns (parts : List Part) (runs : Runs) : Type 0 where

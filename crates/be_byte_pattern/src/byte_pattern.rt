@@ -12,7 +12,8 @@ use std::alloc::Global;
 use std::marker::Model;
 use std::str;
 
-/// A pattern that is ready to be asked of the bytes of many texts. A contract sees the pattern's parts.
+/// A pattern that is ready to be asked of the bytes of many texts. A contract sees the pattern's
+/// parts.
 #[derive(Drop)]
 pub struct BytePattern<'p> {
     pattern: &'p Pattern,
@@ -43,8 +44,8 @@ impl<'p> BytePattern<'p> {
         Ok(BytePattern { pattern, runs })
     }
 
-    /// Whether the pattern matches the whole text, given by its bytes, as `Pattern::matches` does. It takes no memory. Bytes
-    /// that are no text get any answer.
+    /// Whether the pattern matches the whole text, given by its bytes, as `Pattern::matches` does.
+    /// It takes no memory. Bytes that are no text get any answer.
     pub fn matches(&self, text: &[u8]) -> bool
         ensures { IsUtf8 text.now → result ≡ matches self.now (chars text.now) }
     {

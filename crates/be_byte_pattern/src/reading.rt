@@ -1,5 +1,6 @@
 //! The runs of a pattern, read from its canonical text.
-ghost use Rattle.std.specs.Prelude.{◌≡◌, ◌<◌, ◌≤◌, ◌∷◌, [], List, length, map, IfOk, IfSome, string_bytes, encode_utf8_all};
+ghost use Rattle.std.specs.Prelude.{◌≡◌, ◌<◌, ◌≤◌, ◌∷◌, [], List, length, map, IfOk, IfSome};
+ghost use Rattle.std.specs.Prelude.{string_bytes, encode_utf8_all};
 ghost use Rattle.be_pattern.specs.Match.{Part, Only, Run};
 ghost use Rattle.be_pattern.specs.Canonical.{canonical};
 ghost use Rattle.be_byte_pattern.specs.Runs.{BeginsWith, IsOfRuns, Leaves, begins_wildcard};
@@ -17,7 +18,8 @@ fn begins_wildcard(char: char) -> bool
 
 /// The literal character with which a canonical text begins, and the text after it.
 fn split_literal(text: &str) -> Option<(char, &str)>
-    ensures literal { IfSome result (λ p. (ps : List Part) → text.now ≡ encode_utf8_all (canonical ps) → BeginsWith ps p.0 p.1.now) }
+    ensures literal { IfSome result (λ p. (ps : List Part) → text.now
+        ≡ encode_utf8_all (canonical ps) → BeginsWith ps p.0 p.1.now) }
     ensures shorter { IfSome result (λ p. length p.1.now < length text.now) }
 {
     let (char, rest) = split_first_char(text)?;
@@ -32,7 +34,8 @@ fn split_literal(text: &str) -> Option<(char, &str)>
 
 /// The literal characters with which a canonical text begins, and the text after them.
 fn read_run(alloc: Global, text: &str) -> Result<(String, &str), AllocError>
-    ensures leaves { IfOk result (λ p. (ps : List Part) → text.now ≡ encode_utf8_all (canonical ps) →
+    ensures leaves { IfOk result (λ p. (ps : List Part) → text.now ≡ encode_utf8_all (canonical ps)
+        →
         Leaves ps (map Only (string_bytes p.0)) p.1.now) }
     ensures shorter { IfOk result (λ p. length p.1.now ≤ length text.now) }
 {
@@ -47,7 +50,8 @@ fn read_run(alloc: Global, text: &str) -> Result<(String, &str), AllocError>
 
 /// The text after a `*` with which it begins.
 fn split_star(text: &str) -> Option<&str>
-    ensures star { IfSome result (λ rest. (ps : List Part) → text.now ≡ encode_utf8_all (canonical ps) →
+    ensures star { IfSome result (λ rest. (ps : List Part) → text.now
+        ≡ encode_utf8_all (canonical ps) →
         Leaves ps (Run ∷ []) rest.now) }
     ensures shorter { IfSome result (λ rest. length rest.now < length text.now) }
 {
@@ -59,7 +63,8 @@ fn split_star(text: &str) -> Option<&str>
 
 /// The runs of a canonical text; none where it has a `?` or a set.
 pub(crate) fn read_runs(alloc: Global, text: &str) -> Result<Option<Runs>, AllocError>
-    ensures { IfOk result (λ read. IfSome read (λ runs. (ps : List Part) → text.now ≡ encode_utf8_all (canonical ps) → IsOfRuns ps runs)) }
+    ensures { IfOk result (λ read. IfSome read
+        (λ runs. (ps : List Part) → text.now ≡ encode_utf8_all (canonical ps) → IsOfRuns ps runs)) }
 {
     let (front, mut rest) = read_run(alloc, text)?;
     let mut later = Vec::new(alloc);

@@ -1,5 +1,6 @@
 //! Runs of literal bytes with a `*` between two.
-ghost use Rattle.std.specs.Prelude.{◌≡◌, ◌≤◌, ◌++◌, ◌∷◌, List, ℕ, true, false, map, length, take, nat_eq, IfNone, IfSome, string_bytes};
+ghost use Rattle.std.specs.Prelude.{◌≡◌, ◌≤◌, ◌++◌, ◌∷◌, List, ℕ, true, false, map, length, take};
+ghost use Rattle.std.specs.Prelude.{nat_eq, IfNone, IfSome, string_bytes};
 ghost use Rattle.std.specs.List.{ends_with};
 ghost use Rattle.be_pattern.specs.Match.{Part, Only, Run, matches, some_tail};
 ghost use Rattle.be_byte_pattern.specs.Runs.{after_stars, parts_of_runs};
@@ -14,7 +15,8 @@ pub(crate) struct Runs {
 }
 
 impl Runs {
-    /// Whether the bytes begin with the first run, end with the last one, and have the others between these in their order.
+    /// Whether the bytes begin with the first run, end with the last one, and have the others
+    /// between these in their order.
     pub(crate) fn stand_in(&self, text: &[u8]) -> bool
         ensures { result ≡ matches (parts_of_runs self.now) text.now }
     {
@@ -25,7 +27,8 @@ impl Runs {
     }
 }
 
-/// Whether bytes begin with a run that is no longer than they are. Most don't, and differ in the first byte.
+/// Whether bytes begin with a run that is no longer than they are. Most don't, and differ in the
+/// first byte.
 #[inline(always)]
 fn begins_with(bytes: &[u8], run: &[u8]) -> bool
     requires { length run.now ≤ length bytes.now }
@@ -67,8 +70,10 @@ fn ends_with(bytes: &[u8], run: &[u8]) -> bool
 /// The bytes after the first place at which a run is found.
 fn after_first<'a>(bytes: &'a [u8], run: &[u8]) -> Option<&'a [u8]>
     ensures some { IfSome result (λ rest. (ps : List Part) →
-        some_tail (matches (map Only run.now ++ (Run ∷ ps))) bytes.now ≡ some_tail (matches ps) rest.now) }
-    ensures none { IfNone result ((ps : List Part) → some_tail (matches (map Only run.now ++ ps)) bytes.now ≡ false) }
+        some_tail (matches (map Only run.now ++ (Run ∷ ps))) bytes.now
+        ≡ some_tail (matches ps) rest.now) }
+    ensures none { IfNone result ((ps : List Part)
+        → some_tail (matches (map Only run.now ++ ps)) bytes.now ≡ false) }
 {
     let mut rest = bytes;
     'places: while run.len() <= rest.len() {
@@ -83,7 +88,8 @@ fn after_first<'a>(bytes: &'a [u8], run: &[u8]) -> Option<&'a [u8]>
     None
 }
 
-/// Whether the runs, each after a `*`, are found one after the other, with the last of them at the end.
+/// Whether the runs, each after a `*`, are found one after the other, with the last of them at the
+/// end.
 fn follow(runs: &[String], bytes: &[u8]) -> bool
     ensures { result ≡ matches (after_stars (map string_bytes runs.now)) bytes.now }
 {

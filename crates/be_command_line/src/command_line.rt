@@ -1,9 +1,10 @@
 //! The command line.
 //!
-//! `bestore run [--journal] [--strict] [--pages N] [--commits N] FILE`, `bestore race [--pages N] [--commits N] SCRIPT...`,
-//! `bestore shell [--journal FILE] [--pages N] [--commits N] [FILE]`, `bestore check FILE` and `bestore dump [--state] FILE`.
-//! `clap` reads the words, writes the help and the version, and tells what is wrong. How many scripts a race takes is for the
-//! program to look at.
+//! `bestore run [--journal] [--strict] [--pages N] [--commits N] FILE`, `bestore race [--pages N]
+//! [--commits N] SCRIPT...`, `bestore shell [--journal FILE] [--pages N] [--commits N] [FILE]`,
+//! `bestore check FILE` and `bestore dump [--state] FILE`. `clap` reads the words, writes the help
+//! and the version, and tells what is wrong. How many scripts a race takes is for the program to
+//! look at.
 ghost use Rattle.std.specs.Prelude.{IfOk, IfSome};
 ghost use Rattle.be_command_line.specs.Task.{AreForOne, IsTask};
 
@@ -13,7 +14,8 @@ use clap::error::ErrorKind;
 use clap::{Arg, ArgAction, ArgMatches, Command, Error, value_parser};
 use std::alloc::{AllocError, Global};
 
-/// The program's version. The library for C says its own in include/bestore.h, and c/test.sh compares the two.
+/// The program's version. The library for C says its own in include/bestore.h, and c/test.sh
+/// compares the two.
 const VERSION: &str = "0.2.0";
 
 /// The argument of all commands but `race`, as help shows it.
@@ -179,8 +181,9 @@ fn dump_command<'a>(alloc: Global) -> Result<Command<'a>, AllocError> {
     .arg(state)
 }
 
-/// Reads the words of a command line, which begin with the program's name. An error is `clap`'s: a request for help or for
-/// the version, a fault of the command line, or, told by its kind, a want of memory.
+/// Reads the words of a command line, which begin with the program's name. An error is `clap`'s: a
+/// request for help or for the version, a fault of the command line, or, told by its kind, a want
+/// of memory.
 pub fn task<'a>(alloc: Global, words: &'a [&'a str]) -> Result<Task, Error>
     ensures { IfOk result IsTask }
 {
@@ -311,7 +314,8 @@ fn dump_task(alloc: Global, matches: &ArgMatches) -> Result<Option<Task>, AllocE
     }
 }
 
-/// The task of the command, where there is one and its values are within their ranges, as `clap` has seen to.
+/// The task of the command, where there is one and its values are within their ranges, as `clap`
+/// has seen to.
 fn task_of(alloc: Global, matches: &ArgMatches) -> Result<Option<Task>, AllocError>
     ensures { IfOk result (λ task. IfSome task IsTask) }
 {

@@ -1,7 +1,8 @@
 //! What a command line asks for.
 use be_table::Limits;
 
-/// What a command line asks for. The limits are as given, or 1024 pages and 1000000 commits. The file `-` is standard input.
+/// What a command line asks for. The limits are as given, or 1024 pages and 1000000 commits. The
+/// file `-` is standard input.
 #[derive(Drop)]
 pub enum Task {
     /// To run the script of a file, on a store of one pass.
@@ -14,7 +15,8 @@ pub enum Task {
     RunStrictlyAndTell(String, Limits),
     /// To race the scripts of these files against one another, on a store with a pass for each.
     Race(Vec<String>, Limits),
-    /// To talk with standard input about a store of one pass, behind the lines of a file where one is named.
+    /// To talk with standard input about a store of one pass, behind the lines of a file where one
+    /// is named.
     Shell(Option<String>, Limits),
     /// The same, and to write the journal into the second file at the end.
     ShellAndTell(Option<String>, String, Limits),

@@ -1,6 +1,6 @@
-//! Command lines, a line `WORDS => TASK` each: the task's command, its pages, passes and commits, and its files in their order;
-//! or the kind of the fault. A command line that is refused memory is read again: so each test passes with any one request
-//! for memory refused.
+//! Command lines, a line `WORDS => TASK` each: the task's command, its pages, passes and commits,
+//! and its files in their order; or the kind of the fault. A command line that is refused memory is
+//! read again: so each test passes with any one request for memory refused.
 use be_command_line::{Task, task};
 use clap::Error;
 use clap::error::ErrorKind;
@@ -112,9 +112,9 @@ fn check_tasks(alloc: Global, lines: &str) -> Result<(), Fail> {
     Ok(())
 }
 
-/// With the defaults and without, an option before the files or behind them. `-` is a file's name here, and so are names of
-/// commands. In a race each script has a pass; how many there may be isn't looked at here. What takes a journal's file has no
-/// limits.
+/// With the defaults and without, an option before the files or behind them. `-` is a file's name
+/// here, and so are names of commands. In a race each script has a pass; how many there may be
+/// isn't looked at here. What takes a journal's file has no limits.
 #[test]
 fn tasks(rt: HostRuntime) -> Result<(), Fail> {
     let lines = "run f => run 1024 1 1000000 f

@@ -1,5 +1,7 @@
--- How an entry is read from its bytes, from left to right. Each step gives what it read and the bytes behind it.
-use Rattle.std.specs.Prelude.{ℕ, zero, suc, ◌-◌, ◌^◌, List, [], ◌∷◌, length, take, drop, Some, None, nat_lt, nat_eq, pos, negsuc, if◌then◌else◌}
+-- How an entry is read from its bytes, from left to right. Each step gives what it read and the
+-- bytes behind it.
+use Rattle.std.specs.Prelude.{ℕ, zero, suc, ◌-◌, ◌^◌, List, [], ◌∷◌, length, take, drop, Some, None}
+use Rattle.std.specs.Prelude.{nat_lt, nat_eq, pos, negsuc, if◌then◌else◌}
 use Rattle.std.specs.Int.{Width, from_be_bytes, byte_len, w16, w32, w64}
 use Rattle.std.specs.Option.{option_and_then}
 use Rattle.std.specs.Result.{result_ok}
@@ -9,7 +11,8 @@ use Rattle.be_value.specs.Name.{name_from, text_from, bytes_from}
 use Rattle.be_value.specs.declared.values.Kind.{Kind}
 use Rattle.be_value.specs.declared.values.Kind.TheVariants as kinds
 use Rattle.be_value.specs.declared.values.Value.{Value}
-use Rattle.be_value.specs.declared.values.Value.TheVariants.{Cstr, Long, Llng, Mims, Rawt, Ulng, Ullg}
+use Rattle.be_value.specs.declared.values.Value.TheVariants.{Cstr, Long, Llng, Mims, Rawt, Ulng}
+use Rattle.be_value.specs.declared.values.Value.TheVariants.{Ullg}
 use Rattle.be_volume.specs.declared.ops.Done.{Done}
 use Rattle.be_volume.specs.declared.ops.Done.TheVariants.{Node, Unit as Nothing}
 use Rattle.be_volume.specs.declared.ops.Op.{Op}
@@ -25,7 +28,8 @@ first_at (first ∷ rest) = Some (first, rest)
 
 -- a number of so many bytes
 abbrev pub fixed_at : Width → List ℕ → Option (ℕ × List ℕ)
-fixed_at w bytes = if nat_lt (length bytes) (byte_len w) then None else Some (from_be_bytes w (take (byte_len w) bytes), drop (byte_len w) bytes)
+fixed_at w bytes = if nat_lt (length bytes) (byte_len w) then None
+    else Some (from_be_bytes w (take (byte_len w) bytes), drop (byte_len w) bytes)
 
 unfoldable pub number_at : List ℕ → Option (ℕ × List ℕ)
 number_at bytes = do
@@ -163,7 +167,8 @@ steps_at (suc count) bytes = do
   others ← steps_at count first.2
   Some (first.0 ∷ others.0, first.1 ∷ others.1, others.2)
 
--- what is found where an entry stands: the pass, the operations, their answers, and the bytes behind them
+-- what is found where an entry stands: the pass, the operations, their answers, and the bytes
+-- behind them
 abbrev pub Found : Type 0
 Found = ℕ × List Op × List Done × List ℕ
 

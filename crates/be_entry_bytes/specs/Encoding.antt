@@ -1,17 +1,20 @@
 -- The bytes of an entry.
-use Rattle.std.specs.Prelude.{◌≡◌, ℕ, ◌+◌, ◌*◌, ◌<◌, ◌≤◌, ◌^◌, ⊤, List, [], ◌∷◌, ◌++◌, length, All, nat_lt, pos, negsuc, if◌then◌else◌}
+use Rattle.std.specs.Prelude.{◌≡◌, ℕ, ◌+◌, ◌*◌, ◌<◌, ◌≤◌, ◌^◌, ⊤, List, [], ◌∷◌, ◌++◌, length, All}
+use Rattle.std.specs.Prelude.{nat_lt, pos, negsuc, if◌then◌else◌}
 use Rattle.std.specs.Int.{to_be_bytes, w16, w32, w64}
 use lib.IntN.{ℤ}
 use Rattle.be_value.specs.Value.{kind_number}
 use Rattle.be_value.specs.declared.values.Value.{Value}
-use Rattle.be_value.specs.declared.values.Value.TheVariants.{Cstr, Long, Llng, Mims, Rawt, Ulng, Ullg}
+use Rattle.be_value.specs.declared.values.Value.TheVariants.{Cstr, Long, Llng, Mims, Rawt, Ulng}
+use Rattle.be_value.specs.declared.values.Value.TheVariants.{Ullg}
 use Rattle.be_volume.specs.Sound.{IsOperation}
 use Rattle.be_volume.specs.declared.ops.Done.{Done}
 use Rattle.be_volume.specs.declared.ops.Done.TheVariants.{Node, Unit as Nothing}
 use Rattle.be_volume.specs.declared.ops.Op.{Op}
 use Rattle.be_volume.specs.declared.ops.Op.TheVariants.{New, Drop, Set, Unset, MkIndex, RmIndex}
 
--- A number below 253 is a byte. Another is 253, 254 or 255, and then two, four or eight bytes, the high one first: the fewest that hold it.
+-- A number below 253 is a byte. Another is 253, 254 or 255, and then two, four or eight bytes, the
+-- high one first: the fewest that hold it.
 unfoldable pub number_bytes : ℕ → List ℕ
 number_bytes n =
     if nat_lt n 253 then n ∷ []
@@ -61,7 +64,8 @@ op_bytes (Unset node name) = number_bytes node ++ counted_bytes name
 op_bytes (MkIndex name kind) = counted_bytes name ++ kind_number kind ∷ []
 op_bytes (RmIndex name) = counted_bytes name
 
--- An operation and its answer: the form, with 128 more where the answer is a node, then what the operation has, and that node.
+-- An operation and its answer: the form, with 128 more where the answer is a node, then what the
+-- operation has, and that node.
 unfoldable pub step_bytes : Op → Done → List ℕ
 step_bytes op (Node node) = (form_of op + 128) ∷ (op_bytes op ++ number_bytes node)
 step_bytes op Nothing = form_of op ∷ op_bytes op

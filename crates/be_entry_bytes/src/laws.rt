@@ -9,7 +9,8 @@ ghost use Rattle.be_volume.specs.declared.ops.Op.{Op as AnyOp};
 
 /// A law: what is read where an entry was written is that entry, whatever stands behind it.
 pub fn entry_is_read()
-    ensures { (by : ℕ) (ops : List AnyOp) (dones : List AnyDone) (rest : List ℕ) → CanBeEntry by ops dones →
+    ensures { (by : ℕ) (ops : List AnyOp) (dones : List AnyDone) (rest : List ℕ)
+        → CanBeEntry by ops dones →
         entry_at (entry_bytes by ops dones ++ rest) ≡ found by ops dones rest }
 {}
 

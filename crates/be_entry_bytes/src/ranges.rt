@@ -1,5 +1,5 @@
-//! What is at hand is such of the program: a contract can't tell of a number or an operation that it is lent that it is in
-//! its type's range. Each function does nothing; its contract says so.
+//! What is at hand is such of the program: a contract can't tell of a number or an operation that
+//! it is lent that it is in its type's range. Each function does nothing; its contract says so.
 ghost use Rattle.std.specs.Prelude.{◌<◌, ◌^◌, All};
 ghost use Rattle.be_entry_bytes.specs.Encoding as spec;
 

@@ -1,7 +1,7 @@
 //! Reading an entry from its bytes.
 //!
-//! Each function reads one thing at the front of the bytes and gives it with the bytes behind it, or None where no such
-//! thing stands there.
+//! Each function reads one thing at the front of the bytes and gives it with the bytes behind it,
+//! or None where no such thing stands there.
 ghost use Rattle.std.specs.Prelude.{◌≡◌, ◌<◌, ◌^◌, ◌++◌, ℕ, List, IfOk, IfSome, negsuc};
 ghost use Rattle.std.specs.Int.{w16, w32, w64};
 ghost use Rattle.std.specs.Option.{option_map};
@@ -282,8 +282,8 @@ fn answered_of(form: u8, bytes: &[u8]) -> Option<(Op, Done, &[u8])>
     Some((op, Done::Node(node), rest))
 }
 
-/// The operation at the front of the bytes with its answer, and the bytes after them; None if none is there. It takes no
-/// memory, and costs what the operation has.
+/// The operation at the front of the bytes with its answer, and the bytes after them; None if none
+/// is there. It takes no memory, and costs what the operation has.
 #[tactic(auto, unfolding(crate::specs::Decoding::step_at))]
 pub fn read_step(bytes: &[u8]) -> Option<(Op, Done, &[u8])>
     ensures { option_map (λ x. (x.0, x.1, x.2.now)) result ≡ spec.step_at bytes.now }
@@ -296,14 +296,15 @@ pub fn read_step(bytes: &[u8]) -> Option<(Op, Done, &[u8])>
     }
 }
 
-/// So many operations from the front of the bytes on, the answer to each, and the bytes after them; None if there are fewer.
-/// Memory is taken for the two lists alone, and it costs what they have.
+/// So many operations from the front of the bytes on, the answer to each, and the bytes after them;
+/// None if there are fewer. Memory is taken for the two lists alone, and it costs what they have.
 pub fn read_steps(
     alloc: Global,
     count: u64,
     bytes: &[u8],
 ) -> Result<Option<(Vec<Op>, Vec<Done>, &[u8])>, AllocError>
-    ensures { IfOk result (λ read. option_map (λ x. (x.0.items, x.1.items, x.2.now)) read ≡ spec.steps_at count bytes.now) }
+    ensures { IfOk result (λ read. option_map (λ x. (x.0.items, x.1.items, x.2.now)) read
+        ≡ spec.steps_at count bytes.now) }
 {
     let mut ops = Vec::new(alloc);
     let mut dones = Vec::new(alloc);
@@ -319,8 +320,9 @@ pub fn read_steps(
     Ok(Some((ops, dones, rest)))
 }
 
-/// The front of the entry at the front of the bytes: its pass, how many operations it has, and the bytes from the first of
-/// these on; None if no such numbers are there. It takes no memory, and costs a few steps.
+/// The front of the entry at the front of the bytes: its pass, how many operations it has, and the
+/// bytes from the first of these on; None if no such numbers are there. It takes no memory, and
+/// costs a few steps.
 #[tactic(auto, unfolding(crate::specs::Decoding::head_at))]
 pub fn read_head(bytes: &[u8]) -> Option<(u64, u64, &[u8])>
     ensures { option_map (λ x. (x.0, x.1, x.2.now)) result ≡ spec.head_at bytes.now }
@@ -335,7 +337,8 @@ fn entry_of(
     alloc: Global,
     bytes: &[u8],
 ) -> Result<Option<(u64, Vec<Op>, Vec<Done>, &[u8])>, AllocError>
-    ensures { IfOk result (λ read. option_map (λ x. (x.0, x.1.items, x.2.items, x.3.now)) read ≡ spec.entry_at bytes.now) }
+    ensures { IfOk result (λ read. option_map (λ x. (x.0, x.1.items, x.2.items, x.3.now)) read
+        ≡ spec.entry_at bytes.now) }
 {
     let Some((by, count, rest)) = read_head(bytes) else {
         return Ok(None);
@@ -346,24 +349,28 @@ fn entry_of(
     Ok(Some((by, ops, dones, rest)))
 }
 
-/// The entry at the front of the bytes, its pass, operations and answers, and the bytes behind it; None where none stands
-/// there. What `write_entry` appended is read back, whatever follows it. Memory is taken for the two lists alone, and it
-/// costs what the entry has.
+/// The entry at the front of the bytes, its pass, operations and answers, and the bytes behind it;
+/// None where none stands there. What `write_entry` appended is read back, whatever follows it.
+/// Memory is taken for the two lists alone, and it costs what the entry has.
 pub fn read_entry(
     alloc: Global,
     bytes: &[u8],
 ) -> Result<Option<(u64, Vec<Op>, Vec<Done>, &[u8])>, AllocError>
-    ensures read { IfOk result (λ read. option_map (λ x. (x.0, x.1.items, x.2.items, x.3.now)) read ≡ spec.entry_at bytes.now) }
-    ensures written { IfOk result (λ read. (by : ℕ) (ops : List AnyOp) (dones : List AnyDone) (rest : List ℕ) →
+    ensures read { IfOk result (λ read. option_map (λ x. (x.0, x.1.items, x.2.items, x.3.now)) read
+        ≡ spec.entry_at bytes.now) }
+    ensures written { IfOk result (λ read. (by : ℕ) (ops : List AnyOp) (dones : List AnyDone)
+        (rest : List ℕ) →
         CanBeEntry by ops dones → bytes.now ≡ entry_bytes by ops dones ++ rest →
-        option_map (λ x. (x.0, x.1.items, x.2.items, x.3.now)) read ≡ spec.found by ops dones rest) }
+        option_map (λ x. (x.0, x.1.items, x.2.items, x.3.now)) read
+        ≡ spec.found by ops dones rest) }
 {
     entry_of(alloc, bytes)
 }
 
 /// The bytes behind so many operations with their answers.
 fn behind_steps(count: u64, bytes: &[u8]) -> Option<&[u8]>
-    ensures { option_map (λ x. x.now) result ≡ option_map (λ x. x.2) (spec.steps_at count bytes.now) }
+    ensures { option_map (λ x. x.now) result
+        ≡ option_map (λ x. x.2) (spec.steps_at count bytes.now) }
 {
     let mut rest = bytes;
     for _ in 0..count {
@@ -373,7 +380,8 @@ fn behind_steps(count: u64, bytes: &[u8]) -> Option<&[u8]>
     Some(rest)
 }
 
-/// The bytes behind the entry at their front; None where none stands there. It takes no memory, and costs what the entry has.
+/// The bytes behind the entry at their front; None where none stands there. It takes no memory, and
+/// costs what the entry has.
 #[tactic(auto, unfolding(crate::specs::Decoding::entry_at))]
 pub fn skip_entry(bytes: &[u8]) -> Option<&[u8]>
     ensures { option_map (λ x. x.now) result ≡ option_map (λ x. x.3) (spec.entry_at bytes.now) }

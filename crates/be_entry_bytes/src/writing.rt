@@ -1,7 +1,8 @@
 //! Writing an entry in bytes.
 //!
 //! Each function appends to bytes that have room for what it appends, so none takes memory.
-ghost use Rattle.std.specs.Prelude.{◌≡◌, ◌+◌, ◌<◌, ◌≤◌, ◌++◌, ◌∷◌, [], All, length, vec_len, vec_capacity};
+ghost use Rattle.std.specs.Prelude.{◌≡◌, ◌+◌, ◌<◌, ◌≤◌, ◌++◌, ◌∷◌, [], All, length, vec_len};
+ghost use Rattle.std.specs.Prelude.{vec_capacity};
 ghost use Rattle.be_entry_bytes.specs.Encoding as spec;
 
 use crate::ranges::{dones_can_be, ops_can_be};
@@ -42,7 +43,8 @@ fn write_number(bytes: &mut Vec<u8>, n: u64)
 
 #[tactic(auto, unfolding(crate::specs::Encoding::counted_bytes))]
 fn write_counted(bytes: &mut Vec<u8>, part: &[u8])
-    requires room { vec_len bytes.old + length (spec.counted_bytes part.now) ≤ vec_capacity bytes.old }
+    requires room { vec_len bytes.old + length (spec.counted_bytes part.now)
+        ≤ vec_capacity bytes.old }
     ensures appends { bytes.new.items ≡ bytes.old.items ++ spec.counted_bytes part.now }
     ensures len { vec_len bytes.new ≡ vec_len bytes.old + length (spec.counted_bytes part.now) }
     ensures room { vec_capacity bytes.old ≤ vec_capacity bytes.new }
@@ -53,7 +55,8 @@ fn write_counted(bytes: &mut Vec<u8>, part: &[u8])
 
 /// Appends the byte of a kind and a number.
 fn write_kind_number(bytes: &mut Vec<u8>, first: u8, n: u64)
-    requires room { vec_len bytes.old + length (first ∷ spec.number_bytes n) ≤ vec_capacity bytes.old }
+    requires room { vec_len bytes.old + length (first ∷ spec.number_bytes n)
+        ≤ vec_capacity bytes.old }
     ensures appends { bytes.new.items ≡ bytes.old.items ++ first ∷ spec.number_bytes n }
     ensures len { vec_len bytes.new ≡ vec_len bytes.old + length (first ∷ spec.number_bytes n) }
     ensures room { vec_capacity bytes.old ≤ vec_capacity bytes.new }
@@ -64,9 +67,11 @@ fn write_kind_number(bytes: &mut Vec<u8>, first: u8, n: u64)
 
 /// Appends the byte of a kind, and bytes with their count.
 fn write_kind_bytes(bytes: &mut Vec<u8>, first: u8, part: &[u8])
-    requires room { vec_len bytes.old + length (first ∷ spec.counted_bytes part.now) ≤ vec_capacity bytes.old }
+    requires room { vec_len bytes.old + length (first ∷ spec.counted_bytes part.now)
+        ≤ vec_capacity bytes.old }
     ensures appends { bytes.new.items ≡ bytes.old.items ++ first ∷ spec.counted_bytes part.now }
-    ensures len { vec_len bytes.new ≡ vec_len bytes.old + length (first ∷ spec.counted_bytes part.now) }
+    ensures len { vec_len bytes.new ≡ vec_len bytes.old
+        + length (first ∷ spec.counted_bytes part.now) }
     ensures room { vec_capacity bytes.old ≤ vec_capacity bytes.new }
 {
     bytes.push_reserved(first);
@@ -90,7 +95,8 @@ fn magnitude(n: i64) -> u64
 
 #[tactic(auto, unfolding(crate::specs::Encoding::value_bytes))]
 fn write_value(bytes: &mut Vec<u8>, value: &Value)
-    requires room { vec_len bytes.old + length (spec.value_bytes value.now) ≤ vec_capacity bytes.old }
+    requires room { vec_len bytes.old + length (spec.value_bytes value.now)
+        ≤ vec_capacity bytes.old }
     ensures appends { bytes.new.items ≡ bytes.old.items ++ spec.value_bytes value.now }
     ensures len { vec_len bytes.new ≡ vec_len bytes.old + length (spec.value_bytes value.now) }
     ensures room { vec_capacity bytes.old ≤ vec_capacity bytes.new }
@@ -154,7 +160,8 @@ fn write_op(bytes: &mut Vec<u8>, op: &Op)
 
 #[tactic(auto, unfolding(crate::specs::Encoding::step_bytes))]
 fn write_step(bytes: &mut Vec<u8>, op: &Op, done: &Done)
-    requires room { vec_len bytes.old + length (spec.step_bytes op.now done.now) ≤ vec_capacity bytes.old }
+    requires room { vec_len bytes.old + length (spec.step_bytes op.now done.now)
+        ≤ vec_capacity bytes.old }
     ensures appends { bytes.new.items ≡ bytes.old.items ++ spec.step_bytes op.now done.now }
     ensures len { vec_len bytes.new ≡ vec_len bytes.old + length (spec.step_bytes op.now done.now) }
     ensures room { vec_capacity bytes.old ≤ vec_capacity bytes.new }
@@ -174,7 +181,8 @@ fn write_step(bytes: &mut Vec<u8>, op: &Op, done: &Done)
 
 fn write_steps(bytes: &mut Vec<u8>, ops: &[Op], dones: &[Done])
     requires each { length dones.now ≡ length ops.now }
-    requires room { vec_len bytes.old + length (spec.steps_bytes ops.now dones.now) ≤ vec_capacity bytes.old }
+    requires room { vec_len bytes.old + length (spec.steps_bytes ops.now dones.now)
+        ≤ vec_capacity bytes.old }
     ensures appends { bytes.new.items ≡ bytes.old.items ++ spec.steps_bytes ops.now dones.now }
     ensures room { vec_capacity bytes.old ≤ vec_capacity bytes.new }
 {
@@ -186,7 +194,8 @@ fn write_steps(bytes: &mut Vec<u8>, ops: &[Op], dones: &[Done])
 #[tactic(auto, unfolding(crate::specs::Encoding::entry_bytes))]
 fn write_parts(bytes: &mut Vec<u8>, by: u64, ops: &[Op], dones: &[Done])
     requires each { length dones.now ≡ length ops.now }
-    requires room { vec_len bytes.old + length (spec.entry_bytes by ops.now dones.now) ≤ vec_capacity bytes.old }
+    requires room { vec_len bytes.old + length (spec.entry_bytes by ops.now dones.now)
+        ≤ vec_capacity bytes.old }
     ensures appends { bytes.new.items ≡ bytes.old.items ++ spec.entry_bytes by ops.now dones.now }
     ensures room { vec_capacity bytes.old ≤ vec_capacity bytes.new }
 {
@@ -203,8 +212,8 @@ pub fn most_bytes(count: usize) -> usize
     18 + 356 * count
 }
 
-/// Appends an entry to bytes that have room for the longest one of as many operations. It takes no memory, and what it
-/// appends is read back by `read_entry`. It costs what the entry has.
+/// Appends an entry to bytes that have room for the longest one of as many operations. It takes no
+/// memory, and what it appends is read back by `read_entry`. It costs what the entry has.
 pub fn write_entry(bytes: &mut Vec<u8>, by: u64, ops: &[Op], dones: &[Done])
     requires few { length ops.now ≤ 64 }
     requires each { length dones.now ≡ length ops.now }

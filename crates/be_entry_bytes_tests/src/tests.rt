@@ -1,8 +1,9 @@
 //! Entries as bytes, and bytes that are no entry.
 //!
-//! A request is the line of an entry, as a journal's text has it, or `bytes` and bytes as numbers. Replied are the bytes of
-//! the entry that the line tells or that the bytes are. Each entry is written and read back with a byte behind it, and no
-//! front of its bytes is read. Every test passes with any one request for memory refused.
+//! A request is the line of an entry, as a journal's text has it, or `bytes` and bytes as numbers.
+//! Replied are the bytes of the entry that the line tells or that the bytes are. Each entry is
+//! written and read back with a byte behind it, and no front of its bytes is read. Every test
+//! passes with any one request for memory refused.
 use be_entry_bytes::{most_bytes, read_entry, write_entry};
 use be_journal_text::read_journal;
 use be_journal::Entry;
@@ -117,7 +118,8 @@ impl Answers for Encoder {
     }
 }
 
-/// Small numbers take a byte. A node that is answered takes its own bytes, and any other answer none.
+/// Small numbers take a byte. A node that is answered takes its own bytes, and any other answer
+/// none.
 #[test]
 fn entries_have_bytes(rt: HostRuntime) -> Result<(), Fail> {
     let lines = r#"1 by 0 set 1 "size" LONG 5 -> ok => 0 1 2 1 4 115 105 122 101 2 5
@@ -152,7 +154,8 @@ fn values_have_bytes(rt: HostRuntime) -> Result<(), Fail> {
 1 by 0 set 1 "a" LONG 2147483647 -> ok => 0 1 2 1 1 97 2 254 127 255 255 255
 1 by 0 set 1 "a" LONG -1 -> ok => 0 1 2 1 1 97 130 0
 1 by 0 set 1 "a" LONG -2147483648 -> ok => 0 1 2 1 1 97 130 254 127 255 255 255
-1 by 0 set 1 "a" LLNG -9223372036854775808 -> ok => 0 1 2 1 1 97 131 255 127 255 255 255 255 255 255 255
+1 by 0 set 1 "a" LLNG -9223372036854775808 -> ok => 0 1 2 1 1 97 131 255 127 255 255 255 255 255 255
+255
 1 by 0 set 1 "a" MIMS "t/p" -> ok => 0 1 2 1 1 97 4 3 116 47 112
 1 by 0 set 1 "a" RAWT "00ff" -> ok => 0 1 2 1 1 97 5 2 0 255
 1 by 0 set 1 "a" ULNG 4294967295 -> ok => 0 1 2 1 1 97 6 254 255 255 255 255
@@ -160,8 +163,9 @@ fn values_have_bytes(rt: HostRuntime) -> Result<(), Fail> {
     check_lines(rt.alloc(), &mut Encoder, lines)
 }
 
-/// Bytes that no entry has: another form or kind, a name with a zero byte or that is no UTF-8, a number that is too large for
-/// its kind, and fewer operations than were counted. A number that takes more bytes than it needs is read all the same.
+/// Bytes that no entry has: another form or kind, a name with a zero byte or that is no UTF-8, a
+/// number that is too large for its kind, and fewer operations than were counted. A number that
+/// takes more bytes than it needs is read all the same.
 #[test]
 fn other_bytes_are_no_entry(rt: HostRuntime) -> Result<(), Fail> {
     let lines = r#"bytes 0 1 6 => none

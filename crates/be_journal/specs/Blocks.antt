@@ -1,5 +1,7 @@
 -- Entries in blocks of bytes.
-use Rattle.std.specs.Prelude.{◌≡◌, ◌<◌, ◌≤◌, ◌-◌, ◌*◌, ◌/◌, ℕ, zero, suc, Bool, false, nat_eq, nat_le, if◌then◌else◌, slice_get, List, [], ◌∷◌, ◌++◌, length, drop, get_or, All, IfSome, flat_map, refl}
+use Rattle.std.specs.Prelude.{◌≡◌, ◌<◌, ◌≤◌, ◌-◌, ◌*◌, ◌/◌, ℕ, zero, suc, Bool, false, nat_eq}
+use Rattle.std.specs.Prelude.{nat_le, if◌then◌else◌, slice_get, List, [], ◌∷◌, ◌++◌, length, drop}
+use Rattle.std.specs.Prelude.{get_or, All, IfSome, flat_map, refl}
 use Rattle.std.specs.Coded.{Coded, code_by, coded_ℕ, coded_list, coded×}
 use Rattle.std.specs.Option.{option_map_or}
 use Rattle.std.specs.declared.option.Option.{Option}
@@ -16,7 +18,8 @@ bytes_of entry = entry_bytes entry.by entry.ops entry.dones
 -- so many entries from the front of bytes on, as far as they stand there
 unfoldable pub entries_at : ℕ → List ℕ → List Entry
 entries_at zero bytes = []
-entries_at (suc count) bytes = option_map_or (λ x. (record { by = x.0; ops = x.1; dones = x.2 }) ∷ entries_at count x.3) (entry_at bytes) []
+entries_at (suc count) bytes = option_map_or
+    (λ x. (record { by = x.0; ops = x.1; dones = x.2 }) ∷ entries_at count x.3) (entry_at bytes) []
 
 -- so many operations with their answers, read from the front of bytes as far as these have them
 unfoldable pub steps_in : ℕ → List ℕ → List (Op × Done)
@@ -44,9 +47,11 @@ pub record ArePlaces (places : List ℕ) (count : ℕ) (bytes : List ℕ) : Type
   pub each : (k : ℕ) → k < length places → IsPlace (16 * k) (get_or places k 0) count bytes
   pub all : count ≤ 16 * length places
 
--- the places before one more of so many entries: its own is a new one where the others have 16 entries each
+-- the places before one more of so many entries: its own is a new one where the others have 16
+-- entries each
 abbrev pub with_place : List ℕ → ℕ → ℕ → List ℕ
-with_place places count place = if nat_eq (count / 16) (length places) then places ++ place ∷ [] else places
+with_place places count place = if nat_eq (count / 16) (length places) then places ++ place ∷ []
+    else places
 
 -- a block: its entries, and how many bytes are left
 pub record Filled : Type 0 where
@@ -54,7 +59,8 @@ pub record Filled : Type 0 where
   pub room : ℕ
 
 abbrev pub coded_filled : Coded Filled
-coded_filled = code_by _ (coded× (coded_list coded_entry) coded_ℕ) (λ b. (b.entries, b.room)) (λ p. record { entries = p.0; room = p.1 }) (λ _. refl)
+coded_filled = code_by _ (coded× (coded_list coded_entry) coded_ℕ) (λ b. (b.entries, b.room))
+    (λ p. record { entries = p.0; room = p.1 }) (λ _. refl)
 
 -- the entries of blocks, one after the other
 abbrev pub entries_of : List Filled → List Entry
@@ -66,7 +72,8 @@ AreFilled blocks = All (λ b. 0 < length b.entries) blocks
 
 -- whether the last of the blocks has room for any entry of so many operations
 abbrev pub has_room : ℕ → List Filled → Bool
-has_room count blocks = option_map_or (λ b. nat_le (most_bytes count) b.room) (slice_get blocks (length blocks - 1)) false
+has_room count blocks = option_map_or (λ b. nat_le (most_bytes count) b.room)
+    (slice_get blocks (length blocks - 1)) false
 
 -- a block for the next entry, if there is one: it is empty, and has room for any entry
 abbrev pub IsSpare : Option Filled → Type 0

@@ -1,7 +1,9 @@
 //! Blocks of entries in bytes.
 //!
-//! A block has its room from the start, so what lies in it is never moved. An entry lies in one block, whole.
-ghost use Rattle.std.specs.Prelude.{◌≡◌, ◌+◌, ◌≤◌, ◌<◌, ◌^◌, ◌++◌, ◌∷◌, [], true, false, length, get_or, nat_le, vec_len, vec_capacity, IfOk, OnOk, IsSome};
+//! A block has its room from the start, so what lies in it is never moved. An entry lies in one
+//! block, whole.
+ghost use Rattle.std.specs.Prelude.{◌≡◌, ◌+◌, ◌≤◌, ◌<◌, ◌^◌, ◌++◌, ◌∷◌, [], true, false, length};
+ghost use Rattle.std.specs.Prelude.{get_or, nat_le, vec_len, vec_capacity, IfOk, OnOk, IsSome};
 ghost use Rattle.be_entry_bytes.specs.Encoding.{most_bytes as longest};
 ghost use Rattle.be_journal.specs.Blocks.{entries_of, has_room, with_place, AreFilled, IsSpare};
 ghost use Rattle.be_journal.specs.declared.entries.Entry.{Entry as AnyEntry};
@@ -31,7 +33,8 @@ pub(crate) struct Block {
 
 impl Model for Block {
     ghost use Rattle.std.specs.Prelude.{◌-◌, nat_lt, vec_len, vec_capacity, if◌then◌else◌};
-    ghost use Rattle.be_journal.specs.Blocks.{Filled, coded_filled, entries_at, AreEntries, ArePlaces};
+    ghost use Rattle.be_journal.specs.Blocks.{Filled, coded_filled, entries_at, AreEntries};
+    ghost use Rattle.be_journal.specs.Blocks.{ArePlaces};
 
     ghost Value = { Filled };
 
@@ -42,7 +45,8 @@ impl Model for Block {
       room = if nat_lt (vec_len b.places) (vec_capacity b.places) then vec_capacity b.bytes - vec_len b.bytes else 0;
     } };
 
-    ghost invariant = { λ b. AreEntries b.count b.bytes.items × ArePlaces b.places.items b.count b.bytes.items };
+    ghost invariant = { λ b. AreEntries b.count b.bytes.items
+        × ArePlaces b.places.items b.count b.bytes.items };
 }
 
 impl Block {
@@ -83,7 +87,8 @@ impl Block {
         requires each { length dones.now ≡ length ops.now }
         requires room { longest (length ops.now) ≤ self.old.room }
         requires fits { length self.old.entries + 1 < 2 ^ 64 }
-        ensures { self.new.entries ≡ self.old.entries ++ record { by = by; ops = ops.now; dones = dones.now } ∷ [] }
+        ensures { self.new.entries ≡ self.old.entries
+            ++ record { by = by; ops = ops.now; dones = dones.now } ∷ [] }
     {
         keep_place(&mut self.places, self.count, self.bytes.len());
         write_entry(&mut self.bytes, by, ops, dones);
@@ -126,7 +131,8 @@ fn keep_place(places: &mut Vec<usize>, count: u64, place: usize)
 pub(crate) fn block_of(blocks: &[Block], i: u64) -> (&Block, u64)
     requires { i < length (entries_of blocks.now) }
     ensures within { result.1 < length result.0.now.entries }
-    ensures is { (e : AnyEntry) → get_or result.0.now.entries result.1 e ≡ get_or (entries_of blocks.now) i e }
+    ensures is { (e : AnyEntry) → get_or result.0.now.entries result.1 e
+        ≡ get_or (entries_of blocks.now) i e }
 {
     let mut left = i;
     for block in blocks {
@@ -149,7 +155,8 @@ fn last_has_room(blocks: &[Block], count: usize) -> bool
     }
 }
 
-/// Sees to it that there is room for any entry of so many operations, in the last of the blocks or in a spare one.
+/// Sees to it that there is room for any entry of so many operations, in the last of the blocks or
+/// in a spare one.
 pub(crate) fn make_spare(
     alloc: Global,
     blocks: &[Block],
@@ -176,14 +183,16 @@ fn push_last(blocks: &mut [Block], by: u64, ops: &[Op], dones: &[Done])
     requires each { length dones.now ≡ length ops.now }
     requires room { has_room (length ops.now) blocks.old ≡ true }
     requires fits { length (entries_of blocks.old) + 1 < 2 ^ 64 }
-    ensures entries { entries_of blocks.new ≡ entries_of blocks.old ++ record { by = by; ops = ops.now; dones = dones.now } ∷ [] }
+    ensures entries { entries_of blocks.new ≡ entries_of blocks.old
+        ++ record { by = by; ops = ops.now; dones = dones.now } ∷ [] }
     ensures filled { AreFilled blocks.old → AreFilled blocks.new }
 {
     let last = blocks.len() - 1;
     blocks[last].push(by, ops, dones);
 }
 
-/// Appends an entry to the last of the blocks, or else to the spare one, which is the last from then on. It takes no memory.
+/// Appends an entry to the last of the blocks, or else to the spare one, which is the last from
+/// then on. It takes no memory.
 pub(crate) fn append(
     blocks: &mut Vec<Block>,
     spare: &mut Option<Block>,
@@ -199,7 +208,8 @@ pub(crate) fn append(
     requires room { has_room (length ops.now) blocks.old.items ≡ false → IsSome spare.old }
     requires list { vec_len blocks.old < vec_capacity blocks.old }
     requires fits { length (entries_of blocks.old.items) + 1 < 2 ^ 64 }
-    ensures entries { entries_of blocks.new.items ≡ entries_of blocks.old.items ++ record { by = by; ops = ops.now; dones = dones.now } ∷ [] }
+    ensures entries { entries_of blocks.new.items ≡ entries_of blocks.old.items
+        ++ record { by = by; ops = ops.now; dones = dones.now } ∷ [] }
     ensures filled { AreFilled blocks.new.items }
     ensures spare { IsSpare spare.new }
 {

@@ -1,7 +1,7 @@
 //! Entries of a journal.
 //!
-//! The lists of an entry are of a small type of this crate over a `Vec`, which contracts see as a list. It is made from a
-//! `Vec` and gives it back without memory.
+//! The lists of an entry are of a small type of this crate over a `Vec`, which contracts see as a
+//! list. It is made from a `Vec` and gives it back without memory.
 ghost use Rattle.std.specs.Prelude.{◌≡◌};
 
 use be_volume::{Done, Op};

@@ -1,7 +1,8 @@
 //! The journal: which writes were accepted, by whom, and what they answered.
 //!
-//! A journal is the history of a store told as that of one thread. Replayed on a plain volume it gives the store's
-//! contents, and it is legal where every answer in it is the one that the volume gives at its place.
+//! A journal is the history of a store told as that of one thread. Replayed on a plain volume it
+//! gives the store's contents, and it is legal where every answer in it is the one that the volume
+//! gives at its place.
 #![tactic(auto)]
 
 mod block_readers;

@@ -1,7 +1,8 @@
 //! Entries as they lie in a journal.
 //!
-//! An entry lies in a journal as bytes. A view of it reads them: its pass and the number of its operations at once, and each
-//! operation with its answer when it is asked for, made in place. So none of it takes memory.
+//! An entry lies in a journal as bytes. A view of it reads them: its pass and the number of its
+//! operations at once, and each operation with its answer when it is asked for, made in place. So
+//! none of it takes memory.
 ghost use Rattle.std.specs.Iterator.{YieldsFirst, item_count};
 ghost use Rattle.std.specs.Prelude.{◌≡◌, IfOk, IsSome, length, map};
 ghost use Rattle.be_entry_bytes.specs.Decoding.{steps_at};
@@ -48,7 +49,8 @@ impl<'a> EntryView<'a> {
     /// The entry of this pass and so many operations, from whose first on these are the bytes.
     pub(crate) fn new(alloc: Global, by: u64, count: u64, bytes: &'a [u8]) -> EntryView<'a>
         requires { IsSome (steps_at count bytes.now) }
-        ensures { result ≡ record { by = by; ops = map (λ s. s.0) (steps_in count bytes.now); dones = map (λ s. s.1) (steps_in count bytes.now) } }
+        ensures { result ≡ record { by = by; ops = map (λ s. s.0) (steps_in count bytes.now);
+            dones = map (λ s. s.1) (steps_in count bytes.now) } }
     {
         EntryView {
             alloc,
@@ -83,7 +85,8 @@ impl<'a> EntryView<'a> {
         }
     }
 
-    /// An entry of its own, equal to this one. Its two lists take memory, which the journal's allocator gives.
+    /// An entry of its own, equal to this one. Its two lists take memory, which the journal's
+    /// allocator gives.
     pub fn to_entry(&self) -> Result<Entry, AllocError>
         ensures { IfOk result (λ entry. entry ≡ self.now) }
     {
@@ -99,7 +102,8 @@ impl<'a> EntryView<'a> {
     }
 }
 
-/// The operations of an entry that are still to come, each with its answer. A contract sees the list of the pairs.
+/// The operations of an entry that are still to come, each with its answer. A contract sees the
+/// list of the pairs.
 #[derive(Drop)]
 pub struct Steps<'a> {
     left: u64,

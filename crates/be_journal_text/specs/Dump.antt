@@ -1,5 +1,6 @@
 -- The scripts that make a journal's writes again, or its volume alone.
-use Rattle.std.specs.Prelude.{◌≡◌, ℕ, zero, suc, List, [], ◌∷◌, ◌++◌, All, codes, drop, flat_map, length, nat_lt, take, if◌then◌else◌, Some, None}
+use Rattle.std.specs.Prelude.{◌≡◌, ℕ, zero, suc, List, [], ◌∷◌, ◌++◌, All, codes, drop, flat_map}
+use Rattle.std.specs.Prelude.{length, nat_lt, take, if◌then◌else◌, Some, None}
 use Rattle.std.specs.declared.option.Option.{Option}
 use Rattle.be_journal.specs.Journal.{replay}
 use Rattle.be_journal.specs.Text.{op_text}
@@ -45,10 +46,11 @@ cut_lines ops = flat_map write_lines (cut ops)
 abbrev pub state_dump : State → List ℕ
 state_dump s = cut_lines (state_ops s)
 
--- The script of the volume that a text's journal makes, each of whose operations is one of the program; none where the text
--- tells no journal.
+-- The script of the volume that a text's journal makes, each of whose operations is one of the
+-- program; none where the text tells no journal.
 abbrev pub IsStateDump : List ℕ → Option (List ℕ) → Type 0
 IsStateDump text None = (entries : List Entry) → CanBeJournal entries → TextTells text entries → ⊥
 IsStateDump text (Some script) =
-    (entries : List Entry) × CanBeJournal entries × TextTells text entries × All CanBeOp (state_ops (replay entries))
+    (entries : List Entry) × CanBeJournal entries × TextTells text entries
+        × All CanBeOp (state_ops (replay entries))
     × (script ≡ state_dump (replay entries))

@@ -1,5 +1,6 @@
 -- Which journal a text tells, and what the check of it finds.
-use Rattle.std.specs.Prelude.{◌≡◌, ◌⊎◌, ℕ, ◌+◌, ◌<◌, ◌≤◌, ◌^◌, All, List, [], ◌∷◌, ◌++◌, length, get_or, Some, None, codes}
+use Rattle.std.specs.Prelude.{◌≡◌, ◌⊎◌, ℕ, ◌+◌, ◌<◌, ◌≤◌, ◌^◌, All, List, [], ◌∷◌, ◌++◌, length}
+use Rattle.std.specs.Prelude.{get_or, Some, None, codes}
 use Rattle.std.specs.Fmt.{decimal}
 use Rattle.std.specs.String.{string_bytes}
 use Rattle.std.specs.declared.option.Option.{Option}
@@ -18,25 +19,29 @@ AreLines text = (text ≡ []) ⊎ ((front : List ℕ) × (text ≡ front ++ 10 �
 abbrev pub head : ℕ → List ℕ
 head count = codes "journal " ++ (decimal count ++ codes "\n")
 
--- A text tells the journal whose text it is, or that which stands as the result of a race behind its other lines.
+-- A text tells the journal whose text it is, or that which stands as the result of a race behind
+-- its other lines.
 abbrev pub TextTells : List ℕ → List Entry → Type 0
-TextTells text entries = (text ≡ lines_from 1 entries) ⊎ ((front : List ℕ) × AreLines front × (text ≡ front ++ result_text entries))
+TextTells text entries = (text ≡ lines_from 1 entries)
+    ⊎ ((front : List ℕ) × AreLines front × (text ≡ front ++ result_text entries))
 
 -- this is the rest of the text from a line on that begins with `j`
 abbrev pub IsFromJ : List ℕ → List ℕ → Type 0
-IsFromJ text rest = (front : List ℕ) × (more : List ℕ) × AreLines front × (text ≡ front ++ rest) × (rest ≡ 106 ∷ more)
+IsFromJ text rest = (front : List ℕ) × (more : List ℕ) × AreLines front × (text ≡ front ++ rest)
+    × (rest ≡ 106 ∷ more)
 
 -- the same of the last such line; none where no line begins so
 abbrev pub IsFromLastJ : List ℕ → Option (List ℕ) → Type 0
 IsFromLastJ text None = (rest : List ℕ) → IsFromJ text rest → ⊥
-IsFromLastJ text (Some last) = IsFromJ text last × ((rest : List ℕ) → IsFromJ text rest → length last ≤ length rest)
+IsFromLastJ text (Some last) = IsFromJ text last
+    × ((rest : List ℕ) → IsFromJ text rest → length last ≤ length rest)
 
 -- entries of which each has its operations and answers, and fewer than 2^32 of them
 abbrev pub AreChecked : List Entry → Type 0
 AreChecked entries = All IsEntry entries × (length entries < 2 ^ 32)
 
--- what the check of a text finds: that it tells no journal, that its journal of so many entries is right, or how many it has
--- and the line of the first wrong one
+-- what the check of a text finds: that it tells no journal, that its journal of so many entries is
+-- right, or how many it has and the line of the first wrong one
 pub data Found : Type 0 where
   no_journal : Found
   right : ℕ → Found
@@ -52,10 +57,14 @@ abbrev pub IsFound : List Entry → Found → Type 0
 IsFound entries no_journal = ⊥
 IsFound entries (right count) = IsFirstWrong entries None × (count ≡ length entries)
 IsFound entries (wrong count line) =
-    (i : ℕ) × (entry : Entry) × IsFirstWrong entries (Some i) × (entry ≡ get_or entries i entry) × (line ≡ entry_line (i + 1) entry) × (count ≡ length entries)
+    (i : ℕ) × (entry : Entry) × IsFirstWrong entries (Some i) × (entry ≡ get_or entries i entry)
+        × (line ≡ entry_line (i + 1) entry) × (count ≡ length entries)
 
 -- what the check of a text finds
 abbrev pub IsFinding : List ℕ → Found → Type 0
-IsFinding text no_journal = (entries : List Entry) → CanBeJournal entries → TextTells text entries → ⊥
-IsFinding text (right count) = (entries : List Entry) × CanBeJournal entries × TextTells text entries × IsFound entries (right count)
-IsFinding text (wrong count line) = (entries : List Entry) × CanBeJournal entries × TextTells text entries × IsFound entries (wrong count line)
+IsFinding text no_journal = (entries : List Entry) → CanBeJournal entries → TextTells text entries
+    → ⊥
+IsFinding text (right count) = (entries : List Entry) × CanBeJournal entries
+    × TextTells text entries × IsFound entries (right count)
+IsFinding text (wrong count line) = (entries : List Entry) × CanBeJournal entries
+    × TextTells text entries × IsFound entries (wrong count line)

@@ -1,10 +1,12 @@
 -- What a journal's text may tell.
-use Rattle.std.specs.Prelude.{ℕ, ◌<◌, ◌^◌, ⊤, All, List, length, nat_le, nat_eq, ◌&&◌, if◌then◌else◌, Some, None}
+use Rattle.std.specs.Prelude.{ℕ, ◌<◌, ◌^◌, ⊤, All, List, length, nat_le, nat_eq, ◌&&◌}
+use Rattle.std.specs.Prelude.{if◌then◌else◌, Some, None}
 use Rattle.std.specs.declared.option.Option.{Option}
 use Rattle.be_journal.specs.Journal.{IsEntry}
 use Rattle.be_journal.specs.declared.entries.Entry.{Entry}
 use Rattle.be_value.specs.declared.values.Value.{Value}
-use Rattle.be_value.specs.declared.values.Value.TheVariants.{Cstr, Long, Llng, Mims, Rawt, Ulng, Ullg}
+use Rattle.be_value.specs.declared.values.Value.TheVariants.{Cstr, Long, Llng, Mims, Rawt, Ulng}
+use Rattle.be_value.specs.declared.values.Value.TheVariants.{Ullg}
 use Rattle.be_volume.specs.Sound.{IsOperation}
 use Rattle.be_volume.specs.declared.ops.Done.{Done}
 use Rattle.be_volume.specs.declared.ops.Done.TheVariants.{Node, Unit as Nothing}
@@ -53,5 +55,6 @@ CanBeJournal entries = All CanBeEntry entries × (length entries < 2 ^ 32)
 -- the entry of these lists, where they have 1 to 64 operations, and an answer for each
 abbrev pub entry_of : ℕ → List Op → List Done → Option Entry
 entry_of by ops dones =
-    if nat_le 1 (length ops) && (nat_le (length ops) 64 && nat_eq (length dones) (length ops)) then Some (record { by = by; ops = ops; dones = dones })
+    if nat_le 1 (length ops) && (nat_le (length ops) 64 && nat_eq (length dones) (length ops))
+        then Some (record { by = by; ops = ops; dones = dones })
     else None

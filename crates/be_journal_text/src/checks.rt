@@ -30,8 +30,9 @@ fn finding_of(alloc: Global, entries: &[Entry]) -> Result<Finding, AllocError>
     Ok(Finding::Wrong(line, count))
 }
 
-/// Runs the journal that a text tells again, on an empty volume: whether each entry was answered the same, or the first that
-/// was not, and how many it has. It trusts nothing but the text. Only want of memory is an error.
+/// Runs the journal that a text tells again, on an empty volume: whether each entry was answered
+/// the same, or the first that was not, and how many it has. It trusts nothing but the text. Only
+/// want of memory is an error.
 pub fn check(alloc: Global, text: &[u8]) -> Result<Finding, AllocError>
     ensures { IfOk result (λ found. spec.IsFinding text.now (spec.found_of found)) }
 {

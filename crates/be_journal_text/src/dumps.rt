@@ -9,7 +9,8 @@ use std::alloc::{AllocError, Global};
 
 /// Appends a line for each operation.
 fn push_lines(alloc: Global, text: &mut String, ops: &[Op]) -> Result<(), AllocError>
-    ensures { OnOk result (string_bytes text.new ≡ string_bytes text.old ++ flat_map spec.op_line ops.now) }
+    ensures { OnOk result (string_bytes text.new ≡ string_bytes text.old
+        ++ flat_map spec.op_line ops.now) }
 {
     for op in ops {
         text.push_str(op_text(alloc, op)?.as_str())?;
@@ -33,8 +34,8 @@ pub(crate) fn write_text(alloc: Global, ops: &[Op]) -> Result<String, AllocError
     Ok(text)
 }
 
-/// The script that makes the writes of these entries again, one after the other, a write of several operations as a batch.
-/// What it makes is be_script_runner's law `dump_makes_journal`.
+/// The script that makes the writes of these entries again, one after the other, a write of several
+/// operations as a batch. What it makes is be_script_runner's law `dump_makes_journal`.
 pub fn dump(alloc: Global, entries: &[Entry]) -> Result<String, AllocError>
     ensures { IfOk result (λ text. string_bytes text ≡ spec.dump entries.now) }
 {

@@ -2,7 +2,8 @@
 ghost use Rattle.std.specs.Fmt.{decimal};
 ghost use Rattle.std.specs.List.{join_by};
 ghost use Rattle.std.specs.Option.{option_map};
-ghost use Rattle.std.specs.Prelude.{◌≡◌, ◌≤◌, ◌<◌, ◌++◌, ◌∷◌, [], ℕ, List, Some, IfOk, IfSome, codes, length};
+ghost use Rattle.std.specs.Prelude.{◌≡◌, ◌≤◌, ◌<◌, ◌++◌, ◌∷◌, [], ℕ, List, Some, IfOk, IfSome};
+ghost use Rattle.std.specs.Prelude.{codes, length};
 ghost use Rattle.be_journal.specs.Journal.{IsEntry};
 ghost use Rattle.be_journal.specs.Text.{done_text, entry_line, lines_from, op_text};
 ghost use Rattle.be_journal.specs.declared.entries.Entry.{Entry as AnyEntry};
@@ -37,7 +38,8 @@ fn entry_of(by: u64, ops: Vec<Op>, dones: Vec<Done>) -> Option<Entry>
 
 /// What follows `N by ` in the line of the entry N.
 fn behind_number(alloc: Global, number: u64, line: &[u8]) -> Result<&[u8], AllocError>
-    ensures { IfOk result (λ rest. (more : List ℕ) → line.now ≡ decimal number ++ (codes " by " ++ more) → rest.now ≡ more) }
+    ensures { IfOk result (λ rest. (more : List ℕ) → line.now ≡ decimal number
+        ++ (codes " by " ++ more) → rest.now ≡ more) }
 {
     let head = format!(in alloc; "{number} by ")?;
     Ok(skip(head.len(), line))
@@ -45,7 +47,8 @@ fn behind_number(alloc: Global, number: u64, line: &[u8]) -> Result<&[u8], Alloc
 
 /// The texts of the pass, the operations and the answers in the line of the entry with this number.
 fn parts_of(alloc: Global, number: u64, line: &[u8]) -> Result<(&[u8], &[u8], &[u8]), AllocError>
-    ensures { IfOk result (λ parts. (entry : AnyEntry) → history.CanBeEntry entry → line.now ≡ entry_line number entry →
+    ensures { IfOk result (λ parts. (entry : AnyEntry) → history.CanBeEntry entry → line.now
+        ≡ entry_line number entry →
         (parts.0.now ≡ decimal entry.by) × (parts.1.now ≡ join_by op_text (codes "; ") entry.ops)
         × (parts.2.now ≡ join_by done_text (codes "; ") entry.dones)) }
 {
@@ -58,7 +61,8 @@ fn parts_of(alloc: Global, number: u64, line: &[u8]) -> Result<(&[u8], &[u8], &[
 
 /// The entry that a line with its LF tells, if it is one that was printed; else any or none.
 fn guess_entry(alloc: Global, number: u64, line: &[u8]) -> Result<Option<Entry>, AllocError>
-    ensures whole { IfOk result (λ read. (entry : AnyEntry) → history.CanBeEntry entry → line.now ≡ entry_line number entry → read ≡ Some entry) }
+    ensures whole { IfOk result (λ read. (entry : AnyEntry) → history.CanBeEntry entry → line.now
+        ≡ entry_line number entry → read ≡ Some entry) }
     ensures is { IfOk result (λ read. IfSome read IsEntry) }
 {
     let (by, ops, dones) = parts_of(alloc, number, line)?;
@@ -76,8 +80,10 @@ fn guess_entry(alloc: Global, number: u64, line: &[u8]) -> Result<Option<Entry>,
 
 /// The entry of which this is the line, its LF included. None where it is none's.
 fn read_entry(alloc: Global, number: u64, line: &[u8]) -> Result<Option<Entry>, AllocError>
-    ensures reads { IfOk result (λ read. IfSome read (λ entry. history.CanBeEntry entry × (line.now ≡ entry_line number entry))) }
-    ensures whole { IfOk result (λ read. (entry : AnyEntry) → history.CanBeEntry entry → line.now ≡ entry_line number entry → read ≡ Some entry) }
+    ensures reads { IfOk result (λ read. IfSome read
+        (λ entry. history.CanBeEntry entry × (line.now ≡ entry_line number entry))) }
+    ensures whole { IfOk result (λ read. (entry : AnyEntry) → history.CanBeEntry entry → line.now
+        ≡ entry_line number entry → read ≡ Some entry) }
 {
     let Some(entry) = guess_entry(alloc, number, line)? else {
         return Ok(None);
@@ -94,7 +100,8 @@ fn read_entry(alloc: Global, number: u64, line: &[u8]) -> Result<Option<Entry>, 
 /// The first line with its LF, and what follows it. A last line may lack its LF.
 pub(crate) fn first_line(text: &[u8]) -> (&[u8], &[u8])
     ensures whole { result.0.now ++ result.1.now ≡ text.now }
-    ensures first { (line more : List ℕ) → spec.IsLinePart 10 line → text.now ≡ line ++ 10 ∷ more → (result.0.now ≡ line ++ 10 ∷ []) × (result.1.now ≡ more) }
+    ensures first { (line more : List ℕ) → spec.IsLinePart 10 line → text.now ≡ line ++ 10 ∷ more
+        → (result.0.now ≡ line ++ 10 ∷ []) × (result.1.now ≡ more) }
     ensures shorter { 1 ≤ length text.now → length result.1.now < length text.now }
 {
     let end = split_around(b'\n', text).0.len();
@@ -105,12 +112,16 @@ pub(crate) fn first_line(text: &[u8]) -> (&[u8], &[u8])
     }
 }
 
-/// Reads a journal's text: its entries, or None where no journal has this text. Only want of memory is an error.
+/// Reads a journal's text: its entries, or None where no journal has this text. Only want of memory
+/// is an error.
 ///
-/// It is the exact inverse of the text: what it gives has this text, and where entries have this text it gives them.
+/// It is the exact inverse of the text: what it gives has this text, and where entries have this
+/// text it gives them.
 pub fn read_journal(alloc: Global, text: &[u8]) -> Result<Option<Vec<Entry>>, AllocError>
-    ensures reads { IfOk result (λ read. IfSome read (λ entries. history.CanBeJournal entries.items × (text.now ≡ lines_from 1 entries.items))) }
-    ensures whole { IfOk result (λ read. (entries : List AnyEntry) → history.CanBeJournal entries → text.now ≡ lines_from 1 entries →
+    ensures reads { IfOk result (λ read. IfSome read
+        (λ entries. history.CanBeJournal entries.items × (text.now ≡ lines_from 1 entries.items))) }
+    ensures whole { IfOk result (λ read. (entries : List AnyEntry) → history.CanBeJournal entries
+        → text.now ≡ lines_from 1 entries →
         option_map (λ v. v.items) read ≡ Some entries) }
 {
     let mut entries = Vec::new(alloc);

@@ -14,11 +14,13 @@ pub fn printed_op_asks_for_it()
 
 /// No two journals have one text.
 pub fn texts_differ()
-    ensures { (entries others : List AnyEntry) → CanBeJournal entries → CanBeJournal others → lines_from 1 entries ≡ lines_from 1 others → entries ≡ others }
+    ensures { (entries others : List AnyEntry) → CanBeJournal entries → CanBeJournal others
+        → lines_from 1 entries ≡ lines_from 1 others → entries ≡ others }
 {}
 
 /// No text tells two journals.
 pub fn text_tells_one()
-    ensures { (text : List ℕ) (entries others : List AnyEntry) → CanBeJournal entries → CanBeJournal others → TextTells text entries → TextTells text others →
+    ensures { (text : List ℕ) (entries others : List AnyEntry) → CanBeJournal entries
+        → CanBeJournal others → TextTells text entries → TextTells text others →
         entries ≡ others }
 {}

@@ -1,7 +1,7 @@
 //! The operations and the answers of an entry's line.
 //!
-//! What is read here is right where the text is one that was printed, and else anything: an entry is printed again once it
-//! is read, and is taken only where that gives the line.
+//! What is read here is right where the text is one that was printed, and else anything: an entry
+//! is printed again once it is read, and is taken only where that gives the line.
 ghost use Rattle.std.specs.List.{join_by};
 ghost use Rattle.std.specs.Option.{option_map};
 ghost use Rattle.std.specs.Prelude.{◌≡◌, List, All, Some, IfOk, codes};
@@ -33,7 +33,8 @@ fn read_op(alloc: Global, text: &[u8]) -> Result<Option<Op>, AllocError>
 
 /// The answer that a text tells: the number behind `node `, if there is one.
 fn read_done(text: &[u8]) -> Done
-    ensures { (done : AnyDone) → history.CanBeDone done → text.now ≡ done_text done → result ≡ done }
+    ensures { (done : AnyDone) → history.CanBeDone done → text.now ≡ done_text done → result
+        ≡ done }
 {
     match word_of(skip(5, text)) {
         Some(node) => Done::Node(node),
@@ -43,7 +44,8 @@ fn read_done(text: &[u8]) -> Done
 
 /// The operations of a text, parted by `; `.
 pub fn read_ops(alloc: Global, text: &[u8]) -> Result<Option<Vec<Op>>, AllocError>
-    ensures { IfOk result (λ read. (ops : List AnyOp) → All history.CanBeOp ops → text.now ≡ join_by op_text (codes "; ") ops →
+    ensures { IfOk result (λ read. (ops : List AnyOp) → All history.CanBeOp ops → text.now
+        ≡ join_by op_text (codes "; ") ops →
         option_map (λ v. v.items) read ≡ Some ops) }
 {
     printed_op_asks_for_it();
@@ -65,7 +67,8 @@ pub fn read_ops(alloc: Global, text: &[u8]) -> Result<Option<Vec<Op>>, AllocErro
 
 /// The answers of a text, parted by `; `.
 pub fn read_dones(alloc: Global, text: &[u8]) -> Result<Option<Vec<Done>>, AllocError>
-    ensures { IfOk result (λ read. (dones : List AnyDone) → All history.CanBeDone dones → text.now ≡ join_by done_text (codes "; ") dones →
+    ensures { IfOk result (λ read. (dones : List AnyDone) → All history.CanBeDone dones → text.now
+        ≡ join_by done_text (codes "; ") dones →
         option_map (λ v. v.items) read ≡ Some dones) }
 {
     let mut dones = Vec::new(alloc);

@@ -1,8 +1,9 @@
 //! Where a part of an entry's line ends.
 //!
-//! The parts of a line are parted by single bytes: a blank, `>`, `;` and the LF. A name or a text in quotes may have each of
-//! them too, so a part ends at the first such byte outside quotes.
-ghost use Rattle.std.specs.Prelude.{◌≡◌, ◌≤◌, ◌<◌, ◌-◌, ◌↔◌, ◌++◌, ◌∷◌, [], ℕ, List, true, drop, take, length, nat_eq, if◌then◌else◌};
+//! The parts of a line are parted by single bytes: a blank, `>`, `;` and the LF. A name or a text
+//! in quotes may have each of them too, so a part ends at the first such byte outside quotes.
+ghost use Rattle.std.specs.Prelude.{◌≡◌, ◌≤◌, ◌<◌, ◌-◌, ◌↔◌, ◌++◌, ◌∷◌, [], ℕ, List, true, drop};
+ghost use Rattle.std.specs.Prelude.{take, length, nat_eq, if◌then◌else◌};
 ghost use Rattle.be_journal_text.specs.Parts as spec;
 
 /// Whether a byte stands in quotes.
@@ -16,7 +17,8 @@ pub enum Quoting {
 
 /// Where the byte behind this one stands.
 fn behind(quoting: Quoting, byte: u8) -> Quoting
-    ensures outside { quoting ≡ Quoting.Outside → result ≡ (if nat_eq byte 34 then Quoting.Inside else Quoting.Outside) }
+    ensures outside { quoting ≡ Quoting.Outside → result
+        ≡ (if nat_eq byte 34 then Quoting.Inside else Quoting.Outside) }
     ensures inside { quoting ≡ Quoting.Inside → result ≡ (if nat_eq byte 92 then Quoting.Escaped
         else if nat_eq byte 34 then Quoting.Outside else Quoting.Inside) }
     ensures escaped { quoting ≡ Quoting.Escaped → result ≡ Quoting.Inside }
@@ -54,7 +56,8 @@ fn is_end(end: u8, quoting: Quoting, byte: u8) -> bool
 
 /// How many bytes stand before the first `end` outside quotes; all where there is none.
 fn length_to(end: u8, text: &[u8]) -> usize
-    ensures ends { (part more : List ℕ) → spec.IsLinePart end part → text.now ≡ part ++ end ∷ more → result ≡ length part }
+    ensures ends { (part more : List ℕ) → spec.IsLinePart end part → text.now ≡ part ++ end ∷ more
+        → result ≡ length part }
     ensures alone { spec.IsLinePart end text.now → result ≡ length text.now }
     ensures within { result ≤ length text.now }
 {
@@ -83,9 +86,11 @@ pub fn skip(count: usize, text: &[u8]) -> &[u8]
     }
 }
 
-/// What stands before the first `end` outside quotes, and what follows that `end`; all and nothing where there is none.
+/// What stands before the first `end` outside quotes, and what follows that `end`; all and nothing
+/// where there is none.
 pub fn split_around(end: u8, text: &[u8]) -> (&[u8], &[u8])
-    ensures ends { (part more : List ℕ) → spec.IsLinePart end part → text.now ≡ part ++ end ∷ more → (result.0.now ≡ part) × (result.1.now ≡ more) }
+    ensures ends { (part more : List ℕ) → spec.IsLinePart end part → text.now ≡ part ++ end ∷ more
+        → (result.0.now ≡ part) × (result.1.now ≡ more) }
     ensures alone { spec.IsLinePart end text.now → (result.0.now ≡ text.now) × (result.1.now ≡ []) }
     ensures within { length result.0.now ≤ length text.now }
     ensures shorter { 1 ≤ length text.now → length result.1.now < length text.now }

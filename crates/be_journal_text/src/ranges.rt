@@ -1,5 +1,5 @@
-//! What is at hand is such of the program: a contract can't tell of a number or an operation that it is lent that it is in
-//! its type's range. Each function does nothing; its contract says so.
+//! What is at hand is such of the program: a contract can't tell of a number or an operation that
+//! it is lent that it is in its type's range. Each function does nothing; its contract says so.
 ghost use Rattle.std.specs.Prelude.{◌<◌, ◌^◌, All};
 ghost use Rattle.be_journal_text.specs.History as history;
 
@@ -25,8 +25,8 @@ fn value_has_bytes(value: &Value)
     }
 }
 
-/// A law of one operation: it is one of the program, as a contract can't tell of an operation that it is lent. It does
-/// nothing.
+/// A law of one operation: it is one of the program, as a contract can't tell of an operation that
+/// it is lent. It does nothing.
 fn op_can_be(op: &Op)
     ensures { history.CanBeOp op.now }
 {

@@ -1,7 +1,7 @@
 //! The script that makes a journal's volume again, and not its history.
 //!
-//! The journal is replayed on a plain volume, and the operations that make this volume are written list by list. Whatever
-//! the journal was, the script has no more writes than it.
+//! The journal is replayed on a plain volume, and the operations that make this volume are written
+//! list by list. Whatever the journal was, the script has no more writes than it.
 ghost use Rattle.std.specs.Option.{option_map};
 ghost use Rattle.std.specs.Prelude.{◌≡◌, ◌<◌, ◌++◌, [], All, IfOk, OnOk, length, true, false};
 ghost use Rattle.std.specs.String.{string_bytes};
@@ -22,7 +22,8 @@ use std::alloc::{AllocError, Global};
 
 /// Appends the lines of one write, whose operations are such of the program.
 pub fn push_write(alloc: Global, text: &mut String, ops: &[Op]) -> Result<(), AllocError>
-    ensures text { OnOk result (string_bytes text.new ≡ string_bytes text.old ++ spec.write_lines ops.now) }
+    ensures text { OnOk result (string_bytes text.new ≡ string_bytes text.old
+        ++ spec.write_lines ops.now) }
     ensures can { All CanBeOp ops.now }
 {
     ops_can_be(ops);
@@ -39,8 +40,10 @@ fn push_next(
     ensures whole { whole.new ≡ whole.old }
     ensures text { OnOk result (string_bytes text.new ++ spec.cut_lines (left whole.old place.new)
         ≡ string_bytes text.old ++ spec.cut_lines (left whole.old place.old)) }
-    ensures can { OnOk result (All CanBeOp (left whole.old place.new) → All CanBeOp (left whole.old place.old)) }
-    ensures fewer { IfOk result (λ more. more ≡ true → length (left whole.old place.new) < length (left whole.old place.old)) }
+    ensures can { OnOk result (All CanBeOp (left whole.old place.new)
+        → All CanBeOp (left whole.old place.old)) }
+    ensures fewer { IfOk result (λ more. more ≡ true → length (left whole.old place.new)
+        < length (left whole.old place.old)) }
     ensures ends { IfOk result (λ more. more ≡ false → left whole.old place.new ≡ []) }
 {
     let Some(ops) = next_list(whole, place)? else {
@@ -50,8 +53,8 @@ fn push_next(
     Ok(true)
 }
 
-/// The script that makes a volume, and not its history: what `dump_state` gives of a journal that makes this volume. Only want
-/// of memory is an error.
+/// The script that makes a volume, and not its history: what `dump_state` gives of a journal that
+/// makes this volume. Only want of memory is an error.
 pub fn volume_text(alloc: Global, volume: &Volume) -> Result<String, AllocError>
     ensures text { IfOk result (λ text. string_bytes text ≡ spec.state_dump volume.now) }
     ensures can { OnOk result (All CanBeOp (state_ops volume.now)) }
@@ -66,19 +69,21 @@ pub fn volume_text(alloc: Global, volume: &Volume) -> Result<String, AllocError>
 /// The script that makes the volume of these entries.
 fn entries_text(alloc: Global, entries: &[Entry]) -> Result<String, AllocError>
     requires { AreChecked entries.now }
-    ensures text { IfOk result (λ text. string_bytes text ≡ spec.state_dump (model.replay entries.now)) }
+    ensures text { IfOk result (λ text. string_bytes text
+        ≡ spec.state_dump (model.replay entries.now)) }
     ensures can { OnOk result (All CanBeOp (state_ops (model.replay entries.now))) }
 {
     let volume = replay(alloc, entries)?;
     volume_text(alloc, &volume)
 }
 
-/// The script that makes the volume of the journal that a text tells, and not its history: nodes with their numbers,
-/// attributes and indices with the pairs that they have, in batches of 64 operations. None where the text tells no journal.
-/// Only want of memory is an error.
+/// The script that makes the volume of the journal that a text tells, and not its history: nodes
+/// with their numbers, attributes and indices with the pairs that they have, in batches of 64
+/// operations. None where the text tells no journal. Only want of memory is an error.
 ///
-/// An entry that the volume refuses, as only a wrong journal has one, changes nothing. What the script makes is
-/// be_script_runner's law `state_dump_makes_volume`. It costs what the entries change, and then what be_volume_state's `next_list` says.
+/// An entry that the volume refuses, as only a wrong journal has one, changes nothing. What the
+/// script makes is be_script_runner's law `state_dump_makes_volume`. It costs what the entries
+/// change, and then what be_volume_state's `next_list` says.
 pub fn dump_state(alloc: Global, text: &[u8]) -> Result<Option<String>, AllocError>
     ensures { IfOk result (λ script. spec.IsStateDump text.now (option_map string_bytes script)) }
 {

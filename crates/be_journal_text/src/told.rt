@@ -1,9 +1,10 @@
 //! The journal that a race or a run printed.
 //!
-//! It is the end of what was printed: the line `journal N`, the journal's text, and `replay ok`. No line of a journal's text
-//! begins with a `j`, so the last line that does is where it begins.
+//! It is the end of what was printed: the line `journal N`, the journal's text, and `replay ok`. No
+//! line of a journal's text begins with a `j`, so the last line that does is where it begins.
 ghost use Rattle.std.specs.Option.{option_map};
-ghost use Rattle.std.specs.Prelude.{◌≡◌, ◌≢◌, ◌↔◌, ◌++◌, ℕ, true, List, Some, IfOk, IfSome, MatchOption, codes};
+ghost use Rattle.std.specs.Prelude.{◌≡◌, ◌≢◌, ◌↔◌, ◌++◌, ℕ, true, List, Some, IfOk, IfSome};
+ghost use Rattle.std.specs.Prelude.{MatchOption, codes};
 ghost use Rattle.be_journal.specs.Text.{result_text};
 ghost use Rattle.be_journal.specs.declared.entries.Entry.{Entry as AnyEntry};
 ghost use Rattle.be_journal_text.specs.Finding as spec;
@@ -43,15 +44,18 @@ fn is_head(alloc: Global, text: &[u8], count: usize) -> Result<bool, AllocError>
 
 /// The lines before the last one, where that says that the replay is right.
 fn before_last(text: &[u8]) -> Option<&[u8]>
-    ensures { MatchOption result ((lines : List ℕ) → text.now ≢ lines ++ codes "replay ok\n") (λ lines. text.now ≡ lines.now ++ codes "replay ok\n") }
+    ensures { MatchOption result ((lines : List ℕ) → text.now ≢ lines ++ codes "replay ok\n")
+        (λ lines. text.now ≡ lines.now ++ codes "replay ok\n") }
 {
     text.strip_suffix(LAST_LINE)
 }
 
 /// The entries of a text that ends a race: `journal N`, the journal's text, and `replay ok`.
 fn read_result(alloc: Global, text: &[u8]) -> Result<Option<Vec<Entry>>, AllocError>
-    ensures reads { IfOk result (λ read. IfSome read (λ entries. CanBeJournal entries.items × (text.now ≡ result_text entries.items))) }
-    ensures whole { IfOk result (λ read. (entries : List AnyEntry) → CanBeJournal entries → text.now ≡ result_text entries →
+    ensures reads { IfOk result (λ read. IfSome read
+        (λ entries. CanBeJournal entries.items × (text.now ≡ result_text entries.items))) }
+    ensures whole { IfOk result (λ read. (entries : List AnyEntry) → CanBeJournal entries → text.now
+        ≡ result_text entries →
         option_map (λ v. v.items) read ≡ Some entries) }
 {
     let (head, rest) = first_line(text);
@@ -68,13 +72,16 @@ fn read_result(alloc: Global, text: &[u8]) -> Result<Option<Vec<Entry>>, AllocEr
     }
 }
 
-/// The journal that a text tells: what a race printed, or a run that prints its journal, or the journal's text alone. None
-/// where it tells none. Only want of memory is an error.
+/// The journal that a text tells: what a race printed, or a run that prints its journal, or the
+/// journal's text alone. None where it tells none. Only want of memory is an error.
 ///
-/// It is exact: what it gives is told by this text, and what the text tells it gives. So no text tells two journals.
+/// It is exact: what it gives is told by this text, and what the text tells it gives. So no text
+/// tells two journals.
 pub fn journal_told(alloc: Global, text: &[u8]) -> Result<Option<Vec<Entry>>, AllocError>
-    ensures reads { IfOk result (λ read. IfSome read (λ entries. CanBeJournal entries.items × spec.TextTells text.now entries.items)) }
-    ensures whole { IfOk result (λ read. (entries : List AnyEntry) → CanBeJournal entries → spec.TextTells text.now entries →
+    ensures reads { IfOk result (λ read. IfSome read
+        (λ entries. CanBeJournal entries.items × spec.TextTells text.now entries.items)) }
+    ensures whole { IfOk result (λ read. (entries : List AnyEntry) → CanBeJournal entries
+        → spec.TextTells text.now entries →
         option_map (λ v. v.items) read ≡ Some entries) }
 {
     match from_last_j(text) {

@@ -1,13 +1,15 @@
-//! Texts of journals, as docs/SCRIPTS.md shows them: what is read, what isn't, what a check finds, and the script of a
-//! journal.
+//! Texts of journals, as docs/SCRIPTS.md shows them: what is read, what isn't, what a check finds,
+//! and the script of a journal.
 //!
-//! Every test passes with any one request for memory refused: a call that wanted memory is made again.
+//! Every test passes with any one request for memory refused: a call that wanted memory is made
+//! again.
 use be_journal_text::{Finding, check, dump, dump_state, journal_told, read_journal};
 use be_journal::{Entry, entry_line};
 use std::alloc::{AllocError, Global};
 use std::test::Fail;
 
-/// Entries of each operation and of each kind of value, with what looks like the end of a part in names and texts.
+/// Entries of each operation and of each kind of value, with what looks like the end of a part in
+/// names and texts.
 const EACH: &str = "\
 1 by 0 new -> node 1\n\
 2 by 63 set 1 \"a -> b; c\\\"\\\\\\n\\r\" CSTR \"; > \\\" -> ok\" -> ok\n\

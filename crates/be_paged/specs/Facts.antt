@@ -13,7 +13,8 @@ use Rattle.be_paged.specs.declared.asked.Asked.{Asked}
 use Rattle.be_paged.specs.Version.{IsInHand, Spells}
 
 -- the contents in hand spell this volume, which is sound
-pub record AnswersFor (standing : ℕ → Standing) (words : ℕ → ℕ → ℕ) (c : Contents) (volume : State) : Type 0 where
+pub record AnswersFor (standing : ℕ → Standing) (words : ℕ → ℕ → ℕ) (c : Contents) (volume : State)
+    : Type 0 where
   pub in_hand : IsInHand standing words c
   pub spells : Spells words c volume
   pub sound : IsSound volume

@@ -1,5 +1,6 @@
 -- The nodes of a volume from a number on, and the nodes that pairs of the catalog mark.
-use Rattle.std.specs.Prelude.{ℕ, Bool, List, [], ◌∷◌, length, take, filter, nat_eq, nat_le, if◌then◌else◌}
+use Rattle.std.specs.Prelude.{ℕ, Bool, List, [], ◌∷◌, length, take, filter, nat_eq, nat_le}
+use Rattle.std.specs.Prelude.{if◌then◌else◌}
 use Rattle.std.specs.Int.{from_be_bytes, w64}
 use Rattle.std.specs.FinMap as map
 use Rattle.be_tree.specs.Pair.{Pair}

@@ -13,7 +13,8 @@ use Rattle.be_paged.specs.Page.{Contents, contents_of, IsVersionPage, roots}
 use Rattle.be_paged.specs.Catalog.{IsCatalog, IsIndexOf}
 
 -- the entry is the index of that name
-pub record IsEntryOf (words : ℕ → ℕ → ℕ) (entry : Entry) (name : List ℕ) (index : Index) : Type 0 where
+pub record IsEntryOf (words : ℕ → ℕ → ℕ) (entry : Entry) (name : List ℕ) (index : Index) : Type 0
+    where
   pub name_is : entry.name ≡ name
   pub kind_is : entry.kind ≡ index.kind
   pub keys : IsIndexOf (pairs words entry.root) index
@@ -25,7 +26,8 @@ AreEntriesOf words [] (i ∷ is) = ⊥
 AreEntriesOf words (e ∷ es) [] = ⊥
 AreEntriesOf words (e ∷ es) (i ∷ is) = IsEntryOf words e i.0 i.1 × AreEntriesOf words es is
 
--- The contents spell the volume: its next number, its nodes with their attributes, and its indices by ascending names.
+-- The contents spell the volume: its next number, its nodes with their attributes, and its indices
+-- by ascending names.
 pub record Spells (words : ℕ → ℕ → ℕ) (c : Contents) (volume : State) : Type 0 where
   pub next : c.next ≡ volume.next
   pub catalog : IsCatalog (pairs words c.catalog) volume.nodes
@@ -39,7 +41,8 @@ pub record IsInHand (standing : ℕ → Standing) (words : ℕ → ℕ → ℕ) 
   pub trees : AreTrees standing words (roots c)
 
 -- the page is a version page, in use and in none of its trees, whose contents spell this volume
-pub record IsVersion (standing : ℕ → Standing) (words : ℕ → ℕ → ℕ) (page : ℕ) (volume : State) : Type 0 where
+pub record IsVersion (standing : ℕ → Standing) (words : ℕ → ℕ → ℕ) (page : ℕ) (volume : State) :
+    Type 0 where
   pub in_use : IsTrue (is_kept (standing page))
   pub is_page : IsVersionPage (words page)
   pub apart : times page (pages_of words (roots (contents_of (words page)))) ≡ 0

@@ -39,7 +39,8 @@ pub(crate) fn index_at(entries: &[Entry], at: usize) -> (Kind, u64)
 /// Gives the index at a place another root.
 pub(crate) fn set_root(entries: &mut ArrayVec<Entry, 32>, at: usize, root: u64)
     requires { at < length entries.old.items }
-    ensures { (d : AnyEntry) → entries.new.items ≡ with_root entries.old.items at (slice_index_or entries.old.items at d) root }
+    ensures { (d : AnyEntry) → entries.new.items
+        ≡ with_root entries.old.items at (slice_index_or entries.old.items at d) root }
 {
     entries[at].set_root(root);
 }

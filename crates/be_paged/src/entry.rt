@@ -15,7 +15,8 @@ use std::cmp::Ordering;
 use std::marker::Model;
 use std::str;
 
-/// An index of a version. Its name stands in eight words, as on the page. A contract sees the name's bytes, the kind and the root.
+/// An index of a version. Its name stands in eight words, as on the page. A contract sees the
+/// name's bytes, the kind and the root.
 #[derive(Drop)]
 pub(crate) struct Entry {
     len: usize,
@@ -31,9 +32,11 @@ impl Model for Entry {
 
     ghost Value = { AnyEntry };
 
-    ghost view = { λ e. record { name = bytes_at (slice_index e.words) 0 e.len; kind = e.kind; root = e.root } };
+    ghost view = { λ e. record { name = bytes_at (slice_index e.words) 0 e.len; kind = e.kind;
+        root = e.root } };
 
-    ghost invariant = { λ e. (e.len ≤ 63) × HaveText (slice_index e.words) (bytes_at (slice_index e.words) 0 e.len) };
+    ghost invariant = { λ e. (e.len ≤ 63)
+        × HaveText (slice_index e.words) (bytes_at (slice_index e.words) 0 e.len) };
 }
 
 impl Default for Entry {
@@ -154,7 +157,8 @@ impl Entry {
         bytes
     }
 
-    /// How the index's name compares with a name. The words behind a name are zeros, so the first word that differs decides, and else the lengths.
+    /// How the index's name compares with a name. The words behind a name are zeros, so the first
+    /// word that differs decides, and else the lengths.
     pub(crate) fn compare(&self, name: &Name) -> Ordering
         ensures { result ≡ name_cmp self.now.name name.now }
     {

@@ -1,8 +1,8 @@
-//! The same requests to both forms of a volume: lines `REQUEST => REPLY` in the words of scripts, with ` / ` between several
-//! requests and between the lines of replies.
+//! The same requests to both forms of a volume: lines `REQUEST => REPLY` in the words of scripts,
+//! with ` / ` between several requests and between the lines of replies.
 //!
-//! A list of several operations has `;` between them. `pick PLACE TEXT` is a query by one pick, and `free` the number of free
-//! pages, which the room alone answers.
+//! A list of several operations has `;` between them. `pick PLACE TEXT` is a query by one pick, and
+//! `free` the number of free pages, which the room alone answers.
 
 mod asking;
 mod both;
@@ -141,7 +141,8 @@ pub(crate) fn run_lines(alloc: Global, both: Both, lines: &str) -> Result<Both, 
     Ok(both)
 }
 
-/// Fails unless both forms give these replies, the one in a room of 64 pages. Gives what stands then.
+/// Fails unless both forms give these replies, the one in a room of 64 pages. Gives what stands
+/// then.
 fn runs(alloc: Global, lines: &str) -> Result<Both, Fail> {
     let both = Both::new(alloc, 64)?;
     run_lines(alloc, both, lines)
@@ -196,7 +197,8 @@ fn make_nodes(both: Both, most: u64) -> Result<(Both, u64), Fail> {
     Ok((both, most))
 }
 
-/// A room of eight pages takes at least 13 nodes and at most 36. Then it is full, which the version page outlives.
+/// A room of eight pages takes at least 13 nodes and at most 36. Then it is full, which the version
+/// page outlives.
 #[test]
 fn smallest_pool(rt: HostRuntime) -> Result<(), Fail> {
     let (both, made) = make_nodes(Both::new(rt.alloc(), 8)?, 37)?;

@@ -9,4 +9,5 @@ IsFullOf tells refusal = (least : ℕ) × (refusal ≡ Full least) × tells leas
 
 -- for a number of pages: a limit out of its range exactly, or no memory
 abbrev pub IsLimitOrMemory : ℕ → Refusal → Type 0
-IsLimitOrMemory pages refusal = (refusal ≡ BadLimits × ((pages < 8) ⊎ (16384 < pages))) ⊎ (refusal ≡ OutOfMemory × (8 ≤ pages) × (pages ≤ 16384))
+IsLimitOrMemory pages refusal = (refusal ≡ BadLimits × ((pages < 8) ⊎ (16384 < pages)))
+    ⊎ (refusal ≡ OutOfMemory × (8 ≤ pages) × (pages ≤ 16384))

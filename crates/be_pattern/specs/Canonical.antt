@@ -1,5 +1,6 @@
 -- The canonical text of a pattern, and what of it is literal. Texts are lists of characters here.
-use Rattle.std.specs.Prelude.{ℕ, Bool, true, false, List, [], ◌∷◌, ◌++◌, map, codes, ◌&&◌, ◌||◌, ◌==◌, if◌then◌else◌}
+use Rattle.std.specs.Prelude.{ℕ, Bool, true, false, List, [], ◌∷◌, ◌++◌, map, codes, ◌&&◌, ◌||◌}
+use Rattle.std.specs.Prelude.{◌==◌, if◌then◌else◌}
 use Rattle.std.specs.List.{flat_map, list_all}
 use Rattle.be_pattern.specs.Parse.{are_members}
 use Rattle.be_pattern.specs.Match.{Part, Run, One, Among, Only}

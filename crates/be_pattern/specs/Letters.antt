@@ -1,5 +1,7 @@
--- What the code has read of a pattern's text, as the definitions see it. It serves the proofs alone: `Parse` says what a text means.
-use Rattle.std.specs.Prelude.{ℕ, ◌+◌, ◌-◌, zero, suc, Bool, true, false, Option, Some, None, List, [], ◌∷◌, length, drop, ◌&&◌, not, if◌then◌else◌}
+-- What the code has read of a pattern's text, as the definitions see it. It serves the proofs
+-- alone: `Parse` says what a text means.
+use Rattle.std.specs.Prelude.{ℕ, ◌+◌, ◌-◌, zero, suc, Bool, true, false, Option, Some, None, List}
+use Rattle.std.specs.Prelude.{[], ◌∷◌, length, drop, ◌&&◌, not, if◌then◌else◌}
 use Rattle.std.specs.List.{list_any, before_first}
 use Rattle.std.specs.Str.{chars}
 use Rattle.be_pattern.specs.declared.parsing.Letter as code
@@ -21,7 +23,8 @@ abbrev pub ending_of : ℕ → ℕ → Option ℕ
 ending_of total zero = None
 ending_of total (suc n) = Some (total - suc n)
 
--- the last character of a range, and the letters behind it, where a `-` and that character stand first
+-- the last character of a range, and the letters behind it, where a `-` and that character stand
+-- first
 abbrev pub dashed : List Letter → Option (ℕ × List Letter)
 dashed [] = None
 dashed (d ∷ []) = None
@@ -52,7 +55,8 @@ with_members negated (Some p) = with_rest p.1 (set_with negated p.0)
 -- the set behind a `[`, and the letters behind it
 abbrev pub set_behind : List Letter → Option (Part × List Letter)
 set_behind [] = None
-set_behind (l ∷ ls) = if is_bare 94 l then with_members true (members_behind ls) else with_members false (members_behind (l ∷ ls))
+set_behind (l ∷ ls) = if is_bare 94 l then with_members true (members_behind ls)
+    else with_members false (members_behind (l ∷ ls))
 
 -- the token that begins with a letter, and the letters behind it
 abbrev pub token_at : Letter → List Letter → Option (Part × List Letter)

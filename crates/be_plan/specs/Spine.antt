@@ -13,10 +13,14 @@ is_or (Leaf name op literal) = false
 is_or (And a b) = false
 is_or (Or a b) = true
 
--- The part, whose first comparison has the place `from`, stands under "or" alone: the whole is true where it is, and what the whole allows by way of a pick in the part, the part allows. So of a whole that is no "or" it is the whole itself.
+-- The part, whose first comparison has the place `from`, stands under "or" alone: the whole is true
+-- where it is, and what the whole allows by way of a pick in the part, the part allows. So of a
+-- whole that is no "or" it is the whole itself.
 pub record IsUnderOr (whole : Formula) (from : ℕ) (part : Formula) : Type 0 where
-  pub places : (i : ℕ) → i < comparisons part → slice_get (leaves whole) (from + i) ≡ slice_get (leaves part) i
-  pub allows : (pick : ℕ) (name : List ℕ) (v : Value) → from ≤ pick → pick < from + comparisons part → Allows pick 0 whole name v → Allows pick from part name v
+  pub places : (i : ℕ) → i < comparisons part → slice_get (leaves whole) (from + i)
+      ≡ slice_get (leaves part) i
+  pub allows : (pick : ℕ) (name : List ℕ) (v : Value) → from ≤ pick → pick < from + comparisons part
+      → Allows pick 0 whole name v → Allows pick from part name v
   pub tells : (s : State) (node : ℕ) → sat s part node ≡ true → sat s whole node ≡ true
   pub alone : is_or whole ≡ false → part ≡ whole
 

@@ -1,7 +1,7 @@
 //! Comparisons that are asked of many texts.
 //!
-//! A walk over an index of texts asks one comparison of each key. So its pattern is compiled once, and then asked of the bytes of the keys:
-//! no text is taken out of a key, and none is decoded.
+//! A walk over an index of texts asks one comparison of each key. So its pattern is compiled once,
+//! and then asked of the bytes of the keys: no text is taken out of a key, and none is decoded.
 ghost use Rattle.std.specs.Prelude.{◌≡◌, IsUtf8, IfOk, IfErr};
 ghost use Rattle.be_value.specs.declared.refusals.Refusal.TheVariants.{OutOfMemory};
 ghost use Rattle.be_query.specs.View.{literal};
@@ -42,7 +42,8 @@ impl<'q> Model for TextTest<'q> {
 impl<'q> TextTest<'q> {
     /// Makes a comparison ready. It takes memory for a pattern alone.
     pub(crate) fn new(alloc: Global, comparison: &'q Comparison) -> Result<TextTest<'q>, Refusal>
-        ensures ok { IfOk result (λ test. test ≡ (comparison.now.op, literal comparison.now.literal)) }
+        ensures ok { IfOk result (λ test. test
+            ≡ (comparison.now.op, literal comparison.now.literal)) }
         ensures err { IfErr result (λ e. e ≡ OutOfMemory) }
     {
         let compared = match &comparison.literal {
@@ -69,7 +70,8 @@ impl<'q> TextTest<'q> {
     }
 }
 
-/// The text of a key of an index of texts: what comes before a zero byte and the eight bytes of the node.
+/// The text of a key of an index of texts: what comes before a zero byte and the eight bytes of the
+/// node.
 pub(crate) fn text_of(key: &[u8]) -> &[u8]
     ensures { result.now ≡ text_in key.now }
 {

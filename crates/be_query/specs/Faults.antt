@@ -1,9 +1,11 @@
 -- The fault of a query's text: the first that is met when its tokens are read from the left.
-use Rattle.std.specs.Prelude.{ℕ, ◌+◌, Bool, true, false, Option, Some, None, Result, Ok, Err, List, [], ◌∷◌, length, nat_lt, nat_le, if◌then◌else◌}
+use Rattle.std.specs.Prelude.{ℕ, ◌+◌, Bool, true, false, Option, Some, None, Result, Ok, Err, List}
+use Rattle.std.specs.Prelude.{[], ◌∷◌, length, nat_lt, nat_le, if◌then◌else◌}
 use Rattle.std.specs.Str.{chars}
 use Rattle.be_pattern.specs.Parse.{pattern}
 use Rattle.be_value.specs.declared.refusals.Refusal.{Refusal}
-use Rattle.be_value.specs.declared.refusals.Refusal.TheVariants.{Syntax, BadPattern, TooLong, TooDeep, TooMany}
+use Rattle.be_value.specs.declared.refusals.Refusal.TheVariants.{Syntax, BadPattern, TooLong}
+use Rattle.be_value.specs.declared.refusals.Refusal.TheVariants.{TooDeep, TooMany}
 use Rattle.be_query.specs.declared.tree.Cmp.{Cmp}
 use Rattle.be_query.specs.declared.tree.Cmp.TheVariants.{Eq, Ne, Lt, Le, Gt, Ge}
 use Rattle.be_query.specs.Tokens.{Token, Open, Bang, Text}
@@ -34,9 +36,12 @@ value_fault comparisons start None = if nat_le 256 comparisons then Some TooMany
 
 -- the fault of a token that can follow, behind so many comparisons; its text begins at start
 abbrev pub own_fault : Awaited → List Mark → ℕ → ℕ → Token → Option Refusal
-own_fault Operand marks comparisons start Open = if nat_le 64 (length marks) then Some TooDeep else None
-own_fault Operand marks comparisons start Bang = if nat_le 64 (length marks) then Some TooDeep else None
-own_fault (Value op) marks comparisons start (Text raw) = value_fault comparisons start (bad_pattern op raw)
+own_fault Operand marks comparisons start Open = if nat_le 64 (length marks) then Some TooDeep
+    else None
+own_fault Operand marks comparisons start Bang = if nat_le 64 (length marks) then Some TooDeep
+    else None
+own_fault (Value op) marks comparisons start (Text raw) = value_fault comparisons start
+    (bad_pattern op raw)
 own_fault _ _ _ _ _ = None
 
 abbrev pub comparisons_with : Awaited → ℕ → ℕ
@@ -69,4 +74,5 @@ first_fault place marks comparisons len (x ∷ xs) = elim x.lexeme [
 ]
 
 abbrev pub fault : List ℕ → Option Refusal
-fault text = if nat_lt 4096 (length text) then Some TooLong else first_fault Operand [] 0 (length text) (lexemes 0 0 text)
+fault text = if nat_lt 4096 (length text) then Some TooLong
+    else first_fault Operand [] 0 (length text) (lexemes 0 0 text)

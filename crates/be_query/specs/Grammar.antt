@@ -9,7 +9,8 @@ use Rattle.be_pattern.specs.Parse.{pattern}
 use Rattle.be_query.specs.declared.tree.Cmp.{Cmp}
 use Rattle.be_query.specs.declared.tree.Cmp.TheVariants.{Eq, Ne, Lt, Le, Gt, Ge}
 use Rattle.be_query.specs.Lexing.{lexemes, all_whole, tokens}
-use Rattle.be_query.specs.Tokens.{Token, Open, Close, Bang, Both, Either, Compares, Text, plain, is_name}
+use Rattle.be_query.specs.Tokens.{Token, Open, Close, Bang, Both, Either, Compares, Text, plain}
+use Rattle.be_query.specs.Tokens.{is_name}
 
 mutual
   pub data OrPhrase : Type 0 where

@@ -1,5 +1,7 @@
 -- How a query's text, a list of bytes, is cut into tokens. The longest token is taken.
-use Rattle.std.specs.Prelude.{◌≡◌, ◌≢◌, ◌≤◌, ◌<◌, ◌⊎◌, ℕ, ◌+◌, ◌-◌, zero, suc, Bool, true, false, List, [], ◌∷◌, length, slice_index, take, ◌||◌, not, ◌==◌, if◌then◌else◌}
+use Rattle.std.specs.Prelude.{◌≡◌, ◌≢◌, ◌≤◌, ◌<◌, ◌⊎◌, ℕ, ◌+◌, ◌-◌, zero, suc, Bool, true, false}
+use Rattle.std.specs.Prelude.{List, [], ◌∷◌, length, slice_index, take, ◌||◌, not, ◌==◌}
+use Rattle.std.specs.Prelude.{if◌then◌else◌}
 use Rattle.be_query.specs.declared.lexer.Span.{Span}
 use Rattle.be_query.specs.declared.lexer.Span.TheVariants.{Ends, Breaks}
 use Rattle.be_query.specs.declared.tree.Cmp.TheVariants.{Eq, Ne, Lt, Le, Gt, Ge}
@@ -15,7 +17,8 @@ is_quote b = (b == 34) || (b == 39)
 
 -- `=`, `!`, `<`, `>`, `&`, `|`, `(` and `)`
 abbrev pub is_sign : ℕ → Bool
-is_sign b = (b == 61) || (b == 33) || (b == 60) || (b == 62) || (b == 38) || (b == 124) || (b == 40) || (b == 41)
+is_sign b = (b == 61) || (b == 33) || (b == 60) || (b == 62) || (b == 38) || (b == 124) || (b == 40)
+    || (b == 41)
 
 abbrev pub is_word : ℕ → Bool
 is_word b = not (is_separator b || is_quote b || is_sign b || (b == 0))
@@ -28,11 +31,13 @@ is_mark quote b = (b == quote) || (b == 0) || (b == 92)
 abbrev pub IsBehind : List ℕ → ℕ → ℕ → Type 0
 IsBehind bytes at next =
     ((slice_index bytes at ≢ 92) × (next ≡ at + 1))
-    ⊎ ((slice_index bytes at ≡ 92) × (at + 1 < length bytes) × (slice_index bytes (at + 1) ≢ 0) × (next ≡ at + 1 + 1))
+    ⊎ ((slice_index bytes at ≡ 92) × (at + 1 < length bytes) × (slice_index bytes (at + 1) ≢ 0)
+        × (next ≡ at + 1 + 1))
 
 -- a backslash stands there, and behind it a NUL or nothing
 abbrev pub IsLone : List ℕ → ℕ → Type 0
-IsLone bytes at = (slice_index bytes at ≡ 92) × ((length bytes ≤ at + 1) ⊎ ((at + 1 < length bytes) × (slice_index bytes (at + 1) ≡ 0)))
+IsLone bytes at = (slice_index bytes at ≡ 92)
+    × ((length bytes ≤ at + 1) ⊎ ((at + 1 < length bytes) × (slice_index bytes (at + 1) ≡ 0)))
 
 abbrev pub further : Span → Span
 further (Ends n) = Ends (n + 1)
@@ -43,7 +48,8 @@ abbrev pub word_span : Bool → List ℕ → Span
 word_span true [] = Breaks 0
 word_span true (b ∷ bs) = if b == 0 then Breaks 0 else further (word_span false bs)
 word_span false [] = Ends 0
-word_span false (b ∷ bs) = if b == 92 then further (word_span true bs) else (if is_word b then further (word_span false bs) else Ends 0)
+word_span false (b ∷ bs) = if b == 92 then further (word_span true bs)
+    else (if is_word b then further (word_span false bs) else Ends 0)
 
 -- The same for what stands behind a quote, up to the next such quote.
 abbrev pub quoted_span : ℕ → Bool → List ℕ → Span
@@ -51,7 +57,9 @@ quoted_span quote true [] = Breaks 0
 quoted_span quote true (b ∷ bs) = if b == 0 then Breaks 0 else further (quoted_span quote false bs)
 quoted_span quote false [] = Breaks 0
 quoted_span quote false (b ∷ bs) =
-    if b == quote then Ends 0 else (if b == 0 then Breaks 0 else (if b == 92 then further (quoted_span quote true bs) else further (quoted_span quote false bs)))
+    if b == quote then Ends 0 else (if b == 0 then Breaks 0
+        else (if b == 92 then further (quoted_span quote true bs)
+        else further (quoted_span quote false bs)))
 
 pub data Lexeme : Type 0 where
   Whole : Token → Lexeme
@@ -60,7 +68,8 @@ pub data Lexeme : Type 0 where
   -- no token begins so: a single `&` or `|`, or a NUL
   Odd : Lexeme
 
--- what stands at the front of a text: a separator; or a lexeme, its bytes, and how many of them stand before its text
+-- what stands at the front of a text: a separator; or a lexeme, its bytes, and how many of them
+-- stand before its text
 pub data Front : Type 0 where
   Separator : Front
   Takes : Lexeme → ℕ → ℕ → Front
@@ -105,7 +114,8 @@ lexemes taken at [] = []
 lexemes (suc taken) at (b ∷ bs) = lexemes taken (at + 1) bs
 lexemes zero at (b ∷ bs) = elim (front b bs) [
   | Separator ↦ lexemes 0 (at + 1) bs
-  | Takes lexeme width shift ↦ record { at = at; start = at + shift; lexeme = lexeme } ∷ lexemes (width - 1) (at + 1) bs
+  | Takes lexeme width shift ↦ record { at = at; start = at + shift; lexeme = lexeme }
+      ∷ lexemes (width - 1) (at + 1) bs
 ]
 
 -- the tokens among them

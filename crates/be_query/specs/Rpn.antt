@@ -1,17 +1,21 @@
 -- The tree that items in reverse Polish order build, or why they build none.
-use Rattle.std.specs.Prelude.{◌≡◌, ℕ, ◌+◌, Bool, true, false, Option, Some, None, Result, Ok, Err, List, [], ◌∷◌, length, map, reverse, nat_le, nat_lt, if◌then◌else◌, string_bytes, IsUtf8}
+use Rattle.std.specs.Prelude.{◌≡◌, ℕ, ◌+◌, Bool, true, false, Option, Some, None, Result, Ok, Err}
+use Rattle.std.specs.Prelude.{List, [], ◌∷◌, length, map, reverse, nat_le, nat_lt, if◌then◌else◌}
+use Rattle.std.specs.Prelude.{string_bytes, IsUtf8}
 use Rattle.std.specs.Str.{chars}
 use Rattle.std.specs.Fmt.{decimal, signed_decimal}
 use Rattle.be_pattern.specs.Canonical.{around}
 use Rattle.be_value.specs.declared.refusals.Refusal.{Refusal}
-use Rattle.be_value.specs.declared.refusals.Refusal.TheVariants.{BadPattern, TooDeep, TooMany, BadRpn}
+use Rattle.be_value.specs.declared.refusals.Refusal.TheVariants.{BadPattern, TooDeep, TooMany}
+use Rattle.be_value.specs.declared.refusals.Refusal.TheVariants.{BadRpn}
 use Rattle.be_query.specs.declared.tree.Cmp.{Cmp}
 use Rattle.be_query.specs.declared.tree.Cmp.TheVariants.{Eq, Ne, Lt, Le, Gt, Ge}
 use Rattle.be_query.specs.declared.rpn.Item as code_item
 use Rattle.be_query.specs.declared.rpn.Thing as code_thing
 use Rattle.be_query.specs.declared.rpn.Stack as code_stack
 use Rattle.be_value.specs.Name.{name_from, has_nul}
-use Rattle.be_query.specs.Grammar.{Formula, Leaf, And, Or, complement, Literal, Wild, Exact, literal_of}
+use Rattle.be_query.specs.Grammar.{Formula, Leaf, And, Or, complement, Literal, Wild, Exact}
+use Rattle.be_query.specs.Grammar.{literal_of}
 use Rattle.be_query.specs.Faults.{takes_pattern, bad_pattern}
 use Rattle.be_query.specs.View.{formula}
 
@@ -68,15 +72,20 @@ counts n leaf stack = if nat_le 256 n then Err TooMany else Ok (n + 1, Whole lea
 abbrev pub given_literal : Cmp → List ℕ → Literal
 given_literal op text = if takes_pattern op then literal_of op text else Exact text
 
-abbrev pub compares : ℕ → ℕ → Cmp → Option (List ℕ × List ℕ × List Thing) → Result (ℕ × List Thing) Refusal
+abbrev pub compares : ℕ → ℕ → Cmp → Option (List ℕ × List ℕ × List Thing)
+    → Result (ℕ × List Thing) Refusal
 compares at n op None = Err (BadRpn at)
-compares at n op (Some c) = elim (bad_pattern op c.1) [ Some _ ↦ Err (BadPattern at) | None ↦ counts n (Leaf c.0 op (given_literal op c.1)) c.2 ]
+compares at n op (Some c) = elim (bad_pattern op c.1)
+    [ Some _ ↦ Err (BadPattern at) | None ↦ counts n (Leaf c.0 op (given_literal op c.1)) c.2 ]
 
-abbrev pub surrounds : ℕ → ℕ → Bool → Bool → Option (List ℕ × List ℕ × List Thing) → Result (ℕ × List Thing) Refusal
+abbrev pub surrounds : ℕ → ℕ → Bool → Bool → Option (List ℕ × List ℕ × List Thing)
+    → Result (ℕ × List Thing) Refusal
 surrounds at n before behind None = Err (BadRpn at)
-surrounds at n before behind (Some c) = counts n (Leaf c.0 Eq (Wild (around before (chars c.1) behind))) c.2
+surrounds at n before behind (Some c) = counts n
+    (Leaf c.0 Eq (Wild (around before (chars c.1) behind))) c.2
 
-abbrev pub joins : ℕ → ℕ → (Formula → Formula → Formula) → Option (Formula × Formula × List Thing) → Result (ℕ × List Thing) Refusal
+abbrev pub joins : ℕ → ℕ → (Formula → Formula → Formula) → Option (Formula × Formula × List Thing)
+    → Result (ℕ × List Thing) Refusal
 joins at n join None = Err (BadRpn at)
 joins at n join (Some s) = Ok (n, Whole (join s.0 s.1) ∷ s.2)
 

@@ -1,11 +1,13 @@
 //! What the definitions of the grammar and of canonical texts imply.
 ghost use Rattle.std.specs.Prelude.{ℕ, ◌≡◌, ◌≤◌, false, List, Some, None, []};
 ghost use Rattle.be_query.specs.Faults.{fault};
-ghost use Rattle.be_query.specs.Grammar.{Formula, OrPhrase, comparisons, Spells, IsTextOf, Viable, or_tokens};
+ghost use Rattle.be_query.specs.Grammar.{Formula, OrPhrase, comparisons, Spells, IsTextOf, Viable};
+ghost use Rattle.be_query.specs.Grammar.{or_tokens};
 ghost use Rattle.be_query.specs.Reading.{Awaited, Joint, Mark, read};
 ghost use Rattle.be_query.specs.Tokens.{Token, plain};
 ghost use Rattle.be_value.specs.Name.{has_nul};
-ghost use Rattle.be_query.specs.Printing.{IsKept, IsPrintable, IsQuotable, IsWhole, with_backslashes, or_printed, or_text, limit_of};
+ghost use Rattle.be_query.specs.Printing.{IsKept, IsPrintable, IsQuotable, IsWhole};
+ghost use Rattle.be_query.specs.Printing.{with_backslashes, or_printed, or_text, limit_of};
 ghost use Rattle.be_query.specs.Lexing.{tokens};
 
 /// A token list is read on exactly as long as some tokens behind it make a sentence, is a sentence
@@ -13,7 +15,8 @@ ghost use Rattle.be_query.specs.Lexing.{tokens};
 pub fn reading()
     ensures viable { (ts : List Token) (s : Awaited × List Mark) → read ts ≡ Some s → Viable ts }
     ensures stuck { (ts : List Token) → read ts ≡ None → Viable ts → ⊥ }
-    ensures sentence { (ts : List Token) → read ts ≡ Some (Joint, []) → (o : OrPhrase) × (or_tokens o ≡ ts) }
+    ensures sentence { (ts : List Token) → read ts ≡ Some (Joint, []) → (o : OrPhrase)
+        × (or_tokens o ≡ ts) }
     ensures whole { (o : OrPhrase) → read (or_tokens o) ≡ Some (Joint, []) }
     // What is printed spells its tree, if its names and values are read back.
     ensures printed { (t : Formula) → IsPrintable t → Spells (or_printed t) t }
@@ -32,8 +35,9 @@ pub fn printing()
     ensures whole { (bs : List ℕ) → has_nul bs ≡ false → IsWhole (with_backslashes bs) }
 {}
 
-/// The canonical text of a query has no fault but the limit that it is past. So `parse` reads it back wherever it has
-/// at most 4,096 bytes and 64 parentheses round a comparison, and by `printing` to the same tree.
+/// The canonical text of a query has no fault but the limit that it is past. So `parse` reads it
+/// back wherever it has at most 4,096 bytes and 64 parentheses round a comparison, and by
+/// `printing` to the same tree.
 pub fn reading_back()
     ensures { (t : Formula) → IsKept t → comparisons t ≤ 256 → fault (or_text t) ≡ limit_of t }
 {}

@@ -1,8 +1,11 @@
-//! How a query's text is cut into tokens. The longest token is taken; a name or value is a word or a quoted text.
-ghost use Rattle.std.specs.Prelude.{false, true, ◌||◌, ℕ, ◌≡◌, ◌≤◌, ◌<◌, ◌+◌, ◌==◌, length, take, drop, slice_get, slice_index, IfNone, IfSome};
+//! How a query's text is cut into tokens. The longest token is taken; a name or value is a word or
+//! a quoted text.
+ghost use Rattle.std.specs.Prelude.{false, true, ◌||◌, ℕ, ◌≡◌, ◌≤◌, ◌<◌, ◌+◌, ◌==◌, length, take};
+ghost use Rattle.std.specs.Prelude.{drop, slice_get, slice_index, IfNone, IfSome};
 ghost use Rattle.std.specs.List.{list_any};
 ghost use Rattle.be_query.specs.View.{IsClean, IsCleanFront, token_of, IsFront, SignIs};
-ghost use Rattle.be_query.specs.Lexing.{IsBehind, IsLone, is_quote, is_separator, is_sign, is_word, is_mark, word_span, quoted_span};
+ghost use Rattle.be_query.specs.Lexing.{IsBehind, IsLone, is_quote, is_separator, is_sign, is_word};
+ghost use Rattle.be_query.specs.Lexing.{is_mark, word_span, quoted_span};
 
 use crate::token::Token;
 use crate::tree::Cmp;
@@ -67,7 +70,8 @@ fn is_sign(b: u8) -> bool
         || b == b')'
 }
 
-/// The place behind a byte, and behind the one that it takes if it is a backslash; none where that is a NUL, or isn't there.
+/// The place behind a byte, and behind the one that it takes if it is a backslash; none where that
+/// is a NUL, or isn't there.
 fn behind(bytes: &[u8], at: usize) -> Option<usize>
     requires { at < length bytes.now }
     ensures next { IfSome result (λ next. IsBehind bytes.now at next) }
@@ -112,7 +116,8 @@ fn quoted_span(quote: u8, bytes: &[u8]) -> Span
     span_behind(quote, bytes, front)
 }
 
-/// How many bytes at the front, by whole blocks, are neither a backslash nor anything that ends the quoted text.
+/// How many bytes at the front, by whole blocks, are neither a backslash nor anything that ends the
+/// quoted text.
 fn unmarked_front(quote: u8, bytes: &[u8]) -> usize
     ensures within { result ≤ length bytes.now }
     ensures unmarked { list_any (is_mark quote) (take result bytes.now) ≡ false }

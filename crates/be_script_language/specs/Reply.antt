@@ -80,7 +80,8 @@ text_of (cover text) = text ++ codes "\n"
 text_of (pinned_at n) = codes "pin " ++ (decimal n ++ codes "\n")
 text_of already_pinned = codes "already pinned\n"
 text_of not_pinned = codes "not pinned\n"
-text_of (updates created removed) = numbers_line (codes "created") created ++ numbers_line (codes "removed") removed
+text_of (updates created removed) = numbers_line (codes "created") created
+    ++ numbers_line (codes "removed") removed
 text_of no_live_query = codes "no live query\n"
 text_of queued = codes "queued\n"
 text_of full_batch = codes "full batch\n"

@@ -1,5 +1,6 @@
 -- What a line of a script asks for.
-use Rattle.std.specs.Prelude.{ℕ, Bool, false, is_none, ◌||◌, List, [], ◌∷◌, nat_eq, Some, None, codes, if◌then◌else◌, unwrap_or, take, drop, ◌==◌}
+use Rattle.std.specs.Prelude.{ℕ, Bool, false, is_none, ◌||◌, List, [], ◌∷◌, nat_eq, Some, None}
+use Rattle.std.specs.Prelude.{codes, if◌then◌else◌, unwrap_or, take, drop, ◌==◌}
 use Rattle.std.specs.List.{list_all, slice_split}
 use Rattle.std.specs.Option.{option_and_then, option_map}
 use Rattle.std.specs.Result.{result_map_both}
@@ -17,9 +18,11 @@ use Rattle.be_volume.specs.declared.ops.Op.TheVariants.{New, Drop, Set, Unset, M
 use Rattle.be_script_language.specs.declared.commands.Command.{Command}
 use Rattle.be_script_language.specs.declared.commands.Command.TheVariants as commands
 use Rattle.be_script_language.specs.Values.{same, kind_in, value_in}
-use Rattle.be_script_language.specs.Words.{is_blank, is_empty, skip, end_of_word, bytes_of, first_word, one_word, two_words}
+use Rattle.be_script_language.specs.Words.{is_blank, is_empty, skip, end_of_word, bytes_of}
+use Rattle.be_script_language.specs.Words.{first_word, one_word, two_words}
 
--- What a line asks for. A name or a value may be one that no store takes: then its refusal stands in its place.
+-- What a line asks for. A name or a value may be one that no store takes: then its refusal stands
+-- in its place.
 pub data Request : Type 0 where
   silent : Request
   malformed : Request
@@ -50,7 +53,9 @@ set_op node (Err e) value = Err e
 -- `set N NAME KIND VALUE`
 abbrev pub set_from : List ℕ → List ℕ → List ℕ → List ℕ → Option Request
 set_from node name kind value =
-    option_and_then (λ n. option_and_then (λ k. option_map (λ v. write (set_op n (name_from name) v)) (value_in k value)) (kind_in kind)) (word_in node)
+    option_and_then (λ n. option_and_then
+        (λ k. option_map (λ v. write (set_op n (name_from name) v)) (value_in k value))
+        (kind_in kind)) (word_in node)
 
 -- what follows each command word
 
@@ -58,7 +63,8 @@ abbrev pub bare : Request → List ℕ → Option Request
 bare request rest = if is_empty rest then Some request else None
 
 abbrev pub set_in : List ℕ → Option Request
-set_in rest = option_and_then (λ node. option_and_then (λ name. option_and_then (λ last. set_from node.0 name.0 last.0 last.1)
+set_in rest = option_and_then (λ node. option_and_then
+    (λ name. option_and_then (λ last. set_from node.0 name.0 last.0 last.1)
     (two_words name.1)) (first_word node.1)) (first_word rest)
 
 -- the only word, a number
@@ -70,13 +76,16 @@ drop_in rest = option_map (λ node. write (Ok (Drop node))) (only_number_in rest
 
 -- the only two words, a number and another one
 abbrev pub number_and_word_in : List ℕ → Option (ℕ × List ℕ)
-number_and_word_in rest = option_and_then (λ words. option_map (λ n. (n, words.1)) (word_in words.0)) (two_words rest)
+number_and_word_in rest = option_and_then
+    (λ words. option_map (λ n. (n, words.1)) (word_in words.0)) (two_words rest)
 
 abbrev pub unset_in : List ℕ → Option Request
-unset_in rest = option_map (λ words. write (named (λ name. Unset words.0 name) words.1)) (number_and_word_in rest)
+unset_in rest = option_map (λ words. write (named (λ name. Unset words.0 name) words.1))
+    (number_and_word_in rest)
 
 abbrev pub mkindex_in : List ℕ → Option Request
-mkindex_in rest = option_and_then (λ words. option_map (λ kind. write (named (λ name. MkIndex name kind) words.0)) (kind_in words.1)) (two_words rest)
+mkindex_in rest = option_and_then (λ words. option_map
+    (λ kind. write (named (λ name. MkIndex name kind) words.0)) (kind_in words.1)) (two_words rest)
 
 abbrev pub rmindex_in : List ℕ → Option Request
 rmindex_in rest = option_map (λ name. write (named RmIndex name)) (one_word rest)
@@ -138,7 +147,8 @@ command_in commands.Abort rest = bare abort rest
 -- what a line with a command asks for, as characters from its first word on
 abbrev pub command_of : List ℕ → Request
 command_of line =
-    unwrap_or (option_and_then (λ command. command_in command (drop (end_of_word line) line)) (command_named (bytes_of (take (end_of_word line) line)))) malformed
+    unwrap_or (option_and_then (λ command. command_in command (drop (end_of_word line) line))
+        (command_named (bytes_of (take (end_of_word line) line)))) malformed
 
 -- '#' is the first byte
 abbrev pub is_comment : List ℕ → Bool

@@ -1,5 +1,6 @@
 -- Kinds and values as words of a line spell them.
-use Rattle.std.specs.Prelude.{ℕ, ◌+◌, ◌*◌, ◌-◌, ◌^◌, Bool, List, [], ◌∷◌, length, nat_eq, nat_lt, nat_le, ◌&&◌, if◌then◌else◌, Some, None, Ok, codes, pos, negsuc}
+use Rattle.std.specs.Prelude.{ℕ, ◌+◌, ◌*◌, ◌-◌, ◌^◌, Bool, List, [], ◌∷◌, length, nat_eq, nat_lt}
+use Rattle.std.specs.Prelude.{nat_le, ◌&&◌, if◌then◌else◌, Some, None, Ok, codes, pos, negsuc}
 use Rattle.std.specs.Option.{option_and_then, option_map}
 use Rattle.std.specs.Cmp.Lexicographic.{pointwise}
 use Rattle.std.specs.Result.{result_map_both}
@@ -12,7 +13,8 @@ use Rattle.be_value.specs.declared.refusals.Refusal.{Refusal}
 use Rattle.be_value.specs.declared.values.Kind.{Kind}
 use Rattle.be_value.specs.declared.values.Kind.TheVariants as kinds
 use Rattle.be_value.specs.declared.values.Value.{Value}
-use Rattle.be_value.specs.declared.values.Value.TheVariants.{Cstr, Long, Llng, Mims, Rawt, Ulng, Ullg}
+use Rattle.be_value.specs.declared.values.Value.TheVariants.{Cstr, Long, Llng, Mims, Rawt, Ulng}
+use Rattle.be_value.specs.declared.values.Value.TheVariants.{Ullg}
 
 abbrev pub same : List ℕ → List ℕ → Bool
 same a b = pointwise nat_eq a b
@@ -63,7 +65,8 @@ hex_digit_in c =
 
 -- the byte of two hexadecimal digits
 abbrev pub byte_in : ℕ → ℕ → Option ℕ
-byte_in c d = option_and_then (λ high. option_map (λ low. 16 * high + low) (hex_digit_in d)) (hex_digit_in c)
+byte_in c d = option_and_then (λ high. option_map (λ low. 16 * high + low) (hex_digit_in d))
+    (hex_digit_in c)
 
 -- the byte of the first two digits, and what follows them
 abbrev pub first_byte_in : List ℕ → Option (ℕ × List ℕ)
@@ -75,14 +78,17 @@ first_byte_in (c ∷ d ∷ word) = option_map (λ byte. (byte, word)) (byte_in c
 abbrev pub hex_in : List ℕ → Option (List ℕ)
 hex_in [] = Some []
 hex_in (c ∷ []) = None
-hex_in (c ∷ d ∷ word) = option_and_then (λ byte. option_map (λ bytes. byte ∷ bytes) (hex_in word)) (byte_in c d)
+hex_in (c ∷ d ∷ word) = option_and_then (λ byte. option_map (λ bytes. byte ∷ bytes) (hex_in word))
+    (byte_in c d)
 
--- The value of this kind that a word spells, or why the store takes no such value. None where the word spells none.
+-- The value of this kind that a word spells, or why the store takes no such value. None where the
+-- word spells none.
 abbrev pub value_in : Kind → List ℕ → Option (Result Value Refusal)
 value_in kinds.Cstr word = Some (result_map_both Cstr (λ e. e) (text_from word))
 value_in kinds.Long word = option_map (λ n. Ok (Long n)) (int32_in word)
 value_in kinds.Llng word = option_map (λ n. Ok (Llng n)) (int64_in word)
 value_in kinds.Mims word = Some (result_map_both Mims (λ e. e) (text_from word))
-value_in kinds.Rawt word = option_map (λ bytes. result_map_both Rawt (λ e. e) (bytes_from bytes)) (hex_in word)
+value_in kinds.Rawt word = option_map (λ bytes. result_map_both Rawt (λ e. e) (bytes_from bytes))
+    (hex_in word)
 value_in kinds.Ulng word = option_map (λ n. Ok (Ulng n)) (uint32_in word)
 value_in kinds.Ullg word = option_map (λ n. Ok (Ullg n)) (word_in word)

@@ -1,9 +1,15 @@
 -- The requests and the replies of the code as those of the definitions.
 use Rattle.std.specs.String.{string_bytes}
-use Rattle.be_script_language.specs.Request.{Request, silent, malformed, write, query, explain, get, attrs, indices, pin, unpin, live, refresh, begin, commit, abort}
+use Rattle.be_script_language.specs.Request.{Request, silent, malformed, write, query, explain, get}
+use Rattle.be_script_language.specs.Request.{attrs, indices, pin, unpin, live, refresh, begin}
+use Rattle.be_script_language.specs.Request.{commit, abort}
 use Rattle.be_script_language.specs.declared.requests.Request.{Request as Asked}
 use Rattle.be_script_language.specs.declared.requests.Request.TheVariants as asked
-use Rattle.be_script_language.specs.Reply.{Reply, none, bad_line, ok, node, nodes, value, attributes, kinds, cover, pinned_at, already_pinned, not_pinned, updates, no_live_query, queued, full_batch, empty_batch, already_begun, not_begun, committed, refused}
+use Rattle.be_script_language.specs.Reply.{Reply, none, bad_line, ok, node, nodes, value}
+use Rattle.be_script_language.specs.Reply.{attributes, kinds, cover, pinned_at, already_pinned}
+use Rattle.be_script_language.specs.Reply.{not_pinned, updates, no_live_query, queued, full_batch}
+use Rattle.be_script_language.specs.Reply.{empty_batch, already_begun, not_begun, committed}
+use Rattle.be_script_language.specs.Reply.{refused}
 use Rattle.be_script_language.specs.declared.replies.Reply.{Reply as Answer}
 use Rattle.be_script_language.specs.declared.replies.Reply.TheVariants as answers
 

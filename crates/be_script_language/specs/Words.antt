@@ -1,5 +1,6 @@
 -- The words of a line, which is a list of characters here. A word is told by its bytes.
-use Rattle.std.specs.Prelude.{ℕ, Bool, true, List, [], ◌∷◌, ◌++◌, length, nat_eq, take, drop, position, unwrap_or, ◌||◌, if◌then◌else◌, Some, None}
+use Rattle.std.specs.Prelude.{ℕ, Bool, true, List, [], ◌∷◌, ◌++◌, length, nat_eq, take, drop}
+use Rattle.std.specs.Prelude.{position, unwrap_or, ◌||◌, if◌then◌else◌, Some, None}
 use Rattle.std.specs.List.{list_all, flat_map}
 use Rattle.std.specs.Option.{option_and_then, option_map}
 use Rattle.std.specs.Char.{encode_utf8}
@@ -45,7 +46,8 @@ quoted_in [] = None
 quoted_in (c ∷ []) = if nat_eq c 34 then Some ([], []) else None
 quoted_in (c ∷ d ∷ text) =
     if nat_eq c 34 then Some ([], d ∷ text)
-    else if nat_eq c 92 then option_and_then (λ meant. behind (encode_utf8 meant) (quoted_in text)) (meaning_of d)
+    else if nat_eq c 92 then option_and_then (λ meant. behind (encode_utf8 meant) (quoted_in text))
+        (meaning_of d)
     else behind (encode_utf8 c) (quoted_in (d ∷ text))
 
 -- a word ends here
@@ -56,12 +58,14 @@ ends_word (c ∷ text) = is_blank c
 abbrev pub if_ended : List ℕ × List ℕ → Option (List ℕ × List ℕ)
 if_ended parts = if ends_word parts.1 then Some parts else None
 
--- the word at the front of a text, and what follows it; none where no word stands there, or a malformed one
+-- the word at the front of a text, and what follows it; none where no word stands there, or a
+-- malformed one
 abbrev pub word_at : List ℕ → Option (List ℕ × List ℕ)
 word_at [] = None
 word_at (c ∷ text) =
     if nat_eq c 34 then option_and_then if_ended (quoted_in text)
-    else Some (bytes_of (take (end_of_word (c ∷ text)) (c ∷ text)), drop (end_of_word (c ∷ text)) (c ∷ text))
+    else Some (bytes_of (take (end_of_word (c ∷ text)) (c ∷ text)),
+        drop (end_of_word (c ∷ text)) (c ∷ text))
 
 -- the first word of a text, and what follows it
 abbrev pub first_word : List ℕ → Option (List ℕ × List ℕ)
@@ -69,8 +73,10 @@ first_word text = word_at (skip text)
 
 -- the only word of a text
 abbrev pub one_word : List ℕ → Option (List ℕ)
-one_word text = option_and_then (λ first. if is_empty first.1 then Some first.0 else None) (first_word text)
+one_word text = option_and_then (λ first. if is_empty first.1 then Some first.0 else None)
+    (first_word text)
 
 -- the two words of a text
 abbrev pub two_words : List ℕ → Option (List ℕ × List ℕ)
-two_words text = option_and_then (λ first. option_map (λ second. (first.0, second)) (one_word first.1)) (first_word text)
+two_words text = option_and_then (λ first. option_map (λ second. (first.0, second))
+    (one_word first.1)) (first_word text)

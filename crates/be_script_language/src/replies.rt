@@ -1,7 +1,7 @@
 //! Replies and their texts.
 //!
-//! A reply is a line or several, each with its LF. Its whole text is made before any of it is written, so that a want of
-//! memory never leaves half a reply behind.
+//! A reply is a line or several, each with its LF. Its whole text is made before any of it is
+//! written, so that a want of memory never leaves half a reply behind.
 ghost use Rattle.std.specs.Prelude.{◌≡◌, ◌++◌, ◌∷◌, IfOk, OnOk, codes, decimal, flat_map};
 ghost use Rattle.std.specs.String.{string_bytes};
 ghost use Rattle.be_script_language.specs.Reply as spec;
@@ -89,7 +89,8 @@ fn numbers_line(alloc: Global, word: &str, numbers: &[u64]) -> Result<String, Al
 }
 
 fn updates_text(alloc: Global, created: &[u64], removed: &[u64]) -> Result<String, AllocError>
-    ensures { IfOk result (λ text. string_bytes text ≡ spec.text_of (spec.updates created.now removed.now)) }
+    ensures { IfOk result (λ text. string_bytes text
+        ≡ spec.text_of (spec.updates created.now removed.now)) }
 {
     let mut text = numbers_line(alloc, "created", created)?;
     text.push_str(numbers_line(alloc, "removed", removed)?.as_str())?;
@@ -164,7 +165,8 @@ fn kinds_text(alloc: Global, list: &[(Name, Kind)]) -> Result<String, AllocError
 }
 
 fn commit_text(alloc: Global, number: u64, dones: &[Done]) -> Result<String, AllocError>
-    ensures { IfOk result (λ text. string_bytes text ≡ spec.text_of (spec.committed number dones.now)) }
+    ensures { IfOk result (λ text. string_bytes text
+        ≡ spec.text_of (spec.committed number dones.now)) }
 {
     let mut text = format!(in alloc; "commit {number}\n")?;
     for done in dones {

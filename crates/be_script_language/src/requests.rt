@@ -1,8 +1,8 @@
 //! What a line asks for.
 //!
-//! A line is looked at in a fixed order: is it a text at all, has it a reply at all, then its command word and the words
-//! behind it. Whatever doesn't fit makes it a bad line. Names and values that fit and that no store takes leave their
-//! refusal in the request.
+//! A line is looked at in a fixed order: is it a text at all, has it a reply at all, then its
+//! command word and the words behind it. Whatever doesn't fit makes it a bad line. Names and values
+//! that fit and that no store takes leave their refusal in the request.
 ghost use Rattle.std.specs.List.{list_all};
 ghost use Rattle.std.specs.Option.{option_map};
 ghost use Rattle.std.specs.Prelude.{◌≡◌, IfOk, string_bytes};
@@ -89,7 +89,8 @@ fn set_from(
     kind: &str,
     value: &str,
 ) -> Result<Option<Request>, AllocError>
-    ensures { IfOk result (λ request. option_map request_of request ≡ spec.set_from node.now name.now kind.now value.now) }
+    ensures { IfOk result (λ request. option_map request_of request
+        ≡ spec.set_from node.now name.now kind.now value.now) }
 {
     let Some(node) = word_of(node.as_bytes()) else {
         return Ok(None);
@@ -154,7 +155,8 @@ fn attrs_request(alloc: Global, rest: &[char]) -> Result<Option<Request>, AllocE
 
 /// The only two words, the number of a node and a name.
 fn node_and_name(alloc: Global, rest: &[char]) -> Result<Option<(u64, String)>, AllocError>
-    ensures { IfOk result (λ words. option_map (λ p. (p.0, string_bytes p.1)) words ≡ spec.number_and_word_in rest.now) }
+    ensures { IfOk result (λ words. option_map (λ p. (p.0, string_bytes p.1)) words
+        ≡ spec.number_and_word_in rest.now) }
 {
     let Some((node, name)) = two_words(alloc, rest)? else {
         return Ok(None);
@@ -210,7 +212,8 @@ fn command_request(
     command: Command,
     rest: &[char],
 ) -> Result<Option<Request>, AllocError>
-    ensures { IfOk result (λ request. option_map request_of request ≡ spec.command_in command rest.now) }
+    ensures { IfOk result (λ request. option_map request_of request
+        ≡ spec.command_in command rest.now) }
 {
     match command {
         Command::New => Ok(bare(Request::Write(Ok(Op::New)), rest)),

@@ -1,7 +1,8 @@
 //! Kinds and values, as the words of a line spell them.
 //!
-//! A word that spells no value of its kind makes a bad line. One that does may still be no value that a store takes (a
-//! text of more than 255 bytes): that is a refusal, which comes behind all causes of a bad line.
+//! A word that spells no value of its kind makes a bad line. One that does may still be no value
+//! that a store takes (a text of more than 255 bytes): that is a refusal, which comes behind all
+//! causes of a bad line.
 ghost use Rattle.std.specs.Option.{option_map};
 ghost use Rattle.std.specs.Prelude.{◌≡◌, ◌<◌, IfOk, IfSome};
 ghost use Rattle.be_script_language.specs.Values as spec;
@@ -110,7 +111,8 @@ fn bytes_of(alloc: Global, word: &[u8]) -> Result<Option<Vec<u8>>, AllocError>
     }
 }
 
-/// The value of this kind that a word spells, or why the store takes no such value. None where the word spells none.
+/// The value of this kind that a word spells, or why the store takes no such value. None where the
+/// word spells none.
 pub fn value_of(
     alloc: Global,
     kind: Kind,

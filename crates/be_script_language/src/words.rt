@@ -1,9 +1,10 @@
 //! The words of a line.
 //!
-//! A line is a list of characters here. Blanks (spaces and tabs) part its words. A word that begins with a quote goes
-//! to the next quote without a backslash, behind which a blank or the end has to stand; in it a backslash stands before
-//! `"`, `\`, `n` (LF) and `r` (CR) alone. Any other word is taken as it is. A word is handed out as the text that it
-//! stands for, so what reads numbers, names and values doesn't see how a word was written.
+//! A line is a list of characters here. Blanks (spaces and tabs) part its words. A word that begins
+//! with a quote goes to the next quote without a backslash, behind which a blank or the end has to
+//! stand; in it a backslash stands before `"`, `\`, `n` (LF) and `r` (CR) alone. Any other word is
+//! taken as it is. A word is handed out as the text that it stands for, so what reads numbers,
+//! names and values doesn't see how a word was written.
 ghost use Rattle.std.specs.Option.{option_map};
 ghost use Rattle.std.specs.Prelude.{◌≡◌, IfOk, position, take, drop};
 ghost use Rattle.std.specs.String.{string_bytes};
@@ -90,9 +91,11 @@ fn ends_word(text: &[char]) -> bool
     }
 }
 
-/// What a quoted word stands for, and what follows its closing quote; given what stands behind its opening quote.
+/// What a quoted word stands for, and what follows its closing quote; given what stands behind its
+/// opening quote.
 fn quoted_word(alloc: Global, text: &[char]) -> Result<Option<(String, &[char])>, AllocError>
-    ensures { IfOk result (λ parts. option_map (λ p. (string_bytes p.0, p.1.now)) parts ≡ spec.quoted_in text.now) }
+    ensures { IfOk result (λ parts. option_map (λ p. (string_bytes p.0, p.1.now)) parts
+        ≡ spec.quoted_in text.now) }
 {
     let mut meant = String::new(alloc);
     let mut rest = text;
@@ -120,7 +123,8 @@ fn quoted_word(alloc: Global, text: &[char]) -> Result<Option<(String, &[char])>
 
 /// The first word, and what follows it. None where no word is left, or a malformed one.
 pub fn first_word(alloc: Global, text: &[char]) -> Result<Option<(String, &[char])>, AllocError>
-    ensures { IfOk result (λ parts. option_map (λ p. (string_bytes p.0, p.1.now)) parts ≡ spec.first_word text.now) }
+    ensures { IfOk result (λ parts. option_map (λ p. (string_bytes p.0, p.1.now)) parts
+        ≡ spec.first_word text.now) }
 {
     let text = skip(text);
     let Some((first, behind)) = text.split_first() else {
@@ -148,7 +152,8 @@ pub fn one_word(alloc: Global, text: &[char]) -> Result<Option<String>, AllocErr
 
 /// The two words.
 pub fn two_words(alloc: Global, text: &[char]) -> Result<Option<(String, String)>, AllocError>
-    ensures { IfOk result (λ words. option_map (λ p. (string_bytes p.0, string_bytes p.1)) words ≡ spec.two_words text.now) }
+    ensures { IfOk result (λ words. option_map (λ p. (string_bytes p.0, string_bytes p.1)) words
+        ≡ spec.two_words text.now) }
 {
     let Some((first, rest)) = first_word(alloc, text)? else {
         return Ok(None);

@@ -26,4 +26,5 @@ AreTold begun ended count = (line : ℕ) → 1 ≤ line → line ≤ count → b
 
 -- the same of each script's lines, which its pass tells
 abbrev pub AreAllTold : (ℕ → ℕ → Type 0) → (ℕ → ℕ → Type 0) → List (List ℕ) → Type 0
-AreAllTold begun ended scripts = (k : ℕ) → k < length scripts → AreTold (begun k) (ended k) (line_count (slice_index_or scripts k []))
+AreAllTold begun ended scripts = (k : ℕ) → k < length scripts
+    → AreTold (begun k) (ended k) (line_count (slice_index_or scripts k []))

@@ -1,5 +1,6 @@
 -- What a script may be answered.
-use Rattle.std.specs.Prelude.{◌≡◌, ◌⊎◌, ℕ, ◌<◌, List, [], ◌∷◌, ◌++◌, Some, None, IsOk, IsSome, length, nat_lt, if◌then◌else◌}
+use Rattle.std.specs.Prelude.{◌≡◌, ◌⊎◌, ℕ, ◌<◌, List, [], ◌∷◌, ◌++◌, Some, None, IsOk, IsSome}
+use Rattle.std.specs.Prelude.{length, nat_lt, if◌then◌else◌}
 use Rattle.std.specs.declared.option.Option.{Option}
 use Rattle.std.specs.declared.result.Result.{Result}
 use Rattle.std.specs.declared.result.Result.TheVariants.{Ok, Err}
@@ -17,11 +18,19 @@ use Rattle.be_volume.specs.Volume.{State}
 use Rattle.be_volume.specs.declared.ops.Done.{Done}
 use Rattle.be_volume.specs.declared.ops.Done.TheVariants.{Node, Unit as Nothing}
 use Rattle.be_volume.specs.declared.ops.Op.{Op}
-use Rattle.be_script_language.specs.Reply.{Reply, none, bad_line, ok, node, nodes, value, attributes, kinds, cover, pinned_at, already_pinned, not_pinned, updates, no_live_query, queued, full_batch, empty_batch, already_begun, not_begun, committed, refused, text_of}
-use Rattle.be_script_language.specs.Request.{Request, silent, malformed, write, query, explain, get, attrs, indices, pin, unpin, live, refresh, begin, commit, abort, asked, lines_of}
-use Rattle.be_script_runner.specs.Store.{PinnedVolume, Store, Meanwhile, IsLeastOf, IsOther, viewed, pinned, unpinned, written}
+use Rattle.be_script_language.specs.Reply.{Reply, none, bad_line, ok, node, nodes, value}
+use Rattle.be_script_language.specs.Reply.{attributes, kinds, cover, pinned_at, already_pinned}
+use Rattle.be_script_language.specs.Reply.{not_pinned, updates, no_live_query, queued, full_batch}
+use Rattle.be_script_language.specs.Reply.{empty_batch, already_begun, not_begun, committed}
+use Rattle.be_script_language.specs.Reply.{refused, text_of}
+use Rattle.be_script_language.specs.Request.{Request, silent, malformed, write, query, explain, get}
+use Rattle.be_script_language.specs.Request.{attrs, indices, pin, unpin, live, refresh, begin}
+use Rattle.be_script_language.specs.Request.{commit, abort, asked, lines_of}
+use Rattle.be_script_runner.specs.Store.{PinnedVolume, Store, Meanwhile, IsLeastOf, IsOther, viewed}
+use Rattle.be_script_runner.specs.Store.{pinned, unpinned, written}
 
--- a script under way: its store, the operations of its batch where one is open, and its live query where it has one
+-- a script under way: its store, the operations of its batch where one is open, and its live query
+-- where it has one
 pub record Session : Type 0 where
   pub store : Store
   pub batch : Option (List Op)
@@ -59,7 +68,8 @@ taken s (Some ops) op =
     else (full_batch, s)
 
 abbrev pub commit_reply : Session → Result (Store × List Done) Refusal → Reply × Session
-commit_reply s (Ok answer) = (committed (length answer.0.journal) answer.1, with_batch (with_store s answer.0) None)
+commit_reply s (Ok answer) = (committed (length answer.0.journal) answer.1,
+    with_batch (with_store s answer.0) None)
 commit_reply s (Err e) = (refused e, with_batch s None)
 
 -- The batch is written as one. It ends then, refused or not.
@@ -92,7 +102,8 @@ watching s (Err e) = (refused e, s)
 
 -- what came and what went since the last answer, which is now this one
 abbrev pub updating : Session → LiveQuery → Result (List ℕ) Refusal → Reply × Session
-updating s l (Ok now) = (updates (without now l.last) (without l.last now), with_live s (record { query = l.query; last = now }))
+updating s l (Ok now) = (updates (without now l.last) (without l.last now),
+    with_live s (record { query = l.query; last = now }))
 updating s l (Err e) = (refused e, s)
 
 abbrev pub refreshing : Session → Option LiveQuery → Reply × Session
@@ -141,9 +152,11 @@ unwritten s begin = s
 unwritten s commit = with_batch s None
 unwritten s abort = s
 
--- There was no page for these operations, which should be accepted, and the reply tells the least; or another pass was writing.
+-- There was no page for these operations, which should be accepted, and the reply tells the least;
+-- or another pass was writing.
 abbrev pub IsHeldUp : Store → List Op → Reply → Type 0
-IsHeldUp store ops reply = ((least : ℕ) × (reply ≡ refused (Full least)) × IsLeastOf store least × IsOk (written store ops)) ⊎ ((pass : ℕ) × (reply ≡ refused (Busy pass)) × IsOther store pass)
+IsHeldUp store ops reply = ((least : ℕ) × (reply ≡ refused (Full least)) × IsLeastOf store least
+    × IsOk (written store ops)) ⊎ ((pass : ℕ) × (reply ≡ refused (Busy pass)) × IsOther store pass)
 
 -- the same of the operations that a line writes to the store; no other line is held up
 abbrev pub IsHeldUpAt : Session → Option (List Op) → Request → Reply → Type 0
@@ -151,7 +164,8 @@ IsHeldUpAt s None (write (Ok op)) reply = IsHeldUp s.store (op ∷ []) reply
 IsHeldUpAt s (Some (op ∷ ops)) commit reply = IsHeldUp s.store (op ∷ ops) reply
 IsHeldUpAt s batch request reply = ⊥
 
--- An operation takes memory where it is written and should be accepted, and where an open batch has room for it.
+-- An operation takes memory where it is written and should be accepted, and where an open batch has
+-- room for it.
 abbrev pub OpTakesMemory : Session → Option (List Op) → Op → Type 0
 OpTakesMemory s None op = IsOk (written s.store (op ∷ []))
 OpTakesMemory s (Some ops) op = length ops < 64
@@ -183,7 +197,8 @@ TakesMemory s abort = ⊥
 
 -- There was no memory for a line that takes some, or a write was held up; nothing was written.
 abbrev pub IsWanting : Session → Request → Reply → Session → Type 0
-IsWanting s request reply after = (after ≡ unwritten s request) × (((reply ≡ refused OutOfMemory) × TakesMemory s request) ⊎ IsHeldUpAt s s.batch request reply)
+IsWanting s request reply after = (after ≡ unwritten s request)
+    × (((reply ≡ refused OutOfMemory) × TakesMemory s request) ⊎ IsHeldUpAt s s.batch request reply)
 
 -- exactly this reply, and the session that it leaves
 abbrev pub Gives : Reply × Session → Reply → Session → Type 0
@@ -194,20 +209,29 @@ abbrev pub MayReply : Session → Request → Reply × Session → Reply → Ses
 MayReply s request answer reply after = Gives answer reply after ⊎ IsWanting s request reply after
 
 -- what is replied to the query that a text spells or to its fault, or a want
-abbrev pub MayReplyTo : Session → Request → List ℕ → (Result Formula Refusal → Reply × Session) → Reply → Session → Type 0
-MayReplyTo s request text answer reply after = ((parsed : Result Formula Refusal) × IsQuery text parsed × Gives (answer parsed) reply after) ⊎ IsWanting s request reply after
+abbrev pub MayReplyTo : Session → Request → List ℕ → (Result Formula Refusal → Reply × Session)
+    → Reply → Session → Type 0
+MayReplyTo s request text answer reply after =
+    ((parsed : Result Formula Refusal) × IsQuery text parsed × Gives (answer parsed) reply after)
+    ⊎ IsWanting s request reply after
 
--- What a request may be replied, and the session that it leaves. Reads are of the pinned version, or else of the volume after all writes.
+-- What a request may be replied, and the session that it leaves. Reads are of the pinned version,
+-- or else of the volume after all writes.
 abbrev pub Replies : Session → Request → Reply → Session → Type 0
 Replies s silent reply after = Gives (none, s) reply after
 Replies s malformed reply after = MayReply s malformed (bad_line, s) reply after
 Replies s (write (Ok op)) reply after = MayReply s (write (Ok op)) (taken s s.batch op) reply after
 Replies s (write (Err e)) reply after = MayReply s (write (Err e)) (refused e, s) reply after
-Replies s (query text) reply after = MayReplyTo s (query text) text (λ parsed. (queried (viewed s.store) parsed, s)) reply after
-Replies s (explain text) reply after = MayReplyTo s (explain text) text (λ parsed. (explained (viewed s.store) parsed, s)) reply after
-Replies s (get n name) reply after = MayReply s (get n name) (got (viewed s.store) n name, s) reply after
-Replies s (attrs n) reply after = MayReply s (attrs n) (replied attributes (attributes_at (viewed s.store) n), s) reply after
-Replies s indices reply after = MayReply s indices (kinds (index_kinds (viewed s.store)), s) reply after
+Replies s (query text) reply after = MayReplyTo s (query text) text
+    (λ parsed. (queried (viewed s.store) parsed, s)) reply after
+Replies s (explain text) reply after = MayReplyTo s (explain text) text
+    (λ parsed. (explained (viewed s.store) parsed, s)) reply after
+Replies s (get n name) reply after = MayReply s (get n name) (got (viewed s.store) n name, s) reply
+    after
+Replies s (attrs n) reply after = MayReply s (attrs n)
+    (replied attributes (attributes_at (viewed s.store) n), s) reply after
+Replies s indices reply after = MayReply s indices (kinds (index_kinds (viewed s.store)), s) reply
+    after
 Replies s pin reply after = Gives (pinning s s.store.pin) reply after
 Replies s unpin reply after = MayReply s unpin (unpinning s s.store.pin) reply after
 Replies s (live text) reply after = MayReplyTo s (live text) text (watching s) reply after
@@ -216,24 +240,29 @@ Replies s begin reply after = MayReply s begin (beginning s s.batch) reply after
 Replies s commit reply after = MayReply s commit (committing s s.batch) reply after
 Replies s abort reply after = MayReply s abort (aborting s s.batch) reply after
 
--- What a request may be replied, and the session that it leaves, if the store has other passes: the reply is to the store as they
--- left it. A store of one pass has no others, and it is then the store as it was.
+-- What a request may be replied, and the session that it leaves, if the store has other passes: the
+-- reply is to the store as they left it. A store of one pass has no others, and it is then the
+-- store as it was.
 abbrev pub Serves : Session → Request → Reply → Session → Type 0
-Serves s request reply after = Meanwhile s.store (λ now. Replies (with_store s now) request reply after)
+Serves s request reply after = Meanwhile s.store
+    (λ now. Replies (with_store s now) request reply after)
 
 -- the text that a line may be replied, and the session that it leaves
 abbrev pub Answered : Session → List ℕ → Session → List ℕ → Type 0
-Answered s line after out = (reply : Reply) × Serves s (asked line) reply after × (out ≡ text_of reply)
+Answered s line after out = (reply : Reply) × Serves s (asked line) reply after
+    × (out ≡ text_of reply)
 
 -- the text that lines may be replied, one after the other, and the session that they leave
 abbrev pub Outputs : Session → List (List ℕ) → Session → List ℕ → Type 0
 Outputs s [] last out = (last ≡ s) × (out ≡ [])
 Outputs s (line ∷ lines) last out =
-    (after : Session) × (reply : List ℕ) × (rest : List ℕ) × Answered s line after reply × Outputs after lines last rest × (out ≡ reply ++ rest)
+    (after : Session) × (reply : List ℕ) × (rest : List ℕ) × Answered s line after reply
+        × Outputs after lines last rest × (out ≡ reply ++ rest)
 
 -- the text is an output of the script, run from this store on, which is then the new one
 abbrev pub IsOutputTo : Store → List ℕ → Store → List ℕ → Type 0
-IsOutputTo store script new out = (last : Session) × Outputs (opening store) (lines_of script) last out × (last.store ≡ new)
+IsOutputTo store script new out = (last : Session)
+    × Outputs (opening store) (lines_of script) last out × (last.store ≡ new)
 
 -- the text is an output of the script, run from this store on
 abbrev pub IsOutputFrom : Store → List ℕ → List ℕ → Type 0

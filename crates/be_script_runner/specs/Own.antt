@@ -6,7 +6,8 @@ use Rattle.be_journal.specs.declared.entries.Entry.{Entry}
 use Rattle.be_volume.specs.declared.ops.Op.{Op}
 use Rattle.be_script_language.specs.Request.{Request, write, asked, lines_of}
 
--- The first list is some of the second's elements, in their order: each of these is left out or taken.
+-- The first list is some of the second's elements, in their order: each of these is left out or
+-- taken.
 abbrev pub IsPartOf : {A : Type 0} → List A → List A → Type 0
 IsPartOf xs [] = xs ≡ []
 IsPartOf {A} xs (y ∷ ys) = IsPartOf xs ys ⊎ ((rest : List A) × (xs ≡ y ∷ rest) × IsPartOf rest ys)

@@ -2,13 +2,15 @@
 use Rattle.std.specs.Prelude.{◌==◌, ◌≡◌, ℕ, ◌+◌, ◌<◌, ◌≤◌, ◌^◌, Bool, List, ◌++◌, length, IfSome}
 use Rattle.std.specs.Io.KnownBytes.{Appends, Keeps, Consumes, IsAtEnd}
 use Rattle.std.specs.declared.option.Option.{Option}
-use Rattle.be_script_runner.specs.Output.{Session, opening, Answered, Outputs, IsOutputTo, IsFrontOfOutput}
+use Rattle.be_script_runner.specs.Output.{Session, opening, Answered, Outputs, IsOutputTo}
+use Rattle.be_script_runner.specs.Output.{IsFrontOfOutput}
 use Rattle.be_script_language.specs.Request.{lines_of}
 use Rattle.be_table.specs.Versions.{CanSpellEach}
 use Rattle.be_table.specs.declared.limits.Limits.{Limits as StoreLimits}
 use Rattle.be_script_runner.specs.Store.{Store, start}
 use Rattle.be_script_runner.specs.declared.faults.RunFault.{RunFault}
-use Rattle.be_script_runner.specs.declared.faults.RunFault.TheVariants.{Limits, Read, TooLong, Write, Memory}
+use Rattle.be_script_runner.specs.declared.faults.RunFault.TheVariants.{Limits, Read, TooLong}
+use Rattle.be_script_runner.specs.declared.faults.RunFault.TheVariants.{Write, Memory}
 
 -- what a writer holds grew by a text of which P holds
 pub record Wrote (old new : Option (List ℕ)) (P : List ℕ → Type 0) : Type 0 where
@@ -16,8 +18,8 @@ pub record Wrote (old new : Option (List ℕ)) (P : List ℕ → Type 0) : Type 
   pub appended : Appends old new out
   pub is : P out
 
--- What a run writes: an output of the script, from an empty store of one pass on. After each of its writes the volume is one
--- that as many pages as the limits say can spell.
+-- What a run writes: an output of the script, from an empty store of one pass on. After each of its
+-- writes the volume is one that as many pages as the limits say can spell.
 pub record IsRun (limits : StoreLimits) (script out : List ℕ) : Type 0 where
   pub last : Store
   pub output : IsOutputTo (start limits.commits) script last out
@@ -29,7 +31,8 @@ IsFrontOf bytes front = (rest : List ℕ) × (bytes ≡ front ++ rest)
 
 -- a front of a text by which a line may be answered
 abbrev pub IsFrontOfAnswer : Session → List ℕ → List ℕ → Type 0
-IsFrontOfAnswer s line front = (after : Session) × (rest : List ℕ) × Answered s line after (front ++ rest)
+IsFrontOfAnswer s line front = (after : Session) × (rest : List ℕ)
+    × Answered s line after (front ++ rest)
 
 abbrev pub is_line_end : ℕ → Bool
 is_line_end c = c == 10
@@ -40,7 +43,8 @@ ReadsAll old new bytes = Consumes old new bytes × IsAtEnd new
 
 -- a reader was read at most once more than a script may have bytes
 abbrev pub HasFewReads : (ℕ → Type 0) → (ℕ → Type 0) → Type 0
-HasFewReads old new = (before : ℕ) → old before → (times : ℕ) × (times ≤ 2 ^ 20 + 1) × new (before + times)
+HasFewReads old new = (before : ℕ) → old before → (times : ℕ) × (times ≤ 2 ^ 20 + 1)
+    × new (before + times)
 
 -- at most as many bytes were read as a script may have; and more than these
 abbrev pub ReadsFew : Option (List ℕ) → Option (List ℕ) → Type 0
@@ -70,14 +74,19 @@ pub record AreFirstReplies (store : Store) (script out : List ℕ) : Type 0 wher
   pub last : Session
   pub output : Outputs (opening store) lines last out
 
--- What a fault leaves. Where the script was not read whole or was too long, nothing was written; after a failed write the front
--- of an output; and for want of memory the replies to the first lines.
-abbrev pub RunLeaves : RunFault → Store → Option (List ℕ) → Option (List ℕ) → Option (List ℕ) → Type 0
+-- What a fault leaves. Where the script was not read whole or was too long, nothing was written;
+-- after a failed write the front of an output; and for want of memory the replies to the first
+-- lines.
+abbrev pub RunLeaves : RunFault → Store → Option (List ℕ) → Option (List ℕ) → Option (List ℕ)
+    → Type 0
 RunLeaves Limits store input old new = Keeps old new
 RunLeaves Read store input old new = Keeps old new
-RunLeaves TooLong store input old new = Keeps old new × IfSome input (λ script. 2 ^ 20 < length script)
-RunLeaves Write store input old new = IfSome input (λ script. Wrote old new (IsFrontOfOutput store script))
-RunLeaves Memory store input old new = IfSome input (λ script. Wrote old new (AreFirstReplies store script))
+RunLeaves TooLong store input old new = Keeps old new
+    × IfSome input (λ script. 2 ^ 20 < length script)
+RunLeaves Write store input old new = IfSome input
+    (λ script. Wrote old new (IsFrontOfOutput store script))
+RunLeaves Memory store input old new = IfSome input
+    (λ script. Wrote old new (AreFirstReplies store script))
 
 -- a fault of the reading
 abbrev pub IsEarly : RunFault → Type 0
@@ -103,8 +112,10 @@ IsNotLimits TooLong = Unit {0}
 IsNotLimits Write = Unit {0}
 IsNotLimits Memory = Unit {0}
 
--- The text is the replies to the lines of a script up to those of what is left, and `s` is the session that they leave.
-pub record HasReplied (store : Store) (script : List ℕ) (s : Session) (left out : List ℕ) : Type 0 where
+-- The text is the replies to the lines of a script up to those of what is left, and `s` is the
+-- session that they leave.
+pub record HasReplied (store : Store) (script : List ℕ) (s : Session) (left out : List ℕ) : Type 0
+    where
   pub lines : List (List ℕ)
   pub is : lines_of script ≡ lines ++ lines_of left
   pub output : Outputs (opening store) lines s out

@@ -1,12 +1,14 @@
 -- What serves a script.
-use Rattle.std.specs.Prelude.{◌≡◌, ◌≢◌, ◌⊎◌, ◌<◌, ◌≤◌, ℕ, List, [], ◌∷◌, ◌++◌, All, fold, length, nat_lt, if◌then◌else◌, IsOk, Some, None, refl}
+use Rattle.std.specs.Prelude.{◌≡◌, ◌≢◌, ◌⊎◌, ◌<◌, ◌≤◌, ℕ, List, [], ◌∷◌, ◌++◌, All, fold, length}
+use Rattle.std.specs.Prelude.{nat_lt, if◌then◌else◌, IsOk, Some, None, refl}
 use Rattle.std.specs.Coded.{Coded, code_by, coded_ℕ, coded_list, coded_option, coded×}
 use Rattle.std.specs.Option.{option_map_or}
 use Rattle.std.specs.declared.option.Option.{Option}
 use Rattle.std.specs.declared.result.Result.{Result}
 use Rattle.std.specs.declared.result.Result.TheVariants.{Ok, Err}
 use Rattle.be_value.specs.declared.refusals.Refusal.{Refusal}
-use Rattle.be_value.specs.declared.refusals.Refusal.TheVariants.{Busy, CommitsSpent, OutOfMemory, Full}
+use Rattle.be_value.specs.declared.refusals.Refusal.TheVariants.{Busy, CommitsSpent, OutOfMemory}
+use Rattle.be_value.specs.declared.refusals.Refusal.TheVariants.{Full}
 use Rattle.be_volume.specs.Ahead.{state_after}
 use Rattle.be_volume.specs.Volume.{State, coded_state, steps, empty}
 use Rattle.be_volume.specs.declared.ops.Done.{Done}
@@ -19,8 +21,9 @@ pub record PinnedVolume : Type 0 where
   pub number : ℕ
   pub volume : State
 
--- A store as the pass sees it that serves: the accepted writes, the volume after them, how many writes there may be, how
--- many passes the store has, which of them this is, and the version that it pinned, if it did.
+-- A store as the pass sees it that serves: the accepted writes, the volume after them, how many
+-- writes there may be, how many passes the store has, which of them this is, and the version that
+-- it pinned, if it did.
 pub record Store : Type 0 where
   pub journal : List Entry
   pub volume : State
@@ -30,26 +33,33 @@ pub record Store : Type 0 where
   pub pin : Option PinnedVolume
 
 abbrev pub coded_pin : Coded PinnedVolume
-coded_pin = code_by _ (coded× coded_ℕ coded_state) (λ p. (p.number, p.volume)) (λ q. record { number = q.0; volume = q.1 }) (λ _. refl)
+coded_pin = code_by _ (coded× coded_ℕ coded_state) (λ p. (p.number, p.volume))
+    (λ q. record { number = q.0; volume = q.1 }) (λ _. refl)
 
 abbrev pub coded_store : Coded Store
-coded_store = code_by _ (coded× (coded_list coded_entry) (coded× coded_state (coded× coded_ℕ (coded× coded_ℕ (coded× coded_ℕ (coded_option coded_pin))))))
+coded_store = code_by _ (coded× (coded_list coded_entry)
+    (coded× coded_state (coded× coded_ℕ
+    (coded× coded_ℕ (coded× coded_ℕ (coded_option coded_pin))))))
     (λ s. (s.journal, (s.volume, (s.limit, (s.passes, (s.pass, s.pin))))))
-    (λ q. record { journal = q.0; volume = q.1.0; limit = q.1.1.0; passes = q.1.1.1.0; pass = q.1.1.1.1.0; pin = q.1.1.1.1.1 }) (λ _. refl)
+    (λ q. record { journal = q.0; volume = q.1.0; limit = q.1.1.0; passes = q.1.1.1.0;
+        pass = q.1.1.1.1.0; pin = q.1.1.1.1.1 }) (λ _. refl)
 
 -- a store of one pass before its first write, with no pin
 abbrev pub start : ℕ → Store
-start limit = record { journal = []; volume = empty; limit = limit; passes = 1; pass = 0; pin = None }
+start limit = record { journal = []; volume = empty; limit = limit; passes = 1; pass = 0;
+    pin = None }
 
 -- the store has a pass of this number, and it is another one than this
 abbrev pub IsOther : Store → ℕ → Type 0
 IsOther s k = (k < s.passes) × (k ≢ s.pass)
 
--- What the other passes may have made of the store: entries of theirs stand behind, and the volume is that after them.
+-- What the other passes may have made of the store: entries of theirs stand behind, and the volume
+-- is that after them.
 pub record Joins (old new : Store) : Type 0 where
   pub others : List Entry
   pub theirs : All (λ e. IsOther old e.by) others
-  pub store : new ≡ record old { journal = old.journal ++ others; volume = fold (λ v e. state_after v e.ops) old.volume others }
+  pub store : new ≡ record old { journal = old.journal
+      ++ others; volume = fold (λ v e. state_after v e.ops) old.volume others }
 
 -- The other passes may have written meanwhile, and P is true of the store as they left it.
 pub record Meanwhile (old : Store) (P : Store → Type 0) : Type 0 where
@@ -71,21 +81,27 @@ unpinned s = record s { pin = None }
 
 -- the store after a write by the pass that the volume accepts, with its answers; a pin stays
 abbrev pub entered : Store → List Op → State → List Done → Store
-entered s ops volume dones = record s { journal = s.journal ++ record { by = s.pass; ops = ops; dones = dones } ∷ []; volume = volume }
+entered s ops volume dones = record s
+    { journal = s.journal ++ record { by = s.pass; ops = ops; dones = dones }
+    ∷ []; volume = volume }
 
 -- A write: a refusal of the volume goes before that of a journal at its limit.
-abbrev pub written_by : Store → List Op → Result (State × List Done) Refusal → Result (Store × List Done) Refusal
-written_by s ops (Ok answer) = if nat_lt (length s.journal) s.limit then Ok (entered s ops answer.0 answer.1, answer.1) else Err CommitsSpent
+abbrev pub written_by : Store → List Op → Result (State × List Done) Refusal
+    → Result (Store × List Done) Refusal
+written_by s ops (Ok answer) = if nat_lt (length s.journal) s.limit
+    then Ok (entered s ops answer.0 answer.1, answer.1) else Err CommitsSpent
 written_by s ops (Err e) = Err e
 
 abbrev pub written : Store → List Op → Result (Store × List Done) Refusal
 written s ops = written_by s ops (steps s.volume ops)
 
--- which version is read, by how many writes were accepted before it: the pinned one, or else that after all writes
+-- which version is read, by how many writes were accepted before it: the pinned one, or else that
+-- after all writes
 abbrev pub viewed_number : Store → ℕ
 viewed_number s = option_map_or (λ (p : PinnedVolume). p.number) s.pin (length s.journal)
 
--- The least that a full store tells is no later than the version that is read; and where no other pass reads, it is that version.
+-- The least that a full store tells is no later than the version that is read; and where no other
+-- pass reads, it is that version.
 abbrev pub IsLeastOf : Store → ℕ → Type 0
 IsLeastOf s least = (least ≤ viewed_number s) × (s.passes ≡ 1 → least ≡ viewed_number s)
 
@@ -97,8 +113,11 @@ IsWant s e = (e ≡ OutOfMemory) ⊎ ((least : ℕ) × (e ≡ Full least) × IsL
 abbrev pub IsBusy : Store → Refusal → Type 0
 IsBusy s e = (pass : ℕ) × (e ≡ Busy pass) × IsOther s pass
 
--- A write is answered as it should be, with the number of its commit. A want comes only where it should be accepted, and
--- a refused write changes nothing.
-abbrev pub MayWrite : {X : Type 0} → (X → List Done) → Store → List Op → Result (ℕ × X) Refusal → Store → Type 0
-MayWrite dones_of old ops (Ok answer) new = (written old ops ≡ Ok (new, dones_of answer.1)) × (answer.0 ≡ length new.journal)
-MayWrite dones_of old ops (Err e) new = (new ≡ old) × ((written old ops ≡ Err e) ⊎ (IsWant old e × IsOk (written old ops)) ⊎ IsBusy old e)
+-- A write is answered as it should be, with the number of its commit. A want comes only where it
+-- should be accepted, and a refused write changes nothing.
+abbrev pub MayWrite : {X : Type 0} → (X → List Done) → Store → List Op → Result (ℕ × X) Refusal
+    → Store → Type 0
+MayWrite dones_of old ops (Ok answer) new = (written old ops ≡ Ok (new, dones_of answer.1))
+    × (answer.0 ≡ length new.journal)
+MayWrite dones_of old ops (Err e) new = (new ≡ old)
+    × ((written old ops ≡ Err e) ⊎ (IsWant old e × IsOk (written old ops)) ⊎ IsBusy old e)

@@ -1,5 +1,6 @@
 -- What a run writes that tells its journal, and what the script of a journal is answered.
-use Rattle.std.specs.Prelude.{◌≡◌, ◌⊎◌, ℕ, ◌+◌, ◌<◌, ◌≤◌, ◌^◌, List, [], ◌∷◌, ◌++◌, flat_map, length, map, nat_lt, if◌then◌else◌, IfSome, None}
+use Rattle.std.specs.Prelude.{◌≡◌, ◌⊎◌, ℕ, ◌+◌, ◌<◌, ◌≤◌, ◌^◌, List, [], ◌∷◌, ◌++◌, flat_map}
+use Rattle.std.specs.Prelude.{length, map, nat_lt, if◌then◌else◌, IfSome, None}
 use Rattle.std.specs.Io.KnownBytes.{Keeps}
 use Rattle.std.specs.declared.option.Option.{Option}
 use Rattle.be_journal_text.specs.Dump.{by_only_pass}
@@ -15,10 +16,12 @@ use Rattle.be_script_runner.specs.Output.{IsFrontOfOutput, IsOutputTo, done_repl
 use Rattle.be_script_runner.specs.Run.{AreFirstReplies, Wrote}
 use Rattle.be_script_runner.specs.Store.{Store, start}
 use Rattle.be_script_runner.specs.declared.faults.RunFault.{RunFault}
-use Rattle.be_script_runner.specs.declared.faults.RunFault.TheVariants.{Limits, Read, TooLong, Write, Memory}
+use Rattle.be_script_runner.specs.declared.faults.RunFault.TheVariants.{Limits, Read, TooLong}
+use Rattle.be_script_runner.specs.declared.faults.RunFault.TheVariants.{Write, Memory}
 
--- The replies are an output of the script, and behind them stands the journal of the store that this output leaves. After each
--- of its writes the volume is one that as many pages as the limits say can spell.
+-- The replies are an output of the script, and behind them stands the journal of the store that
+-- this output leaves. After each of its writes the volume is one that as many pages as the limits
+-- say can spell.
 pub record IsToldRun (limits : StoreLimits) (script out : List ℕ) : Type 0 where
   pub last : Store
   pub replies : List ℕ
@@ -27,27 +30,38 @@ pub record IsToldRun (limits : StoreLimits) (script out : List ℕ) : Type 0 whe
   pub volumes : CanSpellEach limits.pages last.journal
   pub is : out ≡ replies ++ result_text last.journal
 
--- the text is a front of the replies to the script, or all of them and a front of the journal behind them
+-- the text is a front of the replies to the script, or all of them and a front of the journal
+-- behind them
 abbrev pub IsToldInPart : StoreLimits → List ℕ → List ℕ → Type 0
-IsToldInPart limits script front = IsFrontOfOutput (start limits.commits) script front ⊎ ((rest : List ℕ) × IsToldRun limits script (front ++ rest))
+IsToldInPart limits script front = IsFrontOfOutput (start limits.commits) script front
+    ⊎ ((rest : List ℕ) × IsToldRun limits script (front ++ rest))
 
--- What a fault leaves: where the limits or the script are at fault, nothing was written; after a failed write a part of the whole,
--- from its front on; and for want of memory the replies to the first lines, each of them whole, and nothing of the journal.
-abbrev pub TellingLeaves : StoreLimits → RunFault → Option (List ℕ) → Option (List ℕ) → Option (List ℕ) → Type 0
+-- What a fault leaves: where the limits or the script are at fault, nothing was written; after a
+-- failed write a part of the whole, from its front on; and for want of memory the replies to the
+-- first lines, each of them whole, and nothing of the journal.
+abbrev pub TellingLeaves : StoreLimits → RunFault → Option (List ℕ) → Option (List ℕ)
+    → Option (List ℕ) → Type 0
 TellingLeaves limits Limits input old new = Keeps old new
 TellingLeaves limits Read input old new = Keeps old new
-TellingLeaves limits TooLong input old new = Keeps old new × IfSome input (λ script. 2 ^ 20 < length script)
-TellingLeaves limits Write input old new = IfSome input (λ script. Wrote old new (IsToldInPart limits script))
-TellingLeaves limits Memory input old new = IfSome input (λ script. Wrote old new (AreFirstReplies (start limits.commits) script))
+TellingLeaves limits TooLong input old new = Keeps old new
+    × IfSome input (λ script. 2 ^ 20 < length script)
+TellingLeaves limits Write input old new = IfSome input
+    (λ script. Wrote old new (IsToldInPart limits script))
+TellingLeaves limits Memory input old new = IfSome input
+    (λ script. Wrote old new (AreFirstReplies (start limits.commits) script))
 
 -- a store of one pass with these writes, by its pass
 abbrev pub made : ℕ → List Entry → Store
-made limit entries = record { journal = map by_only_pass entries; volume = replay entries; limit = limit; passes = 1; pass = 0; pin = None }
+made limit entries = record { journal = map by_only_pass entries; volume = replay entries;
+    limit = limit; passes = 1; pass = 0; pin = None }
 
--- what the lines of the write with this number are answered: the reply to its operation, or those of a batch of several
+-- what the lines of the write with this number are answered: the reply to its operation, or those
+-- of a batch of several
 abbrev pub write_output : ℕ → Entry → List ℕ
 write_output number entry =
-    if nat_lt 1 (length entry.ops) then text_of ok ++ (flat_map (λ (op : Op). text_of queued) entry.ops ++ text_of (committed number entry.dones))
+    if nat_lt 1 (length entry.ops) then text_of ok
+        ++ (flat_map (λ (op : Op). text_of queued) entry.ops
+        ++ text_of (committed number entry.dones))
     else text_of (done_reply entry.dones)
 
 -- what the lines of writes are answered that are numbered from n on
@@ -55,7 +69,8 @@ abbrev pub dump_output : ℕ → List Entry → List ℕ
 dump_output n [] = []
 dump_output n (entry ∷ entries) = write_output n entry ++ dump_output (n + 1) entries
 
--- A run of the script on a store of one pass with so much room in its journal leaves this volume, by so many writes at most.
+-- A run of the script on a store of one pass with so much room in its journal leaves this volume,
+-- by so many writes at most.
 pub record MakesVolume (limit : ℕ) (script : List ℕ) (volume : State) (most : ℕ) : Type 0 where
   pub last : Store
   pub replies : List ℕ

@@ -21,11 +21,14 @@ queued_ops client = unwrap_or (queue client) []
 abbrev pub session : Store → Client → Session
 session store client = record { store = store; batch = queue client; live = client.live }
 
--- what is replied to this request is said of the store, whatever the script has beside it: both are left as they are
+-- what is replied to this request is said of the store, whatever the script has beside it: both are
+-- left as they are
 abbrev pub RepliesToAny : Store → Request → Reply → Type 0
-RepliesToAny store request reply = (client : Client) → Replies (session store client) request reply (session store client)
+RepliesToAny store request reply = (client : Client)
+    → Replies (session store client) request reply (session store client)
 
--- a session from its parts: with no batch open, with these operations queued, and with this live query
+-- a session from its parts: with no batch open, with these operations queued, and with this live
+-- query
 abbrev pub unbatched : Store → Option LiveQuery → Session
 unbatched store l = record { store = store; batch = None; live = l }
 

@@ -1,15 +1,17 @@
 //! The reply to each line.
 //!
-//! A session is what serves the script and what the script has beside it: a batch where one is open, which is the operations
-//! queued for one write, and a live query. A line that is refused or bad leaves both as they were, but a commit ends its
-//! batch, refused or not. Where other passes write, a line is answered from the store as they left it: a read leaves that
-//! store, and its reply is said of it.
+//! A session is what serves the script and what the script has beside it: a batch where one is
+//! open, which is the operations queued for one write, and a live query. A line that is refused or
+//! bad leaves both as they were, but a commit ends its batch, refused or not. Where other passes
+//! write, a line is answered from the store as they left it: a read leaves that store, and its
+//! reply is said of it.
 ghost use Rattle.std.specs.Prelude.{◌≡◌, ◌≤◌, Ok, List, Option, length, vec_len};
 ghost use Rattle.be_script_runner.specs.Output as spec;
 ghost use Rattle.be_script_language.specs.Request as requests;
 ghost use Rattle.be_script_runner.specs.Store.{Store, Joins};
 ghost use Rattle.be_script_language.specs.View.{request_of, reply_of};
-ghost use Rattle.be_script_runner.specs.View.{RepliesToAny, session, queued_ops, unbatched, batched, watched};
+ghost use Rattle.be_script_runner.specs.View.{RepliesToAny, session, queued_ops, unbatched};
+ghost use Rattle.be_script_runner.specs.View.{batched, watched};
 ghost use Rattle.be_store.specs.Live.{LiveQuery};
 
 use crate::client::Client;
@@ -27,7 +29,8 @@ const MAX_BATCH: usize = 64;
 
 fn begin(alloc: Global, client: &mut Client) -> Reply
     requires few { length (queued_ops client.old) ≤ 64 }
-    ensures replies { (store : Store) → spec.Replies (session store client.old) requests.begin (reply_of result) (session store client.new) }
+    ensures replies { (store : Store) → spec.Replies (session store client.old) requests.begin
+        (reply_of result) (session store client.new) }
     ensures few { length (queued_ops client.new) ≤ 64 }
 {
     if client.batch.is_some() {
@@ -38,7 +41,8 @@ fn begin(alloc: Global, client: &mut Client) -> Reply
 }
 
 fn abort(client: &mut Client) -> Reply
-    ensures replies { (store : Store) → spec.Replies (session store client.old) requests.abort (reply_of result) (session store client.new) }
+    ensures replies { (store : Store) → spec.Replies (session store client.old) requests.abort
+        (reply_of result) (session store client.new) }
     ensures few { length (queued_ops client.new) ≤ 64 }
 {
     match client.batch.take() {
@@ -60,7 +64,8 @@ fn done_reply(dones: &[Done]) -> Reply
 /// Writes one operation.
 fn write<S: Server>(server: &mut S, op: Op) -> Reply
     ensures replies { (live : Option LiveQuery) →
-        spec.Serves (unbatched (S.shows server.old) live) (requests.write (Ok op)) (reply_of result) (unbatched (S.shows server.new) live) }
+        spec.Serves (unbatched (S.shows server.old) live) (requests.write (Ok op)) (reply_of result)
+        (unbatched (S.shows server.new) live) }
     ensures stays { S.kept server.new ≡ S.kept server.old }
 {
     match server.apply(&[op]) {
@@ -73,7 +78,8 @@ fn write<S: Server>(server: &mut S, op: Op) -> Reply
 fn enqueue(ops: &mut Vec<Op>, op: Op) -> Reply
     requires few { vec_len ops.old ≤ 64 }
     ensures replies { (store : Store) (live : Option LiveQuery) →
-        spec.Replies (batched store ops.old.items live) (requests.write (Ok op)) (reply_of result) (batched store ops.new.items live) }
+        spec.Replies (batched store ops.old.items live) (requests.write (Ok op)) (reply_of result)
+        (batched store ops.new.items live) }
     ensures few { vec_len ops.new ≤ 64 }
 {
     if ops.len() >= MAX_BATCH {
@@ -88,7 +94,8 @@ fn enqueue(ops: &mut Vec<Op>, op: Op) -> Reply
 /// Writes an operation, or queues it where a batch is open.
 fn take<S: Server>(server: &mut S, client: &mut Client, op: Op) -> Reply
     requires few { length (queued_ops client.old) ≤ 64 }
-    ensures replies { spec.Serves (session (S.shows server.old) client.old) (requests.write (Ok op)) (reply_of result)
+    ensures replies { spec.Serves (session (S.shows server.old) client.old) (requests.write (Ok op))
+        (reply_of result)
         (session (S.shows server.new) client.new) }
     ensures stays { S.kept server.new ≡ S.kept server.old }
     ensures few { length (queued_ops client.new) ≤ 64 }
@@ -102,7 +109,8 @@ fn take<S: Server>(server: &mut S, client: &mut Client, op: Op) -> Reply
 /// Writes or queues the operation of a write line, if the line gives one.
 fn write_line<S: Server>(server: &mut S, client: &mut Client, op: Result<Op, Refusal>) -> Reply
     requires few { length (queued_ops client.old) ≤ 64 }
-    ensures replies { spec.Serves (session (S.shows server.old) client.old) (requests.write op) (reply_of result) (session (S.shows server.new) client.new) }
+    ensures replies { spec.Serves (session (S.shows server.old) client.old) (requests.write op)
+        (reply_of result) (session (S.shows server.new) client.new) }
     ensures stays { S.kept server.new ≡ S.kept server.old }
     ensures few { length (queued_ops client.new) ≤ 64 }
 {
@@ -115,7 +123,8 @@ fn write_line<S: Server>(server: &mut S, client: &mut Client, op: Result<Op, Ref
 /// Writes the operations of the batch as one. It ends then, refused or not.
 fn commit<S: Server>(server: &mut S, client: &mut Client) -> Reply
     requires few { length (queued_ops client.old) ≤ 64 }
-    ensures replies { spec.Serves (session (S.shows server.old) client.old) requests.commit (reply_of result) (session (S.shows server.new) client.new) }
+    ensures replies { spec.Serves (session (S.shows server.old) client.old) requests.commit
+        (reply_of result) (session (S.shows server.new) client.new) }
     ensures stays { S.kept server.new ≡ S.kept server.old }
     ensures few { length (queued_ops client.new) ≤ 64 }
 {
@@ -133,7 +142,8 @@ fn commit<S: Server>(server: &mut S, client: &mut Client) -> Reply
 }
 
 fn query<S: Server>(alloc: Global, server: &mut S, text: &str) -> Reply
-    ensures replies { RepliesToAny (S.shows server.new) (requests.query text.now) (reply_of result) }
+    ensures replies { RepliesToAny (S.shows server.new) (requests.query text.now)
+        (reply_of result) }
     ensures joins { Joins (S.shows server.old) (S.shows server.new) }
     ensures stays { S.kept server.new ≡ S.kept server.old }
 {
@@ -148,7 +158,8 @@ fn query<S: Server>(alloc: Global, server: &mut S, text: &str) -> Reply
 
 /// What a query would be answered from. The query's own faults come before the cover's refusal.
 fn explain_query<S: Server>(alloc: Global, server: &mut S, text: &str) -> Reply
-    ensures replies { RepliesToAny (S.shows server.new) (requests.explain text.now) (reply_of result) }
+    ensures replies { RepliesToAny (S.shows server.new) (requests.explain text.now)
+        (reply_of result) }
     ensures joins { Joins (S.shows server.old) (S.shows server.new) }
     ensures stays { S.kept server.new ≡ S.kept server.old }
 {
@@ -202,7 +213,8 @@ fn indices<S: Server>(server: &mut S) -> Reply
 /// Pins the version after all writes so far, where none is pinned.
 fn pin<S: Server>(server: &mut S) -> Reply
     ensures replies { (client : Client) →
-        spec.Serves (session (S.shows server.old) client) requests.pin (reply_of result) (session (S.shows server.new) client) }
+        spec.Serves (session (S.shows server.old) client) requests.pin (reply_of result)
+        (session (S.shows server.new) client) }
     ensures stays { S.kept server.new ≡ S.kept server.old }
 {
     if server.is_pinned() {
@@ -213,7 +225,8 @@ fn pin<S: Server>(server: &mut S) -> Reply
 
 fn unpin<S: Server>(server: &mut S) -> Reply
     ensures replies { (client : Client) →
-        spec.Replies (session (S.shows server.old) client) requests.unpin (reply_of result) (session (S.shows server.new) client) }
+        spec.Replies (session (S.shows server.old) client) requests.unpin (reply_of result)
+        (session (S.shows server.new) client) }
     ensures stays { S.kept server.new ≡ S.kept server.old }
 {
     if !server.is_pinned() {
@@ -225,7 +238,8 @@ fn unpin<S: Server>(server: &mut S) -> Reply
 
 /// Takes a live query in place of an earlier one. It doesn't matter what the query rests on.
 fn watch(alloc: Global, client: &mut Client, text: &str) -> Reply
-    ensures replies { (store : Store) → spec.Replies (session store client.old) (requests.live text.now) (reply_of result) (session store client.new) }
+    ensures replies { (store : Store) → spec.Replies (session store client.old)
+        (requests.live text.now) (reply_of result) (session store client.new) }
     ensures same { client.new.batch ≡ client.old.batch }
 {
     match parse(alloc, text) {
@@ -240,7 +254,8 @@ fn watch(alloc: Global, client: &mut Client, text: &str) -> Reply
 /// What came and what went since the live query was asked last.
 fn update<S: Server>(server: &mut S, live: &mut Live) -> Reply
     ensures replies { (batch : Option (List Op)) →
-        spec.Replies (watched (S.shows server.new) batch live.old) requests.refresh (reply_of result) (watched (S.shows server.new) batch live.new) }
+        spec.Replies (watched (S.shows server.new) batch live.old) requests.refresh
+        (reply_of result) (watched (S.shows server.new) batch live.new) }
     ensures joins { Joins (S.shows server.old) (S.shows server.new) }
     ensures stays { S.kept server.new ≡ S.kept server.old }
 {
@@ -256,7 +271,8 @@ fn update<S: Server>(server: &mut S, live: &mut Live) -> Reply
 
 /// Asks the live query, if there is one.
 fn refresh<S: Server>(server: &mut S, client: &mut Client) -> Reply
-    ensures replies { spec.Replies (session (S.shows server.new) client.old) requests.refresh (reply_of result) (session (S.shows server.new) client.new) }
+    ensures replies { spec.Replies (session (S.shows server.new) client.old) requests.refresh
+        (reply_of result) (session (S.shows server.new) client.new) }
     ensures same { client.new.batch ≡ client.old.batch }
     ensures joins { Joins (S.shows server.old) (S.shows server.new) }
     ensures stays { S.kept server.new ≡ S.kept server.old }
@@ -275,7 +291,8 @@ pub fn answer<S: Server>(
     request: Request,
 ) -> Reply
     requires few { length (queued_ops client.old) ≤ 64 }
-    ensures replies { spec.Serves (session (S.shows server.old) client.old) (request_of request) (reply_of result) (session (S.shows server.new) client.new) }
+    ensures replies { spec.Serves (session (S.shows server.old) client.old) (request_of request)
+        (reply_of result) (session (S.shows server.new) client.new) }
     ensures stays { S.kept server.new ≡ S.kept server.old }
     ensures few { length (queued_ops client.new) ≤ 64 }
 {

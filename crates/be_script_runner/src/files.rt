@@ -1,5 +1,6 @@
 //! The scripts of files.
-ghost use Rattle.std.specs.Prelude.{◌≡◌, ◌≤◌, ◌<◌, ◌^◌, false, length, nat_lt, vec_len, IfOk, IfErr};
+ghost use Rattle.std.specs.Prelude.{◌≡◌, ◌≤◌, ◌<◌, ◌^◌, false, length, nat_lt, vec_len, IfOk};
+ghost use Rattle.std.specs.Prelude.{IfErr};
 ghost use Rattle.std.specs.List.{list_any};
 ghost use Rattle.be_script_runner.specs.Run.{IsEarly};
 
@@ -9,7 +10,8 @@ use std::alloc::Global;
 use std::fs;
 use std::rt::Files;
 
-/// Reads a file whole, as a script; `-` is standard input. A file that can't be opened is one that can't be read.
+/// Reads a file whole, as a script; `-` is standard input. A file that can't be opened is one that
+/// can't be read.
 fn read_file<R: Files + Input>(rt: &R, alloc: Global, file: &str) -> Result<Vec<u8>, RunFault>
     ensures fits { IfOk result (λ script. vec_len script ≤ 2 ^ 20) }
     ensures early { IfErr result IsEarly }
@@ -23,8 +25,8 @@ fn read_file<R: Files + Input>(rt: &R, alloc: Global, file: &str) -> Result<Vec<
     }
 }
 
-/// What ends the reading where the file at this place is too long: the first file behind it that can't be read, or else
-/// this one.
+/// What ends the reading where the file at this place is too long: the first file behind it that
+/// can't be read, or else this one.
 fn stop_at<R: Files + Input>(
     rt: &R,
     alloc: Global,
@@ -43,16 +45,17 @@ fn stop_at<R: Files + Input>(
     (place, RunFault::TooLong)
 }
 
-/// Reads the scripts of these files, in their order; `-` is standard input, of which a second `-` finds nothing left. The
-/// first that can't be read ends it: which one that is, from 0, and Read or Memory. Where all can be read and some are too
-/// long, it is the first of these, and TooLong.
+/// Reads the scripts of these files, in their order; `-` is standard input, of which a second `-`
+/// finds nothing left. The first that can't be read ends it: which one that is, from 0, and Read or
+/// Memory. Where all can be read and some are too long, it is the first of these, and TooLong.
 pub fn read_files<R: Files + Input>(
     rt: &R,
     alloc: Global,
     files: &[String],
 ) -> Result<Vec<Vec<u8>>, (usize, RunFault)>
     ensures scripts { IfOk result (λ scripts. vec_len scripts ≡ length files.now) }
-    ensures short { IfOk result (λ scripts. list_any (λ s. nat_lt (2 ^ 20) (vec_len s)) scripts.items ≡ false) }
+    ensures short { IfOk result (λ scripts. list_any (λ s. nat_lt (2 ^ 20) (vec_len s))
+        scripts.items ≡ false) }
     ensures fault { IfErr result (λ stop. (stop.0 < length files.now) × IsEarly stop.1) }
 {
     let mut scripts = Vec::new(alloc);

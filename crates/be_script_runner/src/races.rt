@@ -1,20 +1,24 @@
 //! Races: several scripts at once on one shared store, each on a thread of its own.
 //!
-//! Script k is served from pass k of the store, and its replies are kept. Nobody waits for the lock inside the store, so
-//! scripts meet there alone, and what each writes takes its place in one journal. Once all threads have ended the store is
-//! closed. Then the replies are written, script by script, and behind them the journal and the result of its check.
+//! Script k is served from pass k of the store, and its replies are kept. Nobody waits for the lock
+//! inside the store, so scripts meet there alone, and what each writes takes its place in one
+//! journal. Once all threads have ended the store is closed. Then the replies are written, script
+//! by script, and behind them the journal and the result of its check.
 //!
-//! A thread promises what it gives back ([`Served`]): a pass of the store, with the script's number, whose own writes are
-//! some of those that the script asks for, and replies that the script may get where others write, of what the pass has
-//! seen. So every pass is there when the store is closed, what the journal has of a pass is what its script asked for, and
-//! each script was replied from that journal.
-ghost use Rattle.std.specs.Prelude.{◌≡◌, ◌≤◌, ◌<◌, ℕ, ◌^◌, ◌++◌, ◌↔◌, true, false, length, vec_len, map, IfOk, IfErr, OnOk, OnErr, Ok, Err, get_or, nat_lt};
+//! A thread promises what it gives back ([`Served`]): a pass of the store, with the script's
+//! number, whose own writes are some of those that the script asks for, and replies that the script
+//! may get where others write, of what the pass has seen. So every pass is there when the store is
+//! closed, what the journal has of a pass is what its script asked for, and each script was replied
+//! from that journal.
+ghost use Rattle.std.specs.Prelude.{◌≡◌, ◌≤◌, ◌<◌, ℕ, ◌^◌, ◌++◌, ◌↔◌, true, false, length, vec_len};
+ghost use Rattle.std.specs.Prelude.{map, IfOk, IfErr, OnOk, OnErr, Ok, Err, get_or, nat_lt};
 ghost use Rattle.std.specs.Io.KnownBytes.{Appends};
 ghost use Rattle.std.specs.List.{list_any};
 ghost use Rattle.be_journal.specs.Journal.{IsLegal};
 ghost use Rattle.be_journal.specs.Text.{result_text};
 ghost use Rattle.be_script_runner.specs.Gates.{AreAllTold, AreTold, line_count};
-ghost use Rattle.be_script_runner.specs.Race.{IsOutcome, AreFirstTexts, AreServed, IsNew, IsRace, RaceLeaves, pass_line, replies_text};
+ghost use Rattle.be_script_runner.specs.Race.{IsOutcome, AreFirstTexts, AreServed, IsNew, IsRace};
+ghost use Rattle.be_script_runner.specs.Race.{RaceLeaves, pass_line, replies_text};
 ghost use Rattle.be_script_runner.specs.Run.{Wrote, IsFrontOf, IsLate};
 ghost use Rattle.be_store.specs.Passes.{IsPassOf};
 ghost use Rattle.std.specs.String.{string_bytes};
@@ -36,9 +40,9 @@ use std::thread::{Promise, PromisedHandle, Scope, Threads};
 /// A pass that has served a script, and the replies.
 type Outcome = (Pass, Result<Vec<u8>, RunFault>);
 
-/// What a thread promises of its outcome: the pass is of this store and has this number; and where there are replies, they
-/// are an output of this script that leaves what the pass has seen, its own writes are some of those that the script asks
-/// for, and this gate was told of each line.
+/// What a thread promises of its outcome: the pass is of this store and has this number; and where
+/// there are replies, they are an output of this script that leaves what the pass has seen, its own
+/// writes are some of those that the script asks for, and this gate was told of each line.
 #[derive(Drop)]
 struct Served<G> {
     store: Snapshot<Store>,
@@ -51,8 +55,10 @@ impl<G: Gate> Promise<(Pass, Result<Vec<u8>, RunFault>)> for Served<G> {
     ghost kept_by = { λ p outcome.
         IsPassOf p.store.value outcome.0
         × (outcome.0.knows.number ≡ p.number)
-        × IfOk outcome.1 (λ replies. IsOutcome p.store.value.limits p.number p.script.value.items outcome.0.knows replies.items)
-        × OnOk outcome.1 (AreTold (G.begun p.gate.value p.number) (G.ended p.gate.value p.number) (line_count p.script.value.items)) };
+        × IfOk outcome.1 (λ replies. IsOutcome p.store.value.limits p.number p.script.value.items
+        outcome.0.knows replies.items)
+        × OnOk outcome.1 (AreTold (G.begun p.gate.value p.number) (G.ended p.gate.value p.number)
+        (line_count p.script.value.items)) };
 }
 
 /// Serves a script from a new pass.
@@ -60,13 +66,16 @@ fn serve_new<G: Gate>(alloc: Global, store: &Store, pass: Pass, gate: &G, script
     requires { IsNew store.now pass.knows.number pass }
     ensures pass { IsPassOf store.now result.0 }
     ensures number { result.0.knows.number ≡ pass.knows.number }
-    ensures replies { IfOk result.1 (λ replies. IsOutcome store.now.limits pass.knows.number script.now result.0.knows replies.items) }
-    ensures told { OnOk result.1 (AreTold (G.begun gate.now pass.knows.number) (G.ended gate.now pass.knows.number) (line_count script.now)) }
+    ensures replies { IfOk result.1 (λ replies. IsOutcome store.now.limits pass.knows.number
+        script.now result.0.knows replies.items) }
+    ensures told { OnOk result.1 (AreTold (G.begun gate.now pass.knows.number)
+        (G.ended gate.now pass.knows.number) (line_count script.now)) }
 {
     serve_pass(alloc, store, pass, gate, script)
 }
 
-/// Starts a thread for each pass, which serves the script of its number. Memory where one can't be started.
+/// Starts a thread for each pass, which serves the script of its number. Memory where one can't be
+/// started.
 fn start<'s, E, G: Gate + Sync>(
     scope: &Scope<'s, E>,
     alloc: Global,
@@ -78,8 +87,10 @@ fn start<'s, E, G: Gate + Sync>(
     requires new { AreNew store.now 0 passes.items }
     requires count { length passes.items ≡ length scripts.now.items }
     ensures len { IfOk result (λ threads. length threads.items ≡ length scripts.now.items) }
-    ensures each { IfOk result (λ threads. (k : ℕ) (t s : _) → k < length scripts.now.items → let promise = (get_or threads.items k t).promise in
-        (promise.store.value ≡ store.now) × (promise.number ≡ k) × (promise.script.value ≡ get_or scripts.now.items k s) × (promise.gate.value ≡ gate.now)) }
+    ensures each { IfOk result (λ threads. (k : ℕ) (t s : _) → k < length scripts.now.items
+        → let promise = (get_or threads.items k t).promise in
+        (promise.store.value ≡ store.now) × (promise.number ≡ k)
+        × (promise.script.value ≡ get_or scripts.now.items k s) × (promise.gate.value ≡ gate.now)) }
     ensures fault { IfErr result (λ e. e ≡ RunFault.Memory) }
 {
     let mut threads = Vec::new(alloc);
@@ -99,8 +110,10 @@ fn start<'s, E, G: Gate + Sync>(
                 ensures pass { IsPassOf store.entry.now result.0 }
                 ensures number { result.0.knows.number ≡ pass.knows.number }
                 ensures replies { IfOk result.1 (λ replies.
-                    IsOutcome store.entry.now.limits pass.knows.number script.entry.now.items result.0.knows replies.items) }
-                ensures told { OnOk result.1 (AreTold (G.begun gate.entry.now pass.knows.number) (G.ended gate.entry.now pass.knows.number)
+                    IsOutcome store.entry.now.limits pass.knows.number script.entry.now.items
+                    result.0.knows replies.items) }
+                ensures told { OnOk result.1 (AreTold (G.begun gate.entry.now pass.knows.number)
+                    (G.ended gate.entry.now pass.knows.number)
                     (line_count script.entry.now.items)) }
             { serve_new(alloc, store, pass, gate, script) },
         );
@@ -144,8 +157,10 @@ fn serve_in<'s, E, R: Threads, G: Gate + Sync>(
     gate: &'s G,
 ) -> Result<(Vec<Pass>, Vec<Vec<u8>>), RunFault>
     requires { AreNew store.now 0 passes.items × (length passes.items ≡ length scripts.now.items) }
-    ensures served { IfOk result (λ r. AreServed store.now (map (λ s. s.items) scripts.now.items) r.0.items (map (λ s. s.items) r.1.items)) }
-    ensures told { OnOk result (AreAllTold (G.begun gate.now) (G.ended gate.now) (map (λ s. s.items) scripts.now.items)) }
+    ensures served { IfOk result (λ r. AreServed store.now (map (λ s. s.items) scripts.now.items)
+        r.0.items (map (λ s. s.items) r.1.items)) }
+    ensures told { OnOk result (AreAllTold (G.begun gate.now) (G.ended gate.now)
+        (map (λ s. s.items) scripts.now.items)) }
     ensures fault { IfErr result (λ e. e ≡ RunFault.Memory) }
 {
     let threads = start(scope, alloc, store, passes, scripts, gate)?;
@@ -155,7 +170,8 @@ fn serve_in<'s, E, R: Threads, G: Gate + Sync>(
     }
 }
 
-/// Serves each script on a thread of its own. All threads have ended when it returns, after a fault too.
+/// Serves each script on a thread of its own. All threads have ended when it returns, after a fault
+/// too.
 fn serve_at_once<R: Threads + Wait, G: Gate + Sync>(
     rt: &R,
     alloc: Global,
@@ -165,18 +181,23 @@ fn serve_at_once<R: Threads + Wait, G: Gate + Sync>(
     gate: &G,
 ) -> Result<(Vec<Pass>, Vec<Vec<u8>>), RunFault>
     requires { AreNew store.now 0 passes.items × (length passes.items ≡ length scripts.now.items) }
-    ensures served { IfOk result (λ r. AreServed store.now (map (λ s. s.items) scripts.now.items) r.0.items (map (λ s. s.items) r.1.items)) }
-    ensures told { OnOk result (AreAllTold (G.begun gate.now) (G.ended gate.now) (map (λ s. s.items) scripts.now.items)) }
+    ensures served { IfOk result (λ r. AreServed store.now (map (λ s. s.items) scripts.now.items)
+        r.0.items (map (λ s. s.items) r.1.items)) }
+    ensures told { OnOk result (AreAllTold (G.begun gate.now) (G.ended gate.now)
+        (map (λ s. s.items) scripts.now.items)) }
     ensures fault { IfErr result (λ e. e ≡ RunFault.Memory) }
 {
     thread::scope(
         thread::scope_env(),
         rt,
         move |scope| -> Result<(Vec<Pass>, Vec<Vec<u8>>), RunFault>
-            requires { AreNew store.now 0 passes.items × (length passes.items ≡ length scripts.now.items) }
+            requires { AreNew store.now 0 passes.items
+                × (length passes.items ≡ length scripts.now.items) }
             ensures served { IfOk result (λ r. AreServed store.entry.now
-                (map (λ s. s.items) scripts.entry.now.items) r.0.items (map (λ s. s.items) r.1.items)) }
-            ensures told { OnOk result (AreAllTold (G.begun gate.entry.now) (G.ended gate.entry.now) (map (λ s. s.items) scripts.entry.now.items)) }
+                (map (λ s. s.items) scripts.entry.now.items) r.0.items
+                (map (λ s. s.items) r.1.items)) }
+            ensures told { OnOk result (AreAllTold (G.begun gate.entry.now) (G.ended gate.entry.now)
+                (map (λ s. s.items) scripts.entry.now.items)) }
             ensures fault { IfErr result (λ e. e ≡ RunFault.Memory) }
         { serve_in(scope, rt, alloc, store, passes, scripts, gate) },
     )
@@ -195,12 +216,16 @@ fn line_of(alloc: Global, pass: usize) -> Result<String, AllocError>
     format!(in alloc; "pass {pass}\n")
 }
 
-/// Writes each pass's line and its replies. After a fault a front of them all was written, and for want of memory whole ones.
+/// Writes each pass's line and its replies. After a fault a front of them all was written, and for
+/// want of memory whole ones.
 fn put_replies<W: Write>(alloc: Global, writer: &mut W, replies: &[Vec<u8>]) -> Result<(), RunFault>
-    ensures ok { OnOk result (Appends (W.contents writer.old) (W.contents writer.new) (replies_text 0 (map (λ t. t.items) replies.now))) }
-    ensures err { OnErr result (Wrote (W.contents writer.old) (W.contents writer.new) (IsFrontOf (replies_text 0 (map (λ t. t.items) replies.now)))) }
+    ensures ok { OnOk result (Appends (W.contents writer.old) (W.contents writer.new)
+        (replies_text 0 (map (λ t. t.items) replies.now))) }
+    ensures err { OnErr result (Wrote (W.contents writer.old) (W.contents writer.new)
+        (IsFrontOf (replies_text 0 (map (λ t. t.items) replies.now)))) }
     ensures whole { IfErr result (λ e. e ≡ RunFault.Memory →
-        Wrote (W.contents writer.old) (W.contents writer.new) (AreFirstTexts (map (λ t. t.items) replies.now))) }
+        Wrote (W.contents writer.old) (W.contents writer.new)
+        (AreFirstTexts (map (λ t. t.items) replies.now))) }
     ensures late { IfErr result IsLate }
 {
     for (pass, text) in replies.iter().enumerate() {
@@ -220,8 +245,10 @@ fn put_parts<W: Write>(
     second: &[u8],
     third: &[u8],
 ) -> Result<(), RunFault>
-    ensures ok { OnOk result (Appends (W.contents writer.old) (W.contents writer.new) (first.now ++ (second.now ++ third.now))) }
-    ensures err { OnErr result (Wrote (W.contents writer.old) (W.contents writer.new) (IsFrontOf (first.now ++ (second.now ++ third.now)))) }
+    ensures ok { OnOk result (Appends (W.contents writer.old) (W.contents writer.new)
+        (first.now ++ (second.now ++ third.now))) }
+    ensures err { OnErr result (Wrote (W.contents writer.old) (W.contents writer.new)
+        (IsFrontOf (first.now ++ (second.now ++ third.now)))) }
     ensures fault { IfErr result (λ e. e ≡ RunFault.Write) }
     ensures late { IfErr result IsLate }
 {
@@ -230,17 +257,22 @@ fn put_parts<W: Write>(
     put(writer, third)
 }
 
-/// Writes how many entries the journal has, their text, and the result of its check, which it answers: it is legal, and false is
-/// never answered. Nothing was written where memory is missing, and after a failed write a front.
+/// Writes how many entries the journal has, their text, and the result of its check, which it
+/// answers: it is legal, and false is never answered. Nothing was written where memory is missing,
+/// and after a failed write a front.
 pub fn put_result<W: Write>(
     alloc: Global,
     writer: &mut W,
     journal: &Journal,
 ) -> Result<bool, RunFault>
     requires { IsLegal journal.now.entries }
-    ensures ok { IfOk result (λ legal. (legal ≡ true) × Appends (W.contents writer.old) (W.contents writer.new) (result_text journal.now.entries)) }
-    ensures err { OnErr result (Wrote (W.contents writer.old) (W.contents writer.new) (IsFrontOf (result_text journal.now.entries))) }
-    ensures whole { IfErr result (λ e. e ≡ RunFault.Memory → W.contents writer.new ≡ W.contents writer.old) }
+    ensures ok { IfOk result (λ legal. (legal ≡ true)
+        × Appends (W.contents writer.old) (W.contents writer.new)
+        (result_text journal.now.entries)) }
+    ensures err { OnErr result (Wrote (W.contents writer.old) (W.contents writer.new)
+        (IsFrontOf (result_text journal.now.entries))) }
+    ensures whole { IfErr result (λ e. e ≡ RunFault.Memory → W.contents writer.new
+        ≡ W.contents writer.old) }
     ensures late { IfErr result IsLate }
 {
     let count = journal.len();
@@ -256,8 +288,9 @@ pub fn put_result<W: Write>(
     Ok(legal)
 }
 
-/// Writes each pass's line and its replies, and behind them what tells the journal; and answers the result of its check. After
-/// a fault a front of them all was written, and for want of memory whole replies alone.
+/// Writes each pass's line and its replies, and behind them what tells the journal; and answers the
+/// result of its check. After a fault a front of them all was written, and for want of memory whole
+/// replies alone.
 fn put_race<W: Write>(
     alloc: Global,
     writer: &mut W,
@@ -265,19 +298,23 @@ fn put_race<W: Write>(
     journal: &Journal,
 ) -> Result<bool, RunFault>
     requires { IsLegal journal.now.entries }
-    ensures ok { IfOk result (λ legal. (legal ≡ true) × Appends (W.contents writer.old) (W.contents writer.new)
+    ensures ok { IfOk result (λ legal. (legal ≡ true)
+        × Appends (W.contents writer.old) (W.contents writer.new)
         (replies_text 0 (map (λ t. t.items) replies.now) ++ result_text journal.now.entries)) }
     ensures err { OnErr result (Wrote (W.contents writer.old) (W.contents writer.new)
-        (IsFrontOf (replies_text 0 (map (λ t. t.items) replies.now) ++ result_text journal.now.entries))) }
+        (IsFrontOf (replies_text 0 (map (λ t. t.items) replies.now)
+        ++ result_text journal.now.entries))) }
     ensures whole { IfErr result (λ e. e ≡ RunFault.Memory →
-        Wrote (W.contents writer.old) (W.contents writer.new) (AreFirstTexts (map (λ t. t.items) replies.now))) }
+        Wrote (W.contents writer.old) (W.contents writer.new)
+        (AreFirstTexts (map (λ t. t.items) replies.now))) }
     ensures late { IfErr result IsLate }
 {
     put_replies(alloc, writer, replies)?;
     put_result(alloc, writer, journal)
 }
 
-/// Serves the scripts at once on a store of its own, which is closed then: the replies to each, and the journal.
+/// Serves the scripts at once on a store of its own, which is closed then: the replies to each, and
+/// the journal.
 fn serve_on_new<R: Threads + Wait, G: Gate + Sync>(
     rt: &R,
     alloc: Global,
@@ -287,9 +324,11 @@ fn serve_on_new<R: Threads + Wait, G: Gate + Sync>(
 ) -> Result<(Vec<Vec<u8>>, Journal), RunFault>
     requires { limits.passes ≡ vec_len scripts }
     ensures raced { IfOk result (λ r. (race : IsRace limits (map (λ s. s.items) scripts.items)
-        (replies_text 0 (map (λ t. t.items) r.0.items) ++ result_text r.1.entries)) × (race.replies ≡ map (λ t. t.items) r.0.items)) }
+        (replies_text 0 (map (λ t. t.items) r.0.items) ++ result_text r.1.entries))
+        × (race.replies ≡ map (λ t. t.items) r.0.items)) }
     ensures legal { IfOk result (λ r. IsLegal r.1.entries) }
-    ensures told { OnOk result (AreAllTold (G.begun gate.now) (G.ended gate.now) (map (λ s. s.items) scripts.items)) }
+    ensures told { OnOk result (AreAllTold (G.begun gate.now) (G.ended gate.now)
+        (map (λ s. s.items) scripts.items)) }
     ensures fault { IfErr result (λ e. e ≡ RunFault.Memory) }
 {
     let Ok((store, passes)) = Store::open(alloc, limits) else {
@@ -299,17 +338,20 @@ fn serve_on_new<R: Threads + Wait, G: Gate + Sync>(
     Ok((replies, store.close(passes)))
 }
 
-/// Races two to four scripts against one another on an empty store, which has the pages and commits of the limits and a
-/// pass for each script, and says whether the journal is legal. It is: false is never answered.
+/// Races two to four scripts against one another on an empty store, which has the pages and commits
+/// of the limits and a pass for each script, and says whether the journal is legal. It is: false is
+/// never answered.
 ///
-/// The limits are looked at first, then the lengths of the scripts, of at most 1,048,576 bytes each; a fault of these
-/// leaves nothing written. Script k is run from pass k, on a thread of its own; a write that finds another pass writing is
-/// tried again, 10,000,000 times at most in all, and its refusal is the reply then. It returns once all threads have ended. The
-/// replies are written behind a line `pass K` for each pass; then `journal N`, the journal's text, and `replay ok`. The
-/// journal is of the store that replied: it begins with what each pass has seen, and has its writes just as they were
-/// answered. Memory where memory or a thread is missing: nothing was written then, or the lines and the replies of the first
-/// passes, each of them whole. Any error of a write, and a write of no bytes, is Write, and leaves a front of what a race of
-/// these scripts writes.
+/// The limits are looked at first, then the lengths of the scripts, of at most 1,048,576 bytes
+/// each; a fault of these leaves nothing written. Script k is run from pass k, on a thread of its
+/// own; a write that finds another pass writing is tried again, 10,000,000 times at most in all,
+/// and its refusal is the reply then. It returns once all threads have ended. The replies are
+/// written behind a line `pass K` for each pass; then `journal N`, the journal's text, and `replay
+/// ok`. The journal is of the store that replied: it begins with what each pass has seen, and has
+/// its writes just as they were answered. Memory where memory or a thread is missing: nothing was
+/// written then, or the lines and the replies of the first passes, each of them whole. Any error of
+/// a write, and a write of no bytes, is Write, and leaves a front of what a race of these scripts
+/// writes.
 pub fn race<R: Threads + Wait, G: Gate + Sync, W: Write>(
     rt: &R,
     alloc: Global,
@@ -321,11 +363,15 @@ pub fn race<R: Threads + Wait, G: Gate + Sync, W: Write>(
     requires scripts { (2 ≤ vec_len scripts) × (vec_len scripts ≤ 4) }
     requires passes { limits.passes ≡ vec_len scripts }
     ensures limits { (result ≡ Err RunFault.Limits) ↔ AreBad limits }
-    ensures long { (result ≡ Err RunFault.TooLong) ↔ (IsWithin limits × (list_any (λ s. nat_lt (2 ^ 20) (vec_len s)) scripts.items ≡ true)) }
+    ensures long { (result ≡ Err RunFault.TooLong) ↔
+        (IsWithin limits × (list_any (λ s. nat_lt (2 ^ 20) (vec_len s)) scripts.items ≡ true)) }
     ensures ok { IfOk result (λ legal. (legal ≡ true)
-        × Wrote (W.contents writer.old) (W.contents writer.new) (IsRace limits (map (λ s. s.items) scripts.items))) }
-    ensures told { OnOk result (AreAllTold (G.begun gate.now) (G.ended gate.now) (map (λ s. s.items) scripts.items)) }
-    ensures fault { IfErr result (λ e. RaceLeaves limits (map (λ s. s.items) scripts.items) e (W.contents writer.old) (W.contents writer.new)) }
+        × Wrote (W.contents writer.old) (W.contents writer.new)
+        (IsRace limits (map (λ s. s.items) scripts.items))) }
+    ensures told { OnOk result (AreAllTold (G.begun gate.now) (G.ended gate.now)
+        (map (λ s. s.items) scripts.items)) }
+    ensures fault { IfErr result (λ e. RaceLeaves limits (map (λ s. s.items) scripts.items) e
+        (W.contents writer.old) (W.contents writer.new)) }
 {
     if !limits.are_within() {
         return Err(RunFault::Limits);

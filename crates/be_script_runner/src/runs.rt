@@ -1,9 +1,11 @@
 //! Whole runs: the bytes of a script in, the replies out.
 //!
-//! A script is read whole before its first line is run, so a script that can't be read or is too long writes nothing.
-//! Then each line is run, its reply is made as a text, and the text is written: a fault leaves the front of an output, which
-//! ends behind a whole reply where no write has failed.
-ghost use Rattle.std.specs.Prelude.{◌≡◌, ◌<◌, ◌≤◌, ◌^◌, ◌↔◌, ◌∷◌, [], length, vec_len, position, IfOk, OnOk, IfErr, IfSome, OnErr, IfNone, Err};
+//! A script is read whole before its first line is run, so a script that can't be read or is too
+//! long writes nothing. Then each line is run, its reply is made as a text, and the text is
+//! written: a fault leaves the front of an output, which ends behind a whole reply where no write
+//! has failed.
+ghost use Rattle.std.specs.Prelude.{◌≡◌, ◌<◌, ◌≤◌, ◌^◌, ◌↔◌, ◌∷◌, [], length, vec_len, position};
+ghost use Rattle.std.specs.Prelude.{IfOk, OnOk, IfErr, IfSome, OnErr, IfNone, Err};
 ghost use Rattle.std.specs.Io.KnownBytes.{Appends};
 ghost use Rattle.be_journal.specs.Journal.{by_pass};
 ghost use Rattle.be_script_runner.specs.Gates.{AreTold, line_count};
@@ -37,7 +39,8 @@ const MAX_READS: u64 = (1 << 20) + 1;
 /// Writes all the bytes. After a fault their front was written.
 pub fn put<W: Write>(writer: &mut W, bytes: &[u8]) -> Result<(), RunFault>
     ensures ok { OnOk result (Appends (W.contents writer.old) (W.contents writer.new) bytes.now) }
-    ensures err { OnErr result (spec.Wrote (W.contents writer.old) (W.contents writer.new) (spec.IsFrontOf bytes.now)) }
+    ensures err { OnErr result (spec.Wrote (W.contents writer.old) (W.contents writer.new)
+        (spec.IsFrontOf bytes.now)) }
     ensures fault { IfErr result (λ e. e ≡ RunFault.Write) }
     ensures late { IfErr result spec.IsLate }
 {
@@ -61,10 +64,12 @@ fn run_line<S: Server, W: Write>(
 ) -> Result<(), RunFault>
     requires few { length (queued_ops client.old) ≤ 64 }
     ensures ok { OnOk result (spec.Wrote (W.contents writer.old) (W.contents writer.new)
-        (outputs.Answered (session (S.shows server.old) client.old) line.now (session (S.shows server.new) client.new))) }
+        (outputs.Answered (session (S.shows server.old) client.old) line.now
+        (session (S.shows server.new) client.new))) }
     ensures err { OnErr result (spec.Wrote (W.contents writer.old) (W.contents writer.new)
         (spec.IsFrontOfAnswer (session (S.shows server.old) client.old) line.now)) }
-    ensures whole { IfErr result (λ e. e ≡ RunFault.Memory → W.contents writer.new ≡ W.contents writer.old) }
+    ensures whole { IfErr result (λ e. e ≡ RunFault.Memory → W.contents writer.new
+        ≡ W.contents writer.old) }
     ensures late { IfErr result spec.IsLate }
     ensures stays { S.kept server.new ≡ S.kept server.old }
     ensures few { length (queued_ops client.new) ≤ 64 }
@@ -87,7 +92,8 @@ fn end_of_line(script: &[u8]) -> Option<usize>
 
 /// The first line without its LF, and what follows it, where there is an LF.
 pub(crate) fn split_line(script: &[u8]) -> Option<(&[u8], &[u8])>
-    ensures first { IfSome result (λ parts. lines_of script.now ≡ parts.0.now ∷ lines_of parts.1.now) }
+    ensures first { IfSome result (λ parts. lines_of script.now ≡ parts.0.now
+        ∷ lines_of parts.1.now) }
     ensures shorter { IfSome result (λ parts. length parts.1.now < length script.now) }
     ensures last { IfNone result (lines_of script.now ≡ script.now ∷ []) }
 {
@@ -97,8 +103,8 @@ pub(crate) fn split_line(script: &[u8]) -> Option<(&[u8], &[u8])>
     }
 }
 
-/// Runs the lines of a script in turn, each between two calls of the gate, which are told the pass's number and the line's.
-/// What follows the last LF is a line only where it isn't empty.
+/// Runs the lines of a script in turn, each between two calls of the gate, which are told the
+/// pass's number and the line's. What follows the last LF is a line only where it isn't empty.
 pub(crate) fn run_lines<S: Server, G: Gate, W: Write>(
     alloc: Global,
     server: &mut S,
@@ -109,11 +115,14 @@ pub(crate) fn run_lines<S: Server, G: Gate, W: Write>(
 ) -> Result<(), RunFault>
     ensures ok { OnOk result (spec.Wrote (W.contents writer.old) (W.contents writer.new)
         (outputs.IsOutputTo (S.shows server.old) script.now (S.shows server.new))) }
-    ensures err { OnErr result (spec.Wrote (W.contents writer.old) (W.contents writer.new) (outputs.IsFrontOfOutput (S.shows server.old) script.now)) }
+    ensures err { OnErr result (spec.Wrote (W.contents writer.old) (W.contents writer.new)
+        (outputs.IsFrontOfOutput (S.shows server.old) script.now)) }
     ensures whole { IfErr result (λ e. e ≡ RunFault.Memory →
-        spec.Wrote (W.contents writer.old) (W.contents writer.new) (spec.AreFirstReplies (S.shows server.old) script.now)) }
+        spec.Wrote (W.contents writer.old) (W.contents writer.new)
+        (spec.AreFirstReplies (S.shows server.old) script.now)) }
     ensures late { IfErr result spec.IsLate }
-    ensures told { OnOk result (AreTold (G.begun gate.now pass) (G.ended gate.now pass) (line_count script.now)) }
+    ensures told { OnOk result (AreTold (G.begun gate.now pass) (G.ended gate.now pass)
+        (line_count script.now)) }
     ensures stays { S.kept server.new ≡ S.kept server.old }
 {
     let mut client = Client::new();
@@ -136,9 +145,10 @@ pub(crate) fn run_lines<S: Server, G: Gate, W: Write>(
     ran
 }
 
-/// Serves a script from a pass that has seen nothing, while the other passes of the store may write. The gate is called
-/// before and after each line, with the pass's number and the line's; lines count from 1 over all lines. The replies are
-/// kept: Memory is the only fault. The pass comes back in either case.
+/// Serves a script from a pass that has seen nothing, while the other passes of the store may
+/// write. The gate is called before and after each line, with the pass's number and the line's;
+/// lines count from 1 over all lines. The replies are kept: Memory is the only fault. The pass
+/// comes back in either case.
 pub fn serve_pass<G: Gate>(
     alloc: Global,
     store: &Store,
@@ -150,10 +160,13 @@ pub fn serve_pass<G: Gate>(
     requires fresh { pass.knows.seen ≡ [] }
     ensures pass { IsPassOf store.now result.0 }
     ensures number { result.0.knows.number ≡ pass.knows.number }
-    ensures mine { OnOk result.1 (by_pass result.0.knows.number (entries result.0.knows.seen) ≡ result.0.knows.mine) }
+    ensures mine { OnOk result.1 (by_pass result.0.knows.number (entries result.0.knows.seen)
+        ≡ result.0.knows.mine) }
     ensures own { OnOk result.1 (IsPartOf (operations result.0.knows.mine) (write_ops script.now)) }
-    ensures replies { IfOk result.1 (λ replies. outputs.IsOutputTo (known pass.knows) script.now (known result.0.knows) replies.items) }
-    ensures told { OnOk result.1 (AreTold (G.begun gate.now pass.knows.number) (G.ended gate.now pass.knows.number) (line_count script.now)) }
+    ensures replies { IfOk result.1 (λ replies. outputs.IsOutputTo (known pass.knows) script.now
+        (known result.0.knows) replies.items) }
+    ensures told { OnOk result.1 (AreTold (G.begun gate.now pass.knows.number)
+        (G.ended gate.now pass.knows.number) (line_count script.now)) }
     ensures fault { IfErr result.1 (λ e. e ≡ RunFault.Memory) }
 {
     let number = pass.number();
@@ -173,9 +186,11 @@ pub(crate) fn read_script<R: ScriptReader>(
     alloc: Global,
     reader: &mut R,
 ) -> Result<Vec<u8>, RunFault>
-    ensures ok { IfOk result (λ script. spec.ReadsAll (R.remaining reader.old) (R.remaining reader.new) script.items) }
+    ensures ok { IfOk result (λ script. spec.ReadsAll (R.remaining reader.old)
+        (R.remaining reader.new) script.items) }
     ensures fits { IfOk result (λ script. vec_len script ≤ 2 ^ 20) }
-    ensures err { IfErr result (λ e. spec.ReadFault e (R.remaining reader.old) (R.remaining reader.new)) }
+    ensures err { IfErr result (λ e. spec.ReadFault e (R.remaining reader.old)
+        (R.remaining reader.new)) }
     ensures early { IfErr result spec.IsEarly }
     ensures reads { spec.HasFewReads (R.was_read reader.old) (R.was_read reader.new) }
 {
@@ -198,8 +213,8 @@ pub(crate) fn read_script<R: ScriptReader>(
     unreachable!()
 }
 
-/// Runs a script on what serves it. Where the reader's bytes and the writer's are known, what is written is an output of
-/// the script from there on, and leaves what then serves.
+/// Runs a script on what serves it. Where the reader's bytes and the writer's are known, what is
+/// written is an output of the script from there on, and leaves what then serves.
 pub fn serve<S: Server, R: ScriptReader, W: Write>(
     alloc: Global,
     server: &mut S,
@@ -207,11 +222,15 @@ pub fn serve<S: Server, R: ScriptReader, W: Write>(
     writer: &mut W,
 ) -> Result<(), RunFault>
     ensures output { OnOk result (IfSome (R.remaining reader.old) (λ script.
-        spec.Wrote (W.contents writer.old) (W.contents writer.new) (outputs.IsOutputTo (S.shows server.old) script (S.shows server.new)))) }
+        spec.Wrote (W.contents writer.old) (W.contents writer.new)
+        (outputs.IsOutputTo (S.shows server.old) script (S.shows server.new)))) }
     ensures stays { S.kept server.new ≡ S.kept server.old }
-    ensures fault { IfErr result (λ e. spec.RunLeaves e (S.shows server.old) (R.remaining reader.old) (W.contents writer.old) (W.contents writer.new)) }
-    ensures fits { OnOk result (IfSome (R.remaining reader.old) (λ script. length script ≤ 2 ^ 20)) }
-    ensures taken { IfErr result (λ e. spec.HasReadScript e (R.remaining reader.old) (R.remaining reader.new)) }
+    ensures fault { IfErr result (λ e. spec.RunLeaves e (S.shows server.old)
+        (R.remaining reader.old) (W.contents writer.old) (W.contents writer.new)) }
+    ensures fits { OnOk result (IfSome (R.remaining reader.old)
+        (λ script. length script ≤ 2 ^ 20)) }
+    ensures taken { IfErr result (λ e. spec.HasReadScript e (R.remaining reader.old)
+        (R.remaining reader.new)) }
     ensures other { IfErr result spec.IsNotLimits }
     ensures reads { spec.HasFewReads (R.was_read reader.old) (R.was_read reader.new) }
 {
@@ -221,14 +240,17 @@ pub fn serve<S: Server, R: ScriptReader, W: Write>(
     }
 }
 
-/// Runs a script on an empty store of its own, which has the pages and commits of the limits and one pass.
+/// Runs a script on an empty store of its own, which has the pages and commits of the limits and
+/// one pass.
 ///
-/// The limits are looked at first, and then the store is opened. The script is read whole, in at most 1,048,577 reads,
-/// before its first line is run; any error of a read is `Read`. Each line is run before its reply is written; any error of
-/// a write, and a write of no bytes, is `Write`. `TooLong` comes where more than 1,048,576 bytes were read, and no other
-/// fault comes then. Where the reader's bytes and the writer's are known, as those of a slice
-/// and a vector are, what is written is an output of the script. After `Write` it is the front of one, after `Memory` the
-/// replies to the script's first lines, each of them whole, and after any other fault nothing was written.
+/// The limits are looked at first, and then the store is opened. The script is read whole, in at
+/// most 1,048,577 reads, before its first line is run; any error of a read is `Read`. Each line is
+/// run before its reply is written; any error of a write, and a write of no bytes, is `Write`.
+/// `TooLong` comes where more than 1,048,576 bytes were read, and no other fault comes then. Where
+/// the reader's bytes and the writer's are known, as those of a slice and a vector are, what is
+/// written is an output of the script. After `Write` it is the front of one, after `Memory` the
+/// replies to the script's first lines, each of them whole, and after any other fault nothing was
+/// written.
 pub fn run<R: ScriptReader, W: Write>(
     alloc: Global,
     reader: &mut R,
@@ -239,9 +261,12 @@ pub fn run<R: ScriptReader, W: Write>(
     ensures unread { result ≡ Err RunFault.Limits → reader.new ≡ reader.old }
     ensures output { OnOk result (IfSome (R.remaining reader.old) (λ script.
         spec.Wrote (W.contents writer.old) (W.contents writer.new) (spec.IsRun limits script))) }
-    ensures fits { OnOk result (IfSome (R.remaining reader.old) (λ script. length script ≤ 2 ^ 20)) }
-    ensures fault { IfErr result (λ e. spec.RunLeaves e (start limits.commits) (R.remaining reader.old) (W.contents writer.old) (W.contents writer.new)) }
-    ensures taken { IfErr result (λ e. spec.HasReadScript e (R.remaining reader.old) (R.remaining reader.new)) }
+    ensures fits { OnOk result (IfSome (R.remaining reader.old)
+        (λ script. length script ≤ 2 ^ 20)) }
+    ensures fault { IfErr result (λ e. spec.RunLeaves e (start limits.commits)
+        (R.remaining reader.old) (W.contents writer.old) (W.contents writer.new)) }
+    ensures taken { IfErr result (λ e. spec.HasReadScript e (R.remaining reader.old)
+        (R.remaining reader.new)) }
     ensures reads { spec.HasFewReads (R.was_read reader.old) (R.was_read reader.new) }
 {
     if !limits.are_within() {

@@ -1,7 +1,8 @@
 //! The script that makes a version again.
 //!
-//! It is what be_journal_text's `dump_state` gives of a journal that leaves the version: the operations that make it, list by list. It
-//! is made whole before any of it is written, so that a want of memory leaves no part of it behind.
+//! It is what be_journal_text's `dump_state` gives of a journal that leaves the version: the
+//! operations that make it, list by list. It is made whole before any of it is written, so that a
+//! want of memory leaves no part of it behind.
 ghost use Rattle.std.specs.Prelude.{◌≡◌, ◌<◌, ◌++◌, [], ℕ, All, IfOk, OnOk, length, true, false};
 ghost use Rattle.std.specs.String.{string_bytes};
 ghost use Rattle.be_journal_text.specs.Dump.{cut_lines, state_dump};
@@ -15,7 +16,8 @@ use be_volume_state::Place;
 use be_store::{Pass, Store};
 use std::alloc::{AllocError, Global};
 
-/// Appends the lines of the next list of the operations of a pass's pinned version. False where none was left.
+/// Appends the lines of the next list of the operations of a pass's pinned version. False where
+/// none was left.
 fn push_next(
     alloc: Global,
     store: &Store,
@@ -26,12 +28,16 @@ fn push_next(
     requires pass { IsPassOf store.now pass.old }
     requires pinned { (n : ℕ) × IsPinnedTo pass.old.knows n }
     ensures pass { IsPassOf store.now pass.new × HasRead pass.old.knows pass.new.knows }
-    ensures text { OnOk result (string_bytes text.new ++ cut_lines (left (volume_pinned pass.old.knows) place.new)
+    ensures text { OnOk result (string_bytes text.new
+        ++ cut_lines (left (volume_pinned pass.old.knows) place.new)
         ≡ string_bytes text.old ++ cut_lines (left (volume_pinned pass.old.knows) place.old)) }
-    ensures can { OnOk result (All CanBeOp (left (volume_pinned pass.old.knows) place.new) → All CanBeOp (left (volume_pinned pass.old.knows) place.old)) }
+    ensures can { OnOk result (All CanBeOp (left (volume_pinned pass.old.knows) place.new)
+        → All CanBeOp (left (volume_pinned pass.old.knows) place.old)) }
     ensures fewer { IfOk result (λ more. more ≡ true →
-        length (left (volume_pinned pass.old.knows) place.new) < length (left (volume_pinned pass.old.knows) place.old)) }
-    ensures ends { IfOk result (λ more. more ≡ false → left (volume_pinned pass.old.knows) place.new ≡ []) }
+        length (left (volume_pinned pass.old.knows) place.new)
+        < length (left (volume_pinned pass.old.knows) place.old)) }
+    ensures ends { IfOk result (λ more. more ≡ false → left (volume_pinned pass.old.knows) place.new
+        ≡ []) }
 {
     let Ok(list) = store.state(alloc, pass, place) else {
         return Err(AllocError);
@@ -52,7 +58,8 @@ pub(crate) fn pinned_text(
     requires pass { IsPassOf store.now pass.old }
     requires pinned { (n : ℕ) × IsPinnedTo pass.old.knows n }
     ensures pass { IsPassOf store.now pass.new × HasRead pass.old.knows pass.new.knows }
-    ensures text { IfOk result (λ text. string_bytes text ≡ state_dump (volume_pinned pass.old.knows)) }
+    ensures text { IfOk result (λ text. string_bytes text
+        ≡ state_dump (volume_pinned pass.old.knows)) }
     ensures can { OnOk result (All CanBeOp (state_ops (volume_pinned pass.old.knows))) }
 {
     let mut place = Place::new(alloc);

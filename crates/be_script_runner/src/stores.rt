@@ -1,10 +1,12 @@
 //! What serves a script.
 //!
-//! A script's lines need few calls. [`Server`] names them, and tells by one ghost member what they are answered from: a
-//! journal, the volume that it stands for, the limit on its entries, and the pinned version. Other passes may write
-//! between two calls, and a call is answered from the store as they left it. What runs scripts is proved over that trait,
-//! so it holds for whatever serves. [`PassServer`] is a shared store with one of its passes.
-ghost use Rattle.std.specs.Prelude.{◌≡◌, ◌≤◌, true, All, List, Ok, None, IsSome, is_some, length, IfOk, IfErr, OnOk, if◌then◌else◌};
+//! A script's lines need few calls. [`Server`] names them, and tells by one ghost member what they
+//! are answered from: a journal, the volume that it stands for, the limit on its entries, and the
+//! pinned version. Other passes may write between two calls, and a call is answered from the store
+//! as they left it. What runs scripts is proved over that trait, so it holds for whatever serves.
+//! [`PassServer`] is a shared store with one of its passes.
+ghost use Rattle.std.specs.Prelude.{◌≡◌, ◌≤◌, true, All, List, Ok, None, IsSome, is_some, length};
+ghost use Rattle.std.specs.Prelude.{IfOk, IfErr, OnOk, if◌then◌else◌};
 ghost use Rattle.std.specs.String.{string_bytes};
 ghost use Rattle.be_journal_text.specs.Dump.{state_dump};
 ghost use Rattle.be_journal_text.specs.History.{CanBeOp};
@@ -21,7 +23,8 @@ ghost use Rattle.be_volume.specs.Reading.{attribute, attributes_at, index_kinds}
 ghost use Rattle.be_table.specs.Rule.{IsWithin};
 ghost use Rattle.be_volume_state.specs.Rebuilding.{state_ops};
 ghost use Rattle.be_script_runner.specs.Served.{known, seat_of};
-ghost use Rattle.be_script_runner.specs.Store.{Store, Joins, Meanwhile, start, viewed, pinned, unpinned, MayWrite};
+ghost use Rattle.be_script_runner.specs.Store.{Store, Joins, Meanwhile, start, viewed, pinned};
+ghost use Rattle.be_script_runner.specs.Store.{unpinned, MayWrite};
 
 use crate::Limits;
 use crate::states::pinned_text;
@@ -49,13 +52,15 @@ pub trait Server {
     /// Why operations are refused, by what becomes of the server.
     ghost refuses: { Self → List AnyOp → AnyRefusal → Self → Type 0 };
 
-    /// Writes operations, all or none: the number of the commit, and an answer for each. It is refused by Busy where another
-    /// pass is writing, else by what the volume says, then CommitsSpent, then OutOfMemory, then Full. A pin stays.
+    /// Writes operations, all or none: the number of the commit, and an answer for each. It is
+    /// refused by Busy where another pass is writing, else by what the volume says, then
+    /// CommitsSpent, then OutOfMemory, then Full. A pin stays.
     fn apply(&mut self, ops: &[Op]) -> Result<(u64, ArrayVec<Done, 64>), Refusal>
         requires some { 1 ≤ length ops.now }
         requires few { length ops.now ≤ 64 }
         ensures stays { kept self.new ≡ kept self.old }
-        ensures writes { Meanwhile (shows self.old) (λ store. MayWrite (λ dones. dones.items) store ops.now result (shows self.new)) }
+        ensures writes { Meanwhile (shows self.old)
+            (λ store. MayWrite (λ dones. dones.items) store ops.now result (shows self.new)) }
         ensures reason { IfErr result (λ e. refuses self.old ops.now e self.new) };
 
     /// Whether a version is pinned.
@@ -66,7 +71,8 @@ pub trait Server {
     fn pin(&mut self) -> u64
         requires { (shows self.old).pin ≡ None }
         ensures stays { kept self.new ≡ kept self.old }
-        ensures pins { Meanwhile (shows self.old) (λ store. (shows self.new ≡ pinned store) × (result ≡ length store.journal)) };
+        ensures pins { Meanwhile (shows self.old)
+            (λ store. (shows self.new ≡ pinned store) × (result ≡ length store.journal)) };
 
     /// Gives the pin up.
     fn unpin(&mut self)
@@ -78,13 +84,15 @@ pub trait Server {
     fn query(&mut self, query: &Query) -> Result<Vec<u64>, Refusal>
         ensures stays { kept self.new ≡ kept self.old }
         ensures joins { Joins (shows self.old) (shows self.new) }
-        ensures answers { Answers (λ nodes. nodes.items) result (scan (viewed (shows self.new)) query.now) };
+        ensures answers { Answers (λ nodes. nodes.items) result
+            (scan (viewed (shows self.new)) query.now) };
 
     /// What a query would be answered from; or NotCovered or OutOfMemory.
     fn explain(&mut self, query: &Query) -> Result<Cover, Refusal>
         ensures stays { kept self.new ≡ kept self.old }
         ensures joins { Joins (shows self.old) (shows self.new) }
-        ensures answers { Answers (λ cover. cover) result (chosen (has_index (viewed (shows self.new))) query.now) }
+        ensures answers { Answers (λ cover. cover) result
+            (chosen (has_index (viewed (shows self.new))) query.now) }
         ensures places { IfOk result (λ cover. are_places query.now cover.picks ≡ true) };
 
     /// The value of an attribute.
@@ -97,28 +105,33 @@ pub trait Server {
     fn attrs(&mut self, node: u64) -> Result<Vec<(Name, Value)>, Refusal>
         ensures stays { kept self.new ≡ kept self.old }
         ensures joins { Joins (shows self.old) (shows self.new) }
-        ensures answers { Answers (λ list. list.items) result (attributes_at (viewed (shows self.new)) node) };
+        ensures answers { Answers (λ list. list.items) result
+            (attributes_at (viewed (shows self.new)) node) };
 
     /// The indices, by ascending names; or OutOfMemory.
     fn indices(&mut self) -> Result<Vec<(Name, Kind)>, Refusal>
         ensures stays { kept self.new ≡ kept self.old }
         ensures joins { Joins (shows self.old) (shows self.new) }
-        ensures answers { Answers (λ list. list.items) result (Ok (index_kinds (viewed (shows self.new)))) };
+        ensures answers { Answers (λ list. list.items) result
+            (Ok (index_kinds (viewed (shows self.new)))) };
 
-    /// The script that makes the version again that is read: the pinned one, or else that after all writes. It is what be_journal_text's
-    /// `dump_state` gives of a journal that leaves this version.
+    /// The script that makes the version again that is read: the pinned one, or else that after all
+    /// writes. It is what be_journal_text's `dump_state` gives of a journal that leaves this
+    /// version.
     fn state_text(&mut self) -> Result<String, AllocError>
         ensures stays { kept self.new ≡ kept self.old }
         ensures joins { Joins (shows self.old) (shows self.new) }
-        ensures text { IfOk result (λ text. string_bytes text ≡ state_dump (viewed (shows self.new))) }
+        ensures text { IfOk result (λ text. string_bytes text
+            ≡ state_dump (viewed (shows self.new))) }
         ensures can { OnOk result (All CanBeOp (state_ops (viewed (shows self.new)))) };
 }
 
-/// Opens a store of one pass before its first write, with as many pages and commits as the limits say. Refused for want of
-/// memory alone.
+/// Opens a store of one pass before its first write, with as many pages and commits as the limits
+/// say. Refused for want of memory alone.
 pub fn open_for_one(alloc: Global, limits: Limits) -> Result<(be_store::Store, Pass), Refusal>
     requires { IsWithin limits }
-    ensures opened { IfOk result (λ r. IsPassOf r.0 r.1 × (known r.1.knows ≡ start limits.commits)) }
+    ensures opened { IfOk result (λ r. IsPassOf r.0 r.1
+        × (known r.1.knows ≡ start limits.commits)) }
     ensures pages { IfOk result (λ r. r.0.limits.pages ≡ limits.pages) }
     ensures refused { IfErr result (λ e. e ≡ OutOfMemory) }
 {
@@ -133,8 +146,8 @@ pub fn open_for_one(alloc: Global, limits: Limits) -> Result<(be_store::Store, P
     Ok((store, pass))
 }
 
-/// Writes, and tries again while another pass is writing, 10,000,000 times at most in all. Before each further try another
-/// thread may run.
+/// Writes, and tries again while another pass is writing, 10,000,000 times at most in all. Before
+/// each further try another thread may run.
 fn apply_at_last(
     store: &be_store::Store,
     pass: &mut Pass,
@@ -144,8 +157,10 @@ fn apply_at_last(
     requires count { (1 ≤ length ops.now) × (length ops.now ≤ 64) }
     ensures pass { IsPassOf store.now pass.new }
     ensures number { pass.new.knows.number ≡ pass.old.knows.number }
-    ensures writes { Meanwhile (known pass.old.knows) (λ store. MayWrite (λ dones. dones.items) store ops.now result (known pass.new.knows)) }
-    ensures tries { IfErr result (λ e. IsLastReason MAX_TRIES pass.old.knows pass.new.knows ops.now e) }
+    ensures writes { Meanwhile (known pass.old.knows)
+        (λ store. MayWrite (λ dones. dones.items) store ops.now result (known pass.new.knows)) }
+    ensures tries { IfErr result (λ e. IsLastReason MAX_TRIES pass.old.knows pass.new.knows ops.now
+        e) }
 {
     pass.is_pass();
     let answer = store.apply_or_retry(pass, ops, MAX_TRIES);
@@ -153,8 +168,8 @@ fn apply_at_last(
     answer
 }
 
-/// A shared store, served from one of its passes. The others may write at any time; what this pass has seen is what a
-/// script is shown.
+/// A shared store, served from one of its passes. The others may write at any time; what this pass
+/// has seen is what a script is shown.
 #[derive(Drop)]
 pub struct PassServer<'a> {
     alloc: Global,
@@ -194,8 +209,10 @@ impl<'a> PassServer<'a> {
     fn begin_read(&mut self) -> bool
         ensures stays { seat_of self.new ≡ seat_of self.old }
         ensures pinned { IsSome (known self.new.knows).pin }
-        ensures same_view { viewed (known self.new.knows) ≡ viewed (if result then unpinned (known self.new.knows) else known self.new.knows) }
-        ensures joins { Joins (known self.old.knows) (if result then unpinned (known self.new.knows) else known self.new.knows) }
+        ensures same_view { viewed (known self.new.knows)
+            ≡ viewed (if result then unpinned (known self.new.knows) else known self.new.knows) }
+        ensures joins { Joins (known self.old.knows)
+            (if result then unpinned (known self.new.knows) else known self.new.knows) }
     {
         if self.is_pinned() {
             return false;
@@ -208,7 +225,8 @@ impl<'a> PassServer<'a> {
     fn end_read(&mut self, made: bool)
         requires { IsSome (known self.old.knows).pin }
         ensures stays { seat_of self.new ≡ seat_of self.old }
-        ensures unpinned { known self.new.knows ≡ (if made then unpinned (known self.old.knows) else known self.old.knows) }
+        ensures unpinned { known self.new.knows
+            ≡ (if made then unpinned (known self.old.knows) else known self.old.knows) }
     {
         if made {
             self.unpin();

@@ -1,9 +1,11 @@
 //! Runs that end at the first line that is refused.
 //!
-//! Each line is run and its reply written, as in any run. Behind a reply that says that its line was not done nothing more is
-//! run: that reply is the last that is written. The store is closed then, and its journal is given back.
+//! Each line is run and its reply written, as in any run. Behind a reply that says that its line
+//! was not done nothing more is run: that reply is the last that is written. The store is closed
+//! then, and its journal is given back.
 ghost use Rattle.std.specs.Option.{option_map};
-ghost use Rattle.std.specs.Prelude.{◌≡◌, ◌≤◌, ◌^◌, ◌↔◌, length, IfOk, OnOk, IfErr, IfSome, OnErr, if◌then◌else◌};
+ghost use Rattle.std.specs.Prelude.{◌≡◌, ◌≤◌, ◌^◌, ◌↔◌, length, IfOk, OnOk, IfErr, IfSome, OnErr};
+ghost use Rattle.std.specs.Prelude.{if◌then◌else◌};
 ghost use Rattle.std.specs.String.{string_bytes};
 ghost use Rattle.be_journal.specs.Journal.{IsLegal};
 ghost use Rattle.be_script_language.specs.View.{reply_of};
@@ -52,13 +54,14 @@ fn is_refusal(reply: &Reply) -> bool
 
 /// The text of a reply, where it says that its line was not done.
 fn refusal_in(is_refused: bool, text: String) -> Option<String>
-    ensures { option_map string_bytes result ≡ (if is_refused then Some (string_bytes text) else None) }
+    ensures { option_map string_bytes result
+        ≡ (if is_refused then Some (string_bytes text) else None) }
 {
     if is_refused { Some(text) } else { None }
 }
 
-/// Runs a line, and then writes its reply, which is given back where it says that the line was not done. Nothing of it was
-/// written where memory is missing.
+/// Runs a line, and then writes its reply, which is given back where it says that the line was not
+/// done. Nothing of it was written where memory is missing.
 fn run_line<S: Server, W: Write>(
     alloc: Global,
     server: &mut S,
@@ -68,10 +71,12 @@ fn run_line<S: Server, W: Write>(
 ) -> Result<Option<String>, RunFault>
     requires few { length (queued_ops client.old) ≤ 64 }
     ensures ok { IfOk result (λ found. spec.Wrote (W.contents writer.old) (W.contents writer.new)
-        (strict.Judged (session (S.shows server.old) client.old) line.now (session (S.shows server.new) client.new) (option_map string_bytes found))) }
+        (strict.Judged (session (S.shows server.old) client.old) line.now
+        (session (S.shows server.new) client.new) (option_map string_bytes found))) }
     ensures err { OnErr result (spec.Wrote (W.contents writer.old) (W.contents writer.new)
         (spec.IsFrontOfAnswer (session (S.shows server.old) client.old) line.now)) }
-    ensures whole { IfErr result (λ e. e ≡ RunFault.Memory → W.contents writer.new ≡ W.contents writer.old) }
+    ensures whole { IfErr result (λ e. e ≡ RunFault.Memory → W.contents writer.new
+        ≡ W.contents writer.old) }
     ensures late { IfErr result spec.IsLate }
     ensures stays { S.kept server.new ≡ S.kept server.old }
     ensures few { length (queued_ops client.new) ≤ 64 }
@@ -89,7 +94,8 @@ fn run_line<S: Server, W: Write>(
 
 /// The refused line of this number, where there is a reply of one.
 fn refused_line(number: u64, reply: Option<String>) -> Option<RefusedLine>
-    ensures { option_map strict.line_refused result ≡ strict.numbered number (option_map string_bytes reply) }
+    ensures { option_map strict.line_refused result
+        ≡ strict.numbered number (option_map string_bytes reply) }
 {
     match reply {
         Some(reply) => Some(RefusedLine { number, reply }),
@@ -97,8 +103,8 @@ fn refused_line(number: u64, reply: Option<String>) -> Option<RefusedLine>
     }
 }
 
-/// Runs the lines of a script in turn, up to the first that is refused, and gives that one. What follows the last LF is a line
-/// only where it isn't empty.
+/// Runs the lines of a script in turn, up to the first that is refused, and gives that one. What
+/// follows the last LF is a line only where it isn't empty.
 fn run_lines<S: Server, W: Write>(
     alloc: Global,
     server: &mut S,
@@ -106,10 +112,13 @@ fn run_lines<S: Server, W: Write>(
     writer: &mut W,
 ) -> Result<Option<RefusedLine>, RunFault>
     ensures ok { IfOk result (λ found. spec.Wrote (W.contents writer.old) (W.contents writer.new)
-        (strict.IsStrictOutput (S.shows server.old) script.now (option_map strict.line_refused found) (S.shows server.new))) }
-    ensures front { spec.Wrote (W.contents writer.old) (W.contents writer.new) (IsFrontOfOutput (S.shows server.old) script.now) }
+        (strict.IsStrictOutput (S.shows server.old) script.now
+        (option_map strict.line_refused found) (S.shows server.new))) }
+    ensures front { spec.Wrote (W.contents writer.old) (W.contents writer.new)
+        (IsFrontOfOutput (S.shows server.old) script.now) }
     ensures whole { IfErr result (λ e. e ≡ RunFault.Memory →
-        spec.Wrote (W.contents writer.old) (W.contents writer.new) (spec.AreFirstReplies (S.shows server.old) script.now)) }
+        spec.Wrote (W.contents writer.old) (W.contents writer.new)
+        (spec.AreFirstReplies (S.shows server.old) script.now)) }
     ensures late { IfErr result spec.IsLate }
     ensures stays { S.kept server.new ≡ S.kept server.old }
 {
@@ -142,9 +151,11 @@ fn run_on_new<W: Write>(
     ensures ran { IfOk result (λ r. spec.Wrote (W.contents writer.old) (W.contents writer.new)
         (strict.IsStrictRun limits script.now (option_map strict.line_refused r.0) r.1.entries)) }
     ensures legal { IfOk result (λ r. IsLegal r.1.entries) }
-    ensures err { OnErr result (spec.Wrote (W.contents writer.old) (W.contents writer.new) (IsFrontOfOutput (start limits.commits) script.now)) }
+    ensures err { OnErr result (spec.Wrote (W.contents writer.old) (W.contents writer.new)
+        (IsFrontOfOutput (start limits.commits) script.now)) }
     ensures whole { IfErr result (λ e. e ≡ RunFault.Memory →
-        spec.Wrote (W.contents writer.old) (W.contents writer.new) (spec.AreFirstReplies (start limits.commits) script.now)) }
+        spec.Wrote (W.contents writer.old) (W.contents writer.new)
+        (spec.AreFirstReplies (start limits.commits) script.now)) }
     ensures late { IfErr result spec.IsLate }
 {
     let Ok((store, pass)) = open_for_one(alloc, limits) else {
@@ -157,12 +168,13 @@ fn run_on_new<W: Write>(
     Ok((refused, journal))
 }
 
-/// Runs a script as [`crate::run`] does, but ends behind the first reply that says that its line was not done, and gives that
-/// line. None where there was no such line: then all lines were run. The journal of the accepted writes is given too.
+/// Runs a script as [`crate::run`] does, but ends behind the first reply that says that its line
+/// was not done, and gives that line. None where there was no such line: then all lines were run.
+/// The journal of the accepted writes is given too.
 ///
-/// Such replies are a refusal, `bad line`, `already begun`, `not begun`, `full batch`, `empty batch`, `already pinned`, `not
-/// pinned` and `no live query`. What is written is an output of the lines up to that one. Faults are those of `run`, and leave
-/// what they leave there.
+/// Such replies are a refusal, `bad line`, `already begun`, `not begun`, `full batch`, `empty
+/// batch`, `already pinned`, `not pinned` and `no live query`. What is written is an output of the
+/// lines up to that one. Faults are those of `run`, and leave what they leave there.
 pub fn run_strictly<R: ScriptReader, W: Write>(
     alloc: Global,
     reader: &mut R,
@@ -175,9 +187,12 @@ pub fn run_strictly<R: ScriptReader, W: Write>(
         spec.Wrote (W.contents writer.old) (W.contents writer.new)
         (strict.IsStrictRun limits script (option_map strict.line_refused r.0) r.1.entries))) }
     ensures legal { IfOk result (λ r. IsLegal r.1.entries) }
-    ensures fits { OnOk result (IfSome (R.remaining reader.old) (λ script. length script ≤ 2 ^ 20)) }
-    ensures fault { IfErr result (λ e. spec.RunLeaves e (start limits.commits) (R.remaining reader.old) (W.contents writer.old) (W.contents writer.new)) }
-    ensures taken { IfErr result (λ e. spec.HasReadScript e (R.remaining reader.old) (R.remaining reader.new)) }
+    ensures fits { OnOk result (IfSome (R.remaining reader.old)
+        (λ script. length script ≤ 2 ^ 20)) }
+    ensures fault { IfErr result (λ e. spec.RunLeaves e (start limits.commits)
+        (R.remaining reader.old) (W.contents writer.old) (W.contents writer.new)) }
+    ensures taken { IfErr result (λ e. spec.HasReadScript e (R.remaining reader.old)
+        (R.remaining reader.new)) }
     ensures reads { spec.HasFewReads (R.was_read reader.old) (R.was_read reader.new) }
 {
     if !limits.are_within() {

@@ -1,5 +1,6 @@
 //! Runs that tell their journal.
-ghost use Rattle.std.specs.Prelude.{◌≡◌, ◌≤◌, ◌^◌, ◌↔◌, ◌∷◌, [], true, length, IfOk, IfErr, OnOk, OnErr, IfSome, Err};
+ghost use Rattle.std.specs.Prelude.{◌≡◌, ◌≤◌, ◌^◌, ◌↔◌, ◌∷◌, [], true, length, IfOk, IfErr, OnOk};
+ghost use Rattle.std.specs.Prelude.{OnErr, IfSome, Err};
 ghost use Rattle.be_journal.specs.Journal.{IsLegal};
 ghost use Rattle.be_script_runner.specs.Run as spec;
 ghost use Rattle.be_script_runner.specs.Store.{start};
@@ -32,7 +33,8 @@ fn only(alloc: Global, pass: Pass) -> Result<Vec<Pass>, RunFault>
     }
 }
 
-/// The journal of a store whose only pass is back: all that the pass has seen. Memory is the only fault.
+/// The journal of a store whose only pass is back: all that the pass has seen. Memory is the only
+/// fault.
 pub fn close_alone(alloc: Global, store: be_store::Store, pass: Pass) -> Result<Journal, RunFault>
     requires pass { IsPassOf store pass }
     requires one { store.limits.passes ≡ 1 }
@@ -55,10 +57,13 @@ fn run_on_new<W: Write>(
 ) -> Result<bool, RunFault>
     requires { IsWithin limits }
     ensures told { IfOk result (λ legal. (legal ≡ true)
-        × spec.Wrote (W.contents writer.old) (W.contents writer.new) (IsToldRun limits script.now)) }
-    ensures err { OnErr result (spec.Wrote (W.contents writer.old) (W.contents writer.new) (IsToldInPart limits script.now)) }
+        × spec.Wrote (W.contents writer.old) (W.contents writer.new)
+        (IsToldRun limits script.now)) }
+    ensures err { OnErr result (spec.Wrote (W.contents writer.old) (W.contents writer.new)
+        (IsToldInPart limits script.now)) }
     ensures whole { IfErr result (λ e. e ≡ RunFault.Memory →
-        spec.Wrote (W.contents writer.old) (W.contents writer.new) (spec.AreFirstReplies (start limits.commits) script.now)) }
+        spec.Wrote (W.contents writer.old) (W.contents writer.new)
+        (spec.AreFirstReplies (start limits.commits) script.now)) }
     ensures late { IfErr result spec.IsLate }
 {
     let Ok((store, pass)) = open_for_one(alloc, limits) else {
@@ -71,13 +76,16 @@ fn run_on_new<W: Write>(
     put_result(alloc, writer, &journal)
 }
 
-/// Runs a script as [`crate::run`] does, and writes behind the replies what a race writes behind them: `journal N`, the
-/// journal's text, and `replay ok`. It says whether the journal is legal. It is: false is never answered.
+/// Runs a script as [`crate::run`] does, and writes behind the replies what a race writes behind
+/// them: `journal N`, the journal's text, and `replay ok`. It says whether the journal is legal. It
+/// is: false is never answered.
 ///
-/// The script is read before the store is opened. The journal is that which the replies leave: each accepted write of the
-/// script, in its order; after each of them the volume is one that as many pages as the limits say can spell. Faults are those
-/// of `run`; `Write` leaves a front of the replies written, or all of them and a front of what stands behind them, `Memory` the
-/// replies to the script's first lines, each of them whole, and nothing of the journal, and any other fault leaves nothing.
+/// The script is read before the store is opened. The journal is that which the replies leave: each
+/// accepted write of the script, in its order; after each of them the volume is one that as many
+/// pages as the limits say can spell. Faults are those of `run`; `Write` leaves a front of the
+/// replies written, or all of them and a front of what stands behind them, `Memory` the replies to
+/// the script's first lines, each of them whole, and nothing of the journal, and any other fault
+/// leaves nothing.
 pub fn run_and_tell<R: ScriptReader, W: Write>(
     alloc: Global,
     reader: &mut R,
@@ -88,9 +96,12 @@ pub fn run_and_tell<R: ScriptReader, W: Write>(
     ensures unread { result ≡ Err RunFault.Limits → reader.new ≡ reader.old }
     ensures told { IfOk result (λ legal. (legal ≡ true) × IfSome (R.remaining reader.old) (λ script.
         spec.Wrote (W.contents writer.old) (W.contents writer.new) (IsToldRun limits script))) }
-    ensures fits { OnOk result (IfSome (R.remaining reader.old) (λ script. length script ≤ 2 ^ 20)) }
-    ensures fault { IfErr result (λ e. TellingLeaves limits e (R.remaining reader.old) (W.contents writer.old) (W.contents writer.new)) }
-    ensures taken { IfErr result (λ e. spec.HasReadScript e (R.remaining reader.old) (R.remaining reader.new)) }
+    ensures fits { OnOk result (IfSome (R.remaining reader.old)
+        (λ script. length script ≤ 2 ^ 20)) }
+    ensures fault { IfErr result (λ e. TellingLeaves limits e (R.remaining reader.old)
+        (W.contents writer.old) (W.contents writer.new)) }
+    ensures taken { IfErr result (λ e. spec.HasReadScript e (R.remaining reader.old)
+        (R.remaining reader.new)) }
     ensures reads { spec.HasFewReads (R.was_read reader.old) (R.was_read reader.new) }
 {
     if !limits.are_within() {

@@ -1,8 +1,10 @@
 //! Scripts and what they are answered, as rows `LINE => REPLY`.
 //!
-//! Each table is run over the shared store and over a plain volume with its journal, and both give the replies of the rows.
+//! Each table is run over the shared store and over a plain volume with its journal, and both give
+//! the replies of the rows.
 //!
-//! Every test passes with any one request for memory refused: a run that wanted memory is looked at, and made again.
+//! Every test passes with any one request for memory refused: a run that wanted memory is looked
+//! at, and made again.
 ghost use Rattle.std.specs.Prelude.{◌<◌, ◌^◌};
 
 mod alike;
@@ -27,7 +29,8 @@ const LIMITS: Limits = Limits {
     commits: 1_000_000,
 };
 
-/// The character that a character of a row stands for: the pictures of control characters are those.
+/// The character that a character of a row stands for: the pictures of control characters are
+/// those.
 fn meaning_of(c: char) -> char {
     match c {
         '␀' => '\0',
@@ -48,7 +51,8 @@ fn push_meant(text: &mut String, written: &str) -> Result<(), AllocError> {
     Ok(())
 }
 
-/// Appends `COUNT*PART}` and what follows it: the part as often as counted. Any other text stands for itself.
+/// Appends `COUNT*PART}` and what follows it: the part as often as counted. Any other text stands
+/// for itself.
 fn push_repeated(text: &mut String, written: &str) -> Result<(), AllocError> {
     let Some((repeated, rest)) = written.split_once('}') else {
         return push_meant(text, written);
@@ -83,7 +87,8 @@ fn push_lines(text: &mut String, written: &str) -> Result<(), AllocError> {
     Ok(())
 }
 
-/// Appends the lines of a row to a script, and their replies to the replies. A row without ` => ` is a line without a reply.
+/// Appends the lines of a row to a script, and their replies to the replies. A row without ` => `
+/// is a line without a reply.
 fn push_row(script: &mut String, replies: &mut String, row: &str) -> Result<(), AllocError> {
     let Some((lines, reply)) = row.split_once(" => ") else {
         push_part(script, row)?;
@@ -157,7 +162,8 @@ fn run_by(
     }
 }
 
-/// Runs a script. True if it is replied to so, and false if it wanted memory, behind a front of these replies.
+/// Runs a script. True if it is replied to so, and false if it wanted memory, behind a front of
+/// these replies.
 fn replies_to(
     by: By,
     alloc: Global,
@@ -179,7 +185,8 @@ fn replies_to(
     }
 }
 
-/// Fails unless the script has these replies by this server, at the second run where the first one wanted memory.
+/// Fails unless the script has these replies by this server, at the second run where the first one
+/// wanted memory.
 fn check_by(by: By, alloc: Global, script: &[u8], replies: &str, commits: u64) -> Result<(), Fail>
     requires { commits < 2 ^ 32 }
 {

@@ -1,5 +1,6 @@
 -- What a list of operations means, as other languages spell them.
-use Rattle.std.specs.Prelude.{◌≡◌, ◌⊎◌, ◌+◌, ◌<◌, ◌≤◌, ◌++◌, ℕ, List, [], ◌∷◌, Some, length, slice_get, take, drop}
+use Rattle.std.specs.Prelude.{◌≡◌, ◌⊎◌, ◌+◌, ◌<◌, ◌≤◌, ◌++◌, ℕ, List, [], ◌∷◌, Some, length}
+use Rattle.std.specs.Prelude.{slice_get, take, drop}
 use Rattle.be_value.specs.declared.refusals.Refusal.TheVariants.{OutOfMemory}
 use Rattle.be_value.specs.declared.values.Kind.{Kind}
 use Rattle.be_value.specs.declared.values.Value.{Value}
@@ -18,7 +19,8 @@ part bytes at len = take len (drop at bytes)
 
 -- the operation that is spelled here, its name and value parts of these bytes
 abbrev pub IsMeantBy : Operation → List ℕ → Op → Type 0
-IsMeantBy o bytes op = IsMeant o.kind o.node (part bytes o.name_at o.name_length) o.code o.number (part bytes o.value_at o.value_length) op
+IsMeantBy o bytes op = IsMeant o.kind o.node (part bytes o.name_at o.name_length) o.code o.number
+    (part bytes o.value_at o.value_length) op
 
 -- the operations that are spelled here, in their order
 abbrev pub AreMeant : List Operation → List ℕ → List Op → Type 0
@@ -36,7 +38,8 @@ abbrev pub AreMeantWithin : List Operation → List ℕ → List Op → Type 0
 AreMeantWithin [] bytes [] = Unit {0}
 AreMeantWithin [] bytes (op ∷ ops) = ⊥
 AreMeantWithin (o ∷ os) bytes [] = ⊥
-AreMeantWithin (o ∷ os) bytes (op ∷ ops) = (ArePartsWithin o (length bytes) × IsMeantBy o bytes op) × AreMeantWithin os bytes ops
+AreMeantWithin (o ∷ os) bytes (op ∷ ops) = (ArePartsWithin o (length bytes) × IsMeantBy o bytes op)
+    × AreMeantWithin os bytes ops
 
 -- the bytes of this one's name, and then those of its value
 abbrev pub both_parts : Operation → List ℕ → List ℕ
@@ -47,7 +50,8 @@ abbrev pub all_parts : List Operation → List ℕ → List ℕ
 all_parts [] bytes = []
 all_parts (o ∷ os) bytes = both_parts o bytes ++ all_parts os bytes
 
--- These are a spelling of the operations: they mean them, and the bytes are their parts, one behind the other, and nothing else.
+-- These are a spelling of the operations: they mean them, and the bytes are their parts, one behind
+-- the other, and nothing else.
 abbrev pub AreSpelled : List Operation → List ℕ → List Op → Type 0
 AreSpelled os bytes ops = AreMeantWithin os bytes ops × (all_parts os bytes ≡ bytes)
 
@@ -58,7 +62,8 @@ TellsNode o op done = Unit {0}
 
 -- the same of each of them
 abbrev pub TellNodes : List Operation → List Op → List Done → Type 0
-TellNodes os ops dones = (i : ℕ) (o : Operation) (op : Op) (done : Done) → slice_get os i ≡ Some o → slice_get ops i ≡ Some op → slice_get dones i ≡ Some done → TellsNode o op done
+TellNodes os ops dones = (i : ℕ) (o : Operation) (op : Op) (done : Done) → slice_get os i ≡ Some o
+    → slice_get ops i ≡ Some op → slice_get dones i ≡ Some done → TellsNode o op done
 
 -- the operation that sets this attribute of the node
 abbrev pub sets : ℕ → (List ℕ × Value) → Op
@@ -71,8 +76,10 @@ makes i = MkIndex i.0 i.1
 -- why this one means no operation: a part of it isn't within the bytes, or else
 abbrev pub IsMisspeltAt : Operation → List ℕ → Fault → Type 0
 IsMisspeltAt o bytes e =
-    ((e ≡ BadPart) × ((length bytes < o.name_at + o.name_length) ⊎ (length bytes < o.value_at + o.value_length)))
-    ⊎ IsNoOperation o.kind (part bytes o.name_at o.name_length) o.code o.number (part bytes o.value_at o.value_length) e
+    ((e ≡ BadPart) × ((length bytes < o.name_at + o.name_length)
+        ⊎ (length bytes < o.value_at + o.value_length)))
+    ⊎ IsNoOperation o.kind (part bytes o.name_at o.name_length) o.code o.number
+        (part bytes o.value_at o.value_length) e
 
 -- so many operations make a write
 abbrev pub IsWriteCount : ℕ → Type 0
@@ -82,14 +89,16 @@ IsWriteCount n = (1 ≤ n) × (n ≤ 64)
 abbrev pub IsBadCount : ℕ → Type 0
 IsBadCount n = (n ≡ 0) ⊎ (64 < n)
 
--- the first of these that means no operation stands at this place, counted from 0, and this is why; or memory was refused, and 0 is told
+-- the first of these that means no operation stands at this place, counted from 0, and this is why;
+-- or memory was refused, and 0 is told
 abbrev pub IsFirstMisspelt : List Operation → List ℕ → Fault → ℕ → Type 0
 IsFirstMisspelt os bytes e place =
-    ((o : Operation) × (ops : List Op) × (take (place + 1) os ≡ take place os ++ o ∷ []) × AreMeant (take place os) bytes ops × IsMisspeltAt o bytes e)
+    ((o : Operation) × (ops : List Op) × (take (place + 1) os ≡ take place os ++ o ∷ [])
+        × AreMeant (take place os) bytes ops × IsMisspeltAt o bytes e)
     ⊎ ((e ≡ Refused OutOfMemory) × (place ≡ 0))
 
--- Why these mean no write, and the place that is told of it: how many there are decides before anything else is looked at, and 0 is told;
--- else it is the first that means no operation.
+-- Why these mean no write, and the place that is told of it: how many there are decides before
+-- anything else is looked at, and 0 is told; else it is the first that means no operation.
 abbrev pub IsMisspelt : List Operation → List ℕ → Fault → ℕ → Type 0
 IsMisspelt os bytes e place =
     (IsBadCount (length os) × (e ≡ BadCount) × (place ≡ 0))

@@ -20,13 +20,16 @@ untold volume p = waiting p ++ unread volume p
 
 -- so many operations and bytes have room for these
 abbrev pub HaveRoom : ℕ → ℕ → List Operation → List ℕ → Type 0
-HaveRoom operations_room bytes_room os bytes = (length os ≤ operations_room) × (length bytes ≤ bytes_room)
+HaveRoom operations_room bytes_room os bytes = (length os ≤ operations_room)
+    × (length bytes ≤ bytes_room)
 
 -- they haven't
 abbrev pub LackRoom : ℕ → ℕ → List Operation → List ℕ → Type 0
-LackRoom operations_room bytes_room os bytes = (operations_room < length os) ⊎ (bytes_room < length bytes)
+LackRoom operations_room bytes_room os bytes = (operations_room < length os)
+    ⊎ (bytes_room < length bytes)
 
--- What waits where these waited and were spelled: nothing more where there was room for the spelling, and else the same again.
+-- What waits where these waited and were spelled: nothing more where there was room for the
+-- spelling, and else the same again.
 abbrev pub WaitBehind : List Op → ℕ → ℕ → List Operation → List ℕ → List Op → Type 0
 WaitBehind ops operations_room bytes_room os bytes still =
     (HaveRoom operations_room bytes_room os bytes × (still ≡ []))

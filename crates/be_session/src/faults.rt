@@ -7,7 +7,8 @@ ghost use Rattle.be_session.specs.declared.faults.Fault.TheVariants.{Refused};
 use be_store::{ApplyIfError, Refusal};
 use std::alloc::{AllocError, AllocFailed};
 
-/// Why a call of a session did nothing. A refused write may have shown the pass more of the journal.
+/// Why a call of a session did nothing. A refused write may have shown the pass more of the
+/// journal.
 #[derive(Clone, Copy, Debug, PartialEq, Eq)]
 pub enum Fault {
     NotPinned,
@@ -28,14 +29,15 @@ pub enum Fault {
     BadPart,
     /// The number of an item of a predicate that is none.
     NoItem,
-    /// Another write came first: the journal has this many entries, and not as many as the caller named.
+    /// Another write came first: the journal has this many entries, and not as many as the caller
+    /// named.
     Conflict(u64),
     Refused(Refusal),
 }
 
 impl Fault {
-    /// The number that goes with the fault: what its refusal carries, as the pass that is writing or the byte of a text; of a
-    /// conflict the journal's length; and otherwise 0.
+    /// The number that goes with the fault: what its refusal carries, as the pass that is writing
+    /// or the byte of a text; of a conflict the journal's length; and otherwise 0.
     pub fn carried(&self) -> u64
         ensures { result ≡ fault_carried self.now }
     {
@@ -71,7 +73,8 @@ impl Fault {
 #[derive(Clone, Copy, Debug, PartialEq, Eq)]
 pub struct ListFault {
     pub fault: Fault,
-    /// Which of the list, from 0, has the fault. Where the list has it as a whole, this is what the fault carries, or 0.
+    /// Which of the list, from 0, has the fault. Where the list has it as a whole, this is what the
+    /// fault carries, or 0.
     pub place: u64,
 }
 
@@ -122,7 +125,8 @@ impl From<Fault> for ListFault {
 }
 
 impl From<Refusal> for ListFault {
-    ghost from_gives = { λ refusal e. (e.fault ≡ Refused refusal) × (e.place ≡ fault_carried (Refused refusal)) };
+    ghost from_gives = { λ refusal e. (e.fault ≡ Refused refusal)
+        × (e.place ≡ fault_carried (Refused refusal)) };
 
     fn from(refusal: Refusal) -> ListFault {
         let fault = Fault::Refused(refusal);

@@ -13,7 +13,8 @@ const MOST_CELLS: usize = 1 << 32;
 
 /// The name that bytes spell, checked once and held.
 pub fn held_name(bytes: &[u8]) -> Result<HeldName, Fault>
-    ensures ok { IfOk result (λ held. (name_in held ≡ bytes.now) × IsUtf8 bytes.now × (name_from bytes.now ≡ Ok bytes.now)) }
+    ensures ok { IfOk result (λ held. (name_in held ≡ bytes.now) × IsUtf8 bytes.now
+        × (name_from bytes.now ≡ Ok bytes.now)) }
     ensures err { IfErr result (λ e. IsNoName bytes.now e) }
 {
     Ok(HeldName::new(&name(bytes)?))

@@ -19,8 +19,9 @@ use be_store::{Live, Query, Updates};
 use std::alloc::{AllocError, Global};
 use std::marker::Model;
 
-/// A query that is parsed once and kept, with what it found when it was asked last, and with its answer at the last refresh
-/// and which nodes came and which went then. It belongs to no session, and may be asked by any.
+/// A query that is parsed once and kept, with what it found when it was asked last, and with its
+/// answer at the last refresh and which nodes came and which went then. It belongs to no session,
+/// and may be asked by any.
 #[derive(Drop)]
 pub struct Prepared {
     live: Live,
@@ -35,24 +36,29 @@ impl Model for Prepared {
 
     ghost coded = { coded_prepared };
 
-    ghost view = { λ p. record { live = p.live; found = p.found.items; came = p.updates.created.items; went = p.updates.removed.items } };
+    ghost view = { λ p. record { live = p.live; found = p.found.items;
+        came = p.updates.created.items; went = p.updates.removed.items } };
 }
 
 impl Prepared {
-    /// Asks the query in the session's pinned version, and keeps the nodes of which it is true there, in place of what it found
-    /// before. After an error it keeps none. What the last refresh found stays.
+    /// Asks the query in the session's pinned version, and keeps the nodes of which it is true
+    /// there, in place of what it found before. After an error it keeps none. What the last refresh
+    /// found stays.
     ///
-    /// It costs what `Store::query_prepared` costs. The list of an earlier asking is used again, so it takes memory only if that
-    /// has no room.
+    /// It costs what `Store::query_prepared` costs. The list of an earlier asking is used again, so
+    /// it takes memory only if that has no room.
     #[tactic(auto, using(crate::proofs::Same::same_but_found))]
     pub fn find(&mut self, session: &mut Session) -> Result<(), Fault>
-        ensures store { (session.new.store ≡ session.old.store) × (session.new.spare ≡ session.old.spare) }
+        ensures store { (session.new.store ≡ session.old.store)
+            × (session.new.spare ≡ session.old.spare) }
         ensures read { HasRead session.old.knows session.new.knows }
-        ensures nodes { OnOk result (scan (volume_pinned session.old.knows) self.old.live.query ≡ Ok self.new.found) }
+        ensures nodes { OnOk result (scan (volume_pinned session.old.knows) self.old.live.query
+            ≡ Ok self.new.found) }
         ensures pin { OnOk result ((n : ℕ) × IsPinnedTo session.old.knows n) }
         ensures same { self.new ≡ with_found self.old self.new.found }
         ensures err { IfErr result (λ e. (self.new.found ≡ [])
-            × IsUnrefreshed (pinned_number session.old.knows.phase) (scan (volume_pinned session.old.knows) self.old.live.query) e) }
+            × IsUnrefreshed (pinned_number session.old.knows.phase)
+            (scan (volume_pinned session.old.knows) self.old.live.query) e) }
     {
         session.query_into(&mut self.live, &mut self.found)
     }
@@ -64,16 +70,19 @@ impl Prepared {
         self.found.as_slice()
     }
 
-    /// Asks the query in the session's pinned version, and keeps which nodes came and which went since the last refresh. A fault
-    /// leaves the query as it was.
+    /// Asks the query in the session's pinned version, and keeps which nodes came and which went
+    /// since the last refresh. A fault leaves the query as it was.
     #[tactic(auto, using(crate::proofs::Same::same_prepared))]
     pub fn refresh(&mut self, session: &mut Session) -> Result<(), Fault>
-        ensures store { (session.new.store ≡ session.old.store) × (session.new.spare ≡ session.old.spare) }
+        ensures store { (session.new.store ≡ session.old.store)
+            × (session.new.spare ≡ session.old.spare) }
         ensures read { HasRead session.old.knows session.new.knows }
-        ensures ok { IfOk result (λ _. Refreshes (volume_pinned session.old.knows) self.old.live self.new.live self.new.came self.new.went) }
+        ensures ok { IfOk result (λ _. Refreshes (volume_pinned session.old.knows) self.old.live
+            self.new.live self.new.came self.new.went) }
         ensures pin { IfOk result (λ _. (n : ℕ) × IsPinnedTo session.old.knows n) }
         ensures err { IfErr result (λ e. (self.new ≡ self.old)
-            × IsUnrefreshed (pinned_number session.old.knows.phase) (scan (volume_pinned session.old.knows) self.old.live.query) e) }
+            × IsUnrefreshed (pinned_number session.old.knows.phase)
+            (scan (volume_pinned session.old.knows) self.old.live.query) e) }
     {
         match session.refresh(&mut self.live) {
             Ok(updates) => {
@@ -126,20 +135,23 @@ fn in_box(alloc: Global, query: Query) -> Result<Box<Prepared, Global>, AllocErr
 
 /// The query of a text in bytes, in a box. Faults are those of `query_of`.
 pub fn prepare(alloc: Global, text: &[u8]) -> Result<Box<Prepared, Global>, Fault>
-    ensures ok { IfOk result (λ p. (query : Formula) × IsTextOf text.now query × IsUnasked query p.value) }
+    ensures ok { IfOk result (λ p. (query : Formula) × IsTextOf text.now query
+        × IsUnasked query p.value) }
     ensures err { IfErr result (λ e. IsNoQuery text.now e) }
 {
     let query = query_of(alloc, text)?;
     Ok(in_box(alloc, query)?)
 }
 
-/// The query that items in reverse Polish order build, in a box. Faults are those of `query_of_items`.
+/// The query that items in reverse Polish order build, in a box. Faults are those of
+/// `query_of_items`.
 pub fn prepare_items(
     alloc: Global,
     spelled: &[PredicateItem],
     bytes: &[u8],
 ) -> Result<Box<Prepared, Global>, ListFault>
-    ensures ok { IfOk result (λ p. (query : Formula) × IsBuilt spelled.now bytes.now query × IsUnasked query p.value) }
+    ensures ok { IfOk result (λ p. (query : Formula) × IsBuilt spelled.now bytes.now query
+        × IsUnasked query p.value) }
     ensures err { IfErr result (λ e. IsUnbuilt spelled.now bytes.now e.fault e.place) }
 {
     let query = query_of_items(alloc, spelled, bytes)?;

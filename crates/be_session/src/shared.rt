@@ -29,7 +29,8 @@ impl Fits for Returned {
     ghost fits = { λ seat returned. MayWaitAt seat returned.pass };
 }
 
-/// Puts a pass into the slot of its seat. It comes back where one waits there, or another thread is at the slot.
+/// Puts a pass into the slot of its seat. It comes back where one waits there, or another thread is
+/// at the slot.
 fn put(slot: &Counted<Option<Returned>>, pass: Pass) -> Option<Pass>
     requires { MayWaitAt slot.now pass }
     ensures { IfSome result (λ p. p ≡ pass) }
@@ -108,11 +109,12 @@ impl Shared {
         &self.store
     }
 
-    /// Gives a pass back, and its pin up. Each pass has a slot of its own, which is empty while the pass is in use: so it goes
-    /// into that slot, and nothing comes back.
+    /// Gives a pass back, and its pin up. Each pass has a slot of its own, which is empty while the
+    /// pass is in use: so it goes into that slot, and nothing comes back.
     pub(crate) fn give_back(&self, pass: Pass) -> Option<Pass>
         requires { IsPassOf self.now pass }
-        ensures { IfSome result (λ p. IsUnpinnedOf self.now p × (p.knows.number ≡ pass.knows.number)) }
+        ensures { IfSome result (λ p. IsUnpinnedOf self.now p
+            × (p.knows.number ≡ pass.knows.number)) }
     {
         seen_is_legal(&self.store, &pass);
         let slot = &self.slots[pass.number() as usize];

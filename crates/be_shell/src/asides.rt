@@ -3,7 +3,8 @@ ghost use Rattle.std.specs.Prelude.{◌≡◌, position, take, drop};
 ghost use Rattle.std.specs.List.{list_all};
 ghost use Rattle.be_shell.specs.Aside as spec;
 
-/// The bytes of the longest line that a terminal gives, its LF not counted. It cuts a longer one there.
+/// The bytes of the longest line that a terminal gives, its LF not counted. It cuts a longer one
+/// there.
 pub(crate) const MAX_TYPED: usize = 4095;
 
 /// What a line asks of the terminal itself.

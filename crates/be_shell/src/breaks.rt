@@ -11,7 +11,8 @@ const CANCEL: u8 = 3;
 
 /// The next byte, or None at the end.
 fn next_byte<R: Read>(reader: &mut R) -> io::Result<Option<u8>>
-    ensures byte { IfOk result (λ next. TakesByte (R.remaining reader.old) (R.remaining reader.new) next) }
+    ensures byte { IfOk result (λ next. TakesByte (R.remaining reader.old) (R.remaining reader.new)
+        next) }
     ensures err { OnErr result (Keeps (R.remaining reader.old) (R.remaining reader.new)) }
 {
     let mut one = [0u8; 1];
@@ -22,8 +23,8 @@ fn next_byte<R: Read>(reader: &mut R) -> io::Result<Option<u8>>
     }
 }
 
-/// A reader that has an LF after each byte 3 of the one below it, so that what Ctrl-C types ends a line, and is the last byte
-/// of it. It reads a byte at a time.
+/// A reader that has an LF after each byte 3 of the one below it, so that what Ctrl-C types ends a
+/// line, and is the last byte of it. It reads a byte at a time.
 #[derive(Drop)]
 pub struct Breaking<R> {
     reader: R,

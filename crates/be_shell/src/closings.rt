@@ -29,7 +29,8 @@ fn converse_with_both<S: Server, F: Peer, P: Peer>(
         × spec.TalkedTo F.does (session (S.shows server.old) client.old) first.old mid first.new
         × spec.TalkedTo P.does mid peer.old (session (S.shows server.new) client.new) peer.new) }
     ensures fault { IfErr result (λ e.
-        spec.ShellLeaves F.does P.does e (session (S.shows server.old) client.old) first.old first.new peer.old peer.new) }
+        spec.ShellLeaves F.does P.does e (session (S.shows server.old) client.old) first.old
+        first.new peer.old peer.new) }
     ensures other { IfErr result IsNotLimits }
     ensures stays { S.kept server.new ≡ S.kept server.old }
 {
@@ -37,8 +38,9 @@ fn converse_with_both<S: Server, F: Peer, P: Peer>(
     converse(alloc, server, client, peer)
 }
 
-/// Talks as [`crate::shell`] does, and gives the store's journal back, also where a fault has ended the talk: what was accepted
-/// by then. None where no store was opened, or memory was missing to close it.
+/// Talks as [`crate::shell`] does, and gives the store's journal back, also where a fault has ended
+/// the talk: what was accepted by then. None where no store was opened, or memory was missing to
+/// close it.
 pub fn shell_and_close<F: Peer, P: Peer>(
     alloc: Global,
     first: &mut F,
@@ -46,11 +48,13 @@ pub fn shell_and_close<F: Peer, P: Peer>(
     limits: Limits,
 ) -> (Result<(), RunFault>, Option<Journal>)
     ensures talked { OnOk result.0 ((mid : Session) × (last : Session)
-        × spec.TalkedTo F.does (opening (start limits.commits)) first.old mid first.new × spec.TalkedTo P.does mid peer.old last peer.new
+        × spec.TalkedTo F.does (opening (start limits.commits)) first.old mid first.new
+        × spec.TalkedTo P.does mid peer.old last peer.new
         × IfSome result.1 (λ journal. journal.entries ≡ last.store.journal)) }
     ensures legal { IfSome result.1 (λ journal. IsLegal journal.entries) }
     ensures volumes { IfSome result.1 (λ journal. CanSpellEach limits.pages journal.entries) }
-    ensures fault { IfErr result.0 (λ e. spec.ShellLeaves F.does P.does e (opening (start limits.commits)) first.old first.new peer.old peer.new) }
+    ensures fault { IfErr result.0 (λ e. spec.ShellLeaves F.does P.does e
+        (opening (start limits.commits)) first.old first.new peer.old peer.new) }
     ensures limits { (result.0 ≡ Err RunFault.Limits) ↔ AreBad limits }
 {
     if !limits.are_within() {

@@ -1,5 +1,6 @@
 //! A peer that shows control characters by their codes.
-ghost use Rattle.std.specs.Prelude.{◌≡◌, ◌<◌, ◌≤◌, ◌++◌, ℕ, List, length, IfOk, IfErr, OnOk, OnErr, false};
+ghost use Rattle.std.specs.Prelude.{◌≡◌, ◌<◌, ◌≤◌, ◌++◌, ℕ, List, length, IfOk, IfErr, OnOk, OnErr};
+ghost use Rattle.std.specs.Prelude.{false};
 ghost use Rattle.be_script_runner.specs.Run.{IsFrontOf};
 ghost use Rattle.be_shell.specs.Conversation.{says};
 ghost use Rattle.be_shell.specs.Escape.{shown};
@@ -14,9 +15,11 @@ use std::alloc::Global;
 /// Says the front of a text as it is shown, and returns what follows.
 fn say_front<'a, P: Peer>(peer: &mut P, bytes: &'a [u8]) -> Result<&'a [u8], RunFault>
     requires some { 1 ≤ length bytes.now }
-    ensures said { IfOk result (λ rest. (piece : List ℕ) × P.does peer.old (says piece) peer.new × (shown bytes.now ≡ piece ++ shown rest.now)) }
+    ensures said { IfOk result (λ rest. (piece : List ℕ) × P.does peer.old (says piece) peer.new
+        × (shown bytes.now ≡ piece ++ shown rest.now)) }
     ensures shorter { IfOk result (λ rest. length rest.now < length bytes.now) }
-    ensures cut { OnErr result ((front : List ℕ) × IsFrontOf (shown bytes.now) front × P.does peer.old (says front) peer.new) }
+    ensures cut { OnErr result ((front : List ℕ) × IsFrontOf (shown bytes.now) front
+        × P.does peer.old (says front) peer.new) }
     ensures fault { IfErr result (λ e. e ≡ RunFault.Write) }
 {
     if let Some((code, rest)) = control_at(bytes) {
@@ -31,7 +34,8 @@ fn say_front<'a, P: Peer>(peer: &mut P, bytes: &'a [u8]) -> Result<&'a [u8], Run
 /// Says a text as it is shown.
 fn say_shown<P: Peer>(peer: &mut P, bytes: &[u8]) -> Result<(), RunFault>
     ensures said { OnOk result (SaysAll P.does peer.old (shown bytes.now) peer.new) }
-    ensures cut { OnErr result ((front : List ℕ) × IsFrontOf (shown bytes.now) front × SaysAll P.does peer.old front peer.new) }
+    ensures cut { OnErr result ((front : List ℕ) × IsFrontOf (shown bytes.now) front
+        × SaysAll P.does peer.old front peer.new) }
     ensures fault { IfErr result (λ e. e ≡ RunFault.Write) }
 {
     let mut rest = bytes;
@@ -44,9 +48,9 @@ fn say_shown<P: Peer>(peer: &mut P, bytes: &[u8]) -> Result<(), RunFault>
     Ok(())
 }
 
-/// A peer to whom replies are said with control characters, but the LF, as `\x1b`, by two hexadecimal digits of their code, so
-/// that a terminal shows them and takes no orders from a value. It needs no memory. After a failed write a front of what is
-/// shown was said.
+/// A peer to whom replies are said with control characters, but the LF, as `\x1b`, by two
+/// hexadecimal digits of their code, so that a terminal shows them and takes no orders from a
+/// value. It needs no memory. After a failed write a front of what is shown was said.
 #[derive(Drop)]
 pub struct Screen<P> {
     peer: P,

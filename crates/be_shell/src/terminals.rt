@@ -121,7 +121,8 @@ fn answer_read<R: Eprint>(rt: &R, alloc: Global, line: Line) -> Option<Line> {
     passed_on(alloc, line, aside)
 }
 
-/// What is heard of the file that is being read. None once it has no more lines, and no file is being read then.
+/// What is heard of the file that is being read. None once it has no more lines, and no file is
+/// being read then.
 fn hear_script<R: Eprint>(
     rt: &R,
     alloc: Global,
@@ -170,10 +171,11 @@ fn ask<R: Eprint>(rt: &R, is_batch_open: bool) {
     let _ = eprint!(rt; "{prompt}");
 }
 
-/// A peer at a terminal, who is asked for each line by a prompt on standard error: `batch> ` while a batch is open, and else
-/// `bestore> `. Lines for the terminal itself ([`Aside`]) are answered there, and are heard as empty lines; `quit` and `exit`
-/// end the lines. The lines of a file that `read` names are heard in place of typed ones, up to its end. After a reply to a
-/// line that is bad or has a bad query, a hint is told. What can't be written to standard error is left out.
+/// A peer at a terminal, who is asked for each line by a prompt on standard error: `batch> ` while
+/// a batch is open, and else `bestore> `. Lines for the terminal itself ([`Aside`]) are answered
+/// there, and are heard as empty lines; `quit` and `exit` end the lines. The lines of a file that
+/// `read` names are heard in place of typed ones, up to its end. After a reply to a line that is
+/// bad or has a bad query, a hint is told. What can't be written to standard error is left out.
 #[derive(Drop)]
 pub struct Terminal<'a, R, P> {
     rt: &'a R,
@@ -218,7 +220,8 @@ impl<'a, R: Files + Eprint, P: Peer> Peer for Terminal<'a, R, P> {
     ghost use Rattle.std.specs.Prelude.{is_some};
     ghost use Rattle.be_shell.specs.Terminal.{asks};
 
-    ghost does = { λ old event new. asks P.does old.peer (is_some old.script) event new.peer (is_some new.script) };
+    ghost does = { λ old event new. asks P.does old.peer (is_some old.script) event new.peer
+        (is_some new.script) };
 
     fn hear(&mut self, alloc: Global, is_batch_open: bool) -> Result<Option<Line>, RunFault> {
         self.saves_to = None;

@@ -1,4 +1,5 @@
-//! What a terminal tells on standard error. What can't be written there, or needs memory that isn't there, is left out.
+//! What a terminal tells on standard error. What can't be written there, or needs memory that isn't
+//! there, is left out.
 use crate::asides::{skip, split_word};
 use std::alloc::{AllocError, Global};
 use std::io::Eprint;
@@ -84,7 +85,8 @@ fn fault_at(reply: &[u8]) -> Option<usize> {
     Some(number_at(number))
 }
 
-/// A text as it is shown, and as many spaces as the text has columns before the byte at this offset.
+/// A text as it is shown, and as many spaces as the text has columns before the byte at this
+/// offset.
 fn under(alloc: Global, text: &str, at: usize) -> Result<(String, String), AllocError> {
     let mut shown = String::new(alloc);
     let mut spaces = String::new(alloc);
@@ -125,7 +127,8 @@ pub(crate) fn wants_hint(reply: &[u8]) -> bool {
     reply == b"bad line\n".as_slice() || fault_at(reply).is_some()
 }
 
-/// Tells what a reply doesn't: how the command of a bad line is used, and where a query has its error.
+/// Tells what a reply doesn't: how the command of a bad line is used, and where a query has its
+/// error.
 pub(crate) fn hint<R: Eprint>(rt: &R, alloc: Global, line: &[u8], reply: &[u8]) {
     if reply == b"bad line\n".as_slice() {
         let (word, _) = split_word(skip(line));

@@ -1,4 +1,5 @@
-//! Conversations: with a peer that looks at the order of calls and fails at each of them, and with a reader and a writer.
+//! Conversations: with a peer that looks at the order of calls and fails at each of them, and with
+//! a reader and a writer.
 ghost use Rattle.std.specs.Prelude.{⊤};
 
 use be_script_runner::{Limits, RunFault};
@@ -40,8 +41,8 @@ enum Awaits {
     Flush,
 }
 
-/// Has the lines of the rows, and looks whether each call comes in its turn and each reply is that of its row. It fails at
-/// a call, if there are so many.
+/// Has the lines of the rows, and looks whether each call comes in its turn and each reply is that
+/// of its row. It fails at a call, if there are so many.
 #[derive(Drop)]
 struct Strict {
     row: usize,
@@ -130,8 +131,8 @@ fn talk(alloc: Global, peer: &mut Strict) -> Result<(), RunFault> {
 /// How many calls a whole conversation makes: three a line, and one that hears the end.
 const CALLS: usize = 3 * ROWS + 1;
 
-/// Whether a conversation that fails at this call ends there with its fault, all before it in order; or to its end, where
-/// none fails.
+/// Whether a conversation that fails at this call ends there with its fault, all before it in
+/// order; or to its end, where none fails.
 fn ends_at(alloc: Global, call: usize) -> bool {
     let mut peer = Strict::new(call);
     let ended = talk(alloc, &mut peer);
@@ -194,7 +195,8 @@ fn ends_of_lines(rt: HostRuntime) -> Result<(), Fail> {
     check(alloc, b"", b"new\xff\nnew\n", "bad line\nnode 1\n")
 }
 
-/// The end of the first peer's last line, and a batch that goes on from the first peer to the other.
+/// The end of the first peer's last line, and a batch that goes on from the first peer to the
+/// other.
 #[test]
 fn two_peers(rt: HostRuntime) -> Result<(), Fail> {
     let alloc = rt.alloc();
@@ -245,7 +247,8 @@ fn cancelled_lines(rt: HostRuntime) -> Result<(), Fail> {
     )
 }
 
-/// A comment of as many bytes as a line may have, and one of a byte more, before a line that is answered.
+/// A comment of as many bytes as a line may have, and one of a byte more, before a line that is
+/// answered.
 fn commented(alloc: Global, len: usize) -> Result<Vec<u8>, AllocError> {
     let mut bytes: Vec<u8> = vec![in alloc; b'#'; len]?;
     bytes.extend_from_slice(b"\nnew\n")?;
@@ -301,8 +304,8 @@ impl Write for Sending {
     }
 }
 
-/// Whether a conversation of three lines over a writer that sends so many replies ends with `Write` behind them; or well,
-/// where it sends each.
+/// Whether a conversation of three lines over a writer that sends so many replies ends with `Write`
+/// behind them; or well, where it sends each.
 fn sends(alloc: Global, most: u64) -> bool {
     let mut early: Vec<u8> = Vec::new(alloc);
     let mut late = Sending {

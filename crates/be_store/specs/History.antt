@@ -1,5 +1,7 @@
--- What a call makes of the pass that calls: what it has seen of the journal, its own writes, and its pin.
-use Rattle.std.specs.Prelude.{◌≡◌, ◌≢◌, ◌⊎◌, ℕ, ◌+◌, ◌<◌, Bool, true, false, List, [], ◌∷◌, ◌++◌, drop, length, take, IsOk}
+-- What a call makes of the pass that calls: what it has seen of the journal, its own writes, and
+-- its pin.
+use Rattle.std.specs.Prelude.{◌≡◌, ◌≢◌, ◌⊎◌, ℕ, ◌+◌, ◌<◌, Bool, true, false, List, [], ◌∷◌, ◌++◌}
+use Rattle.std.specs.Prelude.{drop, length, take, IsOk}
 use Rattle.std.specs.declared.result.Result.{Result}
 use Rattle.std.specs.declared.result.Result.TheVariants.{Ok, Err}
 use Rattle.be_journal.specs.declared.entries.Entry.{Entry}
@@ -14,7 +16,8 @@ use Rattle.be_table.specs.Steps.{entry_by}
 use Rattle.be_table.specs.Trace.{Makes}
 use Rattle.be_table.specs.Working.{WorksOn}
 use Rattle.be_table.specs.declared.pass.Move.{Move}
-use Rattle.be_table.specs.declared.pass.Move.TheVariants.{Look, Announce, LookAgain, Lock, Publish, Unlock}
+use Rattle.be_table.specs.declared.pass.Move.TheVariants.{Look, Announce, LookAgain, Lock, Publish}
+use Rattle.be_table.specs.declared.pass.Move.TheVariants.{Unlock}
 use Rattle.be_table.specs.Works.{MovesNow, FoundHeld, HasNoRoom, IsSpent}
 use Rattle.be_value.specs.declared.refusals.Refusal.{Refusal}
 use Rattle.be_value.specs.declared.refusals.Refusal.TheVariants.{Busy, OutOfMemory}
@@ -23,7 +26,10 @@ use Rattle.be_volume.specs.declared.ops.Done.{Done}
 use Rattle.be_volume.specs.declared.ops.Op.{Op}
 use Rattle.be_store.specs.Passes.{IsPinnedTo, volume_seen}
 
--- The moves of an accepted write: the pass takes the lock and works on pages, publishes this version page by one move, and gives the lock back. A whole scan is made right after the lock, or where no page is free. Moves of other passes may lie between. After them the machine is as the pass knows it.
+-- The moves of an accepted write: the pass takes the lock and works on pages, publishes this
+-- version page by one move, and gives the lock back. A whole scan is made right after the lock, or
+-- where no page is free. Moves of other passes may lie between. After them the machine is as the
+-- pass knows it.
 pub record PublishesOnce (a c : Knowledge) (page : ℕ) : Type 0 where
   pub locked : List Move
   pub lock : Makes a.number a.history (Lock a.number ∷ []) locked
@@ -45,7 +51,8 @@ pub record LocksOnly (a c : Knowledge) : Type 0 where
 abbrev pub LocksAndUnlocks : Knowledge → Knowledge → Type 0
 LocksAndUnlocks a c = Makes a.number a.history (Lock a.number ∷ Unlock a.number ∷ []) c.history
 
--- An accepted write of the pass: it has seen what it had seen, then entries of other passes, then its own, whose answers are those of the volume at that place.
+-- An accepted write of the pass: it has seen what it had seen, then entries of other passes, then
+-- its own, whose answers are those of the volume at that place.
 pub record Accepts (a c : Knowledge) (ops : List Op) (n : ℕ) (dones : List Done) : Type 0 where
   pub others : List Commit
   pub commit : Commit
@@ -59,7 +66,8 @@ pub record Accepts (a c : Knowledge) (ops : List Op) (n : ℕ) (dones : List Don
   pub pin : c.phase ≡ a.phase
   pub moves : PublishesOnce a c commit.page
 
--- The pass may have seen more, and has written nothing: it made no move, or took the lock and gave it back.
+-- The pass may have seen more, and has written nothing: it made no move, or took the lock and gave
+-- it back.
 pub record Learns (a c : Knowledge) : Type 0 where
   pub more : StartsWith c.seen a.seen
   pub mine : c.mine ≡ a.mine
@@ -67,14 +75,17 @@ pub record Learns (a c : Knowledge) : Type 0 where
   pub pin : c.phase ≡ a.phase
   pub moves : (c.history ≡ a.history) ⊎ LocksOnly a c
 
--- Why a pass that has the lock is refused, when it has seen this much of the journal: the volume after that refuses the write; or it accepts it, and the journal has no room, or no page is left.
+-- Why a pass that has the lock is refused, when it has seen this much of the journal: the volume
+-- after that refuses the write; or it accepts it, and the journal has no room, or no page is left.
 abbrev pub IsRefusedAt : (c : Knowledge) (ops : List Op) → Refusal → Type 0
 IsRefusedAt c ops e =
     (steps (volume_seen c) ops ≡ Err e)
     ⊎ (IsOk (steps (volume_seen c) ops) × HasNoRoom e c)
-    ⊎ (IsOk (steps (volume_seen c) ops) × (length c.seen < c.limits.commits) × IsFullOf (IsSpent c) e)
+    ⊎ (IsOk (steps (volume_seen c) ops) × (length c.seen < c.limits.commits)
+        × IsFullOf (IsSpent c) e)
 
--- Why a write is refused: its one try found that another pass holds the lock, and nothing more was seen; or else.
+-- Why a write is refused: its one try found that another pass holds the lock, and nothing more was
+-- seen; or else.
 abbrev pub IsReason : (a c : Knowledge) (ops : List Op) → Refusal → Type 0
 IsReason a c ops e = (FoundHeld e a c × (c.seen ≡ a.seen)) ⊎ IsRefusedAt c ops e
 
@@ -92,21 +103,26 @@ was_busy (Err e) = is_busy e
 abbrev pub tried : Knowledge → List ℕ → Knowledge
 tried a holders = record a { holders = holders ++ a.holders; steps = a.steps + length holders }
 
--- Each of so many tries found that another pass holds the lock, nothing more was seen, and the refusal names the last one.
+-- Each of so many tries found that another pass holds the lock, nothing more was seen, and the
+-- refusal names the last one.
 abbrev pub IsHeldThrough : ℕ → (a c : Knowledge) → Refusal → Type 0
-IsHeldThrough tries a c e = (b : ℕ) × (before : List ℕ) × (e ≡ Busy b) × (b < a.limits.passes) × (b ≢ a.number) × (length before + 1 ≡ tries) × (c ≡ tried a (b ∷ before))
+IsHeldThrough tries a c e = (b : ℕ) × (before : List ℕ) × (e ≡ Busy b) × (b < a.limits.passes)
+    × (b ≢ a.number) × (length before + 1 ≡ tries) × (c ≡ tried a (b ∷ before))
 
--- Why a write is refused that is tried up to so many times: each try found that another pass holds the lock; or else.
+-- Why a write is refused that is tried up to so many times: each try found that another pass holds
+-- the lock; or else.
 abbrev pub IsLastReason : ℕ → (a c : Knowledge) (ops : List Op) → Refusal → Type 0
 IsLastReason tries a c ops e = IsHeldThrough tries a c e ⊎ IsRefusedAt c ops e
 
--- The pass is pinned to all that it has then seen, by three steps, which are the moves Look, Announce and LookAgain of the reclamation machine.
+-- The pass is pinned to all that it has then seen, by three steps, which are the moves Look,
+-- Announce and LookAgain of the reclamation machine.
 pub record Pins (a c : Knowledge) (n : ℕ) : Type 0 where
   pub more : StartsWith c.seen a.seen
   pub number : n ≡ length c.seen
   pub pin : IsPinnedTo c n
   pub moves : MovesNow a (Look a.number ∷ Announce a.number ∷ LookAgain a.number ∷ []) c
-  pub same : c ≡ record a { seen = c.seen; phase = c.phase; image = c.image; steps = a.steps + 3; history = c.history }
+  pub same : c ≡ record a { seen = c.seen; phase = c.phase; image = c.image; steps = a.steps
+      + 3; history = c.history }
 
 -- the journal's text, as far as the pass has seen it
 abbrev pub text_seen : Knowledge → List ℕ
@@ -116,6 +132,7 @@ text_seen a = lines_from 1 (entries a.seen)
 abbrev pub entries_from : List Entry → ℕ → ℕ → List Entry
 entries_from log from most = take most (drop from log)
 
--- Why the journal isn't told: the one try found that another pass holds the lock, and nothing more was seen; or a growth was refused, between a lock and its unlock.
+-- Why the journal isn't told: the one try found that another pass holds the lock, and nothing more
+-- was seen; or a growth was refused, between a lock and its unlock.
 abbrev pub IsUntold : (a c : Knowledge) → Refusal → Type 0
 IsUntold a c e = (FoundHeld e a c × (c.seen ≡ a.seen)) ⊎ ((e ≡ OutOfMemory) × LocksAndUnlocks a c)

@@ -8,11 +8,15 @@ use Rattle.be_volume.specs.declared.ops.Op.{Op}
 use Rattle.be_store.specs.Calls.{Calls}
 use Rattle.be_store.specs.History.{Accepts, Pins}
 
--- In one list of moves the call that left the first pass so ended before the one that left the second pass so.
+-- In one list of moves the call that left the first pass so ended before the one that left the
+-- second pass so.
 abbrev pub EndedBefore : Knowledge → Knowledge → Type 0
 EndedBefore c d = StartsWith d.history c.history
 
--- All that the pass does from here on comes after these commits: each pin is at a prefix of the journal that has them, and each accepted write has a later number.
+-- All that the pass does from here on comes after these commits: each pin is at a prefix of the
+-- journal that has them, and each accepted write has a later number.
 pub record ComesAfter (told : List Commit) (d : Knowledge) : Type 0 where
-  pub pins : (a z : Knowledge) (cs : List Knowledge) (n : ℕ) → Calls d cs a → Pins a z n → StartsWith z.seen told × (length told ≤ n)
-  pub writes : (a z : Knowledge) (cs : List Knowledge) (ops : List Op) (n : ℕ) (dones : List Done) → Calls d cs a → Accepts a z ops n dones → StartsWith z.seen told × (length told < n)
+  pub pins : (a z : Knowledge) (cs : List Knowledge) (n : ℕ) → Calls d cs a → Pins a z n
+      → StartsWith z.seen told × (length told ≤ n)
+  pub writes : (a z : Knowledge) (cs : List Knowledge) (ops : List Op) (n : ℕ) (dones : List Done)
+      → Calls d cs a → Accepts a z ops n dones → StartsWith z.seen told × (length told < n)

@@ -16,7 +16,8 @@ pub(crate) fn entries_from(
     from: u64,
     most: usize,
 ) -> Result<Vec<Entry>, Refusal>
-    ensures ok { IfOk result (λ list. list.items ≡ entries_from (entries held.now.knows.seen) from most) }
+    ensures ok { IfOk result (λ list. list.items
+        ≡ entries_from (entries held.now.knows.seen) from most) }
     ensures err { IfErr result (λ e. e ≡ OutOfMemory) }
 {
     let (length, _) = held.current();

@@ -1,6 +1,7 @@
 //! Live queries: what changed in an answer since it was asked last.
 ghost use Rattle.std.specs.List.Sorted.{IsStrictlyIncreasing};
-ghost use Rattle.std.specs.Prelude.{◌≡◌, ◌≢◌, ◌⊎◌, ◌<◌, ◌≤◌, ◌-◌, ◌++◌, ℕ, [], IfOk, IfErr, OnOk, Err, drop, false, get_or, length, take, true};
+ghost use Rattle.std.specs.Prelude.{◌≡◌, ◌≢◌, ◌⊎◌, ◌<◌, ◌≤◌, ◌-◌, ◌++◌, ℕ, [], IfOk, IfErr, OnOk};
+ghost use Rattle.std.specs.Prelude.{Err, drop, false, get_or, length, take, true};
 ghost use Rattle.be_value.specs.declared.refusals.Refusal.TheVariants.{OutOfMemory};
 ghost use Rattle.be_value.specs.Refusal.{Answers};
 ghost use Rattle.be_volume.specs.Query.{scan};
@@ -55,7 +56,8 @@ impl Live {
         self.query.query()
     }
 
-    /// Asks the query in the pinned version, as `Store::query_prepared` does. What the last refresh found stays.
+    /// Asks the query in the pinned version, as `Store::query_prepared` does. What the last refresh
+    /// found stays.
     #[inline(always)]
     pub fn query_into(
         &mut self,
@@ -66,7 +68,8 @@ impl Live {
         requires pass { IsPassOf store.now pass.old }
         requires pinned { (n : ℕ) × IsPinnedTo pass.old.knows n }
         ensures pass { IsPassOf store.now pass.new × HasRead pass.old.knows pass.new.knows }
-        ensures nodes { Answers (λ _. nodes.new.items) result (scan (volume_pinned pass.old.knows) self.old.query) }
+        ensures nodes { Answers (λ _. nodes.new.items) result
+            (scan (volume_pinned pass.old.knows) self.old.query) }
         ensures rising { OnOk result (IsStrictlyIncreasing nodes.new.items) }
         ensures pin { IfOk result (λ pin. IsPinnedTo pass.old.knows pin) }
         ensures same { self.new ≡ self.old }
@@ -74,14 +77,17 @@ impl Live {
         store.query_prepared(self.alloc, pass, &mut self.query, nodes)
     }
 
-    /// Takes the query's nodes as of now, wherever they were found, and returns which nodes came and which went since the
-    /// last time.
+    /// Takes the query's nodes as of now, wherever they were found, and returns which nodes came
+    /// and which went since the last time.
     ///
-    /// OutOfMemory leaves the live query as it was. It goes over both lists once, and takes memory for what it returns.
+    /// OutOfMemory leaves the live query as it was. It goes over both lists once, and takes memory
+    /// for what it returns.
     pub fn update(&mut self, answer: Vec<u64>) -> Result<Updates, Refusal>
         requires { IsStrictlyIncreasing answer.items }
-        ensures ok { IfOk result (λ u. (self.new ≡ record { query = self.old.query; last = answer.items })
-            × (u.created.items ≡ without answer.items self.old.last) × (u.removed.items ≡ without self.old.last answer.items)) }
+        ensures ok { IfOk result (λ u. (self.new
+            ≡ record { query = self.old.query; last = answer.items })
+            × (u.created.items ≡ without answer.items self.old.last)
+            × (u.removed.items ≡ without self.old.last answer.items)) }
         ensures err { IfErr result (λ e. (self.new ≡ self.old) × (e ≡ OutOfMemory)) }
     {
         let updates = changes(self.alloc, self.last.as_slice(), answer.as_slice())?;
@@ -89,15 +95,19 @@ impl Live {
         Ok(updates)
     }
 
-    /// Asks the query in the pinned version, and returns which nodes came and which went since the last refresh.
+    /// Asks the query in the pinned version, and returns which nodes came and which went since the
+    /// last refresh.
     ///
-    /// NotCovered and OutOfMemory leave it as it was. It costs what `Store::query_prepared` and `update` cost.
+    /// NotCovered and OutOfMemory leave it as it was. It costs what `Store::query_prepared` and
+    /// `update` cost.
     pub fn refresh(&mut self, store: &Store, pass: &mut Pass) -> Result<Updates, Refusal>
         requires pass { IsPassOf store.now pass.old }
         requires pinned { (n : ℕ) × IsPinnedTo pass.old.knows n }
         ensures pass { IsPassOf store.now pass.new × HasRead pass.old.knows pass.new.knows }
-        ensures ok { IfOk result (λ u. Refreshes (volume_pinned pass.old.knows) self.old self.new u.created.items u.removed.items) }
-        ensures err { IfErr result (λ e. (self.new ≡ self.old) × ((e ≡ OutOfMemory) ⊎ (scan (volume_pinned pass.old.knows) self.old.query ≡ Err e))) }
+        ensures ok { IfOk result (λ u. Refreshes (volume_pinned pass.old.knows) self.old self.new
+            u.created.items u.removed.items) }
+        ensures err { IfErr result (λ e. (self.new ≡ self.old)
+            × ((e ≡ OutOfMemory) ⊎ (scan (volume_pinned pass.old.knows) self.old.query ≡ Err e))) }
     {
         let mut nodes = Vec::with_capacity(self.alloc, self.last.len())?;
         store.query_prepared(self.alloc, pass, &mut self.query, &mut nodes)?;
@@ -105,7 +115,8 @@ impl Live {
     }
 }
 
-/// The first index from `from` on at which a rising list has this number or a greater one, or the list's length.
+/// The first index from `from` on at which a rising list has this number or a greater one, or the
+/// list's length.
 #[inline(always)]
 fn first_not_below(numbers: &[u64], from: usize, number: u64) -> usize
     requires from { from ≤ length numbers.now }
@@ -121,10 +132,12 @@ fn first_not_below(numbers: &[u64], from: usize, number: u64) -> usize
     numbers.len()
 }
 
-/// Which nodes came and which went from one rising list of nodes to another. It goes over both once.
+/// Which nodes came and which went from one rising list of nodes to another. It goes over both
+/// once.
 fn changes(alloc: Global, last: &[u64], now: &[u64]) -> Result<Updates, Refusal>
     requires rising { IsStrictlyIncreasing last.now × IsStrictlyIncreasing now.now }
-    ensures ok { IfOk result (λ u. (u.created.items ≡ without now.now last.now) × (u.removed.items ≡ without last.now now.now)) }
+    ensures ok { IfOk result (λ u. (u.created.items ≡ without now.now last.now)
+        × (u.removed.items ≡ without last.now now.now)) }
     ensures err { IfErr result (λ e. e ≡ OutOfMemory) }
 {
     let mut created = Vec::new(alloc);
@@ -148,7 +161,8 @@ fn changes(alloc: Global, last: &[u64], now: &[u64]) -> Result<Updates, Refusal>
 #[inline(always)]
 fn push_part(list: &mut Vec<u64>, numbers: &[u64], from: usize, end: usize) -> Result<(), Refusal>
     requires range { (from ≤ end) × (end ≤ length numbers.now) }
-    ensures ok { OnOk result (list.new.items ≡ list.old.items ++ take (end - from) (drop from numbers.now)) }
+    ensures ok { OnOk result (list.new.items ≡ list.old.items
+        ++ take (end - from) (drop from numbers.now)) }
     ensures err { IfErr result (λ e. e ≡ OutOfMemory) }
 {
     for i in from..end {

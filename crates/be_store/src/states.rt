@@ -19,9 +19,12 @@ pub(crate) fn read_on<L: Look>(
 ) -> (L, Result<Option<Vec<Op>>, AllocError>)
     ghost volume: { State }
     requires version { IsVersion (L.standing look) (L.words look) version_page volume }
-    ensures list { left volume place.old ≡ given (λ ops. ops.items) result.1 ++ left volume place.new }
-    ensures length { IfOk result.1 (λ list. IfSome list (λ ops. (1 ≤ length ops.items) × (length ops.items ≤ 64))) }
-    ensures full { IfOk result.1 (λ list. IfSome list (λ ops. length ops.items < 64 → left volume place.new ≡ [])) }
+    ensures list { left volume place.old ≡ given (λ ops. ops.items) result.1
+        ++ left volume place.new }
+    ensures length { IfOk result.1 (λ list. IfSome list
+        (λ ops. (1 ≤ length ops.items) × (length ops.items ≤ 64))) }
+    ensures full { IfOk result.1 (λ list. IfSome list
+        (λ ops. length ops.items < 64 → left volume place.new ≡ [])) }
     ensures ends { IfOk result.1 (λ list. IfNone list (left volume place.old ≡ [])) }
     ensures kept { L.kept result.0 ≡ L.kept look }
 {

@@ -7,9 +7,10 @@ use be_value::Refusal;
 use be_volume::Done;
 use std::thread;
 
-/// Other threads may run so often, and no more, before a further try. Where two passes hand the lock to and fro at each
-/// write, each has to fetch from the other's processor what that one has just written; so one that comes in vain lets the
-/// other write on for a while, twice as long each time.
+/// Other threads may run so often, and no more, before a further try. Where two passes hand the
+/// lock to and fro at each write, each has to fetch from the other's processor what that one has
+/// just written; so one that comes in vain lets the other write on for a while, twice as long each
+/// time.
 const MOST_TURNS: u64 = 1024;
 
 /// How often other threads may run before a further try, where it was so often before the last one.

@@ -21,7 +21,8 @@ pub record Opened : Type 0 where
   pub id : TableId
   pub limits : Limits
 
--- an open write: the table, what the pass knows, for how many operations of one entry there is room, 0 for none, and how many pages the last whole scan left retired
+-- an open write: the table, what the pass knows, for how many operations of one entry there is
+-- room, 0 for none, and how many pages the last whole scan left retired
 pub record Work : Type 0 where
   pub table : Opened
   pub knows : Knowledge

@@ -1,5 +1,7 @@
 -- The fact that holds of the table between any two steps.
-use Rattle.std.specs.Prelude.{◌≡◌, ◌≢◌, ℕ, zero, suc, ◌+◌, ◌*◌, ◌<◌, ◌≤◌, ◌==◌, Bool, true, false, List, [], ◌∷◌, ◌++◌, length, take, drop, map, Option, Some, None, slice_index, slice_index_or, IsTrue, count_by}
+use Rattle.std.specs.Prelude.{◌≡◌, ◌≢◌, ℕ, zero, suc, ◌+◌, ◌*◌, ◌<◌, ◌≤◌, ◌==◌, Bool, true, false}
+use Rattle.std.specs.Prelude.{List, [], ◌∷◌, ◌++◌, length, take, drop, map, Option, Some, None}
+use Rattle.std.specs.Prelude.{slice_index, slice_index_or, IsTrue, count_by}
 use mathlib.Core.Option.{Option as Maybe, some, none}
 use lib.ListN.{get_elem?}
 use Rattle.atomic_table.specs.Table.{State}
@@ -67,7 +69,8 @@ word_place p i = 528 + 512 * p + i
 
 -- on any one page and place, the list has the word
 abbrev pub PagesAgree : ℕ → (ℕ → ℕ → ℕ) → List ℕ → Type 0
-PagesAgree pages words ws = (p i : ℕ) → p < pages → i < 512 → slice_index ws (word_place p i) ≡ words p i
+PagesAgree pages words ws = (p i : ℕ) → p < pages → i < 512 → slice_index ws (word_place p i)
+    ≡ words p i
 
 -- where each page is
 abbrev pub ledger_places : Ledger → List Place
@@ -93,12 +96,14 @@ pub record AtHome (w : World) (log : List Commit) (ledger : Ledger) : Type 0 whe
 
 -- the ledger is at home while nobody holds the lock
 abbrev pub IsHome : Option Holder → World → List Commit → List (Maybe (Option Ledger)) → Type 0
-IsHome None w log homes = (ledger : Ledger) × (homes ≡ some (Some ledger) ∷ []) × AtHome w log ledger
+IsHome None w log homes = (ledger : Ledger) × (homes ≡ some (Some ledger) ∷ [])
+    × AtHome w log ledger
 IsHome (Some h) w log homes = homes ≡ none ∷ []
 
 -- ## The first part: the table shows the state
 
--- a word before the pages that is neither the lock, nor the current version, nor the announcement of one of so many passes
+-- a word before the pages that is neither the lock, nor the current version, nor the announcement
+-- of one of so many passes
 abbrev pub IsUnused : (passes k : ℕ) → Type 0
 IsUnused passes k = (k < 528) × (k ≢ 0) × (k ≢ 8) × ((j : ℕ) → j < passes → k ≢ 16 + 8 * j)
 
@@ -106,7 +111,8 @@ pub record WordsAgree (w : World) (page : ℕ) (words : List ℕ) : Type 0 where
   pub size : length words ≡ 528 + 512 * w.pages
   pub lock : slice_index words 0 ≡ lock_word w.holder
   pub current : slice_index words 8 ≡ current_word w.current page
-  pub announced : (k : ℕ) → k < w.passes → slice_index words (16 + 8 * k) ≡ announce_word (w.phases k)
+  pub announced : (k : ℕ) → k < w.passes → slice_index words (16 + 8 * k)
+      ≡ announce_word (w.phases k)
   pub pages : PagesAgree w.pages w.words words
   pub unused : (k : ℕ) → IsUnused w.passes k → slice_index words k ≡ 0
 
@@ -152,13 +158,16 @@ pub record IsSoundBoard (limits : Limits) (b : Board) : Type 0 where
   pub holder : (h : Holder) → b.world.holder ≡ Some h → h.pass < limits.passes
   pub reaches : ReachesAgree b.world b.log
   pub machine : Sound b.world
-  pub spelt : (n : ℕ) → n ≤ length b.log → SpellsVolume (reach_at b.log n) (in_pages (b.world.image n)) (page_at b.log n) (replay (take n (entries b.log)))
+  pub spelt : (n : ℕ) → n ≤ length b.log
+      → SpellsVolume (reach_at b.log n) (in_pages (b.world.image n)) (page_at b.log n)
+      (replay (take n (entries b.log)))
 
 -- ## The third part: what each pass knows is so
 
 -- the machine's holder, as a pass that holds the lock knows it
 abbrev pub known_holder : Knowledge → Holder
-known_holder a = record { pass = a.number; scanned = a.scanned; least = a.least; published = a.published }
+known_holder a = record { pass = a.number; scanned = a.scanned; least = a.least;
+    published = a.published }
 
 -- what the holder knows
 pub record Holds (b : Board) (a : Knowledge) : Type 0 where
@@ -172,7 +181,8 @@ pub record Holds (b : Board) (a : Knowledge) : Type 0 where
 
 -- the image of a pinned version, on each of its pages
 abbrev pub ImageIs : World → Phase → List ℕ → Type 0
-ImageIs w phase image = (x n p i : ℕ) → phase ≡ Pinned x n → IsTrue (w.reach n p) → i < 512 → slice_index image (word_place p i) ≡ w.image n p i
+ImageIs w phase image = (x n p i : ℕ) → phase ≡ Pinned x n → IsTrue (w.reach n p) → i < 512
+    → slice_index image (word_place p i) ≡ w.image n p i
 
 pub record Fits (limits : Limits) (b : Board) (seat : ℕ) (a : Knowledge) : Type 0 where
   pub number : a.number < limits.passes
@@ -207,12 +217,14 @@ abbrev pub ViewFits : Limits → Board → ℕ → View → Type 0
 ViewFits limits b seat v = AllFit limits b seat v.passes × AreFronts b.log v.fronts
 
 abbrev pub ViewsFit : Limits → Board → List View → Type 0
-ViewsFit limits b views = (seat : ℕ) (v : View) → get_elem? views seat ≡ some v → ViewFits limits b seat v
+ViewsFit limits b views = (seat : ℕ) (v : View) → get_elem? views seat ≡ some v
+    → ViewFits limits b seat v
 
 -- ## The fourth part: the trace
 
 -- The moves lead from the first state to this one, and none after the history of a pass is by it.
-pub record IsTrace (limits : Limits) (w : World) (views : List View) (trace : List Move) : Type 0 where
+pub record IsTrace (limits : Limits) (w : World) (views : List View) (trace : List Move) : Type 0
+    where
   pub words : ℕ → ℕ → ℕ
   pub runs : RunsTo limits words trace w
   pub rests : (seat : ℕ) (v : View) → get_elem? views seat ≡ some v → AllRest trace v.passes
@@ -223,7 +235,8 @@ pub record Stands (limits : Limits) (s : State (Option Ledger) View) (b : Board)
   pub views : ViewsFit limits b s.views
 
 abbrev pub Shows : Limits → State (Option Ledger) View → Type 0
-Shows limits s = (b : Board) × Stands limits s b × ((trace : List Move) × IsTrace limits b.world s.views trace)
+Shows limits s = (b : Board) × Stands limits s b
+    × ((trace : List Move) × IsTrace limits b.world s.views trace)
 
 -- ## What a history tells
 
@@ -256,7 +269,9 @@ pub record StoodBefore (a : Knowledge) (move : Move) (history : List Move) : Typ
 
 -- a pass that has seen nothing
 abbrev pub newcomer : Limits → ℕ → ℕ → Knowledge
-newcomer limits steps k = record { number = k; limits = limits; seen = []; mine = []; phase = Idle; image = []; writes = false; scanned = 0; least = 0; published = false; places = []; words = []; held = []; holders = []; steps = steps; history = [] }
+newcomer limits steps k = record { number = k; limits = limits; seen = []; mine = []; phase = Idle;
+    image = []; writes = false; scanned = 0; least = 0; published = false; places = []; words = [];
+    held = []; holders = []; steps = steps; history = [] }
 
 -- the passes from k on, so many
 unfoldable pub newcomers : Limits → ℕ → ℕ → ℕ → List Knowledge
@@ -291,7 +306,8 @@ abbrev pub other_seats : View → View
 other_seats v = record { passes = map one_step_on (drop 1 v.passes); fronts = v.fronts }
 
 abbrev pub seats_together : View → View → View
-seats_together v w = record { passes = map one_step_on v.passes ++ map one_step_on w.passes; fronts = v.fronts ++ w.fronts }
+seats_together v w = record { passes = map one_step_on v.passes
+    ++ map one_step_on w.passes; fronts = v.fronts ++ w.fronts }
 
 abbrev pub nobody : Knowledge
 nobody = newcomer (record { pages = 0; passes = 0; commits = 0 }) 0 0

@@ -1,5 +1,6 @@
 -- What is true of each seat.
-use Rattle.std.specs.Prelude.{◌≡◌, ℕ, ◌<◌, Bool, true, false, List, [], ◌∷◌, length, Option, Some, None}
+use Rattle.std.specs.Prelude.{◌≡◌, ℕ, ◌<◌, Bool, true, false, List, [], ◌∷◌, length, Option, Some}
+use Rattle.std.specs.Prelude.{None}
 use Rattle.be_core.specs.declared.event.Phase.{Phase}
 use Rattle.be_core.specs.declared.event.Phase.TheVariants.{Idle, Looked, Announced, Pinned}
 use Rattle.be_table.specs.declared.marks.Marks.{Marks}
@@ -21,7 +22,8 @@ known_of [] = nobody
 known_of (v ∷ vs) = pass_of v
 
 abbrev pub facts_of : Inside → SeatFacts
-facts_of s = record { blank = is_vacant s.badge.views; table = s.badge.table_id; knows = known_of s.badge.views }
+facts_of s = record { blank = is_vacant s.badge.views; table = s.badge.table_id;
+    knows = known_of s.badge.views }
 
 -- the seat's numbers are those of its pass, which doesn't hold the lock
 pub record IsTold (a : Knowledge) (number seen : ℕ) : Type 0 where
@@ -46,7 +48,8 @@ pin_of (Pinned a n) seen = Some record { number = n; page = page_at seen n }
 
 abbrev pub IsSeated : List View → Marks → Type 0
 IsSeated [] m = Unit {0}
-IsSeated (v ∷ vs) m = ((v ∷ vs) ≡ alone (pass_of v) ∷ []) × IsTold (pass_of v) m.number m.seen × (m.pin ≡ pin_of (pass_of v).phase (pass_of v).seen)
+IsSeated (v ∷ vs) m = ((v ∷ vs) ≡ alone (pass_of v) ∷ []) × IsTold (pass_of v) m.number m.seen
+    × (m.pin ≡ pin_of (pass_of v).phase (pass_of v).seen)
 
 abbrev pub IsPlaced : Inside → Type 0
 IsPlaced s = (s.marks.number < 64) × IsSeated s.badge.views s.marks

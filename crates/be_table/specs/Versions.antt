@@ -1,5 +1,6 @@
 -- The volume that a version of the table spells.
-use Rattle.std.specs.Prelude.{◌≡◌, ℕ, suc, ◌<◌, Bool, true, false, nat_lt, if◌then◌else◌, List, length, take, IsTrue}
+use Rattle.std.specs.Prelude.{◌≡◌, ℕ, suc, ◌<◌, Bool, true, false, nat_lt, if◌then◌else◌, List}
+use Rattle.std.specs.Prelude.{length, take, IsTrue}
 use Rattle.be_core.specs.Machine.{has, bit}
 use Rattle.be_pages.specs.declared.room.Standing.{Standing}
 use Rattle.be_pages.specs.declared.room.Standing.TheVariants.{Free as Nowhere, Old}
@@ -19,8 +20,10 @@ at_start false = Nowhere
 abbrev pub in_pages : (ℕ → ℕ → ℕ) → ℕ → ℕ → ℕ
 in_pages words q i = if nat_lt i 512 then words q i else 0
 
--- The version of these pages, with these words, spells the volume from its version page, and has exactly the pages that it reaches from there.
-pub record SpellsVolume (pages : List ℕ) (words : ℕ → ℕ → ℕ) (page : ℕ) (volume : State) : Type 0 where
+-- The version of these pages, with these words, spells the volume from its version page, and has
+-- exactly the pages that it reaches from there.
+pub record SpellsVolume (pages : List ℕ) (words : ℕ → ℕ → ℕ) (page : ℕ) (volume : State) : Type 0
+    where
   pub version : IsVersion (λ q. at_start (has pages q)) words page volume
   pub exact : (q : ℕ) → times q (reach words page) ≡ bit (has pages q)
 
@@ -34,4 +37,5 @@ pub record CanSpell (pages : ℕ) (volume : State) : Type 0 where
 
 -- so many pages can spell the volume after each entry of the journal
 unfoldable pub CanSpellEach : ℕ → List Entry → Type 0
-CanSpellEach pages journal = (n : ℕ) → n < length journal → CanSpell pages (replay (take (suc n) journal))
+CanSpellEach pages journal = (n : ℕ) → n < length journal
+    → CanSpell pages (replay (take (suc n) journal))

@@ -1,10 +1,14 @@
 //! The rule of the table, and the names of its steps.
 //!
-//! A step on a word is allowed where, whatever the table is then, the rule still holds after it. What the step tells
-//! its pass is the definition that its name carries.
+//! A step on a word is allowed where, whatever the table is then, the rule still holds after it.
+//! What the step tells its pass is the definition that its name carries.
 ghost use Rattle.std.specs.Prelude.{[]};
-ghost use Rattle.be_table.specs.Rule.{Shows, everyone, first_seat, other_seats, seats_together, empty_view, kept_seat, front_seat};
-ghost use Rattle.be_table.specs.Steps.{LookMoves, LockMoves, UnlockMoves, CompareMoves, Learned, Arrived, AnnounceMoves, LookAgainMoves, UnpinMoves, ScanMoves, PinnedRead, OwnRead, FillMoves, FoundFillMoves, TakeMoves, GiveUpMoves, PublishMoves};
+ghost use Rattle.be_table.specs.Rule.{Shows, everyone, first_seat, other_seats, seats_together};
+ghost use Rattle.be_table.specs.Rule.{empty_view, kept_seat, front_seat};
+ghost use Rattle.be_table.specs.Steps.{LookMoves, LockMoves, UnlockMoves, CompareMoves, Learned};
+ghost use Rattle.be_table.specs.Steps.{Arrived, AnnounceMoves, LookAgainMoves, UnpinMoves};
+ghost use Rattle.be_table.specs.Steps.{ScanMoves, PinnedRead, OwnRead, FillMoves, FoundFillMoves};
+ghost use Rattle.be_table.specs.Steps.{TakeMoves, GiveUpMoves, PublishMoves};
 
 use crate::ledger::Ledger;
 use crate::limits::Limits;

@@ -1,8 +1,8 @@
 //! A pass's seat at the table.
 //!
-//! A seat is the right to step for one pass: no two seats have the same pass, so what a pass knows is known to one
-//! holder alone. Beside that right it carries three numbers which its steps told: the number of the pass, how much of
-//! the journal the pass has seen, and its pin.
+//! A seat is the right to step for one pass: no two seats have the same pass, so what a pass knows
+//! is known to one holder alone. Beside that right it carries three numbers which its steps told:
+//! the number of the pass, how much of the journal the pass has seen, and its pin.
 ghost use Rattle.std.specs.Prelude.{◌≡◌, ℕ, ◌<◌, true, false, [], length, IsTrue};
 ghost use Rattle.be_core.specs.Machine.{has};
 ghost use Rattle.be_core.specs.declared.event.Phase.TheVariants.{Pinned};
@@ -50,7 +50,8 @@ impl Seat {
         requires pass { base.me ≡ (alone (pass_of base.me.0), []) }
         requires told { IsTold (pass_of base.me.0) marks.number marks.seen }
         requires pin { marks.pin ≡ pin_of (pass_of base.me.0).phase (pass_of base.me.0).seen }
-        ensures { (result.blank ≡ false) × (result.table ≡ base.table_id) × (result.knows ≡ pass_of base.me.0) }
+        ensures { (result.blank ≡ false) × (result.table ≡ base.table_id)
+            × (result.knows ≡ pass_of base.me.0) }
     {
         Seat {
             badge: base.into_badge(),
@@ -96,15 +97,19 @@ impl Seat {
         }
     }
 
-    /// The version page of the version to which the pass is pinned. From there the version's pages, with the words that
-    /// they had when it was published, spell the volume after so many entries as its number says.
+    /// The version page of the version to which the pass is pinned. From there the version's pages,
+    /// with the words that they had when it was published, spell the volume after so many entries
+    /// as its number says.
     pub fn version_page(&self) -> u64
         requires seat { self.now.blank ≡ false }
         requires pinned { (x : ℕ) × (n : ℕ) × (self.now.knows.phase ≡ Pinned x n) }
-        ensures page { (x n : ℕ) → self.now.knows.phase ≡ Pinned x n → result ≡ page_at self.now.knows.seen n }
-        ensures readable { (x n : ℕ) → self.now.knows.phase ≡ Pinned x n → IsTrue (has (reach_at self.now.knows.seen n) result) }
+        ensures page { (x n : ℕ) → self.now.knows.phase ≡ Pinned x n → result
+            ≡ page_at self.now.knows.seen n }
+        ensures readable { (x n : ℕ) → self.now.knows.phase ≡ Pinned x n
+            → IsTrue (has (reach_at self.now.knows.seen n) result) }
         ensures spelt { (x n : ℕ) → self.now.knows.phase ≡ Pinned x n
-            → SpellsVolume (reach_at self.now.knows.seen n) (word_of_page self.now.knows.image) (page_at self.now.knows.seen n)
+            → SpellsVolume (reach_at self.now.knows.seen n) (word_of_page self.now.knows.image)
+            (page_at self.now.knows.seen n)
             (replay (take n (entries self.now.knows.seen))) }
     {
         self.is_pass();
@@ -114,8 +119,8 @@ impl Seat {
         }
     }
 
-    /// A law of one seat: what is always so of a pass is so of this one, as a contract can't tell of a seat that it is
-    /// lent. It does nothing.
+    /// A law of one seat: what is always so of a pass is so of this one, as a contract can't tell
+    /// of a seat that it is lent. It does nothing.
     pub fn is_pass(&self)
         requires { self.now.blank ≡ false }
         ensures { IsPass self.now.knows }

@@ -1,7 +1,8 @@
 //! Witnesses: what a pass has seen of the journal, for other passes.
 //!
-//! A pass makes a witness of what it has seen, and another thread may take it, by whatever channel. A pass there that
-//! joins it has then seen as much, so it pins that version or a later one, and its writes come after it.
+//! A pass makes a witness of what it has seen, and another thread may take it, by whatever channel.
+//! A pass there that joins it has then seen as much, so it pins that version or a later one, and
+//! its writes come after it.
 ghost use Rattle.std.specs.Prelude.{◌≡◌, true, false, [], length};
 ghost use Rattle.be_table.specs.Rule.{front_of, witnessing};
 
@@ -11,7 +12,8 @@ use atomic_table::Badge;
 use std::marker::Model;
 use std::mem;
 
-/// A beginning of the journal that some pass has seen. One that was moved out is blank, and no pass may join it.
+/// A beginning of the journal that some pass has seen. One that was moved out is blank, and no pass
+/// may join it.
 #[derive(Drop)]
 pub struct Witness {
     badge: Badge<View>,
@@ -41,7 +43,8 @@ impl Witness {
     pub(crate) fn of(base: Base, commits: u64) -> Witness
         requires front { base.me ≡ (witnessing (front_of base.me.0), []) }
         requires length { length (front_of base.me.0) ≡ commits }
-        ensures { (result.blank ≡ false) × (result.table ≡ base.table_id) × (result.seen ≡ front_of base.me.0) }
+        ensures { (result.blank ≡ false) × (result.table ≡ base.table_id)
+            × (result.seen ≡ front_of base.me.0) }
     {
         Witness {
             badge: base.into_badge(),
@@ -52,7 +55,8 @@ impl Witness {
     /// The base's seat, with the length of its front.
     pub(crate) fn into_base(self) -> (Base, u64)
         requires { self.blank ≡ false }
-        ensures front { (result.0.table_id ≡ self.table) × (result.0.me ≡ (witnessing self.seen, [])) }
+        ensures front { (result.0.table_id ≡ self.table)
+            × (result.0.me ≡ (witnessing self.seen, [])) }
         ensures length { length self.seen ≡ result.1 }
     {
         let Witness { badge, commits } = self;

@@ -1,7 +1,8 @@
 //! Worked examples of the table, by its public calls.
 //!
-//! A test is a room and a text of requests with their replies. `0` and `1` name the pass that makes a request. `hold`
-//! and `between` have the first pass hold the lock while others are answered; `turn` makes the next pass the first.
+//! A test is a room and a text of requests with their replies. `0` and `1` name the pass that makes
+//! a request. `hold` and `between` have the first pass hold the lock while others are answered;
+//! `turn` makes the next pass the first.
 
 mod calls;
 mod races;
@@ -60,8 +61,8 @@ fn reading_under_held_lock(rt: HostRuntime) -> Result<(), Fail> {
     check_lines(rt.alloc(), &mut opened(rt.alloc(), 64)?, lines)
 }
 
-/// A pinned version is the volume after the entries up to it, for the reader of pages and for queries, while a later
-/// write changes it.
+/// A pinned version is the volume after the entries up to it, for the reader of pages and for
+/// queries, while a later write changes it.
 #[test]
 fn pinned_volume(rt: HostRuntime) -> Result<(), Fail> {
     let lines = "0 mkindex size LONG;new;set 1 size LONG 5 / 1 pin => 1 / pin 1
@@ -95,7 +96,8 @@ fn enter_until_due(room: &mut Room) -> Result<u64, Refusal> {
     Err(Refusal::BadLimits)
 }
 
-/// How many writes make a scan due, and how many more do so once more, under a pin and with a scan between.
+/// How many writes make a scan due, and how many more do so once more, under a pin and with a scan
+/// between.
 fn count_until_due(alloc: Global, room: &mut Room) -> Result<(u64, u64), Fail> {
     check_lines(alloc, room, "1 pin => pin 0")?;
     let before = enter_until_due(room)?;
@@ -122,8 +124,9 @@ fn scans_early(alloc: Global, room: &mut Room) -> Result<bool, Fail> {
     Ok(before == 16 && beyond == 11)
 }
 
-/// A scan is due once 32 pages are retired, and, where a pin keeps them, again once there are 32 more. A write of a node retires
-/// two pages while the catalog is one, and three once it has an inner page.
+/// A scan is due once 32 pages are retired, and, where a pin keeps them, again once there are 32
+/// more. A write of a node retires two pages while the catalog is one, and three once it has an
+/// inner page.
 #[test]
 fn scan_due(rt: HostRuntime) -> Result<(), Fail> {
     assert!(rt; scans_early(rt.alloc(), &mut opened(rt.alloc(), 1024)?)?);

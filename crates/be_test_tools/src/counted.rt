@@ -4,8 +4,9 @@ ghost use Rattle.std.specs.Prelude.{◌≡◌};
 use be_pages::{Look, Room};
 use be_value::Refusal;
 
-/// A reader of pages, or a room of them, which counts the words that are read and stored, and the pages that are taken. A word
-/// that stands there already isn't stored again, as in a table. Its facts are those of what it owns.
+/// A reader of pages, or a room of them, which counts the words that are read and stored, and the
+/// pages that are taken. A word that stands there already isn't stored again, as in a table. Its
+/// facts are those of what it owns.
 #[derive(Drop)]
 pub struct Counted<P> {
     pub pages: P,

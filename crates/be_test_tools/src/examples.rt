@@ -1,5 +1,5 @@
-//! Worked examples, as texts in the words of scripts. Every form of a volume gives these replies: the plain one, the one over
-//! pages, and the shared store.
+//! Worked examples, as texts in the words of scripts. Every form of a volume gives these replies:
+//! the plain one, the one over pages, and the shared store.
 
 /// An index has what is set after it was made, and a set moves a pair.
 const INDEX_MADE_LATER: &str = "new / set 1 size LONG 5 / mkindex size LONG => node 1 / ok / ok
@@ -15,7 +15,8 @@ new / attrs 4 => node 4 / attrs 0";
 
 const INTEGERS: &str =
     "mkindex n LONG / new / new / new / new => ok / node 1 / node 2 / node 3 / node 4
-set 1 n LONG 0 / set 2 n LONG -1 / set 3 n LONG 2147483647 / set 4 n LONG -2147483648 => ok / ok / ok / ok
+set 1 n LONG 0 / set 2 n LONG -1 / set 3 n LONG 2147483647 / set 4 n LONG -2147483648 => ok / ok /
+ok / ok
 query n<0 / query n>=-2147483648 => nodes 2 4 / nodes 1 2 3 4
 query n>2147483646 / query n==-0 / query n!=0 => nodes 3 / nodes 1 / nodes 2 3 4
 query n!=abc / query n<99999999999999999999 => nodes / nodes
@@ -25,7 +26,8 @@ set 1 n LONG 2147483648 => bad line";
 pub const TEXTS: &str =
     "mkindex t CSTR / new / new / new / new => ok / node 1 / node 2 / node 3 / node 4
 set 1 t CSTR a / set 2 t CSTR ab / set 3 t CSTR \"\" => ok / ok / ok
-set 4 t CSTR xxxxxxxxxxxxxxxxxxxxxxxxxxxxxxxxxxxxxxxxxxxxxxxxxxxxxxxxxxxxxxxxxxxxxxxxxxxxxxxxxxxxxxxxxxxxxxxxxxxxxxxxxxxxxxxxxxxxxxxxxxxxxxxxxx\
+set 4 t CSTR
+xxxxxxxxxxxxxxxxxxxxxxxxxxxxxxxxxxxxxxxxxxxxxxxxxxxxxxxxxxxxxxxxxxxxxxxxxxxxxxxxxxxxxxxxxxxxxxxxxxxxxxxxxxxxxxxxxxxxxxxxxxxxxxxxxx\
 xxxxxxxxxxxxxxxxxxxxxxxxxxxxxxxxxxxxxxxxxxxxxxxxxxxxxxxxxxxxxxxxxxxxxxxxxxxxxxxxxxxxxxxxxxxxxxxxxxxxxxxxxxxxxxxxxxxxxxxxxxxxx => ok
 query t<ab / query t<=\"\" / query t>a => nodes 1 3 / nodes 3 / nodes 2 4";
 
@@ -36,7 +38,8 @@ query size!=7 / query size!=8 => nodes / nodes 1";
 
 const PATTERNS: &str =
     r#"mkindex name CSTR / new / new / new / new => ok / node 1 / node 2 / node 3 / node 4
-set 1 name CSTR x.c / set 2 name CSTR x.C / set 3 name CSTR é / set 4 name CSTR xh => ok / ok / ok / ok
+set 1 name CSTR x.c / set 2 name CSTR x.C / set 3 name CSTR é / set 4 name CSTR xh => ok / ok / ok /
+ok
 query name="*[ch]" / query name==? => nodes 1 4 / nodes 3
 query name=="x.[a-d]" / query name=="x.[^a-d]" => nodes 1 / nodes 2
 query name=="x.\*" / query name<"x.[a-d]" => nodes / nodes 2
@@ -75,13 +78,15 @@ rmindex q / drop 9 / mkindex r RAWT => refused 6 NoSuchIndex / refused 2 NoNode 
 
 const UNSIGNED_VALUES: &str = "mkindex u ULLG / new / new => ok / node 1 / node 2
 set 1 u ULLG 18446744073709551615 / set 2 u ULLG 0 => ok / ok
-query u>9223372036854775807 / query u>-1 / query u==18446744073709551616 => nodes 1 / nodes 1 2 / nodes
+query u>9223372036854775807 / query u>-1 / query u==18446744073709551616 => nodes 1 / nodes 1 2 /
+nodes
 set 1 u ULLG 18446744073709551616 / set 2 u ULNG -1 => bad line / bad line
 set 1 u ULNG 4294967295 / query u>=0 / get 1 u => ok / nodes 2 / ULNG 4294967295
 mkindex n LONG / set 1 n LONG 5 => ok / ok
 query n<9223372036854775808 / query n==00000000000000000005 => nodes 1 / nodes 1";
 
-/// Lists of several operations, with `;` between them. A script has batches for these, so the shared store isn't asked.
+/// Lists of several operations, with `;` between them. A script has batches for these, so the
+/// shared store isn't asked.
 pub const LISTS: &str = r#"mkindex k LONG => ok
 new;set 1 k LONG 5 => node 1 / ok
 set 1 k LONG 6;drop 9 => refused 2 NoNode

@@ -1,12 +1,13 @@
-//! Lines `REQUEST => REPLY`. A line may have several requests, with ` / ` between them, and a reply several lines, between
-//! which the same stands. No line of a reply is empty.
+//! Lines `REQUEST => REPLY`. A line may have several requests, with ` / ` between them, and a reply
+//! several lines, between which the same stands. No line of a reply is empty.
 use be_value::Refusal;
 use std::alloc::Global;
 use std::test::Fail;
 
 /// What answers requests.
 pub trait Answers {
-    /// The reply to a request, each of its lines ended. It is refused with OutOfMemory alone, and nothing has changed then.
+    /// The reply to a request, each of its lines ended. It is refused with OutOfMemory alone, and
+    /// nothing has changed then.
     fn reply(&mut self, alloc: Global, request: &str) -> Result<String, Refusal>;
 }
 
@@ -49,8 +50,8 @@ fn replies<A: Answers>(
     Ok(expected.is_empty())
 }
 
-/// Fails unless each request of these lines has its reply. One that is refused memory is made again: so a test passes with
-/// any one request for memory refused.
+/// Fails unless each request of these lines has its reply. One that is refused memory is made
+/// again: so a test passes with any one request for memory refused.
 pub fn check_lines<A: Answers>(alloc: Global, answers: &mut A, lines: &str) -> Result<(), Fail> {
     for line in lines.lines() {
         let Some((requests, expected)) = line.split_once(" => ") else {

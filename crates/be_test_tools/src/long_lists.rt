@@ -19,8 +19,9 @@ fn list_with_script(alloc: Global) -> Result<(String, String), AllocError> {
     Ok((script, replies))
 }
 
-/// A script that lists 64 attributes with the longest names and values, of which each LF is printed by two characters; and
-/// its replies, the last of them of 41,289 bytes. Both are made again where memory is refused.
+/// A script that lists 64 attributes with the longest names and values, of which each LF is printed
+/// by two characters; and its replies, the last of them of 41,289 bytes. Both are made again where
+/// memory is refused.
 pub fn longest_list(alloc: Global) -> Result<(String, String), AllocError> {
     match list_with_script(alloc) {
         Err(_) => list_with_script(alloc),

@@ -1,5 +1,5 @@
-//! Lists of operations, and the texts of what calls answer, in the words of scripts. Each is made again where memory is
-//! refused.
+//! Lists of operations, and the texts of what calls answer, in the words of scripts. Each is made
+//! again where memory is refused.
 use be_journal::done_text;
 use be_script_language::{Reply, Request, read_line, reply_text};
 use be_value::Refusal;
@@ -18,7 +18,8 @@ fn read_list(alloc: Global, list: &str) -> Result<Vec<Op>, Refusal> {
     Ok(ops)
 }
 
-/// The operations of a list, each a line of a script, with `;` between them. BadLimits where one of them is no operation.
+/// The operations of a list, each a line of a script, with `;` between them. BadLimits where one of
+/// them is no operation.
 pub fn list_of(alloc: Global, list: &str) -> Result<Vec<Op>, Refusal> {
     match read_list(alloc, list) {
         Err(Refusal::OutOfMemory) => read_list(alloc, list),

@@ -1,4 +1,5 @@
-//! What tests of the store and of its table look at alike: limits, names, and the journal of two passes.
+//! What tests of the store and of its table look at alike: limits, names, and the journal of two
+//! passes.
 ghost use Rattle.std.specs.Prelude.{◌≡◌, ◌∷◌, [], IfOk};
 
 use be_journal::{EntryView, Journal};

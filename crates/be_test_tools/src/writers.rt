@@ -2,8 +2,8 @@
 use std::alloc::{AllocError, Global};
 use std::io::{self, Write};
 
-/// Takes a byte a write while it has room, then fails or takes nothing. It needs no memory: it looks whether each byte is
-/// the one that is expected.
+/// Takes a byte a write while it has room, then fails or takes nothing. It needs no memory: it
+/// looks whether each byte is the one that is expected.
 #[derive(Drop)]
 pub struct Narrow<'a> {
     expected: &'a [u8],
@@ -61,8 +61,8 @@ impl Write for Narrow<'_> {
     }
 }
 
-/// An empty list with room for 256 bytes, into which a test writes without a request for memory. The room is asked for once more where
-/// it is refused.
+/// An empty list with room for 256 bytes, into which a test writes without a request for memory.
+/// The room is asked for once more where it is refused.
 pub fn list_with_room(alloc: Global) -> Result<Vec<u8>, AllocError> {
     match Vec::with_capacity(alloc, 256) {
         Ok(list) => Ok(list),

@@ -38,7 +38,8 @@ pub record AreFrom (words : ℕ → ℕ → ℕ) (page place : ℕ) (all rest : 
   pub parts : all ≡ drop number (items_of (words page)) ++ rest
 
 -- the branch at a place has the key of the first of these pairs; place 0: there are none
-pub record IsNext (standing : ℕ → Standing) (words : ℕ → ℕ → ℕ) (page place : ℕ) (rest : List Pair) : Type 0 where
+pub record IsNext (standing : ℕ → Standing) (words : ℕ → ℕ → ℕ) (page place : ℕ) (rest : List Pair)
+    : Type 0 where
   pub none : place ≡ 0 → rest ≡ []
   pub starts : 0 < place → StartsAt (item_at (words page) place).key rest
   pub is_item : 0 < place → IsItem (words page) place

@@ -15,7 +15,9 @@ abbrev pub IfRefused : Stop → (Refusal → Type 0) → Type 0
 IfRefused Absent P = Unit {0}
 IfRefused (Refused refusal) P = P refusal
 
--- where the key isn't there, nothing was found of it, and the room is as it was; else something was found
-abbrev pub TellsAbsent : {S K A : Type 0} → (S → K) → (S → ℕ → Standing) → (S → ℕ → ℕ → ℕ) → Option A → S → S → Stop → Type 0
+-- where the key isn't there, nothing was found of it, and the room is as it was; else something was
+-- found
+abbrev pub TellsAbsent : {S K A : Type 0} → (S → K) → (S → ℕ → Standing) → (S → ℕ → ℕ → ℕ)
+    → Option A → S → S → Stop → Type 0
 TellsAbsent kept_of standing_of words_of found old new stop =
     IfAbsent stop ((found ≡ None) × IsUnchanged kept_of standing_of words_of old new) (found ≢ None)

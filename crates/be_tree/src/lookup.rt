@@ -1,11 +1,14 @@
 //! Look-ups of a key.
 //!
-//! On each level the items of one page are asked one after the other, where they stand, up to the first whose key is
-//! greater, or in a leaf up to the one that has the key. A page has 12 at most, and a processor reads ahead along them, while
-//! the steps of a binary search wait for each other. Mostly the first word behind an item's lengths decides. Where it is less
-//! than the first word of the key, the item's key is less, however short it is: what stands behind a short key counts for
-//! nothing, and the key has zeros there. Where it is greater, the item's key may be short, so its length is read too.
-ghost use Rattle.std.specs.Prelude.{◌≡◌, [], ◌+◌, ◌-◌, ◌<◌, ◌≤◌, true, false, length, option_map, is_some, IfNone, IfSome, IfOk, IfErr, None, Some};
+//! On each level the items of one page are asked one after the other, where they stand, up to the
+//! first whose key is greater, or in a leaf up to the one that has the key. A page has 12 at most,
+//! and a processor reads ahead along them, while the steps of a binary search wait for each other.
+//! Mostly the first word behind an item's lengths decides. Where it is less than the first word of
+//! the key, the item's key is less, however short it is: what stands behind a short key counts for
+//! nothing, and the key has zeros there. Where it is greater, the item's key may be short, so its
+//! length is read too.
+ghost use Rattle.std.specs.Prelude.{◌≡◌, [], ◌+◌, ◌-◌, ◌<◌, ◌≤◌, true, false, length, option_map};
+ghost use Rattle.std.specs.Prelude.{is_some, IfNone, IfSome, IfOk, IfErr, None, Some};
 ghost use Rattle.std.specs.Prelude.{IsTrue};
 ghost use Rattle.std.specs.Ordering.{is_eq, is_gt};
 ghost use Rattle.be_pages.specs.Pages.{IsUnchanged, is_readable};
@@ -22,9 +25,9 @@ use arrayvec::ArrayVec;
 use be_pages::Look;
 use std::cmp::Ordering;
 
-/// Puts the payload of a key into an empty vector, and tells whether the tree has the key; where it hasn't, the vector stays
-/// empty. It is filled where it stands, since a vector that is given by value costs its whole capacity at each move. It costs
-/// one descent.
+/// Puts the payload of a key into an empty vector, and tells whether the tree has the key; where it
+/// hasn't, the vector stays empty. It is filled where it stands, since a vector that is given by
+/// value costs its whole capacity at each move. It costs one descent.
 pub fn find_into<L: Look>(
     look: &mut L,
     root: u64,
@@ -33,7 +36,8 @@ pub fn find_into<L: Look>(
 ) -> bool
     requires tree { IsTree (L.standing look.old) (L.words look.old) root }
     requires empty { payload.old.items ≡ [] }
-    ensures found { result ≡ true → payload_at (pairs (L.words look.old) root) key.now ≡ Some payload.new.items }
+    ensures found { result ≡ true → payload_at (pairs (L.words look.old) root) key.now
+        ≡ Some payload.new.items }
     ensures absent { result ≡ false → payload_at (pairs (L.words look.old) root) key.now ≡ None }
     ensures empty { result ≡ false → payload.new.items ≡ [] }
     ensures unchanged { IsUnchanged L.kept L.standing L.words look.old look.new }
@@ -48,7 +52,8 @@ pub fn find_into<L: Look>(
 /// The same, with the payload in a vector of its own.
 pub fn find<L: Look>(look: &mut L, root: u64, key: &[u8]) -> Option<ArrayVec<u8, 328>>
     requires tree { IsTree (L.standing look.old) (L.words look.old) root }
-    ensures payload { option_map (λ payload. payload.items) result ≡ payload_at (pairs (L.words look.old) root) key.now }
+    ensures payload { option_map (λ payload. payload.items) result
+        ≡ payload_at (pairs (L.words look.old) root) key.now }
     ensures unchanged { IsUnchanged L.kept L.standing L.words look.old look.new }
 {
     let mut payload = ArrayVec::new();
@@ -67,12 +72,13 @@ pub fn has_key<L: Look>(look: &mut L, root: u64, key: &[u8]) -> bool
     find_place(look, root, key).is_some()
 }
 
-/// The page and the place of the item that has this key, for those who read its payload where it stands (`payload_number_at` and
-/// its like). It costs one descent.
+/// The page and the place of the item that has this key, for those who read its payload where it
+/// stands (`payload_number_at` and its like). It costs one descent.
 pub fn find_place<L: Look>(look: &mut L, root: u64, key: &[u8]) -> Option<(u64, usize)>
     requires tree { IsTree (L.standing look.old) (L.words look.old) root }
     ensures none { IfNone result (payload_at (pairs (L.words look.old) root) key.now ≡ None) }
-    ensures some { IfSome result (λ at. payload_at (pairs (L.words look.old) root) key.now ≡ Some (item_at (L.words look.old at.0) at.1).payload) }
+    ensures some { IfSome result (λ at. payload_at (pairs (L.words look.old) root) key.now
+        ≡ Some (item_at (L.words look.old at.0) at.1).payload) }
     ensures readable { IfSome result (λ at. IsTrue (is_readable (L.standing look.old at.0))) }
     ensures in_page { IfSome result (λ at. at.1 + 42 ≤ 512) }
     ensures fits { IfSome result (λ at. IsItem (L.words look.old at.0) at.1) }
@@ -96,7 +102,8 @@ pub fn find_place<L: Look>(look: &mut L, root: u64, key: &[u8]) -> Option<(u64, 
     }
 }
 
-/// Whether the item at a place of a page, as `Cursor::step` tells it, has this key. They are compared where the item stands.
+/// Whether the item at a place of a page, as `Cursor::step` tells it, has this key. They are
+/// compared where the item stands.
 pub fn is_key_at<L: Look>(look: &mut L, page: u64, at: usize, key: &[u8]) -> bool
     requires readable { IsTrue (is_readable (L.standing look.old page)) }
     requires in_page { at + 42 ≤ 512 }
@@ -107,7 +114,8 @@ pub fn is_key_at<L: Look>(look: &mut L, page: u64, at: usize, key: &[u8]) -> boo
     cmp_at(look, page, at, key).is_eq()
 }
 
-/// How many of a page's items have keys that are not greater than a key. Of most items it reads one word.
+/// How many of a page's items have keys that are not greater than a key. Of most items it reads one
+/// word.
 pub(crate) fn rank<L: Look>(look: &mut L, page: u64, key: &[u8]) -> usize
     requires readable { IsTrue (is_readable (L.standing look.old page)) }
     requires page { IsPage (L.words look.old page) }
@@ -135,8 +143,8 @@ pub(crate) fn end_of<L: Look>(look: &mut L, page: u64) -> usize
     HEADER_WORDS + ITEM_WORDS * look.word(page, 1) as usize
 }
 
-/// The place of the branch below which a key stands: the last one whose key is not greater, or the first one. So the first
-/// one's key isn't asked.
+/// The place of the branch below which a key stands: the last one whose key is not greater, or the
+/// first one. So the first one's key isn't asked.
 #[inline(always)]
 pub(crate) fn branch_for<L: Look>(
     look: &mut L,
@@ -163,7 +171,8 @@ pub(crate) fn branch_for<L: Look>(
     at - ITEM_WORDS
 }
 
-/// Where a key stands among a page's items: the place of the item that has it, or the one after those with lesser keys.
+/// Where a key stands among a page's items: the place of the item that has it, or the one after
+/// those with lesser keys.
 #[inline(always)]
 pub(crate) fn search<L: Look>(
     look: &mut L,
@@ -206,8 +215,9 @@ pub(crate) fn is_above<L: Look>(look: &mut L, page: u64, at: usize, key: &[u8], 
     order_at(look, page, at, key, first).is_gt()
 }
 
-/// How the key of the item at a place compares with a key whose first word is at hand: mostly this decides. Where it is the
-/// same, the second words are next. Keys of less than a word are compared elsewhere.
+/// How the key of the item at a place compares with a key whose first word is at hand: mostly this
+/// decides. Where it is the same, the second words are next. Keys of less than a word are compared
+/// elsewhere.
 #[inline(always)]
 fn order_at<L: Look>(look: &mut L, page: u64, at: usize, key: &[u8], first: u64) -> Ordering
     requires readable { IsTrue (is_readable (L.standing look.old page)) }

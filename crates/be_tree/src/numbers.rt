@@ -1,9 +1,11 @@
 //! The numbers that keys end with.
 //!
-//! An index has a key for each of its entries, whose last eight bytes tell whose entry it is. A reader who wants just that of a
-//! range of keys gets it here: the words of each key are compared with the bound where they stand, and no key is unpacked. Of the
-//! leaves after the first, the last key is compared before the others: where it isn't above the bound, none of its leaf is.
-ghost use Rattle.std.specs.Prelude.{◌≡◌, ◌+◌, ◌<◌, ◌≤◌, ◌++◌, [], List, true, false, IsTrue, IfOk, OnOk, length, drop};
+//! An index has a key for each of its entries, whose last eight bytes tell whose entry it is. A
+//! reader who wants just that of a range of keys gets it here: the words of each key are compared
+//! with the bound where they stand, and no key is unpacked. Of the leaves after the first, the last
+//! key is compared before the others: where it isn't above the bound, none of its leaf is.
+ghost use Rattle.std.specs.Prelude.{◌≡◌, ◌+◌, ◌<◌, ◌≤◌, ◌++◌, [], List, true, false, IsTrue, IfOk};
+ghost use Rattle.std.specs.Prelude.{OnOk, length, drop};
 ghost use Rattle.std.specs.List.{list_any};
 ghost use Rattle.std.specs.Option.{option_copied};
 ghost use Rattle.be_pages.specs.Pages.{IsUnchanged, is_readable};
@@ -11,7 +13,8 @@ ghost use Rattle.be_tree.specs.Cursor.{IsCursor, remaining};
 ghost use Rattle.be_tree.specs.Page.{IsItem, item_at, item_place, items_of};
 ghost use Rattle.be_tree.specs.Pair.{Pair};
 ghost use Rattle.be_tree.specs.Places.{AreFrom, IsNext, number_at_place};
-ghost use Rattle.be_tree.specs.Range.{AreLong, HasFirst, is_past, number_of, numbers_to, pairs_from};
+ghost use Rattle.be_tree.specs.Range.{AreLong, HasFirst, is_past, number_of, numbers_to};
+ghost use Rattle.be_tree.specs.Range.{pairs_from};
 ghost use Rattle.be_tree.specs.Tree.{IsTree, IsTreeAt, pairs};
 ghost use Rattle.be_tree.specs.Words.{IsFirst, IsFirstOf};
 
@@ -22,15 +25,16 @@ use crate::walk::key_at;
 use be_pages::Look;
 use std::alloc::AllocError;
 
-/// A branch by its place in a page: the one after a leaf, which has the least key after the leaf. At place 0 no key is after it.
+/// A branch by its place in a page: the one after a leaf, which has the least key after the leaf.
+/// At place 0 no key is after it.
 #[derive(Clone, Copy)]
 struct NextBranch {
     page: u64,
     place: usize,
 }
 
-/// The leaf in which the keys from one on begin, the place of the first of them, which may be the end of the leaf's items, and
-/// the branch after the leaf.
+/// The leaf in which the keys from one on begin, the place of the first of them, which may be the
+/// end of the leaf's items, and the branch after the leaf.
 #[derive(Clone, Copy)]
 struct FirstLeaf {
     page: u64,
@@ -38,8 +42,9 @@ struct FirstLeaf {
     next: NextBranch,
 }
 
-/// Adds the numbers in the last eight bytes of the keys from `low` to `high`, both included, or to the last key, in the order of the
-/// keys. It costs one descent, or two if more than a leaf has such keys, and reads a few words for each key.
+/// Adds the numbers in the last eight bytes of the keys from `low` to `high`, both included, or to
+/// the last key, in the order of the keys. It costs one descent, or two if more than a leaf has
+/// such keys, and reads a few words for each key.
 pub fn numbers_within<L: Look>(
     look: &mut L,
     root: u64,
@@ -50,9 +55,11 @@ pub fn numbers_within<L: Look>(
     requires tree { IsTree (L.standing look.old) (L.words look.old) root }
     requires long { AreLong (pairs (L.words look.old) root) }
     ensures first { HasFirst found.old.items
-        (numbers_to (pairs_from (pairs (L.words look.old) root) low.now false) (option_copied high.entry)) found.new.items }
+        (numbers_to (pairs_from (pairs (L.words look.old) root) low.now false)
+        (option_copied high.entry)) found.new.items }
     ensures found { OnOk result (found.new.items
-        ≡ found.old.items ++ numbers_to (pairs_from (pairs (L.words look.old) root) low.now false) (option_copied high.entry)) }
+        ≡ found.old.items ++ numbers_to (pairs_from (pairs (L.words look.old) root) low.now false)
+        (option_copied high.entry)) }
     ensures unchanged { IsUnchanged L.kept L.standing L.words look.old look.new }
 {
     if root == 0 {
@@ -76,7 +83,9 @@ fn first_leaf<L: Look>(look: &mut L, root: u64, low: &[u8]) -> FirstLeaf
     requires tree { IsTree (L.standing look.old) (L.words look.old) root }
     requires some { 0 < root }
     ensures leaf { IsTreeAt 0 1 (L.standing look.old) (L.words look.old) result.page }
-    ensures from { (rest : List Pair) × (AreFrom (L.words look.old) result.page result.at (pairs_from (pairs (L.words look.old) root) low.now false) rest
+    ensures from { (rest : List Pair) ×
+        (AreFrom (L.words look.old) result.page result.at
+        (pairs_from (pairs (L.words look.old) root) low.now false) rest
         × IsNext (L.standing look.old) (L.words look.old) result.next.page result.next.place rest) }
     ensures unchanged { IsUnchanged L.kept L.standing L.words look.old look.new }
 {
@@ -113,7 +122,8 @@ fn next_of(page: u64, place: usize, end: usize, above: NextBranch) -> NextBranch
 fn first_from<L: Look>(look: &mut L, page: u64, low: &[u8], first: u64) -> usize
     requires leaf { IsTreeAt 0 1 (L.standing look.old) (L.words look.old) page }
     requires first { IsFirst low.now first }
-    ensures from { AreFrom (L.words look.old) page result (pairs_from (items_of (L.words look.old page)) low.now false) [] }
+    ensures from { AreFrom (L.words look.old) page result
+        (pairs_from (items_of (L.words look.old page)) low.now false) [] }
     ensures unchanged { IsUnchanged L.kept L.standing L.words look.old look.new }
 {
     match search(look, page, low, first) {
@@ -125,8 +135,10 @@ fn first_from<L: Look>(look: &mut L, page: u64, low: &[u8], first: u64) -> usize
 /// Whether none of the keys from a branch on is within the bound.
 #[inline(always)]
 fn ends_before<L: Look>(look: &mut L, next: NextBranch, high: Option<&[u8]>) -> bool
-    requires next { (rest : List Pair) × IsNext (L.standing look.old) (L.words look.old) next.page next.place rest }
-    ensures none { result ≡ true → (rest : List Pair) → IsNext (L.standing look.old) (L.words look.old) next.page next.place rest →
+    requires next { (rest : List Pair)
+        × IsNext (L.standing look.old) (L.words look.old) next.page next.place rest }
+    ensures none { result ≡ true → (rest : List Pair)
+        → IsNext (L.standing look.old) (L.words look.old) next.page next.place rest →
         numbers_to rest (option_copied high.entry) ≡ [] }
     ensures unchanged { IsUnchanged L.kept L.standing L.words look.old look.new }
 {
@@ -136,7 +148,8 @@ fn ends_before<L: Look>(look: &mut L, next: NextBranch, high: Option<&[u8]>) -> 
     is_past_at(look, next.page, next.place, high, first_of(high))
 }
 
-/// Adds the numbers of the keys after the leaf in which the keys from one on begin, up to the bound.
+/// Adds the numbers of the keys after the leaf in which the keys from one on begin, up to the
+/// bound.
 #[inline(never)]
 fn push_past<L: Look>(
     look: &mut L,
@@ -149,10 +162,16 @@ fn push_past<L: Look>(
     requires tree { IsTree (L.standing look.old) (L.words look.old) root }
     requires long { AreLong (pairs (L.words look.old) root) }
     requires leaf { IsTreeAt 0 1 (L.standing look.old) (L.words look.old) leaf.page }
-    requires from { (rest : List Pair) × AreFrom (L.words look.old) leaf.page leaf.at (pairs_from (pairs (L.words look.old) root) low.now false) rest }
-    ensures first { (rest : List Pair) → AreFrom (L.words look.old) leaf.page leaf.at (pairs_from (pairs (L.words look.old) root) low.now false) rest →
+    requires from { (rest : List Pair)
+        × AreFrom (L.words look.old) leaf.page leaf.at
+        (pairs_from (pairs (L.words look.old) root) low.now false) rest }
+    ensures first { (rest : List Pair)
+        → AreFrom (L.words look.old) leaf.page leaf.at
+        (pairs_from (pairs (L.words look.old) root) low.now false) rest →
         HasFirst found.old.items (numbers_to rest (option_copied high.entry)) found.new.items }
-    ensures found { OnOk result ((rest : List Pair) → AreFrom (L.words look.old) leaf.page leaf.at (pairs_from (pairs (L.words look.old) root) low.now false) rest →
+    ensures found { OnOk result ((rest : List Pair)
+        → AreFrom (L.words look.old) leaf.page leaf.at
+        (pairs_from (pairs (L.words look.old) root) low.now false) rest →
         found.new.items ≡ found.old.items ++ numbers_to rest (option_copied high.entry)) }
     ensures unchanged { IsUnchanged L.kept L.standing L.words look.old look.new }
 {
@@ -161,14 +180,18 @@ fn push_past<L: Look>(
     push_rest(look, &mut cursor, high, found)
 }
 
-/// Brings a cursor after the leaf in which the keys from one on begin: after its last key, or if none of them is in it, before
-/// the first of them.
+/// Brings a cursor after the leaf in which the keys from one on begin: after its last key, or if
+/// none of them is in it, before the first of them.
 fn seek_past<L: Look>(look: &mut L, root: u64, leaf: FirstLeaf, low: &[u8], cursor: &mut Cursor)
     requires tree { IsTree (L.standing look.old) (L.words look.old) root }
     requires leaf { IsTreeAt 0 1 (L.standing look.old) (L.words look.old) leaf.page }
-    requires from { (rest : List Pair) × AreFrom (L.words look.old) leaf.page leaf.at (pairs_from (pairs (L.words look.old) root) low.now false) rest }
+    requires from { (rest : List Pair)
+        × AreFrom (L.words look.old) leaf.page leaf.at
+        (pairs_from (pairs (L.words look.old) root) low.now false) rest }
     ensures cursor { IsCursor (L.standing look.old) (L.words look.old) cursor.new }
-    ensures remaining { (rest : List Pair) → AreFrom (L.words look.old) leaf.page leaf.at (pairs_from (pairs (L.words look.old) root) low.now false) rest →
+    ensures remaining { (rest : List Pair)
+        → AreFrom (L.words look.old) leaf.page leaf.at
+        (pairs_from (pairs (L.words look.old) root) low.now false) rest →
         remaining (L.words look.old) cursor.new ≡ rest }
     ensures unchanged { IsUnchanged L.kept L.standing L.words look.old look.new }
 {
@@ -190,9 +213,12 @@ fn push_rest<L: Look>(
 ) -> Result<(), AllocError>
     requires cursor { IsCursor (L.standing look.old) (L.words look.old) cursor.old }
     requires long { AreLong (remaining (L.words look.old) cursor.old) }
-    ensures first { HasFirst found.old.items (numbers_to (remaining (L.words look.old) cursor.old) (option_copied high.entry)) found.new.items }
+    ensures first { HasFirst found.old.items
+        (numbers_to (remaining (L.words look.old) cursor.old) (option_copied high.entry))
+        found.new.items }
     ensures found { OnOk result (found.new.items
-        ≡ found.old.items ++ numbers_to (remaining (L.words look.old) cursor.old) (option_copied high.entry)) }
+        ≡ found.old.items ++ numbers_to (remaining (L.words look.old) cursor.old)
+        (option_copied high.entry)) }
     ensures unchanged { IsUnchanged L.kept L.standing L.words look.old look.new }
 {
     'leaves: while let Some((page, from)) = cursor.step_leaf(look) {
@@ -204,8 +230,8 @@ fn push_rest<L: Look>(
     Ok(())
 }
 
-/// Adds the numbers of a leaf's keys, from the item of a number on, up to the bound, and tells whether a key is above it. If the last
-/// key isn't, no other is compared.
+/// Adds the numbers of a leaf's keys, from the item of a number on, up to the bound, and tells
+/// whether a key is above it. If the last key isn't, no other is compared.
 fn push_leaf<L: Look>(
     look: &mut L,
     page: u64,
@@ -216,10 +242,15 @@ fn push_leaf<L: Look>(
     requires leaf { IsTreeAt 0 1 (L.standing look.old) (L.words look.old) page }
     requires left { from < L.words look.old page 1 }
     requires long { AreLong (drop from (items_of (L.words look.old page))) }
-    ensures first { HasFirst found.old.items (numbers_to (drop from (items_of (L.words look.old page))) (option_copied high.entry)) found.new.items }
+    ensures first { HasFirst found.old.items
+        (numbers_to (drop from (items_of (L.words look.old page))) (option_copied high.entry))
+        found.new.items }
     ensures found { OnOk result (found.new.items
-        ≡ found.old.items ++ numbers_to (drop from (items_of (L.words look.old page))) (option_copied high.entry)) }
-    ensures past { IfOk result (λ past. past ≡ list_any (λ x. is_past (option_copied high.entry) x.key) (drop from (items_of (L.words look.old page)))) }
+        ≡ found.old.items ++ numbers_to (drop from (items_of (L.words look.old page)))
+        (option_copied high.entry)) }
+    ensures past { IfOk result (λ past. past
+        ≡ list_any (λ x. is_past (option_copied high.entry) x.key)
+        (drop from (items_of (L.words look.old page)))) }
     ensures unchanged { IsUnchanged L.kept L.standing L.words look.old look.new }
 {
     let count = look.word(page, 1) as usize;
@@ -232,7 +263,8 @@ fn push_leaf<L: Look>(
     }
 }
 
-/// Adds the numbers of a leaf's keys, from the item at a place on, up to the bound, and tells whether a key is above it.
+/// Adds the numbers of a leaf's keys, from the item at a place on, up to the bound, and tells
+/// whether a key is above it.
 #[inline(always)]
 fn push_to<L: Look>(
     look: &mut L,
@@ -245,10 +277,15 @@ fn push_to<L: Look>(
     requires place { from ≡ item_place (number_at_place from) }
     requires in_range { number_at_place from ≤ L.words look.old page 1 }
     requires long { AreLong (drop (number_at_place from) (items_of (L.words look.old page))) }
-    ensures first { HasFirst found.old.items (numbers_to (drop (number_at_place from) (items_of (L.words look.old page))) (option_copied high.entry)) found.new.items }
+    ensures first { HasFirst found.old.items
+        (numbers_to (drop (number_at_place from) (items_of (L.words look.old page)))
+        (option_copied high.entry)) found.new.items }
     ensures found { OnOk result (found.new.items
-        ≡ found.old.items ++ numbers_to (drop (number_at_place from) (items_of (L.words look.old page))) (option_copied high.entry)) }
-    ensures past { IfOk result (λ past. past ≡ list_any (λ x. is_past (option_copied high.entry) x.key) (drop (number_at_place from) (items_of (L.words look.old page)))) }
+        ≡ found.old.items ++ numbers_to (drop (number_at_place from)
+        (items_of (L.words look.old page))) (option_copied high.entry)) }
+    ensures past { IfOk result (λ past. past
+        ≡ list_any (λ x. is_past (option_copied high.entry) x.key)
+        (drop (number_at_place from) (items_of (L.words look.old page)))) }
     ensures unchanged { IsUnchanged L.kept L.standing L.words look.old look.new }
 {
     let first = first_of(high);
@@ -282,7 +319,8 @@ fn is_past_at<L: Look>(look: &mut L, page: u64, at: usize, high: Option<&[u8]>, 
     requires in_page { at + 42 ≤ 512 }
     requires item { IsItem (L.words look.old page) at }
     requires first { IsFirstOf (option_copied high) first }
-    ensures past { result ≡ is_past (option_copied high.entry) (item_at (L.words look.old page) at).key }
+    ensures past { result ≡ is_past (option_copied high.entry)
+        (item_at (L.words look.old page) at).key }
     ensures unchanged { IsUnchanged L.kept L.standing L.words look.old look.new }
 {
     match high {

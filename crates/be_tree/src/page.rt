@@ -1,15 +1,18 @@
 //! Items read from a page and written to it.
-ghost use Rattle.std.specs.Prelude.{◌≡◌, ◌≢◌, ℕ, [], ◌+◌, ◌-◌, ◌*◌, ◌/◌, ◌%◌, ◌<◌, ◌≤◌, ◌++◌, All, IsTrue, length, take, drop, map, slice_index};
+ghost use Rattle.std.specs.Prelude.{◌≡◌, ◌≢◌, ℕ, [], ◌+◌, ◌-◌, ◌*◌, ◌/◌, ◌%◌, ◌<◌, ◌≤◌, ◌++◌, All};
+ghost use Rattle.std.specs.Prelude.{IsTrue, length, take, drop, map, slice_index};
 ghost use Rattle.std.specs.List.{range_with_len};
 ghost use Rattle.std.specs.Int.{from_be_bytes, to_be_bytes, w64};
 ghost use Rattle.be_pages.specs.Pages.{is_readable, is_taken, IsUnchanged, OnlyWrites, StandsAt};
 ghost use Rattle.be_pages.specs.declared.room.Standing.TheVariants.{Filled};
-ghost use Rattle.be_tree.specs.Page.{IsItem, IsPadded, IsPage, item_at, bytes_at, key_len, level_of, items_of, words_for};
+ghost use Rattle.be_tree.specs.Page.{IsItem, IsPadded, IsPage, item_at, bytes_at, key_len};
+ghost use Rattle.be_tree.specs.Page.{level_of, items_of, words_for};
 ghost use Rattle.be_tree.specs.Page.{item_place};
 ghost use Rattle.std.specs.Prelude.{◌^◌, ◌⊎◌, true};
 ghost use Rattle.be_tree.specs.declared.slot.Slot.TheVariants.{At};
 ghost use Rattle.be_tree.specs.Pair.{Pair};
-ghost use Rattle.be_tree.specs.Slot.{IsReady, MayMove, MoveDown, MoveUp, StandsFrom, StandsTo, StandsWhole, branch_to, pair_of, pairs_of};
+ghost use Rattle.be_tree.specs.Slot.{IsReady, MayMove, MoveDown, MoveUp, StandsFrom, StandsTo};
+ghost use Rattle.be_tree.specs.Slot.{StandsWhole, branch_to, pair_of, pairs_of};
 ghost use Rattle.be_tree.specs.Key.{key_cmp};
 ghost use Rattle.be_tree.specs.Words.{IsFirst};
 ghost use Rattle.be_tree.specs.Tree.{child};
@@ -26,7 +29,8 @@ pub(crate) const HEADER_WORDS: usize = 2;
 /// How many words an item has: one for its lengths, and 41 for at most 328 bytes.
 pub(crate) const ITEM_WORDS: usize = 42;
 
-/// An item's first word tells how long its key is in the bits above these, and in these how long its payload is.
+/// An item's first word tells how long its key is in the bits above these, and in these how long
+/// its payload is.
 pub const LENGTH_BITS: usize = 32;
 
 /// How many items a page has at most.
@@ -48,12 +52,14 @@ pub(crate) fn child_at<L: Look>(look: &mut L, page: u64, at: usize) -> u64
     number_behind(look, page, at + 1 + key_len / 8, key_len % 8)
 }
 
-/// The number in the eight bytes that stand `skip` bytes behind the start of a word: in that word alone, or in it and the next.
+/// The number in the eight bytes that stand `skip` bytes behind the start of a word: in that word
+/// alone, or in it and the next.
 pub(crate) fn number_behind<L: Look>(look: &mut L, page: u64, at: usize, skip: usize) -> u64
     requires readable { IsTrue (is_readable (L.standing look.old page)) }
     requires skips { skip < 8 }
     requires in_page { at + words_for (skip + 8) ≤ 512 }
-    ensures number { result ≡ from_be_bytes w64 (drop skip (bytes_at (L.words look.old page) at (skip + 8))) }
+    ensures number { result ≡ from_be_bytes w64
+        (drop skip (bytes_at (L.words look.old page) at (skip + 8))) }
     ensures unchanged { IsUnchanged L.kept L.standing L.words look.old look.new }
 {
     let first = look.word(page, at);
@@ -72,8 +78,8 @@ pub(crate) fn straddled(first: u64, second: u64, skip: usize) -> u64
     (first << (8 * skip)) + (second >> (64 - 8 * skip))
 }
 
-/// How the key of the item at a place compares with a key: word by word, where the item is. Look-ups come here only with short
-/// keys, so it isn't put into their loops.
+/// How the key of the item at a place compares with a key: word by word, where the item is.
+/// Look-ups come here only with short keys, so it isn't put into their loops.
 #[inline(never)]
 pub(crate) fn cmp_at<L: Look>(look: &mut L, page: u64, at: usize, key: &[u8]) -> Ordering
     requires readable { IsTrue (is_readable (L.standing look.old page)) }
@@ -86,7 +92,8 @@ pub(crate) fn cmp_at<L: Look>(look: &mut L, page: u64, at: usize, key: &[u8]) ->
     cmp_from(look, page, at, len, key, 0)
 }
 
-/// How the key of the item at a place compares with a key, if they have the same words before one of a number.
+/// How the key of the item at a place compares with a key, if they have the same words before one
+/// of a number.
 #[inline(always)]
 pub(crate) fn cmp_from<L: Look>(
     look: &mut L,
@@ -101,7 +108,8 @@ pub(crate) fn cmp_from<L: Look>(
     requires item { IsItem (L.words look.old page) at }
     requires len { len ≡ key_len (L.words look.old page) at }
     requires long { (8 * from ≤ len) × (8 * from ≤ length key.now) }
-    requires so_far { key_cmp (drop (8 * from) (item_at (L.words look.old page) at).key) (drop (8 * from) key.now)
+    requires so_far { key_cmp (drop (8 * from) (item_at (L.words look.old page) at).key)
+        (drop (8 * from) key.now)
         ≡ key_cmp (item_at (L.words look.old page) at).key key.now }
     ensures order { result ≡ key_cmp (item_at (L.words look.old page) at).key key.now }
     ensures unchanged { IsUnchanged L.kept L.standing L.words look.old look.new }
@@ -137,8 +145,8 @@ fn least_of(a: usize, b: usize) -> usize
     if a < b { a } else { b }
 }
 
-/// Puts the `n` bytes that stand `skip` bytes behind the start of a word into an empty vector. It is filled where it
-/// stands, since a vector that is given by value costs its whole capacity.
+/// Puts the `n` bytes that stand `skip` bytes behind the start of a word into an empty vector. It
+/// is filled where it stands, since a vector that is given by value costs its whole capacity.
 pub(crate) fn fill_bytes<L: Look, const N: usize>(
     look: &mut L,
     page: u64,
@@ -200,7 +208,8 @@ fn whole_word(bytes: &[u8], from: usize) -> u64
     ])
 }
 
-/// The bytes from one of the last seven on, as a word, with zeros past the end: the last eight in one load, moved up.
+/// The bytes from one of the last seven on, as a word, with zeros past the end: the last eight in
+/// one load, moved up.
 fn last_word(bytes: &[u8], from: usize) -> u64
     requires some { 8 ≤ length bytes.now }
     requires within { from < length bytes.now }
@@ -263,8 +272,8 @@ pub(crate) fn first_word(key: &[u8]) -> u64
     word_from(key, 0)
 }
 
-/// Writes bytes into the words from a place on, of a page that has a word filled, eight in a word, and zeros after the
-/// last.
+/// Writes bytes into the words from a place on, of a page that has a word filled, eight in a word,
+/// and zeros after the last.
 pub(crate) fn store_bytes<R: Room>(room: &mut R, page: u64, at: usize, bytes: &[u8])
     requires filled { R.standing room.old page ≡ Filled }
     requires in_page { at + words_for (length bytes.now) ≤ 512 }
@@ -272,7 +281,8 @@ pub(crate) fn store_bytes<R: Room>(room: &mut R, page: u64, at: usize, bytes: &[
     requires open { IsTrue (R.is_open (R.kept room.old)) }
     ensures bytes { bytes_at (R.words room.new page) at (length bytes.now) ≡ bytes.now }
     ensures padded { IsPadded (R.words room.new page) at (length bytes.now) }
-    ensures only { OnlyWrites R.kept R.standing R.words page at (at + words_for (length bytes.now)) room.old room.new }
+    ensures only { OnlyWrites R.kept R.standing R.words page at (at + words_for (length bytes.now))
+        room.old room.new }
 {
     for i in 0..(bytes.len() + 7) / 8 {
         room.fill(page, at + i, word_from(bytes, 8 * i));
@@ -299,7 +309,8 @@ pub(crate) fn store_item<R: Room>(room: &mut R, page: u64, at: usize, item: &Ite
     store_bytes(room, page, at + 1, bytes);
 }
 
-/// Copies the words of an item to a place of a page that has a word filled. An item that stands there is left alone.
+/// Copies the words of an item to a place of a page that has a word filled. An item that stands
+/// there is left alone.
 fn copy_item<R: Room>(room: &mut R, page: u64, at: usize, from: u64, place: usize)
     requires filled { R.standing room.old page ≡ Filled }
     requires in_page { at + 42 ≤ 512 }
@@ -324,8 +335,8 @@ fn copy_item<R: Room>(room: &mut R, page: u64, at: usize, from: u64, place: usiz
     }
 }
 
-/// Writes the branch to another page at a place of a page that has a word filled. The whole words of its key are copied
-/// as words.
+/// Writes the branch to another page at a place of a page that has a word filled. The whole words
+/// of its key are copied as words.
 fn store_branch<R: Room>(room: &mut R, page: u64, at: usize, child: u64)
     requires filled { R.standing room.old page ≡ Filled }
     requires in_page { at + 42 ≤ 512 }
@@ -374,7 +385,8 @@ pub(crate) fn fill_slots<L: Look>(look: &mut L, page: u64, slots: &mut ArrayVec<
     requires readable { IsTrue (is_readable (L.standing look.old page)) }
     requires page { IsPage (L.words look.old page) }
     requires empty { slots.old.items ≡ [] }
-    ensures slots { slots.new.items ≡ map (λ j. At (item_place j) page) (range_with_len 0 (L.words look.old page 1)) }
+    ensures slots { slots.new.items ≡ map (λ j. At (item_place j) page)
+        (range_with_len 0 (L.words look.old page 1)) }
     ensures len { length slots.new.items ≡ L.words look.old page 1 }
     ensures few { length slots.new.items ≤ 12 }
     ensures unchanged { IsUnchanged L.kept L.standing L.words look.old look.new }
@@ -385,8 +397,8 @@ pub(crate) fn fill_slots<L: Look>(look: &mut L, page: u64, slots: &mut ArrayVec<
     }
 }
 
-/// Writes a node to a page that was taken, from its first item on. Those of its items that stand on the page move down or
-/// stay.
+/// Writes a node to a page that was taken, from its first item on. Those of its items that stand on
+/// the page move down or stay.
 pub(crate) fn store_node<R: Room>(room: &mut R, page: u64, level: u64, slots: &[Slot], pair: &Item)
     requires taken { IsTrue (is_taken (R.standing room.old page)) }
     requires few { length slots.now ≤ 12 }
@@ -395,9 +407,11 @@ pub(crate) fn store_node<R: Room>(room: &mut R, page: u64, level: u64, slots: &[
     requires key_fits { length pair.now.key ≤ 264 }
     requires open { IsTrue (R.is_open (R.kept room.old)) }
     ensures level { level_of (R.words room.new page) ≡ level }
-    ensures items { items_of (R.words room.new page) ≡ pairs_of (R.words room.old) pair.now slots.now }
+    ensures items { items_of (R.words room.new page)
+        ≡ pairs_of (R.words room.old) pair.now slots.now }
     ensures page { IsPage (R.words room.new page) }
-    ensures behind { (i : ℕ) → item_place (length slots.now) ≤ i → R.words room.new page i ≡ R.words room.old page i }
+    ensures behind { (i : ℕ) → item_place (length slots.now) ≤ i → R.words room.new page i
+        ≡ R.words room.old page i }
     ensures standing { StandsAt (R.standing room.old) (R.standing room.new) page Filled }
     ensures others { (q : ℕ) → q ≢ page → R.words room.new q ≡ R.words room.old q }
     ensures kept { R.kept room.new ≡ R.kept room.old }
@@ -424,9 +438,11 @@ pub(crate) fn store_from_last<R: Room>(
     requires key_fits { length pair.now.key ≤ 264 }
     requires open { IsTrue (R.is_open (R.kept room.old)) }
     ensures level { level_of (R.words room.new page) ≡ level }
-    ensures items { items_of (R.words room.new page) ≡ pairs_of (R.words room.old) pair.now slots.now }
+    ensures items { items_of (R.words room.new page)
+        ≡ pairs_of (R.words room.old) pair.now slots.now }
     ensures page { IsPage (R.words room.new page) }
-    ensures behind { (i : ℕ) → item_place (length slots.now) ≤ i → R.words room.new page i ≡ R.words room.old page i }
+    ensures behind { (i : ℕ) → item_place (length slots.now) ≤ i → R.words room.new page i
+        ≡ R.words room.old page i }
     ensures standing { StandsAt (R.standing room.old) (R.standing room.new) page Filled }
     ensures others { (q : ℕ) → q ≢ page → R.words room.new q ≡ R.words room.old q }
     ensures kept { R.kept room.new ≡ R.kept room.old }
@@ -494,7 +510,8 @@ pub(crate) fn is_whole<L: Look>(look: &mut L, level: u64, page: u64, slots: &[Sl
     requires ready { All (IsReady (L.standing look.old) (L.words look.old)) slots.now }
     ensures page { result ≡ true → IsPage (L.words look.old page) }
     ensures level { result ≡ true → level_of (L.words look.old page) ≡ level }
-    ensures items { result ≡ true → (given : Pair) → items_of (L.words look.old page) ≡ pairs_of (L.words look.old) given slots.now }
+    ensures items { result ≡ true → (given : Pair) → items_of (L.words look.old page)
+        ≡ pairs_of (L.words look.old) given slots.now }
     ensures unchanged { IsUnchanged L.kept L.standing L.words look.old look.new }
 {
     let count = look.word(page, 1) as usize;

@@ -1,8 +1,9 @@
 //! The least pair of a tree from a key on.
 //!
-//! A tree is a sorted list of pairs, so what stands at or after a key is a tail of the list, and its first pair is the
-//! least. One descent finds where that tail begins: at each inner page it takes the last branch whose key isn't above the
-//! key that is sought, and in the leaf the search ends.
+//! A tree is a sorted list of pairs, so what stands at or after a key is a tail of the list, and
+//! its first pair is the least. One descent finds where that tail begins: at each inner page it
+//! takes the last branch whose key isn't above the key that is sought, and in the leaf the search
+//! ends.
 ghost use Rattle.std.specs.Prelude.{◌≡◌, [], ◌+◌, ◌≤◌, IsTrue, option_map};
 ghost use Rattle.be_pages.specs.Pages.{IsUnchanged, is_readable};
 ghost use Rattle.be_tree.specs.Page.{IsItem, item_at};
@@ -23,11 +24,12 @@ pub struct TreeItem {
     pub payload: ArrayVec<u8, 328>,
 }
 
-/// The least pair whose key is at or after `from`; with `after` set, strictly after it. It costs one descent, and one
-/// more to the next leaf where the leaf that was found has no such pair.
+/// The least pair whose key is at or after `from`; with `after` set, strictly after it. It costs
+/// one descent, and one more to the next leaf where the leaf that was found has no such pair.
 pub fn range<L: Look>(look: &mut L, root: u64, from: &[u8], after: bool) -> Option<TreeItem>
     requires tree { IsTree (L.standing look.old) (L.words look.old) root }
-    ensures item { option_map pair_in result ≡ first_from (pairs (L.words look.old) root) from.now after }
+    ensures item { option_map pair_in result
+        ≡ first_from (pairs (L.words look.old) root) from.now after }
     ensures unchanged { IsUnchanged L.kept L.standing L.words look.old look.new }
 {
     let mut cursor = Cursor::new();

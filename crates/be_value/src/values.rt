@@ -1,7 +1,9 @@
 //! Values of attributes.
-ghost use Rattle.std.specs.Prelude.{◌≡◌, ◌<◌, ◌≤◌, ℕ, length, nat_eq, Ok, Err, IfOk, IsOk, IfSome, IfNone, ◌↔◌, IsErrOf, OnOk};
+ghost use Rattle.std.specs.Prelude.{◌≡◌, ◌<◌, ◌≤◌, ℕ, length, nat_eq, Ok, Err, IfOk, IsOk, IfSome};
+ghost use Rattle.std.specs.Prelude.{IfNone, ◌↔◌, IsErrOf, OnOk};
 ghost use Rattle.be_value.specs.Name.{text_from, bytes_from};
-ghost use Rattle.be_value.specs.Value.{kind_of, code_of, kind_name, kind_number, is_indexable, value_cmp};
+ghost use Rattle.be_value.specs.Value.{kind_of, code_of, kind_name, kind_number, is_indexable};
+ghost use Rattle.be_value.specs.Value.{value_cmp};
 ghost use Rattle.be_value.specs.Key.{IsValue};
 ghost use Rattle.be_value.specs.declared.values.Kind.{Kind as AnyKind};
 ghost use Rattle.std.specs.Cmp.{partial_equiv_from_equiv};
@@ -361,7 +363,8 @@ impl Value {
     }
 }
 
-/// A law of one value: it is one, as a contract can't tell of a value that it is lent. It does nothing.
+/// A law of one value: it is one, as a contract can't tell of a value that it is lent. It does
+/// nothing.
 pub fn valid(value: &Value)
     ensures { IsValue value.now }
 {

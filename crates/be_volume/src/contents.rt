@@ -1,7 +1,8 @@
 //! What a volume holds, and what an accepted operation does to it.
 //!
-//! Refusals are found ahead, so here each operation only does its work. Where memory is refused in its midst, what is left
-//! is not said: the caller keeps equal contents beside these, or lets the volume go.
+//! Refusals are found ahead, so here each operation only does its work. Where memory is refused in
+//! its midst, what is left is not said: the caller keeps equal contents beside these, or lets the
+//! volume go.
 ghost use Rattle.std.specs.FinMap as map;
 ghost use Rattle.std.specs.Prelude.{◌≡◌, ℕ, ◌<◌, ◌^◌, ◌+◌, IsOk, IfOk, Ok};
 ghost use Rattle.be_volume.specs.Maps.{attributes_of};
@@ -117,7 +118,8 @@ impl Contents {
 
     fn set(&mut self, node: u64, name: Name, value: Value) -> Result<Done, AllocError>
         requires { IsOk (step self.old (ops.Set node name value)) }
-        ensures { IfOk result (λ done. step self.old (ops.Set node name value) ≡ Ok (self.new, done)) }
+        ensures { IfOk result (λ done. step self.old (ops.Set node name value)
+            ≡ Ok (self.new, done)) }
     {
         self.indices.pair(&name, node, value.copy())?;
         self.nodes.put(node, name, value)?;
@@ -135,7 +137,8 @@ impl Contents {
 
     fn make_index(&mut self, name: Name, kind: Kind) -> Result<Done, AllocError>
         requires { IsOk (step self.old (ops.MkIndex name kind)) }
-        ensures { IfOk result (λ done. step self.old (ops.MkIndex name kind) ≡ Ok (self.new, done)) }
+        ensures { IfOk result (λ done. step self.old (ops.MkIndex name kind)
+            ≡ Ok (self.new, done)) }
     {
         let pairs = Pairs::new(self.alloc);
         self.indices.insert(name, Index { kind, pairs })?;

@@ -1,6 +1,7 @@
 //! The maps that a volume keeps, each seen as a finite map.
 //!
-//! Each wrapper has one exact clause a call, so that above this file nothing speaks of the trees that the maps are kept in.
+//! Each wrapper has one exact clause a call, so that above this file nothing speaks of the trees
+//! that the maps are kept in.
 ghost use Rattle.std.specs.BTreeMap as tree;
 ghost use Rattle.std.specs.FinMap as map;
 ghost use Rattle.std.specs.Option.{option_copied};
@@ -167,7 +168,8 @@ impl Nodes {
     /// Takes an attribute away from a node that is there.
     pub fn take(&mut self, node: u64, name: &Name)
         requires { IsSome (map.get self.old node) }
-        ensures { self.new ≡ map.insert self.old node (map.remove (attributes_of self.old node) name.now) }
+        ensures { self.new ≡ map.insert self.old node
+            (map.remove (attributes_of self.old node) name.now) }
     {
         match self.nodes.get_mut(&node) {
             Some(attributes) => {
@@ -186,7 +188,8 @@ pub struct Index {
 }
 
 fn kinds_in(alloc: Global, indices: &BTreeMap<Name, Index>) -> Result<Vec<(Name, Kind)>, AllocError>
-    ensures list { IfOk result (λ list. list.items ≡ each (λ e. (e.0, e.1.kind)) indices.now.entries) }
+    ensures list { IfOk result (λ list. list.items
+        ≡ each (λ e. (e.0, e.1.kind)) indices.now.entries) }
     ensures ordered { tree.IsOrdered name_cmp indices.now }
 {
     indices
@@ -206,7 +209,8 @@ impl Named<Index> {
 
     /// The kinds of the indices, by ascending names.
     pub fn kinds(&self, alloc: Global) -> Result<Vec<(Name, Kind)>, AllocError>
-        ensures { IfOk result (λ list. list.items ≡ each (λ e. (e.0, e.1.kind)) (map.entries self.now)) }
+        ensures { IfOk result (λ list. list.items
+            ≡ each (λ e. (e.0, e.1.kind)) (map.entries self.now)) }
     {
         kinds_in(alloc, &self.named)
     }
@@ -228,7 +232,8 @@ impl Named<Index> {
         unpair_each(&mut self.named, node);
     }
 
-    /// The node has this value at the name: its old pair leaves the index of the name, and the new one enters if the kinds agree.
+    /// The node has this value at the name: its old pair leaves the index of the name, and the new
+    /// one enters if the kinds agree.
     pub fn pair(&mut self, name: &Name, node: u64, value: Value) -> Result<(), AllocError>
         ensures { OnOk result (self.new ≡ with_pair self.old name.now node value) }
     {

@@ -1,7 +1,7 @@
 //! The operations of a volume, and their outcomes.
 //!
-//! A write is a batch of operations, all or none. An operation holds its name and value in place, so a list of them may be
-//! copied without memory.
+//! A write is a batch of operations, all or none. An operation holds its name and value in place,
+//! so a list of them may be copied without memory.
 ghost use Rattle.std.specs.Prelude.{◌≡◌};
 ghost use Rattle.be_volume.specs.Sound.{IsOperation};
 
@@ -15,12 +15,14 @@ pub enum Op {
     New,
     /// Removes a node, its attributes and its pairs in all indices. NoNode.
     Drop(u64),
-    /// Sets an attribute of a node, in place of any value that it has. The old pair leaves the index of the name, and the
-    /// new one enters if the kinds agree. NoNode; TooManyAttrs at a new name of a node with 64.
+    /// Sets an attribute of a node, in place of any value that it has. The old pair leaves the
+    /// index of the name, and the new one enters if the kinds agree. NoNode; TooManyAttrs at a new
+    /// name of a node with 64.
     Set(u64, Name, Value),
     /// Removes an attribute of a node, and its pair. NoNode, NoAttr.
     Unset(u64, Name),
-    /// Makes an index, which is empty at first. IndexExists; TooManyIndices at 32; NotIndexable of MIMS and RAWT.
+    /// Makes an index, which is empty at first. IndexExists; TooManyIndices at 32; NotIndexable of
+    /// MIMS and RAWT.
     MkIndex(Name, Kind),
     /// Removes an index. If it is made again later, it is empty. NoSuchIndex.
     RmIndex(Name),
@@ -51,8 +53,8 @@ impl Op {
         }
     }
 
-    /// A law of one operation: its names and values are such, as a contract can't tell of an operation that it is lent.
-    /// It does nothing.
+    /// A law of one operation: its names and values are such, as a contract can't tell of an
+    /// operation that it is lent. It does nothing.
     pub fn valid(&self)
         ensures { IsOperation self.now }
     {

@@ -1,8 +1,8 @@
 //! The pairs (value, node) of an index.
 //!
-//! A node has one pair at most, so the pairs are kept by their nodes, and that is what a contract sees. Beside them
-//! stand their keys in the order of their bytes, so a walk through the index finds each next key in one search of a
-//! tree and looks at no other pair.
+//! A node has one pair at most, so the pairs are kept by their nodes, and that is what a contract
+//! sees. Beside them stand their keys in the order of their bytes, so a walk through the index
+//! finds each next key in one search of a tree and looks at no other pair.
 ghost use Rattle.std.specs.FinMap as map;
 ghost use Rattle.std.specs.Option.{option_copied, option_map};
 ghost use Rattle.std.specs.Prelude.{◌≡◌, OnOk, true};
@@ -37,7 +37,8 @@ impl Model for Pairs {
 
     ghost view = { λ p. map.from_entries p.values.entries };
 
-    ghost invariant = { λ p. AreKeysOf (map.from_entries p.values.entries) (contains maps.name_cmp p.keys) };
+    ghost invariant = { λ p. AreKeysOf (map.from_entries p.values.entries)
+        (contains maps.name_cmp p.keys) };
 }
 
 impl Pairs {

@@ -14,7 +14,8 @@ use Rattle.be_volume_state.specs.declared.lists.Step.TheVariants.{Number, Indice
 
 -- the operations from this step on
 abbrev pub left_from : State → Step → List Op
-left_from s (Number node) = flat_map (number_ops s) (numbers_from s node) ++ (index_ops s ++ flat_map (held_ops s) (numbers_from s 1))
+left_from s (Number node) = flat_map (number_ops s) (numbers_from s node)
+    ++ (index_ops s ++ flat_map (held_ops s) (numbers_from s 1))
 left_from s Indices = index_ops s ++ flat_map (held_ops s) (numbers_from s 1)
 left_from s (Held node) = flat_map (held_ops s) (numbers_from s node)
 

@@ -1,5 +1,6 @@
 -- The operations that make a volume again from the empty one.
-use Rattle.std.specs.Prelude.{◌≡◌, ◌≤◌, ℕ, ◌-◌, Bool, false, not, is_some, List, [], ◌∷◌, ◌++◌, if◌then◌else◌, filter, map as each}
+use Rattle.std.specs.Prelude.{◌≡◌, ◌≤◌, ℕ, ◌-◌, Bool, false, not, is_some, List, [], ◌∷◌, ◌++◌}
+use Rattle.std.specs.Prelude.{if◌then◌else◌, filter, map as each}
 use Rattle.std.specs.List.{flat_map, range_with_len}
 use Rattle.std.specs.Option.{option_and_then}
 use Rattle.std.specs.FinMap as map
@@ -31,9 +32,11 @@ held s node = filter (λ e. is_held s node e.0) (map.entries (attributes_of s.no
 abbrev pub set_all : ℕ → List (List ℕ × Value) → List Op
 set_all node attributes = each (λ e. Set node e.0 e.1) attributes
 
--- A number is given. Its node gets the attributes that no index has; where there is no node any more, it is dropped.
+-- A number is given. Its node gets the attributes that no index has; where there is no node any
+-- more, it is dropped.
 abbrev pub number_ops : State → ℕ → List Op
-number_ops s node = New ∷ (if map.contains_key s.nodes node then set_all node (outside s node) else Drop node ∷ [])
+number_ops s node = New ∷ (if map.contains_key s.nodes node then set_all node (outside s node)
+    else Drop node ∷ [])
 
 -- the indices are made
 abbrev pub index_ops : State → List Op
@@ -47,9 +50,11 @@ held_ops s node = set_all node (held s node)
 abbrev pub numbers_from : State → ℕ → List ℕ
 numbers_from s node = range_with_len node (s.next - node)
 
--- Each number in turn with what no index has, then the indices, and then in turn again what an index has.
+-- Each number in turn with what no index has, then the indices, and then in turn again what an
+-- index has.
 abbrev pub state_ops : State → List Op
-state_ops s = flat_map (number_ops s) (numbers_from s 1) ++ (index_ops s ++ flat_map (held_ops s) (numbers_from s 1))
+state_ops s = flat_map (number_ops s) (numbers_from s 1)
+    ++ (index_ops s ++ flat_map (held_ops s) (numbers_from s 1))
 
 -- Numbers begin at 1, as they do in every volume that operations made.
 pub record IsNumbered (s : State) : Type 0 where

@@ -9,8 +9,8 @@ ghost use Rattle.be_volume.specs.declared.ops.Done.{Done as AnyDone};
 ghost use Rattle.be_volume.specs.declared.ops.Op.{Op as AnyOp};
 ghost use Rattle.be_volume_state.specs.Rebuilding.{IsNumbered, state_ops};
 
-/// A law: the empty volume accepts the operations of a volume, and is that volume then: the same next number, nodes,
-/// attributes and indices, and in each index the same pairs.
+/// A law: the empty volume accepts the operations of a volume, and is that volume then: the same
+/// next number, nodes, attributes and indices, and in each index the same pairs.
 pub fn made_again()
     ensures accepted { (s : State) → IsSound s → IsNumbered s → IsOk (steps empty (state_ops s)) }
     ensures same { (s : State) → IsSound s → IsNumbered s → state_after empty (state_ops s) ≡ s }
@@ -24,5 +24,6 @@ pub fn numbered()
 
 /// A law: no list of fewer operations makes the volume of the empty one.
 pub fn fewest()
-    ensures { (s : State) (dones : List AnyDone) (ops : List AnyOp) → steps empty ops ≡ Ok (s, dones) → length (state_ops s) ≤ length ops }
+    ensures { (s : State) (dones : List AnyDone) (ops : List AnyOp) → steps empty ops
+        ≡ Ok (s, dones) → length (state_ops s) ≤ length ops }
 {}

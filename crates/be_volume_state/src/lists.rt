@@ -1,8 +1,9 @@
 //! The operations of a volume, read list by list.
 //!
-//! What is read is never whole in memory: beside the list that is given there are the operations of one number, or those of
-//! the indices.
-ghost use Rattle.std.specs.Prelude.{◌≡◌, ◌<◌, ◌≤◌, ◌++◌, ◌⊎◌, [], IfOk, IfSome, IfNone, OnOk, length, true, false};
+//! What is read is never whole in memory: beside the list that is given there are the operations of
+//! one number, or those of the indices.
+ghost use Rattle.std.specs.Prelude.{◌≡◌, ◌<◌, ◌≤◌, ◌++◌, ◌⊎◌, [], IfOk, IfSome, IfNone, OnOk};
+ghost use Rattle.std.specs.Prelude.{length, true, false};
 ghost use Rattle.be_volume.specs.Volume.{State};
 ghost use Rattle.be_volume_state.specs.Places as places;
 ghost use Rattle.be_volume_state.specs.Places.{left, given};
@@ -25,7 +26,8 @@ pub(crate) enum Step {
     Held(u64),
 }
 
-/// How far the operations of a volume were read: what is read next, and what was read and not given yet.
+/// How far the operations of a volume were read: what is read next, and what was read and not given
+/// yet.
 #[derive(Drop)]
 pub struct Place {
     alloc: Global,
@@ -49,17 +51,21 @@ impl Place {
 /// The most operations of a list.
 const FULL: usize = 64;
 
-/// The next list of the operations of a volume, 1 to 64, and none after the last. The lists put end to end are `state_ops`,
-/// and each but the last has 64. Where memory is refused nothing is lost: the next call goes on.
+/// The next list of the operations of a volume, 1 to 64, and none after the last. The lists put end
+/// to end are `state_ops`, and each but the last has 64. Where memory is refused nothing is lost:
+/// the next call goes on.
 ///
-/// It reads each number twice over all calls, once for what no index has and once for the rest, and asks for each attribute
-/// twice whether an index has it.
+/// It reads each number twice over all calls, once for what no index has and once for the rest, and
+/// asks for each attribute twice whether an index has it.
 pub fn next_list<W: Whole>(whole: &mut W, place: &mut Place) -> Result<Option<Vec<Op>>, AllocError>
     ghost volume: { State }
     requires answers { W.answers_for whole.old volume }
-    ensures list { left volume place.old ≡ given (λ ops. ops.items) result ++ left volume place.new }
-    ensures length { IfOk result (λ list. IfSome list (λ ops. (1 ≤ length ops.items) × (length ops.items ≤ 64))) }
-    ensures full { IfOk result (λ list. IfSome list (λ ops. length ops.items < 64 → left volume place.new ≡ [])) }
+    ensures list { left volume place.old ≡ given (λ ops. ops.items) result
+        ++ left volume place.new }
+    ensures length { IfOk result (λ list. IfSome list
+        (λ ops. (1 ≤ length ops.items) × (length ops.items ≤ 64))) }
+    ensures full { IfOk result (λ list. IfSome list
+        (λ ops. length ops.items < 64 → left volume place.new ≡ [])) }
     ensures ends { IfOk result (λ list. IfNone list (left volume place.old ≡ [])) }
     ensures stays { W.kept whole.new ≡ W.kept whole.old }
     ensures answers { W.answers_for whole.new volume }
@@ -73,7 +79,8 @@ fn fill<W: Whole>(whole: &mut W, place: &mut Place) -> Result<(), AllocError>
     ghost volume: { State }
     requires answers { W.answers_for whole.old volume }
     ensures same { left volume place.new ≡ left volume place.old }
-    ensures filled { OnOk result ((64 ≤ length place.new.ready.items) ⊎ (places.left_from volume place.new.step ≡ [])) }
+    ensures filled { OnOk result ((64 ≤ length place.new.ready.items)
+        ⊎ (places.left_from volume place.new.step ≡ [])) }
     ensures stays { W.kept whole.new ≡ W.kept whole.old }
     ensures answers { W.answers_for whole.new volume }
 {
@@ -97,7 +104,8 @@ fn is_ready(place: &Place, next: u64) -> bool
 
 /// Whether nothing is left to be read.
 fn is_last(step: Step, next: u64) -> bool
-    ensures last { (volume : State) → next ≡ volume.next → result ≡ true → places.left_from volume step ≡ [] }
+    ensures last { (volume : State) → next ≡ volume.next → result ≡ true
+        → places.left_from volume step ≡ [] }
     ensures not_last { result ≡ false → places.IsNotLast step next }
 {
     match step {
@@ -117,7 +125,8 @@ fn read<W: Whole>(
     requires answers { W.answers_for whole.old volume }
     requires next { next ≡ volume.next }
     requires last { places.IsNotLast step next }
-    ensures piece { IfOk result (λ r. places.left_from volume step ≡ r.0.items ++ places.left_from volume r.1) }
+    ensures piece { IfOk result (λ r. places.left_from volume step ≡ r.0.items
+        ++ places.left_from volume r.1) }
     ensures smaller { IfOk result (λ r. places.steps_left next r.1 < places.steps_left next step) }
     ensures stays { W.kept whole.new ≡ W.kept whole.old }
     ensures answers { W.answers_for whole.new volume }
@@ -134,8 +143,10 @@ fn read<W: Whole>(
 
 /// Gives what is ready, up to 64 operations.
 fn take(place: &mut Place) -> Result<Option<Vec<Op>>, AllocError>
-    ensures list { (volume : State) → left volume place.old ≡ given (λ ops. ops.items) result ++ left volume place.new }
-    ensures length { IfOk result (λ list. IfSome list (λ ops. (1 ≤ length ops.items) × (length ops.items ≤ 64))) }
+    ensures list { (volume : State) → left volume place.old ≡ given (λ ops. ops.items) result
+        ++ left volume place.new }
+    ensures length { IfOk result (λ list. IfSome list
+        (λ ops. (1 ≤ length ops.items) × (length ops.items ≤ 64))) }
     ensures few { IfOk result (λ list. IfSome list (λ ops. length ops.items < 64 →
         (place.new.ready.items ≡ []) × (length place.old.ready.items < 64))) }
     ensures none { IfOk result (λ list. IfNone list (place.old.ready.items ≡ [])) }

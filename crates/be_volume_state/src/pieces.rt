@@ -1,5 +1,6 @@
 //! The operations of one number, and of the indices.
-ghost use Rattle.std.specs.Prelude.{◌≡◌, ◌++◌, ◌∷◌, [], IfOk, OnOk, filter, not, if◌then◌else◌, map as each};
+ghost use Rattle.std.specs.Prelude.{◌≡◌, ◌++◌, ◌∷◌, [], IfOk, OnOk, filter, not, if◌then◌else◌};
+ghost use Rattle.std.specs.Prelude.{map as each};
 ghost use Rattle.be_volume.specs.Volume.{State};
 ghost use Rattle.be_volume.specs.declared.ops.Op.TheVariants as ops_of;
 ghost use Rattle.be_volume_state.specs.Rebuilding as model;
@@ -9,7 +10,8 @@ use be_value::{Kind, Name, Value};
 use be_volume::Op;
 use std::alloc::{AllocError, Global};
 
-/// A number in its turn: it is given, and its node gets what no index has; where there is no node, it is dropped.
+/// A number in its turn: it is given, and its node gets what no index has; where there is no node,
+/// it is dropped.
 pub(crate) fn number_ops<W: Whole>(
     alloc: Global,
     whole: &mut W,
@@ -82,7 +84,8 @@ fn push_outside<W: Whole>(
 ) -> Result<(), AllocError>
     ghost volume: { State }
     requires answers { W.answers_for whole.old volume }
-    ensures ops { OnOk result (ops.new.items ≡ ops.old.items ++ model.set_all node (filter (λ e. not (model.is_held volume node e.0)) attributes.now)) }
+    ensures ops { OnOk result (ops.new.items ≡ ops.old.items
+        ++ model.set_all node (filter (λ e. not (model.is_held volume node e.0)) attributes.now)) }
     ensures stays { W.kept whole.new ≡ W.kept whole.old }
     ensures answers { W.answers_for whole.new volume }
 {
@@ -102,7 +105,8 @@ fn push_held<W: Whole>(
 ) -> Result<(), AllocError>
     ghost volume: { State }
     requires answers { W.answers_for whole.old volume }
-    ensures ops { OnOk result (ops.new.items ≡ ops.old.items ++ model.set_all node (filter (λ e. model.is_held volume node e.0) attributes.now)) }
+    ensures ops { OnOk result (ops.new.items ≡ ops.old.items
+        ++ model.set_all node (filter (λ e. model.is_held volume node e.0) attributes.now)) }
     ensures stays { W.kept whole.new ≡ W.kept whole.old }
     ensures answers { W.answers_for whole.new volume }
 {
@@ -121,7 +125,8 @@ fn push_set(
     value: &Value,
     ops: &mut Vec<Op>,
 ) -> Result<(), AllocError>
-    ensures { OnOk result (ops.new.items ≡ ops.old.items ++ (if wanted then ops_of.Set node name.now value.now ∷ [] else [])) }
+    ensures { OnOk result (ops.new.items ≡ ops.old.items
+        ++ (if wanted then ops_of.Set node name.now value.now ∷ [] else [])) }
 {
     if wanted {
         ops.push(Op::Set(node, name.copy(), value.copy()))?;

@@ -62,7 +62,8 @@ impl Whole for WholeVolume<'_> {
 }
 
 fn attrs_of(volume: &Volume, node: u64) -> Result<Option<Vec<(Name, Value)>>, AllocError>
-    ensures { IfOk result (λ list. option_map (λ l. l.items) list ≡ option_map map.entries (map.get volume.now.nodes node)) }
+    ensures { IfOk result (λ list. option_map (λ l. l.items) list
+        ≡ option_map map.entries (map.get volume.now.nodes node)) }
 {
     match volume.attrs(node) {
         Ok(list) => Ok(Some(list)),
@@ -80,8 +81,8 @@ fn indices_of(volume: &Volume) -> Result<Vec<(Name, Kind)>, AllocError>
     }
 }
 
-/// Whether the index of that name has the node. A pair of an index is always its node's attribute, so the attribute's key
-/// tells.
+/// Whether the index of that name has the node. A pair of an index is always its node's attribute,
+/// so the attribute's key tells.
 fn index_has(volume: &Volume, node: u64, name: &Name) -> bool
     ensures { result ≡ is_held volume.now node name.now }
 {

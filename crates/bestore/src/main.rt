@@ -1,12 +1,14 @@
-//! `bestore`: runs a script and writes the reply to each of its lines to standard output, races scripts against one
-//! another and writes the replies of each and their journal, or answers the lines of standard input as they come. It also
-//! checks a journal that was written, and writes the script that makes it again, or its last state alone.
+//! `bestore`: runs a script and writes the reply to each of its lines to standard output, races
+//! scripts against one another and writes the replies of each and their journal, or answers the
+//! lines of standard input as they come. It also checks a journal that was written, and writes the
+//! script that makes it again, or its last state alone.
 //!
-//! The status is 0 for a run, a race or a shell to its end, for a journal that is right and for a request for help or for the
-//! version, 2 for a command line that says nothing that can be done, and 1, with one line on standard error, where it stopped
-//! before its end; so does a strict run at the first line that is refused. It is 1 too where a journal is wrong; the line that is
-//! stands on standard output.
-//! Replies go through a buffer, which is written before the program ends; a shell writes each reply when it has it.
+//! The status is 0 for a run, a race or a shell to its end, for a journal that is right and for a
+//! request for help or for the version, 2 for a command line that says nothing that can be done,
+//! and 1, with one line on standard error, where it stopped before its end; so does a strict run at
+//! the first line that is refused. It is 1 too where a journal is wrong; the line that is stands on
+//! standard output. Replies go through a buffer, which is written before the program ends; a shell
+//! writes each reply when it has it.
 #![tactic(auto)]
 
 ghost use Rattle.std.specs.Prelude.{◌≡◌, IfOk, IfSome};
@@ -68,7 +70,8 @@ fn reason(fault: RunFault) -> &'static str {
 /// The name that stands for standard input.
 const STANDARD_INPUT: &str = "-";
 
-/// Writes what the buffer still has, however the work ended. A failure is one only of work that went well.
+/// Writes what the buffer still has, however the work ended. A failure is one only of work that
+/// went well.
 fn finish<W: Write + Drop>(
     mut writer: BufWriter<W>,
     worked: Result<(), RunFault>,
@@ -91,7 +94,8 @@ enum Running {
     StrictlyTelling,
 }
 
-/// Runs a script up to the first line that is refused, and tells its journal where that is asked for.
+/// Runs a script up to the first line that is refused, and tells its journal where that is asked
+/// for.
 fn run_strictly_into<I: Read, W: Write>(
     alloc: Global,
     script: &mut I,
@@ -142,7 +146,8 @@ fn run_strictly_from<R: Runtime + AllocGlobal, I: Read>(
     }
 }
 
-/// Runs a script that comes from a reader to its end, and tells its journal where that is asked for.
+/// Runs a script that comes from a reader to its end, and tells its journal where that is asked
+/// for.
 fn run_whole_from<R: Runtime + AllocGlobal, I: Read>(
     rt: &R,
     file: &str,
@@ -295,8 +300,8 @@ struct Sides {
     is_shown: bool,
 }
 
-/// Greets and talks with a terminal, behind a first peer. Control characters are shown by their codes if replies go to a
-/// terminal too.
+/// Greets and talks with a terminal, behind a first peer. Control characters are shown by their
+/// codes if replies go to a terminal too.
 fn talk_at_terminal<R: Runtime + AllocGlobal, F: Peer, I: Read + Drop>(
     rt: &R,
     first: &mut F,
@@ -347,8 +352,8 @@ fn end_talk(rt: &impl Eprint, talked: Result<(), RunFault>) -> io::Result<Outcom
     }
 }
 
-/// Talks behind a first peer, and writes the journal into a file at the end, however the talk ended. A fault of the talk is
-/// the one that is told.
+/// Talks behind a first peer, and writes the journal into a file at the end, however the talk
+/// ended. A fault of the talk is the one that is told.
 fn talk_for_journal<R: Runtime + AllocGlobal, F: Peer>(
     rt: &R,
     first: &mut F,
@@ -375,7 +380,8 @@ fn talk_for_journal<R: Runtime + AllocGlobal, F: Peer>(
     }
 }
 
-/// Talks with standard input, behind a first peer, and writes the journal where a file for it is named.
+/// Talks with standard input, behind a first peer, and writes the journal where a file for it is
+/// named.
 fn talk_behind<R: Runtime + AllocGlobal, F: Peer>(
     rt: &R,
     first: &mut F,

@@ -1,7 +1,8 @@
 //! The store for programs in C: `include/bestore.h` declares what is exported here.
 //!
-//! Each export takes a handle that its caller owns, asks the session in it, and answers a number: 0, that of a refusal or
-//! of a fault, or 64 and 65, which are the handle's own. None has a `requires`.
+//! Each export takes a handle that its caller owns, asks the session in it, and answers a number:
+//! 0, that of a refusal or of a fault, or 64 and 65, which are the handle's own. None has a
+//! `requires`.
 #![tactic(auto)]
 
 ghost use Rattle.std.specs.Prelude.{◌≡◌, ◌⊎◌, ◌+◌, None, Ok, length, map};
@@ -17,9 +18,13 @@ ghost use Rattle.be_store.specs.Passes.{HasRead, volume_pinned};
 ghost use Rattle.be_table.specs.Seats.{pinned_number};
 ghost use Rattle.be_table.specs.Steps.{unpins, with_history};
 ghost use Rattle.be_volume.specs.Reading.{attributes_at, index_kinds};
-ghost use Rattle.bestore_c.specs.Calls.{AnswersWhetherOpen, AsksPrepared, Calls, Explains, Finds, FindsBuilt, GivesAnother, IsClosed};
-ghost use Rattle.bestore_c.specs.Calls.{IsTextFault, Listed, MovesHandle, Opens, Prepares, PrintsPrepared, PutsOutAtPin, Reads, RefreshesPrepared, Refuses, ShowsFound};
-ghost use Rattle.bestore_c.specs.Calls.{HoldsName, ReadsHeld, ShowsChanges, TellsAtPin, TellsEntry, TellsJournal, TellsNumber, WritesSpelled, WritesSpelledIf};
+ghost use Rattle.bestore_c.specs.Calls.{AnswersWhetherOpen, AsksPrepared, Calls, Explains, Finds};
+ghost use Rattle.bestore_c.specs.Calls.{FindsBuilt, GivesAnother, IsClosed};
+ghost use Rattle.bestore_c.specs.Calls.{IsTextFault, Listed, MovesHandle, Opens, Prepares};
+ghost use Rattle.bestore_c.specs.Calls.{PrintsPrepared, PutsOutAtPin, Reads, RefreshesPrepared};
+ghost use Rattle.bestore_c.specs.Calls.{Refuses, ShowsFound};
+ghost use Rattle.bestore_c.specs.Calls.{HoldsName, ReadsHeld, ShowsChanges, TellsAtPin, TellsEntry};
+ghost use Rattle.bestore_c.specs.Calls.{TellsJournal, TellsNumber, WritesSpelled, WritesSpelledIf};
 ghost use Rattle.bestore_c.specs.States.{TellsState, untold_at};
 ghost use Rattle.bestore_c.specs.Usage.{TellsUsage};
 
@@ -68,7 +73,8 @@ pub(crate) const CLOSED: u32 = 64;
 /// The handle that is to be opened is open.
 const OPEN: u32 = 65;
 
-/// The version of the library: of 0.2.0 it is 2,000, a million for each first number and a thousand for each second.
+/// The version of the library: of 0.2.0 it is 2,000, a million for each first number and a thousand
+/// for each second.
 #[unsafe(no_mangle)]
 pub extern "C" fn bes_version() -> u32
     ensures { result ≡ 2000 }
@@ -85,7 +91,8 @@ pub extern "C" fn bes_open(
     commits: u64,
     pass: &mut Handle,
 ) -> u32
-    ensures { Opens (record { pages = pages; passes = passes; commits = commits }) pass.old.owned.value pass.new.owned.value result }
+    ensures { Opens (record { pages = pages; passes = passes; commits = commits })
+        pass.old.owned.value pass.new.owned.value result }
 {
     if pass.live {
         return OPEN;
@@ -113,7 +120,8 @@ pub extern "C" fn bes_open(
 /// Opens a second handle, for another pass of the same store.
 #[unsafe(no_mangle)]
 pub extern "C" fn bes_another(alloc: Global, pass: &mut Handle, other: &mut Handle) -> u32
-    ensures { GivesAnother pass.old.owned.value pass.new.owned.value other.old.owned.value other.new.owned.value result }
+    ensures { GivesAnother pass.old.owned.value pass.new.owned.value other.old.owned.value
+        other.new.owned.value result }
 {
     if !pass.live {
         return CLOSED;
@@ -136,7 +144,8 @@ pub extern "C" fn bes_another(alloc: Global, pass: &mut Handle, other: &mut Hand
 /// Moves what the handle holds into a handle that is closed, and closes it.
 #[unsafe(no_mangle)]
 pub extern "C" fn bes_move(alloc: Global, pass: &mut Handle, other: &mut Handle) -> u32
-    ensures { MovesHandle pass.old.owned.value other.old.owned.value pass.new.owned.value other.new.owned.value result }
+    ensures { MovesHandle pass.old.owned.value other.old.owned.value pass.new.owned.value
+        other.new.owned.value result }
 {
     if !pass.live {
         return CLOSED;
@@ -152,7 +161,8 @@ pub extern "C" fn bes_move(alloc: Global, pass: &mut Handle, other: &mut Handle)
     DONE
 }
 
-/// Closes the handle. Its pass goes back to the store with the pin given up, and the store goes with its last handle.
+/// Closes the handle. Its pass goes back to the store with the pin given up, and the store goes
+/// with its last handle.
 #[unsafe(no_mangle)]
 pub extern "C" fn bes_close(alloc: Global, pass: &mut Handle) -> u32
     ensures closed { pass.new.owned.value ≡ None }
@@ -171,7 +181,8 @@ pub extern "C" fn bes_close(alloc: Global, pass: &mut Handle) -> u32
 #[unsafe(no_mangle)]
 pub extern "C" fn bes_meet(pass: &mut Handle, seen: &mut u64) -> u32
     ensures pass { Calls pass.old.owned.value pass.new.owned.value (IsClosed seen.new result)
-        (λ s t. ((result ≡ 0) × HasMet s.store s.knows t.knows seen.new) ⊎ (Refuses NoPass seen.new result × (t ≡ s))) }
+        (λ s t. ((result ≡ 0) × HasMet s.store s.knows t.knows seen.new)
+        ⊎ (Refuses NoPass seen.new result × (t ≡ s))) }
 {
     if !pass.live {
         *seen = 0;
@@ -190,7 +201,8 @@ pub extern "C" fn bes_meet(pass: &mut Handle, seen: &mut u64) -> u32
 #[unsafe(no_mangle)]
 pub extern "C" fn bes_pin(pass: &mut Handle, number: &mut u64) -> u32
     ensures pass { Calls pass.old.owned.value pass.new.owned.value (IsClosed number.new result)
-        (λ s t. ((result ≡ 0) × Pins s.knows t.knows number.new) ⊎ (Refuses AlreadyPinned number.new result × (t ≡ s) × IsPinned s.knows)) }
+        (λ s t. ((result ≡ 0) × Pins s.knows t.knows number.new)
+        ⊎ (Refuses AlreadyPinned number.new result × (t ≡ s) × IsPinned s.knows)) }
 {
     if !pass.live {
         *number = 0;
@@ -209,7 +221,8 @@ pub extern "C" fn bes_pin(pass: &mut Handle, number: &mut u64) -> u32
 #[unsafe(no_mangle)]
 pub extern "C" fn bes_unpin(pass: &mut Handle) -> u32
     ensures pass { Calls pass.old.owned.value pass.new.owned.value (result ≡ 64)
-        (λ s t. ((result ≡ 0) × (t.knows ≡ unpins (with_history s.knows t.knows.history))) ⊎ ((result ≡ 66) × (t ≡ s) × (pinned_number s.knows.phase ≡ None))) }
+        (λ s t. ((result ≡ 0) × (t.knows ≡ unpins (with_history s.knows t.knows.history)))
+        ⊎ ((result ≡ 66) × (t ≡ s) × (pinned_number s.knows.phase ≡ None))) }
 {
     if !pass.live {
         return CLOSED;
@@ -220,8 +233,8 @@ pub extern "C" fn bes_unpin(pass: &mut Handle) -> u32
     }
 }
 
-/// Writes 1 to 64 operations, all or none. Returns the journal's length with them, and for each operation the number of
-/// the node that it made, or 0, as far as there is room.
+/// Writes 1 to 64 operations, all or none. Returns the journal's length with them, and for each
+/// operation the number of the node that it made, or 0, as far as there is room.
 #[unsafe(no_mangle)]
 pub extern "C" fn bes_apply(
     alloc: Global,
@@ -255,7 +268,8 @@ pub extern "C" fn bes_apply(
     }
 }
 
-/// Writes as `bes_apply` does if the journal has `expected` entries, and otherwise nothing: then its length goes with the answer.
+/// Writes as `bes_apply` does if the journal has `expected` entries, and otherwise nothing: then
+/// its length goes with the answer.
 #[unsafe(no_mangle)]
 pub extern "C" fn bes_apply_if(
     alloc: Global,
@@ -267,7 +281,8 @@ pub extern "C" fn bes_apply_if(
     entries: &mut u64,
 ) -> u32
     ensures pass { Calls pass.old.owned.value pass.new.owned.value (IsClosed entries.new result)
-        (λ s t. WritesSpelledIf s t expected spelled.now bytes.now made.old made.new entries.new result) }
+        (λ s t. WritesSpelledIf s t expected spelled.now bytes.now made.old made.new entries.new
+        result) }
     ensures kept { (result ≡ 0) ⊎ (made.new ≡ made.old) }
 {
     if !pass.live {
@@ -308,7 +323,8 @@ pub extern "C" fn bes_number(pass: &mut Handle, number: &mut u64) -> u32
 #[unsafe(no_mangle)]
 pub extern "C" fn bes_next(pass: &mut Handle, node: &mut u64) -> u32
     ensures pass { Calls pass.old.owned.value pass.new.owned.value (IsClosed node.new result)
-        (λ s t. HasRead s.knows t.knows × TellsNumber (pinned_number s.knows.phase) (volume_pinned s.knows).next node.new result) }
+        (λ s t. HasRead s.knows t.knows × TellsNumber (pinned_number s.knows.phase)
+        (volume_pinned s.knows).next node.new result) }
 {
     if !pass.live {
         *node = 0;
@@ -323,8 +339,9 @@ pub extern "C" fn bes_next(pass: &mut Handle, node: &mut u64) -> u32
     }
 }
 
-/// Returns one entry of the journal, that of an index from 0: by which pass it is, and its operations, each that made a node with
-/// that node, as much as there is room for. At the journal's end there are none. Returns the journal's length in `number`.
+/// Returns one entry of the journal, that of an index from 0: by which pass it is, and its
+/// operations, each that made a node with that node, as much as there is room for. At the journal's
+/// end there are none. Returns the journal's length in `number`.
 #[unsafe(no_mangle)]
 pub extern "C" fn bes_journal_from(
     alloc: Global,
@@ -337,8 +354,10 @@ pub extern "C" fn bes_journal_from(
     number: &mut u64,
 ) -> u32
     ensures pass { Calls pass.old.owned.value pass.new.owned.value (IsClosed number.new result)
-        (λ s t. TellsEntry s t from by.new counts.new listed.old listed.new bytes.old bytes.new number.new result) }
-    ensures kept { (result ≡ 0) ⊎ ((by.new ≡ by.old) × (counts.new ≡ counts.old) × (listed.new ≡ listed.old) × (bytes.new ≡ bytes.old)) }
+        (λ s t. TellsEntry s t from by.new counts.new listed.old listed.new bytes.old bytes.new
+        number.new result) }
+    ensures kept { (result ≡ 0) ⊎ ((by.new ≡ by.old) × (counts.new ≡ counts.old)
+        × (listed.new ≡ listed.old) × (bytes.new ≡ bytes.old)) }
 {
     if !pass.live {
         *number = 0;
@@ -354,8 +373,8 @@ pub extern "C" fn bes_journal_from(
     }
 }
 
-/// Asks the query of this text in the pinned version. Returns how many nodes meet it, and as many of them as there is
-/// room for.
+/// Asks the query of this text in the pinned version. Returns how many nodes meet it, and as many
+/// of them as there is room for.
 #[unsafe(no_mangle)]
 pub extern "C" fn bes_query(
     alloc: Global,
@@ -364,7 +383,8 @@ pub extern "C" fn bes_query(
     nodes: &mut [u64],
     count: &mut u64,
 ) -> u32
-    ensures pass { Calls pass.old.owned.value pass.new.owned.value (IsClosed count.new result) (λ s t. Finds s t text.now nodes.old nodes.new count.new result) }
+    ensures pass { Calls pass.old.owned.value pass.new.owned.value (IsClosed count.new result)
+        (λ s t. Finds s t text.now nodes.old nodes.new count.new result) }
     ensures kept { (result ≡ 0) ⊎ (nodes.new ≡ nodes.old) }
 {
     let query = match query_for(alloc, pass.live, text, count) {
@@ -385,7 +405,8 @@ pub extern "C" fn bes_query_items(
     nodes: &mut [u64],
     count: &mut u64,
 ) -> u32
-    ensures pass { Calls pass.old.owned.value pass.new.owned.value (IsClosed count.new result) (λ s t. FindsBuilt s t spelled.now bytes.now nodes.old nodes.new count.new result) }
+    ensures pass { Calls pass.old.owned.value pass.new.owned.value (IsClosed count.new result)
+        (λ s t. FindsBuilt s t spelled.now bytes.now nodes.old nodes.new count.new result) }
     ensures kept { (result ≡ 0) ⊎ (nodes.new ≡ nodes.old) }
 {
     if !pass.live {
@@ -400,8 +421,8 @@ pub extern "C" fn bes_query_items(
     tell(answer, nodes, count)
 }
 
-/// Says what the query of this text would be answered from in the pinned version. Returns how many bytes that text has, and
-/// as many of them as there is room for.
+/// Says what the query of this text would be answered from in the pinned version. Returns how many
+/// bytes that text has, and as many of them as there is room for.
 #[unsafe(no_mangle)]
 pub extern "C" fn bes_explain(
     alloc: Global,
@@ -410,7 +431,8 @@ pub extern "C" fn bes_explain(
     bytes: &mut [u8],
     count: &mut u64,
 ) -> u32
-    ensures pass { Calls pass.old.owned.value pass.new.owned.value (IsClosed count.new result) (λ s t. Explains s t text.now bytes.old bytes.new count.new result) }
+    ensures pass { Calls pass.old.owned.value pass.new.owned.value (IsClosed count.new result)
+        (λ s t. Explains s t text.now bytes.old bytes.new count.new result) }
     ensures kept { (result ≡ 0) ⊎ (bytes.new ≡ bytes.old) }
 {
     let query = match query_for(alloc, pass.live, text, count) {
@@ -421,7 +443,8 @@ pub extern "C" fn bes_explain(
     tell_text(answer, bytes, count)
 }
 
-/// Lists the nodes of the pinned version from a number on, ascending, as many as there is room for. Returns how many these are.
+/// Lists the nodes of the pinned version from a number on, ascending, as many as there is room for.
+/// Returns how many these are.
 #[unsafe(no_mangle)]
 pub extern "C" fn bes_nodes(
     alloc: Global,
@@ -432,7 +455,8 @@ pub extern "C" fn bes_nodes(
 ) -> u32
     ensures pass { Calls pass.old.owned.value pass.new.owned.value (IsClosed count.new result)
         (λ s t. HasRead s.knows t.knows × PutsOutAtPin (pinned_number s.knows.phase)
-        (Ok (nodes_from (volume_pinned s.knows) from (length nodes.old))) nodes.old nodes.new count.new result) }
+        (Ok (nodes_from (volume_pinned s.knows) from (length nodes.old))) nodes.old nodes.new
+        count.new result) }
     ensures kept { (result ≡ 0) ⊎ (nodes.new ≡ nodes.old) }
 {
     if !pass.live {
@@ -464,8 +488,8 @@ pub extern "C" fn bes_status(pass: &mut Handle, usage: &mut Usage, number: &mut 
     }
 }
 
-/// Reads a node's attribute in the pinned version. Returns its type code, its number and its length in bytes, and as many
-/// of its bytes as there is room for.
+/// Reads a node's attribute in the pinned version. Returns its type code, its number and its length
+/// in bytes, and as many of its bytes as there is room for.
 #[unsafe(no_mangle)]
 pub extern "C" fn bes_get(
     pass: &mut Handle,
@@ -474,7 +498,8 @@ pub extern "C" fn bes_get(
     attribute: &mut Attribute,
     bytes: &mut [u8],
 ) -> u32
-    ensures pass { Calls pass.old.owned.value pass.new.owned.value (result ≡ 64) (λ s t. Reads s t node name_bytes.now attribute.new bytes.old bytes.new result) }
+    ensures pass { Calls pass.old.owned.value pass.new.owned.value (result ≡ 64)
+        (λ s t. Reads s t node name_bytes.now attribute.new bytes.old bytes.new result) }
     ensures kept { (result ≡ 0) ⊎ ((attribute.new ≡ attribute.old) × (bytes.new ≡ bytes.old)) }
 {
     if !pass.live {
@@ -509,7 +534,8 @@ pub extern "C" fn bes_get_named(
     attribute: &mut Attribute,
     bytes: &mut [u8],
 ) -> u32
-    ensures pass { Calls pass.old.owned.value pass.new.owned.value (result ≡ 64) (λ s t. ReadsHeld s t node (name_in held.now) attribute.new bytes.old bytes.new result) }
+    ensures pass { Calls pass.old.owned.value pass.new.owned.value (result ≡ 64)
+        (λ s t. ReadsHeld s t node (name_in held.now) attribute.new bytes.old bytes.new result) }
     ensures kept { (result ≡ 0) ⊎ ((attribute.new ≡ attribute.old) × (bytes.new ≡ bytes.old)) }
 {
     if !pass.live {
@@ -518,8 +544,8 @@ pub extern "C" fn bes_get_named(
     read(pass.owned.lent(), node, held, attribute, bytes)
 }
 
-/// Returns what each node has at each name in the pinned version: a cell for each, and the bytes of all texts end to end, of both as
-/// many as there are places. Returns how many bytes there are.
+/// Returns what each node has at each name in the pinned version: a cell for each, and the bytes of
+/// all texts end to end, of both as many as there are places. Returns how many bytes there are.
 #[unsafe(no_mangle)]
 pub extern "C" fn bes_columns(
     pass: &mut Handle,
@@ -530,7 +556,8 @@ pub extern "C" fn bes_columns(
     count: &mut u64,
 ) -> u32
     ensures pass { Calls pass.old.owned.value pass.new.owned.value (IsClosed count.new result)
-        (λ s t. HasRead s.knows t.knows × TellsAtPin (pinned_number s.knows.phase) (volume_pinned s.knows) nodes.now (map name_in names.now)
+        (λ s t. HasRead s.knows t.knows × TellsAtPin (pinned_number s.knows.phase)
+        (volume_pinned s.knows) nodes.now (map name_in names.now)
         cells.old cells.new bytes.old bytes.new count.new result) }
     ensures kept { (result ≡ 0) ⊎ ((cells.new ≡ cells.old) × (bytes.new ≡ bytes.old)) }
 {
@@ -547,8 +574,8 @@ pub extern "C" fn bes_columns(
     }
 }
 
-/// Lists a node's attributes in the pinned version, as the operations that set them. Returns how many they are, and how many
-/// bytes their parts are in, and of both as much as there is room for.
+/// Lists a node's attributes in the pinned version, as the operations that set them. Returns how
+/// many they are, and how many bytes their parts are in, and of both as much as there is room for.
 #[unsafe(no_mangle)]
 pub extern "C" fn bes_attributes(
     alloc: Global,
@@ -560,8 +587,10 @@ pub extern "C" fn bes_attributes(
 ) -> u32
     ensures pass { Calls pass.old.owned.value pass.new.owned.value (result ≡ 64)
         (λ s t. HasRead s.knows t.knows × Listed (sets node) (pinned_number s.knows.phase)
-        (attributes_at (volume_pinned s.knows) node) counts.new listed.old listed.new bytes.old bytes.new result) }
-    ensures kept { (result ≡ 0) ⊎ ((counts.new ≡ counts.old) × (listed.new ≡ listed.old) × (bytes.new ≡ bytes.old)) }
+        (attributes_at (volume_pinned s.knows) node) counts.new listed.old listed.new bytes.old
+        bytes.new result) }
+    ensures kept { (result ≡ 0) ⊎ ((counts.new ≡ counts.old) × (listed.new ≡ listed.old)
+        × (bytes.new ≡ bytes.old)) }
 {
     if !pass.live {
         return CLOSED;
@@ -570,7 +599,8 @@ pub extern "C" fn bes_attributes(
     tell_attributes(alloc, node, answer, counts, listed, bytes)
 }
 
-/// Lists the indices of the pinned version, as the operations that make them; else as `bes_attributes`.
+/// Lists the indices of the pinned version, as the operations that make them; else as
+/// `bes_attributes`.
 #[unsafe(no_mangle)]
 pub extern "C" fn bes_indices(
     alloc: Global,
@@ -581,8 +611,10 @@ pub extern "C" fn bes_indices(
 ) -> u32
     ensures pass { Calls pass.old.owned.value pass.new.owned.value (result ≡ 64)
         (λ s t. HasRead s.knows t.knows × Listed makes (pinned_number s.knows.phase)
-        (Ok (index_kinds (volume_pinned s.knows))) counts.new listed.old listed.new bytes.old bytes.new result) }
-    ensures kept { (result ≡ 0) ⊎ ((counts.new ≡ counts.old) × (listed.new ≡ listed.old) × (bytes.new ≡ bytes.old)) }
+        (Ok (index_kinds (volume_pinned s.knows))) counts.new listed.old listed.new bytes.old
+        bytes.new result) }
+    ensures kept { (result ≡ 0) ⊎ ((counts.new ≡ counts.old) × (listed.new ≡ listed.old)
+        × (bytes.new ≡ bytes.old)) }
 {
     if !pass.live {
         return CLOSED;
@@ -591,9 +623,9 @@ pub extern "C" fn bes_indices(
     tell_indices(alloc, answer, counts, listed, bytes)
 }
 
-/// Returns the next operations that make the pinned version again, 64 at most and none after the last, with how many they
-/// are, and how many bytes their parts are in, and of both as much as there is room for: where that is all, the place goes behind
-/// them.
+/// Returns the next operations that make the pinned version again, 64 at most and none after the
+/// last, with how many they are, and how many bytes their parts are in, and of both as much as
+/// there is room for: where that is all, the place goes behind them.
 #[unsafe(no_mangle)]
 pub extern "C" fn bes_state(
     alloc: Global,
@@ -603,11 +635,14 @@ pub extern "C" fn bes_state(
     listed: &mut [Operation],
     bytes: &mut [u8],
 ) -> u32
-    ensures pass { Calls pass.old.owned.value pass.new.owned.value ((result ≡ 64) × (place.new.owned.value ≡ place.old.owned.value))
+    ensures pass { Calls pass.old.owned.value pass.new.owned.value
+        ((result ≡ 64) × (place.new.owned.value ≡ place.old.owned.value))
         (λ s t. HasRead s.knows t.knows × TellsState (pinned_number s.knows.phase)
-        (untold_at (volume_pinned s.knows) place.old.owned.value) (untold_at (volume_pinned s.knows) place.new.owned.value)
+        (untold_at (volume_pinned s.knows) place.old.owned.value)
+        (untold_at (volume_pinned s.knows) place.new.owned.value)
         counts.new listed.old listed.new bytes.old bytes.new result) }
-    ensures kept { (result ≡ 0) ⊎ ((counts.new ≡ counts.old) × (listed.new ≡ listed.old) × (bytes.new ≡ bytes.old)) }
+    ensures kept { (result ≡ 0) ⊎ ((counts.new ≡ counts.old) × (listed.new ≡ listed.old)
+        × (bytes.new ≡ bytes.old)) }
 {
     if !pass.live {
         return CLOSED;
@@ -648,7 +683,8 @@ pub extern "C" fn bes_prepare(
     prepared: &mut PreparedHandle,
     place: &mut u64,
 ) -> u32
-    ensures { Prepares (IsTextOf text.now) (IsTextFault text.now) prepared.old.owned.value prepared.new.owned.value place.new result }
+    ensures { Prepares (IsTextOf text.now) (IsTextFault text.now) prepared.old.owned.value
+        prepared.new.owned.value place.new result }
 {
     *place = 0;
     if prepared.live {
@@ -694,7 +730,8 @@ pub extern "C" fn bes_prepare_items(
     }
 }
 
-/// Returns the canonical text of a prepared query. Returns how many bytes it has, and as many of them as there is room for.
+/// Returns the canonical text of a prepared query. Returns how many bytes it has, and as many of
+/// them as there is room for.
 #[unsafe(no_mangle)]
 pub extern "C" fn bes_prepared_text(
     alloc: Global,
@@ -726,7 +763,8 @@ pub extern "C" fn bes_move_prepared(
     prepared: &mut PreparedHandle,
     other: &mut PreparedHandle,
 ) -> u32
-    ensures { MovesHandle prepared.old.owned.value other.old.owned.value prepared.new.owned.value other.new.owned.value result }
+    ensures { MovesHandle prepared.old.owned.value other.old.owned.value prepared.new.owned.value
+        other.new.owned.value result }
 {
     if !prepared.live {
         return CLOSED;
@@ -749,7 +787,8 @@ pub extern "C" fn bes_move_place(
     place: &mut PlaceHandle,
     other: &mut PlaceHandle,
 ) -> u32
-    ensures { MovesHandle place.old.owned.value other.old.owned.value place.new.owned.value other.new.owned.value result }
+    ensures { MovesHandle place.old.owned.value other.old.owned.value place.new.owned.value
+        other.new.owned.value result }
 {
     if !place.live {
         return CLOSED;
@@ -780,8 +819,8 @@ pub extern "C" fn bes_release(alloc: Global, prepared: &mut PreparedHandle) -> u
     DONE
 }
 
-/// Asks a prepared query in the pinned version, as `bes_query` does, and keeps what it found for `bes_found`. What its last
-/// refresh found stays.
+/// Asks a prepared query in the pinned version, as `bes_query` does, and keeps what it found for
+/// `bes_found`. What its last refresh found stays.
 #[unsafe(no_mangle)]
 pub extern "C" fn bes_query_prepared(
     pass: &mut Handle,
@@ -789,8 +828,10 @@ pub extern "C" fn bes_query_prepared(
     nodes: &mut [u64],
     count: &mut u64,
 ) -> u32
-    ensures pass { Calls pass.old.owned.value pass.new.owned.value (IsClosed count.new result × (prepared.new.owned.value ≡ prepared.old.owned.value))
-        (λ s t. AsksPrepared s t prepared.old.owned.value prepared.new.owned.value nodes.old nodes.new count.new result) }
+    ensures pass { Calls pass.old.owned.value pass.new.owned.value
+        (IsClosed count.new result × (prepared.new.owned.value ≡ prepared.old.owned.value))
+        (λ s t. AsksPrepared s t prepared.old.owned.value prepared.new.owned.value nodes.old
+        nodes.new count.new result) }
     ensures kept { (result ≡ 0) ⊎ (nodes.new ≡ nodes.old) }
 {
     if !pass.live {
@@ -805,8 +846,8 @@ pub extern "C" fn bes_query_prepared(
     find_prepared(pass.owned.lent(), query, nodes, count)
 }
 
-/// Returns the nodes that a prepared query found when it was asked last, from an index on, as many as there is room for, and how
-/// many it found in all.
+/// Returns the nodes that a prepared query found when it was asked last, from an index on, as many
+/// as there is room for, and how many it found in all.
 #[unsafe(no_mangle)]
 pub extern "C" fn bes_found(
     prepared: &mut PreparedHandle,
@@ -828,8 +869,8 @@ pub extern "C" fn bes_found(
     DONE
 }
 
-/// Refreshes a prepared query in the pinned version. Returns how many nodes came since its last refresh, and how many went;
-/// `bes_changes` tells which.
+/// Refreshes a prepared query in the pinned version. Returns how many nodes came since its last
+/// refresh, and how many went; `bes_changes` tells which.
 #[unsafe(no_mangle)]
 pub extern "C" fn bes_refresh(
     pass: &mut Handle,
@@ -837,8 +878,10 @@ pub extern "C" fn bes_refresh(
     counts: &mut UpdateCounts,
 ) -> u32
     ensures pass { Calls pass.old.owned.value pass.new.owned.value (result ≡ 64)
-        (λ s t. RefreshesPrepared s t prepared.old.owned.value prepared.new.owned.value counts.new result) }
-    ensures kept { (result ≡ 0) ⊎ ((counts.new ≡ counts.old) × (prepared.new.owned.value ≡ prepared.old.owned.value)) }
+        (λ s t. RefreshesPrepared s t prepared.old.owned.value prepared.new.owned.value counts.new
+        result) }
+    ensures kept { (result ≡ 0) ⊎ ((counts.new ≡ counts.old)
+        × (prepared.new.owned.value ≡ prepared.old.owned.value)) }
 {
     if !pass.live {
         return CLOSED;
@@ -849,8 +892,8 @@ pub extern "C" fn bes_refresh(
     refresh_prepared(pass.owned.lent(), prepared.owned.lent(), counts)
 }
 
-/// Returns the nodes that came at the last refresh of a prepared query, and those that went, of both as many as there is room
-/// for.
+/// Returns the nodes that came at the last refresh of a prepared query, and those that went, of
+/// both as many as there is room for.
 #[unsafe(no_mangle)]
 pub extern "C" fn bes_changes(
     prepared: &mut PreparedHandle,
@@ -858,7 +901,8 @@ pub extern "C" fn bes_changes(
     removed: &mut [u64],
 ) -> u32
     ensures prepared { prepared.new.owned.value ≡ prepared.old.owned.value }
-    ensures changes { ShowsChanges prepared.old.owned.value created.old created.new removed.old removed.new result }
+    ensures changes { ShowsChanges prepared.old.owned.value created.old created.new removed.old
+        removed.new result }
     ensures kept { (result ≡ 0) ⊎ ((created.new ≡ created.old) × (removed.new ≡ removed.old)) }
 {
     if !prepared.live {
@@ -870,10 +914,12 @@ pub extern "C" fn bes_changes(
     DONE
 }
 
-/// Returns the journal's text up to now. Returns how many bytes it has, and as many of them as there is room for.
+/// Returns the journal's text up to now. Returns how many bytes it has, and as many of them as
+/// there is room for.
 #[unsafe(no_mangle)]
 pub extern "C" fn bes_journal(pass: &mut Handle, bytes: &mut [u8], count: &mut u64) -> u32
-    ensures pass { Calls pass.old.owned.value pass.new.owned.value (IsClosed count.new result) (λ s t. TellsJournal s t bytes.old bytes.new count.new result) }
+    ensures pass { Calls pass.old.owned.value pass.new.owned.value (IsClosed count.new result)
+        (λ s t. TellsJournal s t bytes.old bytes.new count.new result) }
     ensures kept { (result ≡ 0) ⊎ (bytes.new ≡ bytes.old) }
 {
     if !pass.live {

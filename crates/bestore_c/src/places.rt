@@ -32,7 +32,8 @@ fn node_of(done: Done) -> u64
     }
 }
 
-/// Puts the numbers of new nodes into the first places, and 0 for what is none, as many as there are places.
+/// Puts the numbers of new nodes into the first places, and 0 for what is none, as many as there
+/// are places.
 pub(crate) fn put_nodes(places: &mut [u64], dones: &[Done])
     ensures { places.new ≡ over (map node_of dones.now) places.old }
 {

@@ -1,7 +1,7 @@
 //! An attribute that is read, put out.
 //!
-//! The bytes of a value go from its page to the caller's places. That there is a pin is tested first, so that no answer but the
-//! store's own is left to be joined with it.
+//! The bytes of a value go from its page to the caller's places. That there is a pin is tested
+//! first, so that no answer but the store's own is left to be joined with it.
 ghost use Rattle.std.specs.Prelude.{◌≡◌, ◌⊎◌};
 ghost use Rattle.be_paged.specs.Cells.{name_in};
 ghost use Rattle.be_store.specs.Passes.{HasRead, volume_pinned};
@@ -35,9 +35,11 @@ pub(crate) fn read(
     told: &mut Attribute,
     bytes: &mut [u8],
 ) -> u32
-    ensures store { (session.new.store ≡ session.old.store) × (session.new.spare ≡ session.old.spare) }
+    ensures store { (session.new.store ≡ session.old.store)
+        × (session.new.spare ≡ session.old.spare) }
     ensures read { HasRead session.old.knows session.new.knows }
-    ensures shown { Shown (pinned_number session.old.knows.phase) (attribute (volume_pinned session.old.knows) node (name_in name.now))
+    ensures shown { Shown (pinned_number session.old.knows.phase)
+        (attribute (volume_pinned session.old.knows) node (name_in name.now))
         told.new bytes.old bytes.new result }
     ensures kept { (result ≡ 0) ⊎ ((told.new ≡ told.old) × (bytes.new ≡ bytes.old)) }
 {

@@ -1,4 +1,5 @@
-//! Patterns and texts, by bytes and by characters, with what has to come by the rules of `docs/QUERIES.md`.
+//! Patterns and texts, by bytes and by characters, with what has to come by the rules of
+//! `docs/QUERIES.md`.
 use be_byte_pattern::BytePattern;
 use be_pattern::Pattern;
 use be_value::Refusal;

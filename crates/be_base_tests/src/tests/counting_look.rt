@@ -1,4 +1,5 @@
-//! Look-ups and walks serve any reader of pages: here one that owns a room and counts the words that are read.
+//! Look-ups and walks serve any reader of pages: here one that owns a room and counts the words
+//! that are read.
 ghost use Rattle.std.specs.Prelude.{◌≡◌, ℕ, IfOk, IsTrue, OnOk};
 ghost use Rattle.be_pages.specs.declared.room.Standing.TheVariants.{Free};
 ghost use Rattle.be_pages.specs.Pages.{IsUnchanged};
@@ -85,7 +86,8 @@ fn steps<L: Look>(look: &mut L, root: u64, count: u64) -> bool
     cursor.next_key(look).is_none()
 }
 
-/// A hundred pairs stand in two levels: some forty words a look-up, one word a step and the pair's own.
+/// A hundred pairs stand in two levels: some forty words a look-up, one word a step and the pair's
+/// own.
 #[test]
 fn counting_look(rt: HostRuntime) -> Result<(), Fail> {
     let mut room = room_of(rt.alloc(), 64)?;

@@ -1,8 +1,9 @@
 //! Worked examples of journals.
 //!
-//! A request has a journal's limit, and then its entries with ` | ` between them: `OPERATIONS -> ANSWERS`, in the words of
-//! scripts, with `;` between several. Told are the journal's text, whether it is legal, whether it has room, the next node
-//! of its volume, and the attributes of node 1 there.
+//! A request has a journal's limit, and then its entries with ` | ` between them: `OPERATIONS ->
+//! ANSWERS`, in the words of scripts, with `;` between several. Told are the journal's text,
+//! whether it is legal, whether it has room, the next node of its volume, and the attributes of
+//! node 1 there.
 
 use super::lines::{first_number, replies};
 use be_journal::{Entry, Items, Journal};
@@ -51,7 +52,8 @@ fn dones_of(alloc: Global, texts: &str) -> Result<Vec<Done>, AllocError> {
     Ok(dones)
 }
 
-/// Pushes the entry of a text. Where the list has several operations it is entered in room that is reserved.
+/// Pushes the entry of a text. Where the list has several operations it is entered in room that is
+/// reserved.
 fn push_text(alloc: Global, journal: &mut Journal, text: &str) -> Result<(), Refusal> {
     let (ops, dones) = text.split_once(" -> ").unwrap_or((text, ""));
     let ops = list_of(alloc, ops)?;
@@ -118,7 +120,8 @@ fn long_list(alloc: Global) -> Result<Vec<Op>, Refusal> {
     Ok(ops)
 }
 
-/// So many long lists, each by the pass of its number. A block of the journal has room for 15 of them.
+/// So many long lists, each by the pass of its number. A block of the journal has room for 15 of
+/// them.
 fn long_lists(alloc: Global, count: u64) -> Result<Journal, Refusal> {
     let ops = long_list(alloc)?;
     let dones = vec![in alloc; Done::Unit; 64]?;
@@ -221,16 +224,19 @@ pub(crate) fn told_lists(alloc: Global, text: &str) -> Result<String, Refusal> {
     Ok(format!(in alloc; "{found} found")?)
 }
 
-/// A text of entries, whether it is legal, and what its volume has. Without entries there is room for 64 operations. An answer
-/// that the volume doesn't give is wrong, and so is an entry that it refuses. Example `batches` is the last one: a list is
-/// entered in the room that was reserved for it.
+/// A text of entries, whether it is legal, and what its volume has. Without entries there is room
+/// for 64 operations. An answer that the volume doesn't give is wrong, and so is an entry that it
+/// refuses. Example `batches` is the last one: a list is entered in the room that was reserved for
+/// it.
 #[test]
 fn journals_are_told(rt: HostRuntime) -> Result<(), Fail> {
     let lines =
         r#"journal 2 new -> node 1 | set 1 size LONG 5 -> ok => 1 by 0 new -> node 1 / 2 by 0 set 1 "size" LONG 5 -> ok / legal, spent, next 2 / attrs 1 / "size" LONG 5
 journal 1 => legal, room, next 1 / refused 2 NoNode
-journal 2 new -> node 2 | set 1 size LONG 5 -> ok => 1 by 0 new -> node 2 / 2 by 0 set 1 "size" LONG 5 -> ok / wrong, spent, next 2 / attrs 1 / "size" LONG 5
-journal 2 new -> node 1 | drop 9 -> ok => 1 by 0 new -> node 1 / 2 by 0 drop 9 -> ok / wrong, spent, next 2 / attrs 0
+journal 2 new -> node 2 | set 1 size LONG 5 -> ok => 1 by 0 new -> node 2 / 2 by 0 set 1 "size" LONG
+5 -> ok / wrong, spent, next 2 / attrs 1 / "size" LONG 5
+journal 2 new -> node 1 | drop 9 -> ok => 1 by 0 new -> node 1 / 2 by 0 drop 9 -> ok / wrong, spent,
+next 2 / attrs 0
 journal 2 mkindex k LONG -> ok | new;set 1 k LONG 5 -> node 1;ok => 1 by 0 mkindex "k" LONG -> ok / 2 by 0 new; set 1 "k" LONG 5 -> node 1; ok / legal, spent, next 2 / attrs 1 / "k" LONG 5"#;
     replies(rt.alloc(), lines)
 }
@@ -239,9 +245,13 @@ journal 2 mkindex k LONG -> ok | new;set 1 k LONG 5 -> node 1;ok => 1 by 0 mkind
 #[test]
 fn operations_have_a_text(rt: HostRuntime) -> Result<(), Fail> {
     let lines =
-        r#"escaped => 1 by 0 set 1 "a\"b" CSTR "x\\y\n\r" -> ok / wrong, spent, next 1 / refused 2 NoNode
-journal 1 set 1 r RAWT 00abff -> ok => 1 by 0 set 1 "r" RAWT "00abff" -> ok / wrong, spent, next 1 / refused 2 NoNode
-journal 2 set 1 l LLNG -9223372036854775808 -> ok | set 1 u ULLG 18446744073709551615 -> ok => 1 by 0 set 1 "l" LLNG -9223372036854775808 -> ok / 2 by 0 set 1 "u" ULLG 18446744073709551615 -> ok / wrong, spent, next 1 / refused 2 NoNode
+        r#"escaped => 1 by 0 set 1 "a\"b" CSTR "x\\y\n\r" -> ok / wrong, spent,
+        next 1 / refused 2 NoNode
+journal 1 set 1 r RAWT 00abff -> ok => 1 by 0 set 1 "r" RAWT "00abff" -> ok / wrong, spent,
+next 1 / refused 2 NoNode
+journal 2 set 1 l LLNG -9223372036854775808 -> ok | set 1 u ULLG 18446744073709551615 -> ok => 1 by
+0 set 1 "l" LLNG -9223372036854775808 -> ok / 2 by 0 set 1 "u" ULLG 18446744073709551615 -> ok /
+wrong, spent, next 1 / refused 2 NoNode
 journal 3 unset 7 m -> ok | rmindex k -> ok | drop 7 -> ok => 1 by 0 unset 7 "m" -> ok / 2 by 0 rmindex "k" -> ok / 3 by 0 drop 7 -> ok / wrong, spent, next 1 / refused 2 NoNode"#;
     replies(rt.alloc(), lines)
 }

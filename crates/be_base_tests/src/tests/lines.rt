@@ -1,4 +1,5 @@
-//! Requests and replies of tests, as text: a line `COMMAND TEXT => REPLY` each. What is refused is replied as it is printed.
+//! Requests and replies of tests, as text: a line `COMMAND TEXT => REPLY` each. What is refused is
+//! replied as it is printed.
 
 use super::{journal, machine, pattern, query, stored_words, tree, value};
 use be_test_tools::{Answers, check_lines};
@@ -72,7 +73,8 @@ pub(crate) fn first_number(words: &str) -> (u64, &str) {
     (word_of(word.as_bytes()).unwrap_or(0), others)
 }
 
-/// The text of `COUNT FRONT;MIDDLE;BACK;END`: the front so many times, the middle, the back so many times, and the end.
+/// The text of `COUNT FRONT;MIDDLE;BACK;END`: the front so many times, the middle, the back so many
+/// times, and the end.
 fn repeated(alloc: Global, request: &str) -> Result<String, Refusal> {
     let (count, pieces) = first_number(request);
     let count = count as usize;

@@ -1,6 +1,6 @@
-//! The worked example of the machine, and its limits. Every call is made once more after `OutOfMemory`, and is to give
-//! the example's answer then: so the tests also pass where any one request for memory is refused
-//! (`rt try --test --fail-alloc N`).
+//! The worked example of the machine, and its limits. Every call is made once more after
+//! `OutOfMemory`, and is to give the example's answer then: so the tests also pass where any one
+//! request for memory is refused (`rt try --test --fail-alloc N`).
 ghost use Rattle.std.specs.Prelude.{◌≡◌, IfOk};
 ghost use Rattle.be_core.specs.Shown.{page_count};
 
@@ -57,7 +57,8 @@ fn event_in(alloc: Global, line: &str) -> Result<Event, Refusal> {
     event_of(alloc, word, [first, second, third, fourth])
 }
 
-/// Whether the events, a line each, are allowed one after the other, but those with a `not` before them.
+/// Whether the events, a line each, are allowed one after the other, but those with a `not` before
+/// them.
 fn gives(alloc: Global, state: &mut State, lines: &str) -> Result<bool, Refusal>
     ensures { page_count state.new ≡ page_count state.old }
 {

@@ -1,5 +1,5 @@
-//! A room's pages, counted. The room is made once more after `OutOfMemory`, so the tests also pass where any one request
-//! for memory is refused (`rt try --test --fail-alloc N`).
+//! A room's pages, counted. The room is made once more after `OutOfMemory`, so the tests also pass
+//! where any one request for memory is refused (`rt try --test --fail-alloc N`).
 
 use super::counting_look::room_of;
 use be_pages::{Look, Room, VecRoom};
@@ -7,8 +7,8 @@ use be_value::Refusal;
 use std::alloc::Global;
 use std::test::Fail;
 
-/// How many pages are free after one was taken and filled, with the word in it, after that write was kept and nothing undone,
-/// and after the next write was undone.
+/// How many pages are free after one was taken and filled, with the word in it, after that write
+/// was kept and nothing undone, and after the next write was undone.
 fn free_when_kept(alloc: Global) -> Result<[u64; 4], Refusal> {
     let mut room = room_of(alloc, 8)?;
     let page = room.take()?;
@@ -52,7 +52,8 @@ fn full_room(rt: HostRuntime) -> Result<(), Fail> {
     Ok(())
 }
 
-/// How many pages are free once a page that was taken is given up, and whether it is the next one taken.
+/// How many pages are free once a page that was taken is given up, and whether it is the next one
+/// taken.
 fn take_again(alloc: Global) -> Result<(u64, bool), Refusal> {
     let mut room = room_of(alloc, 8)?;
     let page = room.take()?;

@@ -138,7 +138,8 @@ read 70 !(a==1)&&;a==1 => yes";
     replies(rt.alloc(), lines)
 }
 
-/// A refusal gives up what was built: a tree that leans to the left, levels that wait, a tree that leans to the right.
+/// A refusal gives up what was built: a tree that leans to the left, levels that wait, a tree that
+/// leans to the right.
 #[test]
 fn trees_given_up(rt: HostRuntime) -> Result<(), Fail> {
     let lines = "read 255 a==1||;a==1;; b => refused 12 Syntax 1535
@@ -154,9 +155,11 @@ read 32 !(a==1||a==1&&;a==1;); b => refused 12 Syntax 485";
 fn printing(rt: HostRuntime) -> Result<(), Fail> {
     let lines = "query a=1||!(b<2&&c='x*') => \"a\"==\"1\" || (\"b\">=\"2\" || \"c\"!=\"x*\")
 query ((name==\"*[cC]\")&&(name!=\"b*\")) => \"name\"==\"*[cC]\" && \"name\"!=\"b*\"
-query a=1&&b=2&&c=3||d=4||e=5 => \"a\"==\"1\" && \"b\"==\"2\" && \"c\"==\"3\" || \"d\"==\"4\" || \"e\"==\"5\"
+query a=1&&b=2&&c=3||d=4||e=5 =>
+\"a\"==\"1\" && \"b\"==\"2\" && \"c\"==\"3\" || \"d\"==\"4\" || \"e\"==\"5\"
 query a=1||(b=2||c=3) => \"a\"==\"1\" || (\"b\"==\"2\" || \"c\"==\"3\")
-query (a=1||b=2)&&c=3&&(d=4&&e=5) => (\"a\"==\"1\" || \"b\"==\"2\") && \"c\"==\"3\" && (\"d\"==\"4\" && \"e\"==\"5\")
+query (a=1||b=2)&&c=3&&(d=4&&e=5) =>
+(\"a\"==\"1\" || \"b\"==\"2\") && \"c\"==\"3\" && (\"d\"==\"4\" && \"e\"==\"5\")
 query \\(x==1 => \"(x\"==\"1\"
 query a==[^a-a\\-\\]]\\]? => \"a\"==\"[^a\\-\\]]]?\"
 query a==[--a]&&b==[a-b-c] => \"a\"==\"[\\--a]\" && \"b\"==\"[a-b\\-c]\"
@@ -276,8 +279,9 @@ pub(crate) fn reread(alloc: Global, line: &str) -> Result<String, Refusal> {
     printed(alloc, printed_items(alloc, line)?.as_str())
 }
 
-/// Examples `predicates` and `unsigned_keys`, and each reading of a predicate that is built. The one comparison of a query has
-/// the query's text. An order operator takes its text as it is, a pattern's operator as a pattern.
+/// Examples `predicates` and `unsigned_keys`, and each reading of a predicate that is built. The
+/// one comparison of a query has the query's text. An order operator takes its text as it is, a
+/// pattern's operator as a pattern.
 #[test]
 fn predicates(rt: HostRuntime) -> Result<(), Fail> {
     let lines = "items size 5 < ! => \"size\">=\"5\"
@@ -310,8 +314,8 @@ items a 1 == b 1 == => refused 22 BadRpn 6";
     replies(rt.alloc(), lines)
 }
 
-/// 64 things may stand on the stack, and 256 comparisons be built. Items may build a tree whose canonical text has more
-/// parentheses than `parse` takes.
+/// 64 things may stand on the stack, and 256 comparisons be built. Items may build a tree whose
+/// canonical text has more parentheses than `parse` takes.
 #[test]
 fn predicate_limits(rt: HostRuntime) -> Result<(), Fail> {
     let lines = "build 63 ;a; a => refused 22 BadRpn 64

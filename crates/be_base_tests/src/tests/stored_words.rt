@@ -16,10 +16,12 @@ use std::test::Fail;
 /// How many keys the tree has. Each is a thousand from the next.
 const KEYS: u64 = 600;
 
-/// Puts the keys in an order that is far from rising, each in a write that is kept, and gives the root.
+/// Puts the keys in an order that is far from rising, each in a write that is kept, and gives the
+/// root.
 fn put_keys(room: &mut VecRoom) -> Result<u64, Refusal>
     requires { (q : ℕ) → ⟦<VecRoom as Look>⟧.standing room.old q ≡ Free }
-    ensures { IfOk result (λ root. IsTree (⟦<VecRoom as Look>⟧.standing room.new) (⟦<VecRoom as Look>⟧.words room.new) root) }
+    ensures { IfOk result (λ root. IsTree (⟦<VecRoom as Look>⟧.standing room.new)
+        (⟦<VecRoom as Look>⟧.words room.new) root) }
 {
     let mut root = 0;
     for i in 0..KEYS {
@@ -113,8 +115,9 @@ pub(crate) fn stored_by(alloc: Global, line: &str) -> Result<String, Refusal> {
     Ok(format!(in alloc; "{stores}")?)
 }
 
-/// A page that a write has taken is edited in place: of a list that comes to the same leaves again and again most words
-/// stand already. A key is put, or taken out and another put beside it; then 64 are, beside one another and far apart.
+/// A page that a write has taken is edited in place: of a list that comes to the same leaves again
+/// and again most words stand already. A key is put, or taken out and another put beside it; then
+/// 64 are, beside one another and far apart.
 #[test]
 fn stored_words(rt: HostRuntime) -> Result<(), Fail> {
     let lines = "stored put 1 1 => 19

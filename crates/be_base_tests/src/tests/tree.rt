@@ -1,4 +1,5 @@
-//! Trees in a room of few pages: how many they take, and what a room that is full leaves; and equal values in one index.
+//! Trees in a room of few pages: how many they take, and what a room that is full leaves; and equal
+//! values in one index.
 ghost use Rattle.std.specs.Prelude.{◌≡◌, ◌<◌, ◌≤◌, IfOk, OnErr};
 ghost use Rattle.be_pages.specs.declared.room.Standing.TheVariants.{Free};
 ghost use Rattle.be_pages.specs.Pages.{IsUnchanged};
@@ -15,10 +16,13 @@ use std::test::Fail;
 
 /// Inserts a number's key and keeps the write, or undoes a write that is refused.
 pub(crate) fn put_number(room: &mut VecRoom, root: u64, i: u64) -> Result<u64, Refusal>
-    requires tree { IsTree (⟦<VecRoom as Look>⟧.standing room.old) (⟦<VecRoom as Look>⟧.words room.old) root }
+    requires tree { IsTree (⟦<VecRoom as Look>⟧.standing room.old)
+        (⟦<VecRoom as Look>⟧.words room.old) root }
     requires start { IsWriteStart (⟦<VecRoom as Look>⟧.standing room.old) }
-    ensures ok { IfOk result (λ new. IsTree (⟦<VecRoom as Look>⟧.standing room.new) (⟦<VecRoom as Look>⟧.words room.new) new) }
-    ensures err { OnErr result (IsTree (⟦<VecRoom as Look>⟧.standing room.new) (⟦<VecRoom as Look>⟧.words room.new) root) }
+    ensures ok { IfOk result (λ new. IsTree (⟦<VecRoom as Look>⟧.standing room.new)
+        (⟦<VecRoom as Look>⟧.words room.new) new) }
+    ensures err { OnErr result (IsTree (⟦<VecRoom as Look>⟧.standing room.new)
+        (⟦<VecRoom as Look>⟧.words room.new) root) }
     ensures start { IsWriteStart (⟦<VecRoom as Look>⟧.standing room.new) }
 {
     match insert(room, root, &i.to_be_bytes(), &i.to_le_bytes()) {
@@ -33,12 +37,14 @@ pub(crate) fn put_number(room: &mut VecRoom, root: u64, i: u64) -> Result<u64, R
     }
 }
 
-/// Inserts the numbers below another in order, each write kept. Gives the root, and the first number that was refused, or
-/// the last one's next.
+/// Inserts the numbers below another in order, each write kept. Gives the root, and the first
+/// number that was refused, or the last one's next.
 fn put_numbers(room: &mut VecRoom, root: u64, to: u64) -> (u64, u64)
-    requires tree { IsTree (⟦<VecRoom as Look>⟧.standing room.old) (⟦<VecRoom as Look>⟧.words room.old) root }
+    requires tree { IsTree (⟦<VecRoom as Look>⟧.standing room.old)
+        (⟦<VecRoom as Look>⟧.words room.old) root }
     requires start { IsWriteStart (⟦<VecRoom as Look>⟧.standing room.old) }
-    ensures tree { IsTree (⟦<VecRoom as Look>⟧.standing room.new) (⟦<VecRoom as Look>⟧.words room.new) result.0 }
+    ensures tree { IsTree (⟦<VecRoom as Look>⟧.standing room.new)
+        (⟦<VecRoom as Look>⟧.words room.new) result.0 }
     ensures start { IsWriteStart (⟦<VecRoom as Look>⟧.standing room.new) }
 {
     let mut root = root;
@@ -53,8 +59,10 @@ fn put_numbers(room: &mut VecRoom, root: u64, to: u64) -> (u64, u64)
 
 /// Takes the numbers below another out in order, each write kept.
 fn take_numbers(room: &mut VecRoom, root: u64, to: u64) -> Result<u64, Refusal>
-    requires tree { IsTree (⟦<VecRoom as Look>⟧.standing room.old) (⟦<VecRoom as Look>⟧.words room.old) root }
-    ensures tree { IfOk result (λ new. IsTree (⟦<VecRoom as Look>⟧.standing room.new) (⟦<VecRoom as Look>⟧.words room.new) new) }
+    requires tree { IsTree (⟦<VecRoom as Look>⟧.standing room.old)
+        (⟦<VecRoom as Look>⟧.words room.old) root }
+    ensures tree { IfOk result (λ new. IsTree (⟦<VecRoom as Look>⟧.standing room.new)
+        (⟦<VecRoom as Look>⟧.words room.new) new) }
 {
     let mut root = root;
     for i in 0..to {
@@ -64,7 +72,8 @@ fn take_numbers(room: &mut VecRoom, root: u64, to: u64) -> Result<u64, Refusal>
     Ok(root)
 }
 
-/// How many of so many pages are free once the numbers below a count are inserted, if they are met in order then.
+/// How many of so many pages are free once the numbers below a count are inserted, if they are met
+/// in order then.
 pub(crate) fn free_with(alloc: Global, line: &str) -> Result<String, Refusal> {
     let (pages, numbers) = first_number(line);
     let (count, _) = first_number(numbers);
@@ -77,7 +86,8 @@ pub(crate) fn free_with(alloc: Global, line: &str) -> Result<String, Refusal> {
     Ok(format!(in alloc; "{free}")?)
 }
 
-/// The root, and how many of so many pages are free, once the numbers below a count are inserted and taken out again.
+/// The root, and how many of so many pages are free, once the numbers below a count are inserted
+/// and taken out again.
 pub(crate) fn free_without(alloc: Global, line: &str) -> Result<String, Refusal> {
     let (pages, numbers) = first_number(line);
     let (count, _) = first_number(numbers);
@@ -88,8 +98,8 @@ pub(crate) fn free_without(alloc: Global, line: &str) -> Result<String, Refusal>
     Ok(format!(in alloc; "{accepted} taken, root {root}, {free} free")?)
 }
 
-/// Twelve pairs stand in one page; the thirteenth makes two leaves and an inner page. Rising keys fill their pages: 600 pairs
-/// take 50 leaves of 12, five pages above them and the root.
+/// Twelve pairs stand in one page; the thirteenth makes two leaves and an inner page. Rising keys
+/// fill their pages: 600 pairs take 50 leaves of 12, five pages above them and the root.
 #[test]
 fn tree_pages(rt: HostRuntime) -> Result<(), Fail> {
     let lines = "free 16 1 => 15
@@ -110,8 +120,8 @@ free 16384 0 => 16384";
     replies(rt.alloc(), lines)
 }
 
-/// In a room of eight pages at least 20 rising keys are accepted and at most 60. The next one is refused, and its write
-/// undone: the pairs before it stand.
+/// In a room of eight pages at least 20 rising keys are accepted and at most 60. The next one is
+/// refused, and its write undone: the pairs before it stand.
 #[test]
 fn full_tree(rt: HostRuntime) -> Result<(), Fail> {
     let mut room = room_of(rt.alloc(), 8)?;
@@ -135,7 +145,8 @@ fn value_key(node: u8) -> [u8; 10] {
 
 /// Inserts the keys of nodes, and gives the root.
 fn put_nodes(room: &mut VecRoom, nodes: &[u8]) -> Result<u64, Refusal>
-    ensures tree { IfOk result (λ root. IsTree (⟦<VecRoom as Look>⟧.standing room.new) (⟦<VecRoom as Look>⟧.words room.new) root) }
+    ensures tree { IfOk result (λ root. IsTree (⟦<VecRoom as Look>⟧.standing room.new)
+        (⟦<VecRoom as Look>⟧.words room.new) root) }
 {
     let mut root = 0;
     for node in nodes {
@@ -144,7 +155,8 @@ fn put_nodes(room: &mut VecRoom, nodes: &[u8]) -> Result<u64, Refusal>
     Ok(root)
 }
 
-/// Whether the keys of these nodes, and no others, stand in the tree from the text `x` on, in this order.
+/// Whether the keys of these nodes, and no others, stand in the tree from the text `x` on, in this
+/// order.
 fn has_nodes<L: Look>(look: &mut L, root: u64, nodes: &[u8]) -> bool
     requires { IsTree (L.standing look.old) (L.words look.old) root }
     ensures { IsUnchanged L.kept L.standing L.words look.old look.new }

@@ -1,8 +1,10 @@
-//! What requests cost the volume in pages: how many words of pages they read and store, and how many pages they take.
+//! What requests cost the volume in pages: how many words of pages they read and store, and how
+//! many pages they take.
 //!
-//! A row is `REQUEST => COST`, in the words of a script. Each row has a volume of its own, which is made alike each time: a page
-//! that is used again has words of what was written there before, and of these none is stored again. So a cost hangs on no
-//! other row, and is the same in each run. It is told exactly: a row fails where its cost grows, and where it falls.
+//! A row is `REQUEST => COST`, in the words of a script. Each row has a volume of its own, which is
+//! made alike each time: a page that is used again has words of what was written there before, and
+//! of these none is stored again. So a cost hangs on no other row, and is the same in each run. It
+//! is told exactly: a row fails where its cost grows, and where it falls.
 ghost use Rattle.std.specs.Prelude.{◌≤◌, ◌<◌, ◌+◌, ◌^◌, length, IsTrue};
 ghost use Rattle.be_volume.specs.Volume.{State};
 ghost use Rattle.be_paged.specs.Version.{IsVersion};
@@ -27,8 +29,8 @@ use std::test::Fail;
 /// How many nodes of the volume have attributes. The next one is bare.
 const NODES: u64 = 300;
 
-/// The list that makes a node. Its name and its size have an index, and its kind has none. Names and sizes come in an order that
-/// is far from rising.
+/// The list that makes a node. Its name and its size have an index, and its kind has none. Names
+/// and sizes come in an order that is far from rising.
 fn node_text(alloc: Global, node: u64) -> Result<String, AllocError> {
     let name = 10_000 + node.wrapping_mul(271) % NODES;
     let size = node.wrapping_mul(577) % NODES * 10;
@@ -77,8 +79,8 @@ fn count_get(both: Both, node: u64, name: &Name) -> Cost {
     }
 }
 
-/// The nodes of a query, as a store asks for them, and the look. The plain volume isn't asked: it tells which volume the pages
-/// spell.
+/// The nodes of a query, as a store asks for them, and the look. The plain volume isn't asked: it
+/// tells which volume the pages spell.
 fn answer_pages<L: Look>(
     alloc: Global,
     _plain: &Volume,
@@ -114,7 +116,8 @@ fn query_cost(alloc: Global, text: &str) -> Result<Cost, Fail> {
     }
 }
 
-/// What a prepared query costs when it is asked again: the nodes, or none where a plan would be asked.
+/// What a prepared query costs when it is asked again: the nodes, or none where a plan would be
+/// asked.
 fn count_again(alloc: Global, both: Both, query: Query) -> Result<Cost, Refusal> {
     let Both {
         plain: _plain,
@@ -176,7 +179,8 @@ fn count_write(both: Both, ops: &[Op]) -> Result<Cost, Fail> {
     })
 }
 
-/// One of several sets in a list: of the sizes of nodes far apart, or of new names on the bare node.
+/// One of several sets in a list: of the sizes of nodes far apart, or of new names on the bare
+/// node.
 fn set_of(kind: &str, number: u8) -> Result<Op, Refusal> {
     if kind == "names" {
         return Ok(Op::Set(NODES + 1, numbered(number)?, Value::int32(1)));
@@ -260,10 +264,11 @@ fn expect_rows(alloc: Global, rows: &str) -> Result<(), Fail> {
     Ok(())
 }
 
-/// By what each would grow: the get by a second descent of the catalog's tree; a query of one node by a second descent of its
-/// index's tree, or by a look at the node; a range and a front by a descent for each key, where they go along the leaves; and
-/// the filter, which makes a descent of the catalog's tree for each of a hundred nodes, by a hundred for each word that a descent
-/// reads more.
+/// By what each would grow: the get by a second descent of the catalog's tree; a query of one node
+/// by a second descent of its index's tree, or by a look at the node; a range and a front by a
+/// descent for each key, where they go along the leaves; and the filter, which makes a descent of
+/// the catalog's tree for each of a hundred nodes, by a hundred for each word that a descent reads
+/// more.
 #[test]
 fn read_costs(rt: HostRuntime) -> Result<(), Fail> {
     let rows = r#"get 150 size => 1 found, 44 words read
@@ -275,7 +280,8 @@ query name=="101*" && size>=1500 => 50 found, 6734 words read"#;
     expect_rows(rt.alloc(), rows)
 }
 
-/// Prepared queries at their second asking. Each would grow by a search for its index, whose name is compared where it stood, or by a look at a node.
+/// Prepared queries at their second asking. Each would grow by a search for its index, whose name
+/// is compared where it stood, or by a look at a node.
 #[test]
 fn prepared_costs(rt: HostRuntime) -> Result<(), Fail> {
     let rows = r#"again name=="10150-document.txt" => 1 found, 40 words read
@@ -284,12 +290,13 @@ again size>=1000 && size<2000 => 100 found, 426 words read"#;
     expect_rows(rt.alloc(), rows)
 }
 
-/// A new node, a set with an index, two sets without one, of which the second sets what stands, lists of sets of many nodes and
-/// of one, and a drop.
+/// A new node, a set with an index, two sets without one, of which the second sets what stands,
+/// lists of sets of many nodes and of one, and a drop.
 ///
-/// By what each would grow: in pages by one that is copied twice in a list, as the version's page for each operation, or by one of
-/// a tree that doesn't change; in words stored by a page that is written whole where it could be edited, or by words that are
-/// written though they stand; and in words read by a descent more, or by what is asked anew for each set of a list.
+/// By what each would grow: in pages by one that is copied twice in a list, as the version's page
+/// for each operation, or by one of a tree that doesn't change; in words stored by a page that is
+/// written whole where it could be edited, or by words that are written though they stand; and in
+/// words read by a descent more, or by what is asked anew for each set of a list.
 #[test]
 fn write_costs(rt: HostRuntime) -> Result<(), Fail> {
     let rows =

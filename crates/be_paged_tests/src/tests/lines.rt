@@ -1,4 +1,5 @@
-//! Requests of tests and the texts of answers, in the words of scripts. What is refused memory is made again.
+//! Requests of tests and the texts of answers, in the words of scripts. What is refused memory is
+//! made again.
 use arrayvec::ArrayVec;
 use be_script_language::{Reply, Request, read_line};
 use be_test_tools::{done_lines, reply_lines};

@@ -1,4 +1,5 @@
-//! The nodes of a version from a number on, of volumes that a leaf holds and that it doesn't: a leaf has 12 pairs at most.
+//! The nodes of a version from a number on, of volumes that a leaf holds and that it doesn't: a
+//! leaf has 12 pairs at most.
 //!
 //! A row is `FROM MOST => NODES`. What is refused memory is asked again, as elsewhere here.
 ghost use Rattle.be_pages.specs.Pages.{IsUnchanged};
@@ -22,8 +23,11 @@ fn nodes_pages(
     from: u64,
     most: usize,
 ) -> Result<Vec<u64>, Refusal>
-    requires version { (volume : State) × IsVersion (⟦<VecRoom as Look>⟧.standing room.old) (⟦<VecRoom as Look>⟧.words room.old) page volume }
-    ensures unchanged { IsUnchanged ⟦<VecRoom as Look>⟧.kept ⟦<VecRoom as Look>⟧.standing ⟦<VecRoom as Look>⟧.words room.old room.new }
+    requires version { (volume : State)
+        × IsVersion (⟦<VecRoom as Look>⟧.standing room.old) (⟦<VecRoom as Look>⟧.words room.old)
+        page volume }
+    ensures unchanged { IsUnchanged ⟦<VecRoom as Look>⟧.kept ⟦<VecRoom as Look>⟧.standing ⟦<VecRoom
+        as Look>⟧.words room.old room.new }
 {
     match nodes(alloc, room, page, from, most) {
         Err(Refusal::OutOfMemory) => nodes(alloc, room, page, from, most),

@@ -26,8 +26,8 @@ impl Random {
     }
 }
 
-/// What lists are made of: of the youngest nodes so many, so many names, one new node in so many that could be, and the pages
-/// of the room.
+/// What lists are made of: of the youngest nodes so many, so many names, one new node in so many
+/// that could be, and the pages of the room.
 #[derive(Drop)]
 struct Mix {
     nodes: u64,
@@ -235,7 +235,8 @@ fn is_often(seen: &[u64; 23], number: &str) -> bool {
     seen[place] > 100
 }
 
-/// 10,000 lists. Many are accepted, and many refused by the volume in each way, and for want of pages.
+/// 10,000 lists. Many are accepted, and many refused by the volume in each way, and for want of
+/// pages.
 #[test]
 fn random_lists(rt: HostRuntime) -> Result<(), Fail> {
     let mut random = Random {

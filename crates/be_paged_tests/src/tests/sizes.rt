@@ -1,5 +1,6 @@
-//! The greatest sizes, by the plain volume and by the one over pages: a list of 64 operations is taken, 64 attributes of a node
-//! and 32 indices are taken and listed whole, and one attribute and one index more are refused.
+//! The greatest sizes, by the plain volume and by the one over pages: a list of 64 operations is
+//! taken, 64 attributes of a node and 32 indices are taken and listed whole, and one attribute and
+//! one index more are refused.
 use crate::tests::both::Both;
 use be_value::{Kind, Name, Refusal, Value};
 use be_volume::Op;

@@ -40,7 +40,8 @@ fn keys_within(volume: &Volume, name: &Name, low: &[u8], high: Option<&[u8]>) ->
 /// What a source was asked.
 #[derive(Drop)]
 pub(crate) struct Counts {
-    /// The first letter of an index for each key that was asked of it; of a range that was asked for whole, for each of its keys and for its end.
+    /// The first letter of an index for each key that was asked of it; of a range that was asked
+    /// for whole, for each of its keys and for its end.
     pub asked: ArrayString<64>,
     pub kinds: u64,
     pub ranges: u64,
@@ -136,7 +137,8 @@ pub(crate) fn nodes_by(
     Ok(Some((nodes, source.counts)))
 }
 
-/// The nodes by what is chosen where the source tells the kinds, and what was asked to choose and to find them.
+/// The nodes by what is chosen where the source tells the kinds, and what was asked to choose and
+/// to find them.
 pub(crate) fn nodes_chosen(
     alloc: Global,
     volume: &Volume,

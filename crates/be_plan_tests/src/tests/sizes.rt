@@ -1,5 +1,5 @@
-//! As many nodes of a plain volume as a version may have, by each way to ask for them. No contract rules out that memory runs out at
-//! one size alone.
+//! As many nodes of a plain volume as a version may have, by each way to ask for them. No contract
+//! rules out that memory runs out at one size alone.
 use super::write;
 use be_plan::{answer, choose_from, run, volume_source};
 use be_query::{Query, parse};

@@ -54,8 +54,9 @@ impl Stages {
     }
 }
 
-/// Keeps pass 0 before its one line and behind it, each time until pass 1 has looked how many entries there are. The stages: pass
-/// 0 stands before its line; pass 1 has looked; pass 0 stands behind its line; pass 1 has looked again.
+/// Keeps pass 0 before its one line and behind it, each time until pass 1 has looked how many
+/// entries there are. The stages: pass 0 stands before its line; pass 1 has looked; pass 0 stands
+/// behind its line; pass 1 has looked again.
 #[derive(Drop)]
 struct Around {
     stages: Stages,
@@ -79,8 +80,9 @@ impl Gate for Around {
     }
 }
 
-/// Keeps pass 0 before its first line until pass 1 has run both of its lines, and pass 1 behind them until pass 0 has run that one.
-/// The stages: pass 0 stands before its first line; pass 1 has run its lines; pass 0 stands before its second line.
+/// Keeps pass 0 before its first line until pass 1 has run both of its lines, and pass 1 behind
+/// them until pass 0 has run that one. The stages: pass 0 stands before its first line; pass 1 has
+/// run its lines; pass 0 stands before its second line.
 #[derive(Drop)]
 struct HoldsBack {
     stages: Stages,
@@ -103,7 +105,8 @@ impl Gate for HoldsBack {
     }
 }
 
-/// While pass 0 stands before its line, pass 1 sees no entry, and while it stands behind the line, one.
+/// While pass 0 stands before its line, pass 1 sees no entry, and while it stands behind the line,
+/// one.
 #[test]
 fn lines_run_inside(rt: HostRuntime) -> Result<(), Fail> {
     for _ in 0..2 {
@@ -119,7 +122,8 @@ fn lines_run_inside(rt: HostRuntime) -> Result<(), Fail> {
     Err(Fail::new("out of memory"))
 }
 
-/// A line that a gate holds back comes behind all of the other script: what is written is this text alone.
+/// A line that a gate holds back comes behind all of the other script: what is written is this text
+/// alone.
 #[test]
 fn line_held_back(rt: HostRuntime) -> Result<(), Fail> {
     for _ in 0..2 {

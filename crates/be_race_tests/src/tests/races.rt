@@ -147,7 +147,8 @@ impl Calls {
         }
     }
 
-    /// Whether the calls were just these: for each of so many lines from 1 on one before it, and then one after it.
+    /// Whether the calls were just these: for each of so many lines from 1 on one before it, and
+    /// then one after it.
     fn are_of(&self, lines: u64) -> bool {
         self.strays.load(SeqCst) == 0
             && self.begun.load(SeqCst) == lines
@@ -185,7 +186,8 @@ impl Gate for Record {
     }
 }
 
-/// A flag for each of two passes. Before its second line a pass raises its own and waits until the other's is up.
+/// A flag for each of two passes. Before its second line a pass raises its own and waits until the
+/// other's is up.
 #[derive(Drop)]
 struct Meeting {
     flags: [AtomicU64; 2],
@@ -235,12 +237,14 @@ impl Gate for Meeting {
     }
 }
 
-/// Whether each of two passes was told of its two lines, and found the other one in the middle of its script.
+/// Whether each of two passes was told of its two lines, and found the other one in the middle of
+/// its script.
 fn have_met(gate: &Meeting) -> bool {
     gate.missed.load(SeqCst) == 0 && gate.record.first.are_of(2) && gate.record.second.are_of(2)
 }
 
-/// Two threads are in the middle of their scripts at once. One thread can't pass, in whatever order it takes the lines.
+/// Two threads are in the middle of their scripts at once. One thread can't pass, in whatever order
+/// it takes the lines.
 #[test]
 fn both_threads_run(rt: HostRuntime) -> Result<(), Fail> {
     let gate = Meeting::new();
@@ -253,7 +257,8 @@ fn both_threads_run(rt: HostRuntime) -> Result<(), Fail> {
     )
 }
 
-/// Whether a gate is told of so many lines of a script, and of none of an empty one beside it; None where memory was wanted.
+/// Whether a gate is told of so many lines of a script, and of none of an empty one beside it; None
+/// where memory was wanted.
 fn tells_lines<R: Threads + Wait>(
     rt: &R,
     alloc: Global,
@@ -267,7 +272,8 @@ fn tells_lines<R: Threads + Wait>(
     }
 }
 
-/// Fails unless a gate is told of as many lines of a script as stand before it, in which a `|` is an LF.
+/// Fails unless a gate is told of as many lines of a script as stand before it, in which a `|` is
+/// an LF.
 fn check_lines<R: Threads + Wait>(rt: &R, alloc: Global, line: &str) -> Result<(), Fail> {
     let (count, script) = line.split_once(" ").unwrap_or(("0", line));
     let lines = word_of(count.as_bytes()).unwrap_or(0);
@@ -403,7 +409,8 @@ fn check_length<R: Threads + Wait>(
     expect(ended == end, ended)
 }
 
-/// A script that is too long, behind one that is empty: nothing is written. A byte less, and it is run.
+/// A script that is too long, behind one that is empty: nothing is written. A byte less, and it is
+/// run.
 #[test]
 fn longest_scripts(rt: HostRuntime) -> Result<(), Fail> {
     check_length(&rt, rt.alloc(), 1_048_577, "too long")?;
@@ -418,7 +425,8 @@ fn end_on<R: Threads + Wait>(rt: &R, alloc: Global, pages: u64) -> &'static str 
     }
 }
 
-/// Fails unless so many pages are told to be out of range, at the second race where memory was wanted at the first.
+/// Fails unless so many pages are told to be out of range, at the second race where memory was
+/// wanted at the first.
 fn check_limits<R: Threads + Wait>(rt: &R, alloc: Global, pages: u64) -> Result<(), Fail> {
     let ended = match end_on(rt, alloc, pages) {
         "memory" => end_on(rt, alloc, pages),
@@ -434,8 +442,8 @@ fn limits_of_a_race(rt: HostRuntime) -> Result<(), Fail> {
     check_limits(&rt, rt.alloc(), 16385)
 }
 
-/// How many nodes the second script of a race made, and how many of its lines were refused by Full with this number of
-/// entries.
+/// How many nodes the second script of a race made, and how many of its lines were refused by Full
+/// with this number of entries.
 fn count_fulls(alloc: Global, written: &str) -> Result<(usize, usize), AllocError> {
     let entries = written.matches(" by 1 new -> node ").count();
     let full = format!(in alloc; "refused 11 Full {entries}")?;
@@ -444,7 +452,8 @@ fn count_fulls(alloc: Global, written: &str) -> Result<(usize, usize), AllocErro
     Ok((entries, fulls))
 }
 
-/// The same of a race of an empty script and this one, on so many pages; None where memory was wanted.
+/// The same of a race of an empty script and this one, on so many pages; None where memory was
+/// wanted.
 fn fulls_on<R: Threads + Wait>(
     rt: &R,
     alloc: Global,
@@ -476,8 +485,8 @@ fn check_fulls<R: Threads + Wait>(
     Err(Fail::new(pages))
 }
 
-/// A race has as many pages as its limits say: 8 refuse some of 60 nodes, and tell the current version where nothing is
-/// pinned; 64 take them all.
+/// A race has as many pages as its limits say: 8 refuse some of 60 nodes, and tell the current
+/// version where nothing is pinned; 64 take them all.
 #[test]
 fn pages_of_a_race(rt: HostRuntime) -> Result<(), Fail> {
     let script = repeated(rt.alloc(), "new\n", 60)?;
@@ -485,8 +494,9 @@ fn pages_of_a_race(rt: HostRuntime) -> Result<(), Fail> {
     check_fulls(&rt, rt.alloc(), script.as_str(), 64, false)
 }
 
-/// Whether a race writes as many bytes as there is room for, and then ends with `Write`; or with success, where there is
-/// room for all. It may say no where memory was wanted, which isn't told as `Write`.
+/// Whether a race writes as many bytes as there is room for, and then ends with `Write`; or with
+/// success, where there is room for all. It may say no where memory was wanted, which isn't told as
+/// `Write`.
 fn fills<R: Threads + Wait>(rt: &R, alloc: Global, room: usize) -> Result<bool, RunFault> {
     let Ok(scripts) = scripts_of(alloc, &["new\n", ""]) else {
         return Ok(false);
@@ -524,7 +534,8 @@ fn may_write(ended: Result<bool, RunFault>, written: &str) -> bool {
     }
 }
 
-/// A request for memory that is refused is told as Memory, or by the line, over a writer that needs none.
+/// A request for memory that is refused is told as Memory, or by the line, over a writer that needs
+/// none.
 #[test]
 fn refused_memory(rt: HostRuntime) -> Result<(), Fail> {
     let alloc = rt.alloc();

@@ -97,7 +97,8 @@ pub fn dripped(alloc: Global, bytes: &[u8], fails: bool) -> Outcome {
     outcome
 }
 
-/// Whether a run of a script whose reader fails behind these bytes ends with `Read`, and writes nothing.
+/// Whether a run of a script whose reader fails behind these bytes ends with `Read`, and writes
+/// nothing.
 fn fails_behind(alloc: Global, bytes: &[u8]) -> bool {
     let outcome = dripped(alloc, bytes, true);
     outcome.end == "read" && outcome.written == 0
@@ -115,8 +116,8 @@ fn failing_reader(rt: HostRuntime) -> Result<(), Fail> {
     Ok(())
 }
 
-/// Whether a run writes as many bytes of the replies as there is room for, and then ends with `Write`; or with success,
-/// where there is room for all.
+/// Whether a run writes as many bytes of the replies as there is room for, and then ends with
+/// `Write`; or with success, where there is room for all.
 fn fills(alloc: Global, room: usize, fails: bool) -> bool {
     let mut writer = Narrow::new(REPLIES.as_bytes(), room, fails);
     let end = end_of(run(alloc, &mut SCRIPT.as_bytes(), &mut writer, LIMITS));
@@ -127,7 +128,8 @@ fn fills(alloc: Global, room: usize, fails: bool) -> bool {
     }
 }
 
-/// The same of a writer that fails and of one that takes nothing, at the second run where memory may have been wanted at the first.
+/// The same of a writer that fails and of one that takes nothing, at the second run where memory
+/// may have been wanted at the first.
 fn fills_by_each(alloc: Global, room: usize) -> bool {
     (fills(alloc, room, true) || fills(alloc, room, true))
         && (fills(alloc, room, false) || fills(alloc, room, false))
@@ -147,8 +149,8 @@ fn failing_writer(rt: HostRuntime) -> Result<(), Fail> {
 /// What is written where no line wants memory.
 const OUTPUT: &str = "node 1\nok\nok\nnodes\n";
 
-/// What may be written where a line wants memory, but its last LF, with a blank line between: that line is refused, and those
-/// behind it see a store without it.
+/// What may be written where a line wants memory, but its last LF, with a blank line between: that
+/// line is refused, and those behind it see a store without it.
 const OUTPUTS: &str = "refused 10 OutOfMemory\nrefused 2 NoNode\nok\nnodes\n
 node 1\nrefused 10 OutOfMemory\nok\nnodes\n
 node 1\nok\nrefused 10 OutOfMemory\nrefused 17 NotCovered\n
@@ -174,7 +176,8 @@ fn is_among(text: &str, texts: &str) -> bool {
     false
 }
 
-/// Where a request for memory is refused, the line is answered so, or the run ends with `Memory` and a front is written.
+/// Where a request for memory is refused, the line is answered so, or the run ends with `Memory`
+/// and a front is written.
 #[test]
 fn refused_memory(rt: HostRuntime) -> Result<(), Fail> {
     let alloc = rt.alloc();

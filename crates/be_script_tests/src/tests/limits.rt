@@ -170,14 +170,15 @@ fn commits_spent(rt: HostRuntime) -> Result<(), Fail> {
     check_bytes(rt.alloc(), script, replies, 2)
 }
 
-/// Whether a run of these bytes, each of which costs a read, ends so behind 1,048,577 reads, and writes nothing.
+/// Whether a run of these bytes, each of which costs a read, ends so behind 1,048,577 reads, and
+/// writes nothing.
 fn ends_unwritten(alloc: Global, bytes: &[u8], fails: bool, end: &str) -> bool {
     let outcome = dripped(alloc, bytes, fails);
     outcome.end == end && outcome.written == 0 && outcome.reads == 1_048_577
 }
 
-/// 1,048,576 bytes run, a byte more is too long, and each byte costs a read. A read that fails behind the last byte that
-/// there may be is told, and one behind a byte more is never made.
+/// 1,048,576 bytes run, a byte more is too long, and each byte costs a read. A read that fails
+/// behind the last byte that there may be is told, and one behind a byte more is never made.
 #[test]
 fn longest_script(rt: HostRuntime) -> Result<(), Fail> {
     let alloc = rt.alloc();

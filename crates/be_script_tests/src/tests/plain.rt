@@ -1,5 +1,6 @@
 //! A volume with its journal on one thread, as another server of scripts.
-ghost use Rattle.std.specs.Prelude.{◌≡◌, ◌≤◌, ◌<◌, ◌^◌, OnOk, IfErr, IsSome, true, length, unwrap_or};
+ghost use Rattle.std.specs.Prelude.{◌≡◌, ◌≤◌, ◌<◌, ◌^◌, OnOk, IfErr, IsSome, true, length};
+ghost use Rattle.std.specs.Prelude.{unwrap_or};
 ghost use Rattle.be_value.specs.declared.refusals.Refusal.TheVariants.{OutOfMemory};
 ghost use Rattle.be_script_runner.specs.Store.{start, viewed, MayWrite};
 
@@ -46,7 +47,8 @@ impl Model for PlainStore {
 
     ghost use Rattle.std.specs.Prelude.{◌≤◌, ◌+◌, ◌*◌, ◌^◌, ◌<◌, length};
 
-    ghost invariant = { λ s. (s.volume.next ≤ 1 + 64 * length s.journal.entries) × (length s.journal.entries ≤ s.journal.limit) × (s.journal.limit < 2 ^ 32) };
+    ghost invariant = { λ s. (s.volume.next ≤ 1 + 64 * length s.journal.entries)
+        × (length s.journal.entries ≤ s.journal.limit) × (s.journal.limit < 2 ^ 32) };
 }
 
 impl PlainStore {
@@ -64,8 +66,8 @@ impl PlainStore {
         }
     }
 
-    /// A refusal of the volume goes before one of the journal, and the journal makes its room before the volume is
-    /// changed.
+    /// A refusal of the volume goes before one of the journal, and the journal makes its room
+    /// before the volume is changed.
     fn write(&mut self, ops: &[Op]) -> Result<(u64, ArrayVec<Done, 64>), Refusal>
         requires some { 1 ≤ length ops.now }
         requires few { length ops.now ≤ 64 }

@@ -46,7 +46,8 @@ fn end_of_full(alloc: Global, full: &str, nodes: usize) -> Result<String, AllocE
     )
 }
 
-/// Whether these are 13 nodes or more but not 37, a refusal of each one after the first that is refused, and answers even so.
+/// Whether these are 13 nodes or more but not 37, a refusal of each one after the first that is
+/// refused, and answers even so.
 fn is_of_eight_pages(alloc: Global, replies: &str) -> Result<bool, AllocError> {
     let nodes = count_nodes(replies);
     let full = format!(in alloc; "refused 11 Full {nodes}")?;

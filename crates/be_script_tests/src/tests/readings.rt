@@ -1,4 +1,5 @@
-//! Rules of the script language, one after the other. A comment in a row is a comment of its script too.
+//! Rules of the script language, one after the other. A comment in a row is a comment of its script
+//! too.
 use super::check;
 use std::test::Fail;
 
@@ -43,7 +44,8 @@ fn words(rt: HostRuntime) -> Result<(), Fail> {
         mkindex k LONG => ok
         # Blanks part words.
         set␉1␠␠k␉␠LONG␠␉5 => ok
-        # A quoted word ends at the next quote that no backslash escapes, and a blank or the end of the line follows.
+        # A quoted word ends at the next quote that no backslash escapes,
+        and a blank or the end of the line follows.
         set 1 "a b" CSTR "c d" => ok
         get 1 "a b" => CSTR "c d"
         set 1 t CSTR "a\\" => ok
@@ -192,7 +194,8 @@ fn kinds(rt: HostRuntime) -> Result<(), Fail> {
         # Attributes are listed by name, by its bytes.
         set 1 é CSTR "" => ok
         set 1 Z LONG 5 => ok
-        attrs 1 => attrs 4 / "Z" LONG 5 / "m" MIMS "text/plain" / "r" RAWT "{255*9f}" / "é" CSTR """#,
+        attrs 1 => attrs 4 / "Z" LONG 5 / "m" MIMS "text/plain" / "r" RAWT "{255*9f}" / "é" CSTR
+        """#,
     )
 }
 
@@ -403,7 +406,8 @@ fn pins(rt: HostRuntime) -> Result<(), Fail> {
         # A refused write doesn't count.
         drop 9 => refused 2 NoNode
         pin => pin 8
-        # A pin of the version after all writes is left behind by the next write, by each in its turn.
+        # A pin of the version after all writes is left behind by the next write, by each
+        in its turn.
         drop 1 => ok
         attrs 1 => attrs 1 / "k" LONG 6
         drop 2 => ok

@@ -38,8 +38,8 @@ fn may_tell(ended: Result<bool, RunFault>, told: &str) -> bool {
     }
 }
 
-/// Whether a run of a script that tells its journal writes this, at the second run where memory may have been wanted at the
-/// first. It is told that the journal is legal.
+/// Whether a run of a script that tells its journal writes this, at the second run where memory may
+/// have been wanted at the first. It is told that the journal is legal.
 fn tells(alloc: Global, script: &str, told: &str) -> Result<bool, Fail> {
     Ok(tells_at_once(alloc, script, told)? || tells_at_once(alloc, script, told)?)
 }
@@ -62,7 +62,8 @@ fn dump_told(alloc: Global, told: &str) -> Result<String, AllocError> {
     }
 }
 
-/// Whether this is the script of the state that was told, at the second try where memory may have been wanted at the first.
+/// Whether this is the script of the state that was told, at the second try where memory may have
+/// been wanted at the first.
 fn has_state(alloc: Global, told: &str) -> bool {
     is_state(alloc, told) || is_state(alloc, told)
 }
@@ -111,8 +112,9 @@ fn journal_is_read(rt: HostRuntime) -> Result<(), Fail> {
     Ok(())
 }
 
-/// Whether a run that tells its journal writes as many bytes as there is room for, and then ends with `Write`; or with
-/// success, where there is room for all. It may say no where memory was wanted, which isn't told as `Write`.
+/// Whether a run that tells its journal writes as many bytes as there is room for, and then ends
+/// with `Write`; or with success, where there is room for all. It may say no where memory was
+/// wanted, which isn't told as `Write`.
 fn fills(alloc: Global, room: usize) -> Result<bool, RunFault> {
     let mut writer = Narrow::new(TOLD.as_bytes(), room, true);
     match run_and_tell(alloc, &mut SCRIPT.as_bytes(), &mut writer, LIMITS) {
@@ -135,7 +137,8 @@ fn failing_writer_of_a_telling(rt: HostRuntime) -> Result<(), Fail> {
     Ok(())
 }
 
-/// A request for memory that is refused is told as Memory, or by the line, over a writer that needs none.
+/// A request for memory that is refused is told as Memory, or by the line, over a writer that needs
+/// none.
 #[test]
 fn refused_memory_of_a_telling(rt: HostRuntime) -> Result<(), Fail> {
     let alloc = rt.alloc();
@@ -145,7 +148,8 @@ fn refused_memory_of_a_telling(rt: HostRuntime) -> Result<(), Fail> {
     Ok(())
 }
 
-/// Whether a run whose limits are out of range ends with that, and leaves nothing written, nor read.
+/// Whether a run whose limits are out of range ends with that, and leaves nothing written, nor
+/// read.
 fn leaves_all(alloc: Global, limits: Limits) -> bool {
     let mut script = SCRIPT.as_bytes();
     let mut written: Vec<u8> = Vec::new(alloc);

@@ -1,7 +1,7 @@
 //! The calls of one pass, as texts: a request in the words of scripts, and its reply.
 //!
-//! Each call's clauses end with the helper that makes it: what is left of them is that the pass is one of the store, with
-//! its number. Whether it is pinned, the helpers ask it.
+//! Each call's clauses end with the helper that makes it: what is left of them is that the pass is
+//! one of the store, with its number. Whether it is pinned, the helpers ask it.
 ghost use Rattle.std.specs.Prelude.{◌≡◌, ◌≤◌, ℕ, None, length};
 ghost use Rattle.be_store.specs.Passes.{IsPassOf, IsPinnedTo};
 ghost use Rattle.be_store.specs.Seats.{pinned_number};
@@ -144,7 +144,8 @@ pub(crate) fn ask_again(store: &Store, alloc: Global, pass: &mut Pass, live: &mu
     }
 }
 
-/// What came to a live query and went since it was asked last, at the pin, or at a pin that goes with the read.
+/// What came to a live query and went since it was asked last, at the pin, or at a pin that goes
+/// with the read.
 fn refresh(store: &Store, pass: &mut Pass, live: &mut Live) -> Result<Updates, Refusal>
     requires { IsPassOf store.now pass.old }
     ensures { StaysPass store.now pass.old pass.new }
@@ -236,8 +237,8 @@ fn asked(alloc: Global, words: &str) -> Result<Request, Refusal> {
     Ok(read_line(alloc, words.as_bytes())?)
 }
 
-/// What a pass is answered. The words are a list of operations with `;` between them, or what else a line of a script asks
-/// for.
+/// What a pass is answered. The words are a list of operations with `;` between them, or what else
+/// a line of a script asks for.
 pub(crate) fn answer(
     store: &Store,
     alloc: Global,

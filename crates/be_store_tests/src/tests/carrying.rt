@@ -98,7 +98,8 @@ fn carry(store: &Store, alloc: Global, mut pass: Pass) -> (Pass, Result<Room, Re
     (pass, room)
 }
 
-/// One pass makes a hundred nodes, while the state at the other's pin is carried on, each on a thread of its own.
+/// One pass makes a hundred nodes, while the state at the other's pin is carried on, each on a
+/// thread of its own.
 pub(crate) fn carry_meanwhile<R: Threads + Sync>(
     rt: &R,
     alloc: Global,

@@ -10,7 +10,8 @@ use be_store::{ApplyIfError, Op, Pass, Refusal, Store};
 use be_test_tools::list_of;
 use std::alloc::Global;
 
-/// A write of a list if the journal has this many entries. BadLimits where it has no operation, or more than 64.
+/// A write of a list if the journal has this many entries. BadLimits where it has no operation, or
+/// more than 64.
 fn write_if(store: &Store, alloc: Global, pass: &mut Pass, number: u64, ops: &[Op]) -> Text
     requires { IsPassOf store.now pass.old }
     ensures { StaysPass store.now pass.old pass.new }
@@ -90,7 +91,8 @@ fn answer_entries(store: &Store, alloc: Global, pass: &mut Pass, words: &str) ->
     )
 }
 
-/// What a pass is answered to `if NUMBER OPERATIONS`, `next` and `entries FROM MOST`, for which scripts have no words.
+/// What a pass is answered to `if NUMBER OPERATIONS`, `next` and `entries FROM MOST`, for which
+/// scripts have no words.
 pub(crate) fn answer_beside(
     store: &Store,
     alloc: Global,

@@ -21,8 +21,8 @@ fn pin_after(store: &Store, mut pass: Pass, mut witness: Witness) -> (Pass, u64)
     (pass, number)
 }
 
-/// The first pass hands what it has seen to the second, which pins on a thread of its own while the first makes a hundred
-/// nodes. Whether each node was accepted, and the number of the pin.
+/// The first pass hands what it has seen to the second, which pins on a thread of its own while the
+/// first makes a hundred nodes. Whether each node was accepted, and the number of the pin.
 pub(crate) fn hand_over<R: Threads + Sync>(
     rt: &R,
     store: &Store,

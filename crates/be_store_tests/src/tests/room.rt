@@ -1,5 +1,5 @@
-//! A store with its passes, which replies to requests. What is known of them is its invariant, so that no method has a
-//! clause.
+//! A store with its passes, which replies to requests. What is known of them is its invariant, so
+//! that no method has a clause.
 
 use crate::tests::calls::{Text, answer, ask_again, write};
 use crate::tests::carrying::carry_meanwhile;
@@ -36,7 +36,8 @@ impl Model for Room {
     ghost view = { λ r. r.store };
 
     ghost invariant = { λ r. IsPassOf r.store r.first × (r.first.knows.number ≡ 0)
-        × (r.has_second ≡ true → IsPassOf r.store r.second × (r.second.knows.number ≡ 1)) × (r.store.limits.passes ≡ r.passes) };
+        × (r.has_second ≡ true → IsPassOf r.store r.second × (r.second.knows.number ≡ 1))
+        × (r.store.limits.passes ≡ r.passes) };
 }
 
 /// The store of a room for one pass.
@@ -200,7 +201,8 @@ impl Room {
         state_text(&self.store, alloc, &mut self.first)
     }
 
-    /// The operations that make the version of pass 0 again, told once more where memory is refused.
+    /// The operations that make the version of pass 0 again, told once more where memory is
+    /// refused.
     pub(crate) fn state(&mut self, alloc: Global) -> Text {
         match self.state_once(alloc) {
             Err(Refusal::OutOfMemory) => self.state_once(alloc),
@@ -263,7 +265,8 @@ impl Room {
         closed(alloc, store, first)
     }
 
-    /// Two passes make a hundred nodes each, each on a thread of its own. The journal, and whether each write was accepted.
+    /// Two passes make a hundred nodes each, each on a thread of its own. The journal, and whether
+    /// each write was accepted.
     pub(crate) fn race<R: Threads + Sync>(
         self,
         rt: &R,
@@ -286,8 +289,8 @@ impl Room {
         Ok((journal, is_accepted))
     }
 
-    /// Pass 0 hands what it has seen to pass 1, which pins on a thread of its own while pass 0 makes a hundred nodes. The number
-    /// of the pin, and whether each node was accepted.
+    /// Pass 0 hands what it has seen to pass 1, which pins on a thread of its own while pass 0
+    /// makes a hundred nodes. The number of the pin, and whether each node was accepted.
     pub(crate) fn hand<R: Threads + Sync>(&mut self, rt: &R) -> Result<(u64, bool), Refusal> {
         if !self.has_second {
             return Err(Refusal::BadLimits);
@@ -303,8 +306,8 @@ impl Room {
         Ok((pinned.1, written.1))
     }
 
-    /// The state at the pin of pass 0 is carried on, while pass 1 makes a hundred nodes, each on a thread of its own. The room to
-    /// which it was carried on, and whether each node was accepted.
+    /// The state at the pin of pass 0 is carried on, while pass 1 makes a hundred nodes, each on a
+    /// thread of its own. The room to which it was carried on, and whether each node was accepted.
     pub(crate) fn carry<R: Threads + Sync>(
         &mut self,
         rt: &R,

@@ -1,8 +1,9 @@
-//! What is asked and answered at sizes between their bounds. No contract rules out a want of memory at one size alone.
+//! What is asked and answered at sizes between their bounds. No contract rules out a want of memory
+//! at one size alone.
 //!
-//! A row has the greatest size, and then requests with their replies, as all tests of a room have. In them `@` is the size, and
-//! `{PART}` the part once for each number from 2 to the size, with the number in place of `#`: so what stands before it, and
-//! it, are as many as the size says.
+//! A row has the greatest size, and then requests with their replies, as all tests of a room have.
+//! In them `@` is the size, and `{PART}` the part once for each number from 2 to the size, with the
+//! number in place of `#`: so what stands before it, and it, are as many as the size says.
 
 use crate::tests::room::{Room, for_one};
 use be_store::{Name, Op, Refusal, Value};
@@ -11,12 +12,13 @@ use be_value::word_of;
 use std::alloc::{AllocError, Global};
 use std::test::Fail;
 
-/// Comparisons, operations and attributes, indices, bytes of a query, of a name and of a value; each is read of the version of a
-/// pin that goes with the read, and of one that stands.
+/// Comparisons, operations and attributes, indices, bytes of a query, of a name and of a value;
+/// each is read of the version of a pin that goes with the read, and of one that stands.
 const ROWS: &str = "256
 0 mkindex k LONG;new;set 1 k LONG 0 => commit 1 / ok / node 1 / ok
 0 query k==0{||k==#} / 0 query k<1{&&k<#} => pin 1 / nodes 1 / pin 1 / nodes 1
-live k==0{||k==#} / 0 pin / 0 refresh / 0 query k!=1{&&k!=#} => ok / pin 1 / created 1 / removed / pin 1 / nodes 1
+live k==0{||k==#} / 0 pin / 0 refresh / 0 query k!=1{&&k!=#} => ok / pin 1 / created 1 / removed /
+pin 1 / nodes 1
 
 64
 0 new / 0 set 1 a1 LONG 1{;set 1 a# LONG 1} => commit 1 / node 1 / commit 2 / ok{ / ok}
@@ -103,7 +105,8 @@ fn sizes(rt: HostRuntime) -> Result<(), Fail> {
     Ok(())
 }
 
-/// How many nodes there are when a query and a live one are asked: around each power of two, and the bound.
+/// How many nodes there are when a query and a live one are asked: around each power of two, and
+/// the bound.
 const COUNTS: &str =
     "1 2 3 4 5 7 8 9 15 16 17 31 32 33 63 64 65 127 128 129 255 256 257 511 512 513 1023 1024 1025 2047 2048 \
 2049 4095 4096 4097 8191 8192 8193 16383 16384 16385 26000";
@@ -114,7 +117,8 @@ fn found_lines(alloc: Global, count: u64, pin: u64) -> Result<String, AllocError
     push_each(alloc, &mut nodes, " #", count)?;
     format!(in alloc;
         "live k==7 / 0 refresh / 0 query k==7 => ok / created {nodes} / removed / pin {pin} / nodes {nodes}
-0 pin / 0 refresh / 0 query k>6 && k!=8 || k==9 => pin {pin} / created / removed / pin {pin} / nodes {nodes}
+0 pin / 0 refresh / 0 query k>6 && k!=8
+|| k==9 => pin {pin} / created / removed / pin {pin} / nodes {nodes}
 live k>6 / 0 refresh / 0 unpin => ok / created {nodes} / removed / ok"
     )
 }

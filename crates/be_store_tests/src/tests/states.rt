@@ -50,7 +50,8 @@ fn next_list(store: &Store, alloc: Global, pass: &mut Pass, place: &mut Place) -
     }
 }
 
-/// The operations of up to a hundred lists at the pin; of the first list alone, where the pass isn't pinned.
+/// The operations of up to a hundred lists at the pin; of the first list alone, where the pass
+/// isn't pinned.
 pub(crate) fn state_text(store: &Store, alloc: Global, pass: &mut Pass) -> Text
     requires { IsPassOf store.now pass.old }
     ensures { StaysPass store.now pass.old pass.new }

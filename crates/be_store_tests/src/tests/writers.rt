@@ -10,7 +10,8 @@ use std::thread::Threads;
 
 const TRIES: u64 = 10_000_000;
 
-/// What a pass read before its next write: its pin, the number of the next node, and the count at node 1.
+/// What a pass read before its next write: its pin, the number of the next node, and the count at
+/// node 1.
 #[derive(Clone, Copy)]
 struct Seen {
     number: u64,
@@ -35,7 +36,8 @@ fn look(store: &Store, pass: &mut Pass, count: &Name) -> Seen
     }
 }
 
-/// Makes a node that says which pass made it, and adds one to the count, on what was read. Whether no other write came first.
+/// Makes a node that says which pass made it, and adds one to the count, on what was read. Whether
+/// no other write came first.
 fn change(store: &Store, pass: &mut Pass, seen: &Seen) -> Result<bool, Refusal>
     requires { IsPassOf store.now pass.old }
     ensures { IsPassOf store.now pass.new }
@@ -157,7 +159,8 @@ fn totals(store: &Store, alloc: Global, pass: &mut Pass) -> Result<(u64, i64), R
     Ok((made, count_of(store, pass)?))
 }
 
-/// Four threads make fifty nodes each and count them. How many of the four have made just fifty, and the count.
+/// Four threads make fifty nodes each and count them. How many of the four have made just fifty,
+/// and the count.
 pub(crate) fn change_by_four<R: AllocGlobal + Threads + Sync>(
     rt: &R,
 ) -> Result<(u64, i64), Refusal> {

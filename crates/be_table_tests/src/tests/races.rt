@@ -21,7 +21,8 @@ fn enter_hundred(table: &VersionTable, mut seat: Seat) -> (Seat, bool)
     (seat, entered)
 }
 
-/// The journal after two passes have entered a hundred nodes each, each on a thread of its own, and whether each was entered.
+/// The journal after two passes have entered a hundred nodes each, each on a thread of its own, and
+/// whether each was entered.
 fn race_once<R: Threads + Sync>(rt: &R, alloc: Global) -> Result<(Journal, bool), Refusal> {
     let limits = Limits {
         pages: 64,

@@ -72,7 +72,8 @@ fn value_of(table: &VersionTable, seat: Seat, node: u64, name: &Name) -> (Seat, 
     (look.into_seat(), value)
 }
 
-/// The kind of the index of a name, and a node's value there, of the pinned version as a source of queries.
+/// The kind of the index of a name, and a node's value there, of the pinned version as a source of
+/// queries.
 fn ask_source(
     table: &VersionTable,
     seat: Seat,

@@ -1,5 +1,5 @@
-//! A table with its seats, which replies to requests. What is known of them is its invariant, so that no method has a
-//! clause.
+//! A table with its seats, which replies to requests. What is known of them is its invariant, so
+//! that no method has a clause.
 ghost use Rattle.std.specs.Prelude.{◌≡◌, length, IfOk};
 ghost use Rattle.be_table.specs.Works.{AreNew};
 ghost use Rattle.be_table_tests.specs.Resting.{IsResting};
@@ -32,12 +32,14 @@ impl Model for Room {
 
     ghost view = { λ r. r.table };
 
-    ghost invariant = { λ r. IsResting r.table r.first × IsResting r.table r.second × IsResting r.table r.third };
+    ghost invariant = { λ r. IsResting r.table r.first × IsResting r.table r.second
+        × IsResting r.table r.third };
 }
 
 /// A table with these limits and its seats. Version 0 spells the empty volume.
 pub(crate) fn open(alloc: Global, limits: Limits) -> Result<(VersionTable, Vec<Seat>), Refusal>
-    ensures { IfOk result (λ r. (r.0.limits ≡ limits) × (length r.1.items ≡ limits.passes) × AreNew r.0 0 r.1.items) }
+    ensures { IfOk result (λ r. (r.0.limits ≡ limits) × (length r.1.items ≡ limits.passes)
+        × AreNew r.0 0 r.1.items) }
 {
     VersionTable::open(alloc, limits, &first_page())
 }
@@ -78,7 +80,8 @@ pub(crate) fn opened(alloc: Global, pages: u64) -> Result<Room, Refusal> {
     }
 }
 
-/// What two passes are answered, whose requests stand before and behind ` | `, while another one holds the lock.
+/// What two passes are answered, whose requests stand before and behind ` | `, while another one
+/// holds the lock.
 fn hold(
     table: &VersionTable,
     alloc: Global,
@@ -87,8 +90,10 @@ fn hold(
     third: &mut Seat,
     requests: &str,
 ) -> Text
-    requires { IsResting table.now holder.old × IsResting table.now second.old × IsResting table.now third.old }
-    ensures { IsResting table.now holder.new × IsResting table.now second.new × IsResting table.now third.new }
+    requires { IsResting table.now holder.old × IsResting table.now second.old
+        × IsResting table.now third.old }
+    ensures { IsResting table.now holder.new × IsResting table.now second.new
+        × IsResting table.now third.new }
 {
     let (before, behind) = requests.split_once(" | ").unwrap_or((requests, ""));
     let writing = match table.lock(holder.move_out()) {
@@ -134,8 +139,8 @@ fn write_between(
     )
 }
 
-/// A pass looks, another one enters so many nodes, and then the first announces what it saw and looks again. What it saw
-/// at both looks.
+/// A pass looks, another one enters so many nodes, and then the first announces what it saw and
+/// looks again. What it saw at both looks.
 #[tactic(auto, using(crate::proofs::Phases::idle_at_rest))]
 fn pin_late(
     table: &VersionTable,
