@@ -150,16 +150,16 @@ fn numbers_have_bytes(rt: HostRuntime) -> Result<(), Fail> {
 /// A value of each kind, and the numbers at the bounds of their kinds.
 #[test]
 fn values_have_bytes(rt: HostRuntime) -> Result<(), Fail> {
-    let lines = r#"1 by 0 set 1 "a" CSTR "" -> ok => 0 1 2 1 1 97 1 0
-1 by 0 set 1 "a" LONG 2147483647 -> ok => 0 1 2 1 1 97 2 254 127 255 255 255
-1 by 0 set 1 "a" LONG -1 -> ok => 0 1 2 1 1 97 130 0
-1 by 0 set 1 "a" LONG -2147483648 -> ok => 0 1 2 1 1 97 130 254 127 255 255 255
-1 by 0 set 1 "a" LLNG -9223372036854775808 -> ok => 0 1 2 1 1 97 131 255 127 255 255 255 255 255 255
-255
-1 by 0 set 1 "a" MIMS "t/p" -> ok => 0 1 2 1 1 97 4 3 116 47 112
-1 by 0 set 1 "a" RAWT "00ff" -> ok => 0 1 2 1 1 97 5 2 0 255
-1 by 0 set 1 "a" ULNG 4294967295 -> ok => 0 1 2 1 1 97 6 254 255 255 255 255
-1 by 0 set 1 "a" ULLG 300 -> ok => 0 1 2 1 1 97 7 253 1 44"#;
+    let lines = "1 by 0 set 1 \"a\" CSTR \"\" -> ok => 0 1 2 1 1 97 1 0
+1 by 0 set 1 \"a\" LONG 2147483647 -> ok => 0 1 2 1 1 97 2 254 127 255 255 255
+1 by 0 set 1 \"a\" LONG -1 -> ok => 0 1 2 1 1 97 130 0
+1 by 0 set 1 \"a\" LONG -2147483648 -> ok => 0 1 2 1 1 97 130 254 127 255 255 255
+1 by 0 set 1 \"a\" LLNG -9223372036854775808 -> ok => 0 1 2 1 1 97 131 255 127 255 255 255 255 255 \
+     255 255
+1 by 0 set 1 \"a\" MIMS \"t/p\" -> ok => 0 1 2 1 1 97 4 3 116 47 112
+1 by 0 set 1 \"a\" RAWT \"00ff\" -> ok => 0 1 2 1 1 97 5 2 0 255
+1 by 0 set 1 \"a\" ULNG 4294967295 -> ok => 0 1 2 1 1 97 6 254 255 255 255 255
+1 by 0 set 1 \"a\" ULLG 300 -> ok => 0 1 2 1 1 97 7 253 1 44";
     check_lines(rt.alloc(), &mut Encoder, lines)
 }
 

@@ -65,7 +65,8 @@ fn answer_aside<R: Eprint>(rt: &R, line: &Line, aside: Aside) {
     let _ = match (aside, line) {
         (Aside::Cancelled, _) => eprintln!(rt;),
         (Aside::Cut, _) => eprintln!(rt;
-            "not run: a terminal cuts a line of more than 4094 bytes; put it into a file, and: read FILE"
+            "not run: a terminal cuts a line of more than 4094 bytes; put it into a file, and: \
+             read FILE"
         ),
         (Aside::Help, Line::Short(bytes)) => {
             tell_help(rt, bytes.as_slice());

@@ -65,7 +65,8 @@ fn two_passes(rt: HostRuntime) -> Result<(), Fail> {
 #[test]
 fn index_made_later(rt: HostRuntime) -> Result<(), Fail> {
     let lines =
-        "0 new / 0 set 1 size LONG 5 / 0 mkindex size LONG => commit 1 / node 1 / commit 2 / ok / commit 3 / ok
+        "0 new / 0 set 1 size LONG 5 / 0 mkindex size LONG => commit 1 / node 1 / commit 2 / ok / \
+         commit 3 / ok
 0 pin / 0 query size==5 / 0 unpin => pin 3 / pin 3 / nodes / ok
 0 set 1 size LONG 5 / 0 pin / 0 query size==5 => commit 4 / ok / pin 4 / pin 4 / nodes 1";
     check_lines(rt.alloc(), &mut for_one(rt.alloc(), 64, 100)?, lines)
@@ -100,7 +101,8 @@ fn joining(rt: HostRuntime) -> Result<(), Fail> {
 #[test]
 fn live_query(rt: HostRuntime) -> Result<(), Fail> {
     let lines =
-        "live k>4 / 0 mkindex k LONG / 0 new / 0 set 1 k LONG 5 => ok / commit 1 / ok / commit 2 / node 1 / commit 3 / ok
+        "live k>4 / 0 mkindex k LONG / 0 new / 0 set 1 k LONG 5 => ok / commit 1 / ok / commit 2 / \
+         node 1 / commit 3 / ok
 0 pin / 0 refresh => pin 3 / created 1 / removed
 0 new / 0 set 1 k LONG 1 / 0 set 2 k LONG 9 => commit 4 / node 2 / commit 5 / ok / commit 6 / ok
 0 unpin / 0 pin / 0 refresh => ok / pin 6 / created 2 / removed 1
@@ -112,12 +114,14 @@ fn live_query(rt: HostRuntime) -> Result<(), Fail> {
 #[test]
 fn prepared_query(rt: HostRuntime) -> Result<(), Fail> {
     let lines =
-        "live k>=5 / 0 mkindex k LONG / 0 new;set 1 k LONG 5;new;set 2 k LONG 4 => ok / commit 1 / ok / commit 2 / node 1 / ok / node 2 / ok
+        "live k>=5 / 0 mkindex k LONG / 0 new;set 1 k LONG 5;new;set 2 k LONG 4 => ok / commit 1 / \
+         ok / commit 2 / node 1 / ok / node 2 / ok
 0 pin / again / 0 unpin / again => pin 2 / pin 2 / nodes 1 / ok / not pinned
-0 mkindex a LONG;set 2 k LONG 7 / 0 pin / again / 0 unpin => commit 3 / ok / ok / pin 3 / pin 3 /
-nodes 1 2 / ok
+0 mkindex a LONG;set 2 k LONG 7 / 0 pin / again / 0 unpin => commit 3 / ok / ok / pin 3 / pin 3 / \
+         nodes 1 2 / ok
 0 rmindex k / 0 mkindex k CSTR / 0 set 2 k CSTR 50 => commit 4 / ok / commit 5 / ok / commit 6 / ok
-0 pin / again / 0 unpin / 0 rmindex k / 0 pin / again => pin 6 / pin 6 / nodes 2 / ok / commit 7 / ok / pin 7 / refused 17 NotCovered";
+0 pin / again / 0 unpin / 0 rmindex k / 0 pin / again => pin 6 / pin 6 / nodes 2 / ok / commit 7 / \
+         ok / pin 7 / refused 17 NotCovered";
     check_lines(rt.alloc(), &mut for_one(rt.alloc(), 64, 100)?, lines)
 }
 
@@ -125,10 +129,11 @@ nodes 1 2 / ok
 #[test]
 fn pinned_for_a_read(rt: HostRuntime) -> Result<(), Fail> {
     let lines =
-        "0 mkindex k LONG / live k>1 / 0 new;set 1 k LONG 5 => commit 1 / ok / ok / commit 2 / node 1 / ok
+        "0 mkindex k LONG / live k>1 / 0 new;set 1 k LONG 5 => commit 1 / ok / ok / commit 2 / \
+         node 1 / ok
 0 query k==5 / 0 get 1 k / 0 get 1 j => pin 2 / nodes 1 / LONG 5 / none
-0 attrs 1 / 0 indices / 0 refresh => attrs 1 /
-\"k\" LONG 5 / indices 1 / \"k\" LONG / created 1 / removed
+0 attrs 1 / 0 indices / 0 refresh => attrs 1 / \"k\" LONG 5 / indices 1 / \"k\" LONG / created 1 / \
+         removed
 0 query j==5 / 0 attrs 9 / 0 unpin => refused 17 NotCovered / refused 2 NoNode / not pinned";
     check_lines(rt.alloc(), &mut for_one(rt.alloc(), 64, 100)?, lines)
 }
@@ -141,10 +146,11 @@ fn states_in_order(rt: HostRuntime) -> Result<(), Fail> {
 state => new / set 1 \"k\" LONG 5 / new / drop 2
 0 mkindex k LONG;mkindex j LONG;set 1 j LONG 6 / 0 pin => commit 2 / ok / ok / ok / pin 2
 1 new;set 1 j LONG 7;set 3 k LONG 8;rmindex j => commit 3 / node 3 / ok / ok / ok
-state => new / set 1
-\"k\" LONG 5 / new / drop 2 / mkindex \"j\" LONG / mkindex \"k\" LONG / set 1 \"j\" LONG 6
+state => new / set 1 \"k\" LONG 5 / new / drop 2 / mkindex \"j\" LONG / mkindex \"k\" LONG / set 1 \
+     \"j\" LONG 6
 0 unpin => ok
-state => new / set 1 \"j\" LONG 7 / set 1 \"k\" LONG 5 / new / drop 2 / new / mkindex \"k\" LONG / set 3 \"k\" LONG 8";
+state => new / set 1 \"j\" LONG 7 / set 1 \"k\" LONG 5 / new / drop 2 / new / mkindex \"k\" LONG / \
+     set 3 \"k\" LONG 8";
     check_lines(rt.alloc(), &mut for_two(rt.alloc(), 64, 100)?, lines)
 }
 
@@ -174,7 +180,8 @@ fn lists_of_64(alloc: Global) -> Result<String, AllocError> {
     let refused = after_63(alloc, "drop 9")?;
     let oks = times(alloc, " / ok", 64)?;
     format!(in alloc;
-        "1 new / 1 mkindex k LONG / 1 set 1 k LONG 0 => commit 1 / node 1 / commit 2 / ok / commit 3 / ok
+        "1 new / 1 mkindex k LONG / 1 set 1 k LONG 0 => commit 1 / node 1 / commit 2 / ok / commit \
+         3 / ok
 0 pin => pin 3
 1 {accepted} => commit 4{oks}
 0 query k==0 / 0 unpin / 0 pin / 0 query k==64 => pin 3 / nodes 1 / ok / pin 4 / pin 4 / nodes 1
@@ -184,7 +191,8 @@ fn lists_of_64(alloc: Global) -> Result<String, AllocError> {
 }
 
 const ZERO: &str =
-    "0 new / 0 mkindex k LONG / 0 set 1 k LONG 0 => commit 1 / node 1 / commit 2 / ok / commit 3 / ok
+    "0 new / 0 mkindex k LONG / 0 set 1 k LONG 0 => commit 1 / node 1 / commit 2 / ok / commit 3 / \
+     ok
 1 pin => pin 3";
 
 /// The same, told again where memory is refused.
@@ -321,9 +329,10 @@ fn make_nodes(room: &mut Room) -> Option<u64> {
 #[test]
 fn list_at_full(rt: HostRuntime) -> Result<(), Fail> {
     let lines =
-        "1 pin / 0 new / 0 new / 0 new => pin 0 / commit 1 / node 1 / commit 2 / node 2 / commit 3 / node 3
-0 new;new / 0 drop 1;new;new / 0 new;drop 9 => refused 11 Full 0 / refused 11 Full 0 / refused 2
-NoNode
+        "1 pin / 0 new / 0 new / 0 new => pin 0 / commit 1 / node 1 / commit 2 / node 2 / commit 3 \
+         / node 3
+0 new;new / 0 drop 1;new;new / 0 new;drop 9 => refused 11 Full 0 / refused 11 Full 0 / refused 2 \
+         NoNode
 1 unpin / 0 new;new => ok / commit 4 / node 4 / node 5";
     check_lines(rt.alloc(), &mut for_two(rt.alloc(), 8, 100)?, lines)
 }
@@ -369,7 +378,8 @@ fn set_many(room: &mut Room) -> Result<u64, Refusal> {
 
 fn write_many(alloc: Global, room: &mut Room) -> Result<u64, Fail> {
     let lines =
-        "0 new / 0 mkindex k LONG / 0 set 1 k LONG 0 => commit 1 / node 1 / commit 2 / ok / commit 3 / ok";
+        "0 new / 0 mkindex k LONG / 0 set 1 k LONG 0 => commit 1 / node 1 / commit 2 / ok / commit \
+         3 / ok";
     check_lines(alloc, room, lines)?;
     Ok(set_many(room)?)
 }
@@ -446,16 +456,19 @@ fn handed_to_a_thread(rt: HostRuntime) -> Result<(), Fail> {
 #[test]
 fn writes_on_what_was_read(rt: HostRuntime) -> Result<(), Fail> {
     let lines =
-        "0 next / 0 if 0 new;set 1 k LONG 5 / 0 if 0 new => next 1 / commit 1 / node 1 / ok / conflict 1
+        "0 next / 0 if 0 new;set 1 k LONG 5 / 0 if 0 new => next 1 / commit 1 / node 1 / ok / \
+         conflict 1
 0 pin / 0 next / 1 pin / 1 next => pin 1 / next 2 / pin 1 / next 2
 0 if 1 new;set 2 k LONG 6 / 1 if 1 new;set 2 k LONG 7 => commit 2 / node 2 / ok / conflict 2
 1 next / 1 unpin / 1 pin / 1 next => next 2 / ok / pin 2 / next 3
-1 new;set 2 k LONG 7 / 0 unpin / 0 get 2 k / 0 get 3 k => commit 3 / node 3 / ok / ok / LONG 7 /
-none
-0 if 2 new / 0 if 4 new / 0 if 3 drop 9 / 0 if 3 drop 3 => conflict 3 / conflict 3 / refused 2 NoNode / commit 4 / ok";
+1 new;set 2 k LONG 7 / 0 unpin / 0 get 2 k / 0 get 3 k => commit 3 / node 3 / ok / ok / LONG 7 / \
+         none
+0 if 2 new / 0 if 4 new / 0 if 3 drop 9 / 0 if 3 drop 3 => conflict 3 / conflict 3 / refused 2 \
+         NoNode / commit 4 / ok";
     check_lines(rt.alloc(), &mut for_two(rt.alloc(), 64, 4)?, lines)?;
     let spent =
-        "0 new / 0 if 0 new / 0 if 1 drop 9 / 0 if 1 new => commit 1 / node 1 / conflict 1 / refused 2 NoNode / refused 9 CommitsSpent";
+        "0 new / 0 if 0 new / 0 if 1 drop 9 / 0 if 1 new => commit 1 / node 1 / conflict 1 / \
+         refused 2 NoNode / refused 9 CommitsSpent";
     check_lines(rt.alloc(), &mut for_one(rt.alloc(), 64, 1)?, spent)
 }
 
@@ -463,11 +476,13 @@ none
 #[test]
 fn entries_of_the_journal(rt: HostRuntime) -> Result<(), Fail> {
     let lines =
-        "0 entries 0 9 / 0 new;new / 1 set 1 k LONG 5 / 0 drop 2 => commit 1 / node 1 / node 2 / commit 2 / ok / commit 3 / ok
-0 entries 0 9 => 1 by 0 new; new -> node 1;
-node 2 / 2 by 1 set 1 \"k\" LONG 5 -> ok / 3 by 0 drop 2 -> ok
+        "0 entries 0 9 / 0 new;new / 1 set 1 k LONG 5 / 0 drop 2 => commit 1 / node 1 / node 2 / \
+         commit 2 / ok / commit 3 / ok
+0 entries 0 9 => 1 by 0 new; new -> node 1; node 2 / 2 by 1 set 1 \"k\" LONG 5 -> ok / 3 by 0 drop \
+         2 -> ok
 1 entries 1 1 / 1 entries 2 1 => 2 by 1 set 1 \"k\" LONG 5 -> ok / 3 by 0 drop 2 -> ok
-1 entries 0 0 / 1 entries 3 9 / 1 entries 18446744073709551615 18446744073709551615 / 1 next => next 3";
+1 entries 0 0 / 1 entries 3 9 / 1 entries 18446744073709551615 18446744073709551615 / 1 next => \
+         next 3";
     check_lines(rt.alloc(), &mut for_two(rt.alloc(), 64, 9)?, lines)
 }
 

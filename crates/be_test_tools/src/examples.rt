@@ -15,8 +15,8 @@ new / attrs 4 => node 4 / attrs 0";
 
 const INTEGERS: &str =
     "mkindex n LONG / new / new / new / new => ok / node 1 / node 2 / node 3 / node 4
-set 1 n LONG 0 / set 2 n LONG -1 / set 3 n LONG 2147483647 / set 4 n LONG -2147483648 => ok / ok /
-ok / ok
+set 1 n LONG 0 / set 2 n LONG -1 / set 3 n LONG 2147483647 / set 4 n LONG -2147483648 => ok / ok / \
+     ok / ok
 query n<0 / query n>=-2147483648 => nodes 2 4 / nodes 1 2 3 4
 query n>2147483646 / query n==-0 / query n!=0 => nodes 3 / nodes 1 / nodes 2 3 4
 query n!=abc / query n<99999999999999999999 => nodes / nodes
@@ -26,9 +26,10 @@ set 1 n LONG 2147483648 => bad line";
 pub const TEXTS: &str =
     "mkindex t CSTR / new / new / new / new => ok / node 1 / node 2 / node 3 / node 4
 set 1 t CSTR a / set 2 t CSTR ab / set 3 t CSTR \"\" => ok / ok / ok
-set 4 t CSTR
-xxxxxxxxxxxxxxxxxxxxxxxxxxxxxxxxxxxxxxxxxxxxxxxxxxxxxxxxxxxxxxxxxxxxxxxxxxxxxxxxxxxxxxxxxxxxxxxxxxxxxxxxxxxxxxxxxxxxxxxxxxxxxxxxxx\
-xxxxxxxxxxxxxxxxxxxxxxxxxxxxxxxxxxxxxxxxxxxxxxxxxxxxxxxxxxxxxxxxxxxxxxxxxxxxxxxxxxxxxxxxxxxxxxxxxxxxxxxxxxxxxxxxxxxxxxxxxxxxx => ok
+set 4 t CSTR xxxxxxxxxxxxxxxxxxxxxxxxxxxxxxxxxxxxxxxxxxxxxxxxxxxxxxxxxxxxxxxxxxxxxxxxxxxxxxxxxxxxxx\
+     xxxxxxxxxxxxxxxxxxxxxxxxxxxxxxxxxxxxxxxxxxxx\
+xxxxxxxxxxxxxxxxxxxxxxxxxxxxxxxxxxxxxxxxxxxxxxxxxxxxxxxxxxxxxxxxxxxxxxxxxxxxxxxxxxxxxxxxxxxxxxxxxxx\
+     xxxxxxxxxxxxxxxxxxxxxxxxxx => ok
 query t<ab / query t<=\"\" / query t>a => nodes 1 3 / nodes 3 / nodes 2 4";
 
 const ABSENT_ATTRIBUTE: &str =
@@ -37,13 +38,13 @@ query !(size<5) / query !(size>=5) => nodes 1 / nodes
 query size!=7 / query size!=8 => nodes / nodes 1";
 
 const PATTERNS: &str =
-    r#"mkindex name CSTR / new / new / new / new => ok / node 1 / node 2 / node 3 / node 4
-set 1 name CSTR x.c / set 2 name CSTR x.C / set 3 name CSTR é / set 4 name CSTR xh => ok / ok / ok /
-ok
-query name="*[ch]" / query name==? => nodes 1 4 / nodes 3
-query name=="x.[a-d]" / query name=="x.[^a-d]" => nodes 1 / nodes 2
-query name=="x.\*" / query name<"x.[a-d]" => nodes / nodes 2
-query ((name=="*[cC]")&&(name!="b*")) => nodes 1 2"#;
+    "mkindex name CSTR / new / new / new / new => ok / node 1 / node 2 / node 3 / node 4
+set 1 name CSTR x.c / set 2 name CSTR x.C / set 3 name CSTR é / set 4 name CSTR xh => ok / ok / ok \
+     / ok
+query name=\"*[ch]\" / query name==? => nodes 1 4 / nodes 3
+query name==\"x.[a-d]\" / query name==\"x.[^a-d]\" => nodes 1 / nodes 2
+query name==\"x.\\*\" / query name<\"x.[a-d]\" => nodes / nodes 2
+query ((name==\"*[cC]\")&&(name!=\"b*\")) => nodes 1 2";
 
 pub const TWO_INDICES: &str =
     "new / set 1 a LONG 1 / mkindex a LONG / mkindex b LONG => node 1 / ok / ok / ok
@@ -57,9 +58,10 @@ query a==1||b==2 / query a==1&&b==2 => refused 17 NotCovered / nodes 1
 query b==2 / query !(a==1||b==3) => refused 17 NotCovered / nodes";
 
 const REFUSALS: &str =
-    r#"new / drop 9 / unset 1 a / unset 1 "" => node 1 / refused 2 NoNode / refused 3 NoAttr / refused 18 NameLength
+    "new / drop 9 / unset 1 a / unset 1 \"\" => node 1 / refused 2 NoNode / refused 3 NoAttr / \
+     refused 18 NameLength
 mkindex r RAWT / rmindex r => refused 8 NotIndexable / refused 6 NoSuchIndex
-mkindex r CSTR / mkindex r CSTR => ok / refused 5 IndexExists"#;
+mkindex r CSTR / mkindex r CSTR => ok / refused 5 IndexExists";
 
 const KIND_CHANGE: &str =
     r#"mkindex k LONG / new / set 1 k LONG 5 / query k==5 => ok / node 1 / ok / nodes 1
@@ -74,12 +76,13 @@ const INDEX_REMOVED: &str =
 indices / query k==5 => indices 0 / refused 17 NotCovered
 mkindex k LONG / mkindex k CSTR / query k==5 => ok / refused 5 IndexExists / nodes
 set 1 k LONG 5 / query k==5 => ok / nodes 1
-rmindex q / drop 9 / mkindex r RAWT => refused 6 NoSuchIndex / refused 2 NoNode / refused 8 NotIndexable";
+rmindex q / drop 9 / mkindex r RAWT => refused 6 NoSuchIndex / refused 2 NoNode / refused 8 \
+     NotIndexable";
 
 const UNSIGNED_VALUES: &str = "mkindex u ULLG / new / new => ok / node 1 / node 2
 set 1 u ULLG 18446744073709551615 / set 2 u ULLG 0 => ok / ok
-query u>9223372036854775807 / query u>-1 / query u==18446744073709551616 => nodes 1 / nodes 1 2 /
-nodes
+query u>9223372036854775807 / query u>-1 / query u==18446744073709551616 => nodes 1 / nodes 1 2 / \
+ nodes
 set 1 u ULLG 18446744073709551616 / set 2 u ULNG -1 => bad line / bad line
 set 1 u ULNG 4294967295 / query u>=0 / get 1 u => ok / nodes 2 / ULNG 4294967295
 mkindex n LONG / set 1 n LONG 5 => ok / ok

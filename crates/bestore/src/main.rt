@@ -312,7 +312,8 @@ fn talk_at_terminal<R: Runtime + AllocGlobal, F: Peer, I: Read + Drop>(
     ensures { IfSome result.1 (λ journal. IsLegal journal.entries) }
 {
     let _ = eprintln!(rt;
-        "bestore: a line is answered when it comes; the end of input ends it; help lists the commands"
+        "bestore: a line is answered when it comes; the end of input ends it; help lists the \
+         commands"
     );
     let ends = Ends::new(Breaking::new(reader), io::writer(rt));
     if is_shown {

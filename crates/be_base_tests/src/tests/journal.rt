@@ -231,13 +231,16 @@ pub(crate) fn told_lists(alloc: Global, text: &str) -> Result<String, Refusal> {
 #[test]
 fn journals_are_told(rt: HostRuntime) -> Result<(), Fail> {
     let lines =
-        r#"journal 2 new -> node 1 | set 1 size LONG 5 -> ok => 1 by 0 new -> node 1 / 2 by 0 set 1 "size" LONG 5 -> ok / legal, spent, next 2 / attrs 1 / "size" LONG 5
+        "journal 2 new -> node 1 | set 1 size LONG 5 -> ok => 1 by 0 new -> node 1 / 2 by 0 set 1 \
+         \"size\" LONG 5 -> ok / legal, spent, next 2 / attrs 1 / \"size\" LONG 5
 journal 1 => legal, room, next 1 / refused 2 NoNode
-journal 2 new -> node 2 | set 1 size LONG 5 -> ok => 1 by 0 new -> node 2 / 2 by 0 set 1 "size" LONG
-5 -> ok / wrong, spent, next 2 / attrs 1 / "size" LONG 5
-journal 2 new -> node 1 | drop 9 -> ok => 1 by 0 new -> node 1 / 2 by 0 drop 9 -> ok / wrong, spent,
-next 2 / attrs 0
-journal 2 mkindex k LONG -> ok | new;set 1 k LONG 5 -> node 1;ok => 1 by 0 mkindex "k" LONG -> ok / 2 by 0 new; set 1 "k" LONG 5 -> node 1; ok / legal, spent, next 2 / attrs 1 / "k" LONG 5"#;
+journal 2 new -> node 2 | set 1 size LONG 5 -> ok => 1 by 0 new -> node 2 / 2 by 0 set 1 \"size\" \
+         LONG 5 -> ok / wrong, spent, next 2 / attrs 1 / \"size\" LONG 5
+journal 2 new -> node 1 | drop 9 -> ok => 1 by 0 new -> node 1 / 2 by 0 drop 9 -> ok / wrong, \
+         spent, next 2 / attrs 0
+journal 2 mkindex k LONG -> ok | new;set 1 k LONG 5 -> node 1;ok => 1 by 0 mkindex \"k\" LONG -> \
+         ok / 2 by 0 new; set 1 \"k\" LONG 5 -> node 1; ok / legal, spent, next 2 / attrs 1 / \
+         \"k\" LONG 5";
     replies(rt.alloc(), lines)
 }
 
@@ -245,14 +248,15 @@ journal 2 mkindex k LONG -> ok | new;set 1 k LONG 5 -> node 1;ok => 1 by 0 mkind
 #[test]
 fn operations_have_a_text(rt: HostRuntime) -> Result<(), Fail> {
     let lines =
-        r#"escaped => 1 by 0 set 1 "a\"b" CSTR "x\\y\n\r" -> ok / wrong, spent,
-        next 1 / refused 2 NoNode
-journal 1 set 1 r RAWT 00abff -> ok => 1 by 0 set 1 "r" RAWT "00abff" -> ok / wrong, spent,
-next 1 / refused 2 NoNode
-journal 2 set 1 l LLNG -9223372036854775808 -> ok | set 1 u ULLG 18446744073709551615 -> ok => 1 by
-0 set 1 "l" LLNG -9223372036854775808 -> ok / 2 by 0 set 1 "u" ULLG 18446744073709551615 -> ok /
-wrong, spent, next 1 / refused 2 NoNode
-journal 3 unset 7 m -> ok | rmindex k -> ok | drop 7 -> ok => 1 by 0 unset 7 "m" -> ok / 2 by 0 rmindex "k" -> ok / 3 by 0 drop 7 -> ok / wrong, spent, next 1 / refused 2 NoNode"#;
+        "escaped => 1 by 0 set 1 \"a\\\"b\" CSTR \"x\\\\y\\n\\r\" -> ok / wrong, spent, next 1 / \
+         refused 2 NoNode
+journal 1 set 1 r RAWT 00abff -> ok => 1 by 0 set 1 \"r\" RAWT \"00abff\" -> ok / wrong, spent, \
+         next 1 / refused 2 NoNode
+journal 2 set 1 l LLNG -9223372036854775808 -> ok | set 1 u ULLG 18446744073709551615 -> ok => 1 \
+         by 0 set 1 \"l\" LLNG -9223372036854775808 -> ok / 2 by 0 set 1 \"u\" ULLG \
+         18446744073709551615 -> ok / wrong, spent, next 1 / refused 2 NoNode
+journal 3 unset 7 m -> ok | rmindex k -> ok | drop 7 -> ok => 1 by 0 unset 7 \"m\" -> ok / 2 by 0 \
+         rmindex \"k\" -> ok / 3 by 0 drop 7 -> ok / wrong, spent, next 1 / refused 2 NoNode";
     replies(rt.alloc(), lines)
 }
 

@@ -35,7 +35,8 @@ fn node_text(alloc: Global, node: u64) -> Result<String, AllocError> {
     let name = 10_000 + node.wrapping_mul(271) % NODES;
     let size = node.wrapping_mul(577) % NODES * 10;
     format!(in alloc;
-        "new;set {node} name CSTR {name}-document.txt;set {node} size LONG {size};set {node} kind CSTR text/plain"
+        "new;set {node} name CSTR {name}-document.txt;set {node} size LONG {size};set {node} kind \
+         CSTR text/plain"
     )
 }
 

@@ -39,7 +39,8 @@ fn lines_of_values(
 const SEVENS: &str = "LONG -2147483648 -2147483647 -1 0 1 2147483646 2147483647
 LLNG -9223372036854775808 -9223372036854775807 -1 0 1 9223372036854775806 9223372036854775807
 ULNG 0 1 2147483647 2147483648 2147483649 4294967294 4294967295
-ULLG 0 1 9223372036854775807 9223372036854775808 9223372036854775809 18446744073709551614 18446744073709551615";
+ULLG 0 1 9223372036854775807 9223372036854775808 9223372036854775809 18446744073709551614 \
+ 18446744073709551615";
 
 /// How many keys of seven rising values each range of a comparison with one of them holds, where so
 /// many are below it.
@@ -48,7 +49,8 @@ fn keys_of_value(alloc: Global, value: &str, below: u64) -> Result<String, Alloc
     let to = below.wrapping_add(1);
     let from = above.wrapping_add(1);
     format!(in alloc;
-        "keys k=={value} => 1\nkeys k<{value} => {below}\nkeys k<={value} => {to}\nkeys k>{value} => {above}\nkeys k>={value} => {from}\n"
+        "keys k=={value} => 1\nkeys k<{value} => {below}\nkeys k<={value} => {to}\nkeys k>{value} \
+         => {above}\nkeys k>={value} => {from}\n"
     )
 }
 

@@ -10,7 +10,8 @@ use std::test::Fail;
 
 /// How many nodes are asked for: around each power of two, and the bound.
 const COUNTS: &str =
-    "1 2 3 4 5 7 8 9 15 16 17 31 32 33 63 64 65 127 128 129 255 256 257 511 512 513 1023 1024 1025 2047 2048 \
+    "1 2 3 4 5 7 8 9 15 16 17 31 32 33 63 64 65 127 128 129 255 256 257 511 512 513 1023 1024 1025 \
+     2047 2048 \
 2049 4095 4096 4097 8191 8192 8193 16383 16384 16385 26000";
 
 /// Does a list of operations, again where it is refused memory.

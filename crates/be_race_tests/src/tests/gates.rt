@@ -10,7 +10,8 @@ const LOOKED_AT: &str =
     "pass 0\nnode 1\npass 1\npin 0\nok\npin 1\njournal 1\n1 by 0 new -> node 1\nreplay ok\n";
 
 const HELD_BACK: &str =
-    "pass 0\nnode 3\npass 1\nnode 1\nnode 2\njournal 3\n1 by 1 new -> node 1\n2 by 1 new -> node 2\n3 by 0 new -> node 3\nreplay ok\n";
+    "pass 0\nnode 3\npass 1\nnode 1\nnode 2\njournal 3\n1 by 1 new -> node 1\n2 by 1 new -> node \
+     2\n3 by 0 new -> node 3\nreplay ok\n";
 
 /// How far two passes have come that wait for each other.
 #[derive(Drop)]

@@ -300,8 +300,10 @@ fn lines_at_the_gate(rt: HostRuntime) -> Result<(), Fail> {
 
 /// Lines that write, read, pin and fail, and a batch.
 const MIXED: &str =
-    "new\nmkindex k LONG\nset 1 k LONG 5\nset 2 k LONG 6\nquery k>4\nbegin\nnew\nset 3 k LONG 7\nnew\ncommit\npin\ndrop 1\nquery k>4\n\
-    unpin\nset 2 k LONG 8\nlive k==8\nrefresh\nrmindex k\ndrop 99\nset 2 \"\" CSTR x\nsett\n# a comment\nnew\n";
+    "new\nmkindex k LONG\nset 1 k LONG 5\nset 2 k LONG 6\nquery k>4\nbegin\nnew\nset 3 k LONG \
+     7\nnew\ncommit\npin\ndrop 1\nquery k>4\n\
+    unpin\nset 2 k LONG 8\nlive k==8\nrefresh\nrmindex k\ndrop 99\nset 2 \"\" CSTR x\nsett\n# a \
+     comment\nnew\n";
 
 /// Fails unless a race of so many such scripts ends with a right replay.
 fn check_race<R: Threads + Wait>(rt: &R, alloc: Global, count: usize) -> Result<(), Fail> {

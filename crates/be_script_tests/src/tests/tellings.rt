@@ -11,12 +11,14 @@ const SCRIPT: &str = "new\nset 1 k LONG 5\nbegin\nnew\nset 2 k LONG 6\ncommit\ng
 
 const TOLD: &str =
     "node 1\nok\nok\nqueued\nqueued\ncommit 3\nnode 2\nok\nLONG 5\nrefused 2 NoNode\njournal 3\n\
-1 by 0 new -> node 1\n2 by 0 set 1 \"k\" LONG 5 -> ok\n3 by 0 new; set 2 \"k\" LONG 6 -> node 2; ok\nreplay ok\n";
+1 by 0 new -> node 1\n2 by 0 set 1 \"k\" LONG 5 -> ok\n3 by 0 new; set 2 \"k\" LONG 6 -> node 2; \
+     ok\nreplay ok\n";
 
 const DUMPED: &str = "new\nset 1 \"k\" LONG 5\nbegin\nnew\nset 2 \"k\" LONG 6\ncommit\n";
 
 const TOLD_AGAIN: &str = "node 1\nok\nok\nqueued\nqueued\ncommit 3\nnode 2\nok\njournal 3\n\
-1 by 0 new -> node 1\n2 by 0 set 1 \"k\" LONG 5 -> ok\n3 by 0 new; set 2 \"k\" LONG 6 -> node 2; ok\nreplay ok\n";
+1 by 0 new -> node 1\n2 by 0 set 1 \"k\" LONG 5 -> ok\n3 by 0 new; set 2 \"k\" LONG 6 -> node 2; \
+ ok\nreplay ok\n";
 
 const STATE: &str = "begin\nnew\nset 1 \"k\" LONG 5\nnew\nset 2 \"k\" LONG 6\ncommit\n";
 

@@ -17,8 +17,8 @@ use std::test::Fail;
 const ROWS: &str = "256
 0 mkindex k LONG;new;set 1 k LONG 0 => commit 1 / ok / node 1 / ok
 0 query k==0{||k==#} / 0 query k<1{&&k<#} => pin 1 / nodes 1 / pin 1 / nodes 1
-live k==0{||k==#} / 0 pin / 0 refresh / 0 query k!=1{&&k!=#} => ok / pin 1 / created 1 / removed /
-pin 1 / nodes 1
+live k==0{||k==#} / 0 pin / 0 refresh / 0 query k!=1{&&k!=#} => ok / pin 1 / created 1 / removed / \
+ pin 1 / nodes 1
 
 64
 0 new / 0 set 1 a1 LONG 1{;set 1 a# LONG 1} => commit 1 / node 1 / commit 2 / ok{ / ok}
@@ -39,7 +39,8 @@ head indices / 0 pin / head indices => indices @ / pin 1 / indices @
 
 255
 0 mkindex k CSTR;new;set 1 k CSTR x{x};set 1 r MIMS x{x} => commit 1 / ok / node 1 / ok / ok
-0 get 1 k / 0 query k==x{x} / 0 pin / 0 get 1 r => CSTR \"x{x}\" / pin 1 / nodes 1 / pin 1 / MIMS \"x{x}\"";
+0 get 1 k / 0 query k==x{x} / 0 pin / 0 get 1 r => CSTR \"x{x}\" / pin 1 / nodes 1 / pin 1 / MIMS \
+ \"x{x}\"";
 
 /// The powers of two below the greatest size of a row.
 const POWERS: [u64; 12] = [2, 4, 8, 16, 32, 64, 128, 256, 512, 1024, 2048, 4096];
@@ -108,7 +109,8 @@ fn sizes(rt: HostRuntime) -> Result<(), Fail> {
 /// How many nodes there are when a query and a live one are asked: around each power of two, and
 /// the bound.
 const COUNTS: &str =
-    "1 2 3 4 5 7 8 9 15 16 17 31 32 33 63 64 65 127 128 129 255 256 257 511 512 513 1023 1024 1025 2047 2048 \
+    "1 2 3 4 5 7 8 9 15 16 17 31 32 33 63 64 65 127 128 129 255 256 257 511 512 513 1023 1024 1025 \
+     2047 2048 \
 2049 4095 4096 4097 8191 8192 8193 16383 16384 16385 26000";
 
 /// What finds all of so many nodes, by the version after this many writes.
@@ -116,9 +118,10 @@ fn found_lines(alloc: Global, count: u64, pin: u64) -> Result<String, AllocError
     let mut nodes = String::from_str(alloc, "1")?;
     push_each(alloc, &mut nodes, " #", count)?;
     format!(in alloc;
-        "live k==7 / 0 refresh / 0 query k==7 => ok / created {nodes} / removed / pin {pin} / nodes {nodes}
-0 pin / 0 refresh / 0 query k>6 && k!=8
-|| k==9 => pin {pin} / created / removed / pin {pin} / nodes {nodes}
+        "live k==7 / 0 refresh / 0 query k==7 => ok / created {nodes} / removed / pin {pin} / \
+         nodes {nodes}
+0 pin / 0 refresh / 0 query k>6 && k!=8 || k==9 => pin {pin} / created / removed / pin {pin} / \
+         nodes {nodes}
 live k>6 / 0 refresh / 0 unpin => ok / created {nodes} / removed / ok"
     )
 }
