@@ -29,7 +29,7 @@ abbrev pub ScansFrom : World → ℕ → ℕ → List (Option ℕ) → World →
 ScansFrom w k j [] w' = (j ≡ w.passes) × (w' ≡ w)
 ScansFrom w k j (a ∷ read) w' =
     (between : List Move) × (mid : World) × NoScan between × Run w between mid × MayScan mid k j
-        × (a ≡ announced (mid.phases j))
+    × (a ≡ announced (mid.phases j))
     × ScansFrom (after_scan mid j) k (suc j) read w'
 
 -- A whole scan that begins in w. No lock is given up within it, since the first scan after a lock

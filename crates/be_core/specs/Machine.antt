@@ -134,8 +134,11 @@ abbrev pub MayLock : World → ℕ → Type 0
 MayLock w k = (k < w.passes) × (w.holder ≡ None)
 
 abbrev pub after_lock : World → ℕ → World
-after_lock w k = record w { holder = Some
-    record { pass = k; scanned = 0; least = w.current; published = false }; taken = nowhere }
+after_lock w k = record w {
+  holder = Some
+      record { pass = k; scanned = 0; least = w.current; published = false };
+  taken = nowhere;
+}
 
 -- the least, after a phase was read
 abbrev pub least_with : ℕ → Phase → ℕ
@@ -163,13 +166,17 @@ least_after w h j = least_with (if j == 0 then w.current else h.least) (w.phases
 
 -- one more announcement is read, and it isn't the last
 abbrev pub scanned_on : World → Holder → ℕ → World
-scanned_on w h j = record w { holder = Some record h
-    { scanned = suc j; least = least_after w h j } }
+scanned_on w h j = record w {
+  holder = Some record h
+      { scanned = suc j; least = least_after w h j };
+}
 
 -- the last announcement is read
 abbrev pub scanned_out : World → Holder → ℕ → World
-scanned_out w h j = swept (record w { holder = Some record h
-    { scanned = 0; least = least_after w h j } }) (least_after w h j)
+scanned_out w h j = swept (record w {
+  holder = Some record h
+      { scanned = 0; least = least_after w h j };
+}) (least_after w h j)
 
 abbrev pub scanned_by : World → Option Holder → ℕ → World
 scanned_by w None j = w
@@ -200,7 +207,7 @@ has given p = list_any (λ q. q == p) given
 abbrev pub MayPublish : World → ℕ → ℕ → List ℕ → Type 0
 MayPublish w k v given =
     (w.current < w.commits) × (v < w.pages) × ((h : Holder) × HasOpenWrite w k h)
-        × IsTrue (w.taken v)
+    × IsTrue (w.taken v)
     × AllPairs ◌≢◌ given × All (λ p. IsTrue (w.reach w.current p)) given
 
 abbrev pub with_published : Option Holder → Option Holder

@@ -21,8 +21,12 @@ is_marked None p = false
 is_marked (Some row) p = slice_index_or row.items p false
 
 abbrev pub as_holder : Holder → machine.Holder
-as_holder h = record { pass = h.pass; scanned = h.scanned; least = h.least;
-    published = h.published }
+as_holder h = record {
+  pass = h.pass;
+  scanned = h.scanned;
+  least = h.least;
+  published = h.published;
+}
 
 abbrev pub holder_of : Option Holder → Option machine.Holder
 holder_of None = None

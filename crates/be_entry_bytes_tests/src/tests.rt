@@ -5,8 +5,8 @@
 //! written and read back with a byte behind it, and no front of its bytes is read. Every test
 //! passes with any one request for memory refused.
 use be_entry_bytes::{most_bytes, read_entry, write_entry};
-use be_journal_text::read_journal;
 use be_journal::Entry;
+use be_journal_text::read_journal;
 use be_test_tools::{Answers, check_lines};
 use be_value::{Refusal, word_of};
 use be_volume::{Done, Op};

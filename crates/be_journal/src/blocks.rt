@@ -42,7 +42,8 @@ impl Model for Block {
 
     ghost view = { λ b. record {
       entries = entries_at b.count b.bytes.items;
-      room = if nat_lt (vec_len b.places) (vec_capacity b.places) then vec_capacity b.bytes - vec_len b.bytes else 0;
+      room = if nat_lt (vec_len b.places) (vec_capacity b.places)
+          then vec_capacity b.bytes - vec_len b.bytes else 0;
     } };
 
     ghost invariant = { λ b. AreEntries b.count b.bytes.items

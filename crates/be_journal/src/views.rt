@@ -49,8 +49,11 @@ impl<'a> EntryView<'a> {
     /// The entry of this pass and so many operations, from whose first on these are the bytes.
     pub(crate) fn new(alloc: Global, by: u64, count: u64, bytes: &'a [u8]) -> EntryView<'a>
         requires { IsSome (steps_at count bytes.now) }
-        ensures { result ≡ record { by = by; ops = map (λ s. s.0) (steps_in count bytes.now);
-            dones = map (λ s. s.1) (steps_in count bytes.now) } }
+        ensures { result ≡ record {
+          by = by;
+          ops = map (λ s. s.0) (steps_in count bytes.now);
+          dones = map (λ s. s.1) (steps_in count bytes.now);
+        } }
     {
         EntryView {
             alloc,

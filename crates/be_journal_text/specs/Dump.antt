@@ -52,5 +52,5 @@ abbrev pub IsStateDump : List ℕ → Option (List ℕ) → Type 0
 IsStateDump text None = (entries : List Entry) → CanBeJournal entries → TextTells text entries → ⊥
 IsStateDump text (Some script) =
     (entries : List Entry) × CanBeJournal entries × TextTells text entries
-        × All CanBeOp (state_ops (replay entries))
+    × All CanBeOp (state_ops (replay entries))
     × (script ≡ state_dump (replay entries))

@@ -58,7 +58,7 @@ IsFound entries no_journal = ⊥
 IsFound entries (right count) = IsFirstWrong entries None × (count ≡ length entries)
 IsFound entries (wrong count line) =
     (i : ℕ) × (entry : Entry) × IsFirstWrong entries (Some i) × (entry ≡ get_or entries i entry)
-        × (line ≡ entry_line (i + 1) entry) × (count ≡ length entries)
+    × (line ≡ entry_line (i + 1) entry) × (count ≡ length entries)
 
 -- what the check of a text finds
 abbrev pub IsFinding : List ℕ → Found → Type 0

@@ -56,5 +56,5 @@ CanBeJournal entries = All CanBeEntry entries × (length entries < 2 ^ 32)
 abbrev pub entry_of : ℕ → List Op → List Done → Option Entry
 entry_of by ops dones =
     if nat_le 1 (length ops) && (nat_le (length ops) 64 && nat_eq (length dones) (length ops))
-        then Some (record { by = by; ops = ops; dones = dones })
+    then Some (record { by = by; ops = ops; dones = dones })
     else None

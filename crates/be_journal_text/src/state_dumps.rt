@@ -16,8 +16,8 @@ use crate::dumps::write_text;
 use crate::ranges::ops_can_be;
 use crate::told::journal_told;
 use be_journal::{Entry, replay};
-use be_volume_state::{Place, WholeVolume, next_list, whole_volume};
 use be_volume::{Op, Volume};
+use be_volume_state::{Place, WholeVolume, next_list, whole_volume};
 use std::alloc::{AllocError, Global};
 
 /// Appends the lines of one write, whose operations are such of the program.

@@ -3,8 +3,8 @@
 //!
 //! Every test passes with any one request for memory refused: a call that wanted memory is made
 //! again.
-use be_journal_text::{Finding, check, dump, dump_state, journal_told, read_journal};
 use be_journal::{Entry, entry_line};
+use be_journal_text::{Finding, check, dump, dump_state, journal_told, read_journal};
 use std::alloc::{AllocError, Global};
 use std::test::Fail;
 

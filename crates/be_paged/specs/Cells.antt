@@ -78,10 +78,20 @@ data_in (Err why) = []
 -- The cell of what was found, whose bytes begin at an offset. It has the number of the refusal if
 -- there is no value.
 abbrev pub cell_of : ℕ → Result Value Refusal → Cell
-cell_of offset (Ok value) = record { error = 0; code = code_of (kind_of value);
-    number = number_of value; offset = offset; length = length (data_of value) }
-cell_of offset (Err why) = record { error = refusal_number why; code = 0; number = 0;
-    offset = offset; length = 0 }
+cell_of offset (Ok value) = record {
+  error = 0;
+  code = code_of (kind_of value);
+  number = number_of value;
+  offset = offset;
+  length = length (data_of value);
+}
+cell_of offset (Err why) = record {
+  error = refusal_number why;
+  code = 0;
+  number = 0;
+  offset = offset;
+  length = 0;
+}
 
 -- the bytes of all that was found, end to end
 abbrev pub all_data : List (Result Value Refusal) → List ℕ
@@ -110,7 +120,7 @@ pub record IsFew (filled : Filled) : Type 0 where
 abbrev pub IsAmong : (words : ℕ → ℕ → ℕ) (root : ℕ) → Cursor → Type 0
 IsAmong words root cursor =
     (remaining words cursor ≡ []) ⊎ ((from : List ℕ) × (after : Bool)
-        × (remaining words cursor ≡ pairs_from (pairs words root) from after))
+    × (remaining words cursor ≡ pairs_from (pairs words root) from after))
 
 -- the first pair, if there is one, has another key
 abbrev pub StartsElsewhere : List ℕ → List Pair → Type 0

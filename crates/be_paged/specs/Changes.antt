@@ -43,8 +43,11 @@ with_change indices name node (options.Some value) = with_pair indices name node
 
 -- the volume after that: its nodes are as they were
 abbrev pub with_indices : State → List ℕ → ℕ → Option Value → State
-with_indices s name node value = record { next = s.next; nodes = s.nodes;
-    indices = with_change s.indices name node value }
+with_indices s name node value = record {
+  next = s.next;
+  nodes = s.nodes;
+  indices = with_change s.indices name node value;
+}
 
 -- a list of pairs without a key, if there is one to take
 abbrev pub key_taken : Option (List ℕ) → List Pair → List Pair
@@ -105,11 +108,11 @@ pub record Reaches (words : ℕ → ℕ → ℕ) (after : Contents) (volume : St
 -- the contents spell a volume that differs from another only in what a node has: so many of its
 -- attributes are gone
 pub record IsThinned (words : ℕ → ℕ → ℕ) (c : Contents) (volume : State) (node gone : ℕ) : Type 0
-    where
-  pub left : State
-  pub spells : Spells words c left
-  pub leaves : Leaves volume left node
-  pub counted : map.len (attributes_of left.nodes node) + gone ≤ 64
+  where
+    pub left : State
+    pub spells : Spells words c left
+    pub leaves : Leaves volume left node
+    pub counted : map.len (attributes_of left.nodes node) + gone ≤ 64
 
 -- the contents spell a volume that differs from another only in what a node has, which is bare:
 -- without attributes
@@ -136,15 +139,15 @@ SetsWhatStands volume (RmIndex name) = ⊥
 pub record Applies {S K : Type 0} (kept_of : S → K) (standing_of : S → ℕ → Standing)
     (words_of : S → ℕ → ℕ → ℕ)
     (page new_page : ℕ) (volume : State) (ops : List Op) (dones : List Done) (old new : S) : Type 0
-        where
-  pub made : State
-  pub stepped : steps volume ops ≡ Ok (made, dones)
-  pub version : IsVersion (standing_of new) (words_of new) new_page made
-  pub swaps : Swaps kept_of standing_of words_of (reach (words_of old) page)
-      (reach (words_of new) new_page) old new
-  pub taken : standing_of new new_page ≡ Filled
-  pub stays : All (SetsWhatStands volume) ops → (contents_of (words_of new new_page)).entries
-      ≡ (contents_of (words_of old page)).entries
+  where
+    pub made : State
+    pub stepped : steps volume ops ≡ Ok (made, dones)
+    pub version : IsVersion (standing_of new) (words_of new) new_page made
+    pub swaps : Swaps kept_of standing_of words_of (reach (words_of old) page)
+        (reach (words_of new) new_page) old new
+    pub taken : standing_of new new_page ≡ Filled
+    pub stays : All (SetsWhatStands volume) ops → (contents_of (words_of new new_page)).entries
+        ≡ (contents_of (words_of old page)).entries
 
 -- A refused list: the steps refuse it so, and no page was taken, filled or given up; or the steps
 -- accept it and no page was left, and what stood when the write began stands once it is undone.
@@ -154,4 +157,4 @@ abbrev pub IsRefusedList : {S K : Type 0} (kept_of : S → K) (standing_of : S �
 IsRefusedList kept_of standing_of words_of full_of volume ops e old new =
     ((steps volume ops ≡ Err e) × IsUnchanged kept_of standing_of words_of old new)
     ⊎ (IsFullOf (full_of new) e × IsOk (steps volume ops)
-        × KeepsStart kept_of standing_of words_of old new)
+    × KeepsStart kept_of standing_of words_of old new)

@@ -24,8 +24,11 @@ pub record Contents : Type 0 where
 
 -- a version in hand tells the same
 abbrev pub contents : Version → Contents
-contents version = record { next = version.next; catalog = version.catalog;
-    entries = version.entries.items }
+contents version = record {
+  next = version.next;
+  catalog = version.catalog;
+  entries = version.entries.items;
+}
 
 -- index i takes the eleven words from here on
 abbrev pub entry_place : ℕ → ℕ
@@ -34,8 +37,11 @@ entry_place i = 4 + 11 * i
 -- the index that the words from a place on tell: the name's length, its bytes in eight words, the
 -- kind's number, the root
 unfoldable pub entry_at : (words : ℕ → ℕ) (at : ℕ) → Entry
-entry_at words at = record { name = bytes_at words (at + 1) (words at);
-    kind = kind_numbered (words (at + 9)); root = words (at + 10) }
+entry_at words at = record {
+  name = bytes_at words (at + 1) (words at);
+  kind = kind_numbered (words (at + 9));
+  root = words (at + 10);
+}
 
 abbrev pub contents_of : (words : ℕ → ℕ) → Contents
 contents_of words = record {

@@ -14,10 +14,10 @@ use Rattle.be_paged.specs.Catalog.{IsCatalog, IsIndexOf}
 
 -- the entry is the index of that name
 pub record IsEntryOf (words : ℕ → ℕ → ℕ) (entry : Entry) (name : List ℕ) (index : Index) : Type 0
-    where
-  pub name_is : entry.name ≡ name
-  pub kind_is : entry.kind ≡ index.kind
-  pub keys : IsIndexOf (pairs words entry.root) index
+  where
+    pub name_is : entry.name ≡ name
+    pub kind_is : entry.kind ≡ index.kind
+    pub keys : IsIndexOf (pairs words entry.root) index
 
 -- each entry is the index that stands at its place in the list
 abbrev pub AreEntriesOf : (words : ℕ → ℕ → ℕ) → List Entry → List (List ℕ × Index) → Type 0

@@ -135,8 +135,13 @@ pub(crate) fn empty_cell(why: &Refusal, offset: usize) -> Cell
 
 /// The cell of a number.
 fn number_cell(kind: Kind, number: u64, offset: usize) -> Cell
-    ensures { result ≡ record { error = 0; code = code_of kind; number = number; offset = offset;
-        length = 0 } }
+    ensures { result ≡ record {
+      error = 0;
+      code = code_of kind;
+      number = number;
+      offset = offset;
+      length = 0;
+    } }
 {
     Cell {
         error: 0,
@@ -150,8 +155,13 @@ fn number_cell(kind: Kind, number: u64, offset: usize) -> Cell
 /// The cell of a text, of whose payload the first byte is the kind.
 fn data_cell(kind: Kind, payload_len: usize, offset: usize) -> Cell
     requires { 1 ≤ payload_len }
-    ensures { result ≡ record { error = 0; code = code_of kind; number = 0; offset = offset;
-        length = payload_len - 1 } }
+    ensures { result ≡ record {
+      error = 0;
+      code = code_of kind;
+      number = 0;
+      offset = offset;
+      length = payload_len - 1;
+    } }
 {
     Cell {
         error: 0,

@@ -32,8 +32,11 @@ impl Model for Entry {
 
     ghost Value = { AnyEntry };
 
-    ghost view = { λ e. record { name = bytes_at (slice_index e.words) 0 e.len; kind = e.kind;
-        root = e.root } };
+    ghost view = { λ e. record {
+      name = bytes_at (slice_index e.words) 0 e.len;
+      kind = e.kind;
+      root = e.root;
+    } };
 
     ghost invariant = { λ e. (e.len ≤ 63)
         × HaveText (slice_index e.words) (bytes_at (slice_index e.words) 0 e.len) };

@@ -99,9 +99,16 @@ impl<L: Look> Facts for PageFacts<'_, L> {
 
     ghost Kept = { (GName × GName) × (L.Kept × ((ℕ → Stands) × ((ℕ → ℕ → ℕ) × ℕ))) };
 
-    ghost kept = { λ f. ((f.look.ghost_name, f.asked.ghost_name),
-        (L.kept f.look.now, (L.standing f.look.now,
-        (L.words f.look.now, f.version.now.catalog)))) };
+    ghost kept = { λ f. (
+      (f.look.ghost_name, f.asked.ghost_name),
+      (
+        L.kept f.look.now,
+        (
+          L.standing f.look.now,
+          (L.words f.look.now, f.version.now.catalog),
+        ),
+      ),
+    ) };
 
     ghost answers_for = { λ f volume. FactsOf (L.standing f.look.now) (L.words f.look.now)
         (contents f.version.now) f.counted f.asked.now volume };

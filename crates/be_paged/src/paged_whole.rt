@@ -16,9 +16,9 @@ ghost use Rattle.be_paged.specs.Version.{IsVersion};
 use crate::on_page::find_index;
 use crate::reading::{attrs, get, indices, next};
 use be_pages::Look;
-use be_volume_state::Whole;
 use be_tree::has_key;
 use be_value::{Kind, Name, Refusal, Value, key_of};
+use be_volume_state::Whole;
 use std::alloc::{AllocError, Global};
 
 /// A reader of one whole version, by its page, and its look.

@@ -83,7 +83,7 @@ parts_behind zero (l ∷ ls) =
     if is_bare 42 l then and_then Run (parts_behind 0 ls)
     else (if is_bare 63 l then and_then One (parts_behind 0 ls)
     else (if is_bare 91 l then (elim (set_at ls)
-        [ None ↦ Err l.at | Some s ↦ and_then s.0 (parts_behind s.1 ls) ])
+    [ None ↦ Err l.at | Some s ↦ and_then s.0 (parts_behind s.1 ls) ])
     else and_then (Only l.char) (parts_behind 0 ls)))
 
 -- The tokens of a pattern's text, or the place of its fault.

@@ -28,7 +28,7 @@ Allows pick at (And a b) name value = Allows pick at a name value
 Allows pick at (Or a b) name value =
     (at ≤ pick → pick < at + comparisons a → Allows pick at a name value)
     × (at + comparisons a ≤ pick → pick < at + comparisons a + comparisons b
-        → Allows pick (at + comparisons a) b name value)
+    → Allows pick (at + comparisons a) b name value)
 
 -- k is above the bound, if there is one
 abbrev pub is_above : Option (List ℕ) → List ℕ → Bool
@@ -106,8 +106,8 @@ rest_true s rest node = option_map_or (λ f. sat s f node) rest true
 abbrev pub LeavesRest : Formula → List ℕ → Kind → List ℕ → Option (List ℕ) → Option Formula → Type 0
 LeavesRest f name kind low high rest =
     (s : State) (value : Value) (node : ℕ) → IsPair kind value node
-        → Within low high (key value node) → sees s node name ≡ Some value → sat s f node
-        ≡ rest_true s rest node
+    → Within low high (key value node) → sees s node name ≡ Some value → sat s f node
+    ≡ rest_true s rest node
 
 -- what is above the byte behind a pattern's literal characters
 abbrev pub limit : Bool → ℕ

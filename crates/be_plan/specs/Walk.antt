@@ -46,11 +46,11 @@ HasNodes s name low high found = (k : List ℕ) (h : IsKey s name k) → Within 
 
 -- the node has a key from `low` to `high`
 pub record IsNodeWithin (s : State) (name low : List ℕ) (high : Option (List ℕ)) (node : ℕ) : Type 0
-    where
-  pub key : List ℕ
-  pub is_key : IsKey s name key
-  pub within : Within low high key
-  pub node_is : is_key.node ≡ node
+  where
+    pub key : List ℕ
+    pub is_key : IsKey s name key
+    pub within : Within low high key
+    pub node_is : is_key.node ≡ node
 
 -- each of the nodes has a key from `low` to `high`, or was there before
 abbrev pub HasOnly : State → List ℕ → List ℕ → Option (List ℕ) → List ℕ → List ℕ → Type 0
@@ -62,7 +62,7 @@ abbrev pub HasPassed : State → (ℕ → Type 0) → List ℕ → List ℕ → 
     → List ℕ → Type 0
 HasPassed s Wanted name low high from after found =
     (k : List ℕ) (h : IsKey s name k) → Within low high k → is_at_or_after from after k ≡ false
-        → Wanted h.node → Contains found h.node
+    → Wanted h.node → Contains found h.node
 
 -- The next key of the walk is this one, or there is none, and it has passed those before: of these
 -- the nodes that are wanted are there.

@@ -134,8 +134,10 @@ fn choose_part<S: Source>(
 pub(crate) fn choose_leaf(comparison: &Comparison, at: usize, indexed: bool) -> PartChoice
     requires { at < 256 }
     ensures cover { result.cover ≡ if indexed
-        then Some (record { picks = at ∷ [];
-        score = score_of comparison.now.op (literal comparison.now.literal) })
+        then Some (record {
+          picks = at ∷ [];
+          score = score_of comparison.now.op (literal comparison.now.literal);
+        })
         else None }
     ensures small { IfSome result.cover (λ cover. cover.score ≤ 5) }
     ensures end { result.end ≡ at + 1 }
@@ -172,8 +174,11 @@ pub(crate) fn cheaper(left: Option<Cover>, right: Option<Cover>) -> Option<Cover
 /// The picks of both.
 pub(crate) fn join(alloc: Global, left: Cover, right: Cover) -> Result<Cover, AllocError>
     requires { left.score + right.score ≤ 1280 }
-    ensures { IfOk result (λ c. c ≡ record { picks = left.picks ++ right.picks; score = left.score
-        + right.score }) }
+    ensures { IfOk result (λ c. c ≡ record {
+      picks = left.picks ++ right.picks;
+      score = left.score
+          + right.score;
+    }) }
 {
     let mut places = left.picks.into_vec(alloc)?;
     places.extend_from_slice(right.picks.as_slice())?;

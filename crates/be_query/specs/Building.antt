@@ -21,8 +21,13 @@ pub record Level : Type 0 where
   pub negations : ℕ
 
 abbrev pub fresh : Bool → Level
-fresh negated = record { negated = negated; operand_negated = negated; or_left = None;
-    and_left = None; negations = 0 }
+fresh negated = record {
+  negated = negated;
+  operand_negated = negated;
+  or_left = None;
+  and_left = None;
+  negations = 0;
+}
 
 -- what may come next, with the comparison or the tree before it
 pub data Stage : Type 0 where
@@ -64,14 +69,22 @@ joined join (Some l) t = join l t
 
 -- behind an operand no `!` waits, and no `&&`
 abbrev pub ended_level : Level → Level
-ended_level level = record { negated = level.negated; operand_negated = level.negated;
-    or_left = level.or_left; and_left = None; negations = 0 }
+ended_level level = record {
+  negated = level.negated;
+  operand_negated = level.negated;
+  or_left = level.or_left;
+  and_left = None;
+  negations = 0;
+}
 
 -- an operand has ended, and its `!` and its `&&` with it
 abbrev pub with_operand : Formula → Level → List Level → State
-with_operand t level outer = record { stage = Joints
-    (joined (conjunction level.negated) level.and_left t); level = ended_level level;
-    outer = outer }
+with_operand t level outer = record {
+  stage = Joints
+      (joined (conjunction level.negated) level.and_left t);
+  level = ended_level level;
+  outer = outer;
+}
 
 -- a side of `||` has ended
 abbrev pub with_side : Formula → Level → Formula
@@ -85,9 +98,12 @@ abbrev pub build_at : Stage → Level → List Level → Token → Option State
 build_at Operands level outer Open = Some
     (record { stage = Operands; level = fresh level.operand_negated; outer = level ∷ outer })
 build_at Operands level outer Bang = Some
-    (record { stage = Operands; level = record level
-    { operand_negated = not level.operand_negated; negations = suc level.negations };
-    outer = outer })
+    (record {
+      stage = Operands;
+      level = record level
+          { operand_negated = not level.operand_negated; negations = suc level.negations };
+      outer = outer;
+    })
 build_at Operands level outer (Text raw) = if is_name raw
     then Some (record { stage = Operators (plain raw); level = level; outer = outer }) else None
 build_at (Operators name) level outer (Compares op) = Some
@@ -97,8 +113,11 @@ build_at (Values name op) level outer (Text raw) = Some
 build_at (Joints t) level outer Both = Some
     (record { stage = Operands; level = record level { and_left = Some t }; outer = outer })
 build_at (Joints t) level outer Either = Some
-    (record { stage = Operands; level = record level { or_left = Some (with_side t level) };
-    outer = outer })
+    (record {
+      stage = Operands;
+      level = record level { or_left = Some (with_side t level) };
+      outer = outer;
+    })
 build_at (Joints t) level outer Close = close (with_side t level) outer
 build_at _ _ _ _ = None
 

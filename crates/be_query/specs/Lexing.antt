@@ -32,7 +32,7 @@ abbrev pub IsBehind : List ℕ → ℕ → ℕ → Type 0
 IsBehind bytes at next =
     ((slice_index bytes at ≢ 92) × (next ≡ at + 1))
     ⊎ ((slice_index bytes at ≡ 92) × (at + 1 < length bytes) × (slice_index bytes (at + 1) ≢ 0)
-        × (next ≡ at + 1 + 1))
+    × (next ≡ at + 1 + 1))
 
 -- a backslash stands there, and behind it a NUL or nothing
 abbrev pub IsLone : List ℕ → ℕ → Type 0
@@ -58,8 +58,8 @@ quoted_span quote true (b ∷ bs) = if b == 0 then Breaks 0 else further (quoted
 quoted_span quote false [] = Breaks 0
 quoted_span quote false (b ∷ bs) =
     if b == quote then Ends 0 else (if b == 0 then Breaks 0
-        else (if b == 92 then further (quoted_span quote true bs)
-        else further (quoted_span quote false bs)))
+    else (if b == 92 then further (quoted_span quote true bs)
+    else further (quoted_span quote false bs)))
 
 pub data Lexeme : Type 0 where
   Whole : Token → Lexeme

@@ -42,8 +42,13 @@ side_of None = None
 side_of (Some b) = Some (formula b.value)
 
 abbrev pub level_seen : code_level.Level → Level
-level_seen l = record { negated = l.negated; operand_negated = l.operand_negated;
-    or_left = side_of l.or_left; and_left = side_of l.and_left; negations = l.negations }
+level_seen l = record {
+  negated = l.negated;
+  operand_negated = l.operand_negated;
+  or_left = side_of l.or_left;
+  and_left = side_of l.and_left;
+  negations = l.negations;
+}
 
 abbrev pub stage_of : code_stage.Stage → Stage
 stage_of code_stage.TheVariants.Operand = Operands

@@ -54,8 +54,8 @@ set_op node (Err e) value = Err e
 abbrev pub set_from : List ℕ → List ℕ → List ℕ → List ℕ → Option Request
 set_from node name kind value =
     option_and_then (λ n. option_and_then
-        (λ k. option_map (λ v. write (set_op n (name_from name) v)) (value_in k value))
-        (kind_in kind)) (word_in node)
+    (λ k. option_map (λ v. write (set_op n (name_from name) v)) (value_in k value))
+    (kind_in kind)) (word_in node)
 
 -- what follows each command word
 
@@ -148,7 +148,7 @@ command_in commands.Abort rest = bare abort rest
 abbrev pub command_of : List ℕ → Request
 command_of line =
     unwrap_or (option_and_then (λ command. command_in command (drop (end_of_word line) line))
-        (command_named (bytes_of (take (end_of_word line) line)))) malformed
+    (command_named (bytes_of (take (end_of_word line) line)))) malformed
 
 -- '#' is the first byte
 abbrev pub is_comment : List ℕ → Bool

@@ -47,7 +47,7 @@ quoted_in (c ∷ []) = if nat_eq c 34 then Some ([], []) else None
 quoted_in (c ∷ d ∷ text) =
     if nat_eq c 34 then Some ([], d ∷ text)
     else if nat_eq c 92 then option_and_then (λ meant. behind (encode_utf8 meant) (quoted_in text))
-        (meaning_of d)
+    (meaning_of d)
     else behind (encode_utf8 c) (quoted_in (d ∷ text))
 
 -- a word ends here
@@ -64,8 +64,10 @@ abbrev pub word_at : List ℕ → Option (List ℕ × List ℕ)
 word_at [] = None
 word_at (c ∷ text) =
     if nat_eq c 34 then option_and_then if_ended (quoted_in text)
-    else Some (bytes_of (take (end_of_word (c ∷ text)) (c ∷ text)),
-        drop (end_of_word (c ∷ text)) (c ∷ text))
+    else Some (
+      bytes_of (take (end_of_word (c ∷ text)) (c ∷ text)),
+      drop (end_of_word (c ∷ text)) (c ∷ text),
+    )
 
 -- the first word of a text, and what follows it
 abbrev pub first_word : List ℕ → Option (List ℕ × List ℕ)

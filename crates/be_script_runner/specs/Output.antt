@@ -68,8 +68,10 @@ taken s (Some ops) op =
     else (full_batch, s)
 
 abbrev pub commit_reply : Session → Result (Store × List Done) Refusal → Reply × Session
-commit_reply s (Ok answer) = (committed (length answer.0.journal) answer.1,
-    with_batch (with_store s answer.0) None)
+commit_reply s (Ok answer) = (
+  committed (length answer.0.journal) answer.1,
+  with_batch (with_store s answer.0) None,
+)
 commit_reply s (Err e) = (refused e, with_batch s None)
 
 -- The batch is written as one. It ends then, refused or not.
@@ -102,8 +104,10 @@ watching s (Err e) = (refused e, s)
 
 -- what came and what went since the last answer, which is now this one
 abbrev pub updating : Session → LiveQuery → Result (List ℕ) Refusal → Reply × Session
-updating s l (Ok now) = (updates (without now l.last) (without l.last now),
-    with_live s (record { query = l.query; last = now }))
+updating s l (Ok now) = (
+  updates (without now l.last) (without l.last now),
+  with_live s (record { query = l.query; last = now }),
+)
 updating s l (Err e) = (refused e, s)
 
 abbrev pub refreshing : Session → Option LiveQuery → Reply × Session
@@ -257,7 +261,7 @@ abbrev pub Outputs : Session → List (List ℕ) → Session → List ℕ → Ty
 Outputs s [] last out = (last ≡ s) × (out ≡ [])
 Outputs s (line ∷ lines) last out =
     (after : Session) × (reply : List ℕ) × (rest : List ℕ) × Answered s line after reply
-        × Outputs after lines last rest × (out ≡ reply ++ rest)
+    × Outputs after lines last rest × (out ≡ reply ++ rest)
 
 -- the text is an output of the script, run from this store on, which is then the new one
 abbrev pub IsOutputTo : Store → List ℕ → Store → List ℕ → Type 0

@@ -33,8 +33,14 @@ IsNew store k pass = (pass.blank ≡ false) × (pass.table ≡ store.id)
 
 -- an empty store as its pass k sees it
 abbrev pub start_of : StoreLimits → ℕ → Store
-start_of limits k = record { journal = []; volume = empty; limit = limits.commits;
-    passes = limits.passes; pass = k; pin = None }
+start_of limits k = record {
+  journal = [];
+  volume = empty;
+  limit = limits.commits;
+  passes = limits.passes;
+  pass = k;
+  pin = None;
+}
 
 -- The pass has the number k, and its own writes are some of those that the script asks for, in
 -- their order.

@@ -115,7 +115,7 @@ IsNotLimits Memory = Unit {0}
 -- The text is the replies to the lines of a script up to those of what is left, and `s` is the
 -- session that they leave.
 pub record HasReplied (store : Store) (script : List ℕ) (s : Session) (left out : List ℕ) : Type 0
-    where
-  pub lines : List (List ℕ)
-  pub is : lines_of script ≡ lines ++ lines_of left
-  pub output : Outputs (opening store) lines s out
+  where
+    pub lines : List (List ℕ)
+    pub is : lines_of script ≡ lines ++ lines_of left
+    pub output : Outputs (opening store) lines s out

@@ -41,13 +41,25 @@ coded_store = code_by _ (coded× (coded_list coded_entry)
     (coded× coded_state (coded× coded_ℕ
     (coded× coded_ℕ (coded× coded_ℕ (coded_option coded_pin))))))
     (λ s. (s.journal, (s.volume, (s.limit, (s.passes, (s.pass, s.pin))))))
-    (λ q. record { journal = q.0; volume = q.1.0; limit = q.1.1.0; passes = q.1.1.1.0;
-        pass = q.1.1.1.1.0; pin = q.1.1.1.1.1 }) (λ _. refl)
+    (λ q. record {
+      journal = q.0;
+      volume = q.1.0;
+      limit = q.1.1.0;
+      passes = q.1.1.1.0;
+      pass = q.1.1.1.1.0;
+      pin = q.1.1.1.1.1;
+    }) (λ _. refl)
 
 -- a store of one pass before its first write, with no pin
 abbrev pub start : ℕ → Store
-start limit = record { journal = []; volume = empty; limit = limit; passes = 1; pass = 0;
-    pin = None }
+start limit = record {
+  journal = [];
+  volume = empty;
+  limit = limit;
+  passes = 1;
+  pass = 0;
+  pin = None;
+}
 
 -- the store has a pass of this number, and it is another one than this
 abbrev pub IsOther : Store → ℕ → Type 0
@@ -58,8 +70,11 @@ IsOther s k = (k < s.passes) × (k ≢ s.pass)
 pub record Joins (old new : Store) : Type 0 where
   pub others : List Entry
   pub theirs : All (λ e. IsOther old e.by) others
-  pub store : new ≡ record old { journal = old.journal
-      ++ others; volume = fold (λ v e. state_after v e.ops) old.volume others }
+  pub store : new ≡ record old {
+    journal = old.journal
+        ++ others;
+    volume = fold (λ v e. state_after v e.ops) old.volume others;
+  }
 
 -- The other passes may have written meanwhile, and P is true of the store as they left it.
 pub record Meanwhile (old : Store) (P : Store → Type 0) : Type 0 where
@@ -81,9 +96,11 @@ unpinned s = record s { pin = None }
 
 -- the store after a write by the pass that the volume accepts, with its answers; a pin stays
 abbrev pub entered : Store → List Op → State → List Done → Store
-entered s ops volume dones = record s
-    { journal = s.journal ++ record { by = s.pass; ops = ops; dones = dones }
-    ∷ []; volume = volume }
+entered s ops volume dones = record s {
+  journal = s.journal ++ record { by = s.pass; ops = ops; dones = dones }
+      ∷ [];
+  volume = volume;
+}
 
 -- A write: a refusal of the volume goes before that of a journal at its limit.
 abbrev pub written_by : Store → List Op → Result (State × List Done) Refusal

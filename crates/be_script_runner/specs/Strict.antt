@@ -62,7 +62,7 @@ abbrev pub Accepts : Session → List (List ℕ) → Session → List ℕ → Ty
 Accepts s [] last out = (last ≡ s) × (out ≡ [])
 Accepts s (line ∷ lines) last out =
     (after : Session) × (reply : List ℕ) × (rest : List ℕ) × Judged s line after None reply
-        × Accepts after lines last rest × (out ≡ reply ++ rest)
+    × Accepts after lines last rest × (out ≡ reply ++ rest)
 
 -- the first lines of a script were accepted, and the one behind them, which has this number, was
 -- refused by this text

@@ -52,16 +52,22 @@ TellingLeaves limits Memory input old new = IfSome input
 
 -- a store of one pass with these writes, by its pass
 abbrev pub made : ℕ → List Entry → Store
-made limit entries = record { journal = map by_only_pass entries; volume = replay entries;
-    limit = limit; passes = 1; pass = 0; pin = None }
+made limit entries = record {
+  journal = map by_only_pass entries;
+  volume = replay entries;
+  limit = limit;
+  passes = 1;
+  pass = 0;
+  pin = None;
+}
 
 -- what the lines of the write with this number are answered: the reply to its operation, or those
 -- of a batch of several
 abbrev pub write_output : ℕ → Entry → List ℕ
 write_output number entry =
     if nat_lt 1 (length entry.ops) then text_of ok
-        ++ (flat_map (λ (op : Op). text_of queued) entry.ops
-        ++ text_of (committed number entry.dones))
+    ++ (flat_map (λ (op : Op). text_of queued) entry.ops
+    ++ text_of (committed number entry.dones))
     else text_of (done_reply entry.dones)
 
 -- what the lines of writes are answered that are numbered from n on

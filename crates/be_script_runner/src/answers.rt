@@ -16,9 +16,9 @@ ghost use Rattle.be_store.specs.Live.{LiveQuery};
 
 use crate::client::Client;
 use crate::stores::Server;
-use be_script_language::{Reply, Request};
 use be_plan::explain;
 use be_query::parse;
+use be_script_language::{Reply, Request};
 use be_store::Live;
 use be_value::{Name, Refusal};
 use be_volume::{Done, Op};

@@ -12,8 +12,8 @@ ghost use Rattle.be_volume_state.specs.Rebuilding.{state_ops};
 ghost use Rattle.be_store.specs.Passes.{HasRead, IsPassOf, IsPinnedTo, volume_pinned};
 
 use be_journal_text::push_write;
-use be_volume_state::Place;
 use be_store::{Pass, Store};
+use be_volume_state::Place;
 use std::alloc::{AllocError, Global};
 
 /// Appends the lines of the next list of the operations of a pass's pinned version. False where

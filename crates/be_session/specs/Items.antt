@@ -69,7 +69,7 @@ item_told e n = if fault_code e == 10 then 0 else n
 abbrev pub AreItemsMisspelt : List PredicateItem → List ℕ → Fault → ℕ → Type 0
 AreItemsMisspelt ss bytes e place =
     ((n : ℕ) × (place ≡ item_told e n) × (s : PredicateItem) × (items : List Item)
-        × (take (n + 1) ss ≡ take n ss ++ s ∷ [])
+    × (take (n + 1) ss ≡ take n ss ++ s ∷ [])
     × AreItemsMeant (take n ss) bytes items × IsItemMisspelt s bytes e)
     ⊎ ((e ≡ Refused OutOfMemory) × (place ≡ 0))
 
@@ -83,5 +83,5 @@ abbrev pub IsUnbuilt : List PredicateItem → List ℕ → Fault → ℕ → Typ
 IsUnbuilt ss bytes e place =
     AreItemsMisspelt ss bytes e place
     ⊎ ((items : List Item) × AreItemsMeant ss bytes items × (why : Refusal) × (e ≡ Refused why)
-        × (place ≡ fault_carried (Refused why))
+    × (place ≡ fault_carried (Refused why))
     × IsMemory why (rpn items ≡ Err why))

@@ -77,9 +77,9 @@ makes i = MkIndex i.0 i.1
 abbrev pub IsMisspeltAt : Operation → List ℕ → Fault → Type 0
 IsMisspeltAt o bytes e =
     ((e ≡ BadPart) × ((length bytes < o.name_at + o.name_length)
-        ⊎ (length bytes < o.value_at + o.value_length)))
+    ⊎ (length bytes < o.value_at + o.value_length)))
     ⊎ IsNoOperation o.kind (part bytes o.name_at o.name_length) o.code o.number
-        (part bytes o.value_at o.value_length) e
+    (part bytes o.value_at o.value_length) e
 
 -- so many operations make a write
 abbrev pub IsWriteCount : ℕ → Type 0
@@ -94,7 +94,7 @@ IsBadCount n = (n ≡ 0) ⊎ (64 < n)
 abbrev pub IsFirstMisspelt : List Operation → List ℕ → Fault → ℕ → Type 0
 IsFirstMisspelt os bytes e place =
     ((o : Operation) × (ops : List Op) × (take (place + 1) os ≡ take place os ++ o ∷ [])
-        × AreMeant (take place os) bytes ops × IsMisspeltAt o bytes e)
+    × AreMeant (take place os) bytes ops × IsMisspeltAt o bytes e)
     ⊎ ((e ≡ Refused OutOfMemory) × (place ≡ 0))
 
 -- Why these mean no write, and the place that is told of it: how many there are decides before

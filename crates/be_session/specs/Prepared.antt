@@ -15,8 +15,8 @@ pub record PreparedQuery : Type 0 where
 abbrev pub coded_prepared : Coded PreparedQuery
 coded_prepared =
     code_by _ (coded× coded_live (coded× (coded_list coded_ℕ)
-        (coded× (coded_list coded_ℕ) (coded_list coded_ℕ))))
-        (λ p. (p.live, (p.found, (p.came, p.went))))
+    (coded× (coded_list coded_ℕ) (coded_list coded_ℕ))))
+    (λ p. (p.live, (p.found, (p.came, p.went))))
     (λ c. record { live = c.0; found = c.1.0; came = c.1.1.0; went = c.1.1.1 }) (λ _. refl)
 
 -- this query, which was never asked or refreshed: nothing was found, its last answer is empty, and

@@ -56,9 +56,9 @@ IsUnpinnedOf store pass = IsPassOf store pass × (pinned_number pass.knows.phase
 abbrev pub MayWaitAt : SeatFacts → SeatFacts → Type 0
 MayWaitAt seat pass =
     (pass.blank ≡ false) × (pass.table ≡ seat.table) × (pass.knows.limits ≡ seat.knows.limits)
-        × (pass.knows.number ≡ seat.knows.number)
+    × (pass.knows.number ≡ seat.knows.number)
     × IsBetweenCalls seat.knows.limits.passes pass.knows.phase
-        × (pinned_number pass.knows.phase ≡ None)
+    × (pinned_number pass.knows.phase ≡ None)
 
 -- these seats are those of all passes of the store, by their numbers
 abbrev pub AreAllSeats : Opened → List SeatFacts → Type 0
@@ -77,9 +77,9 @@ IsHandedOut s t a =
 abbrev pub HasMet : Opened → Knowledge → Knowledge → ℕ → Type 0
 HasMet store a c n =
     (b : Knowledge) × IsUnpinnedAt store b × StartsWith (longer a.seen b.seen) a.seen
-        × StartsWith (longer a.seen b.seen) b.seen
+    × StartsWith (longer a.seen b.seen) b.seen
     × (c ≡ met a (longer a.seen b.seen)) × (n ≡ length (longer a.seen b.seen))
-        × HasTrace store.limits (a ∷ b ∷ [])
+    × HasTrace store.limits (a ∷ b ∷ [])
 
 -- why a write did nothing, and what it left: a count that isn't 1 to 64, or the store's own refusal
 abbrev pub IsUnwritten : Knowledge → Knowledge → List Op → Fault → Type 0

@@ -36,8 +36,12 @@ impl Model for Prepared {
 
     ghost coded = { coded_prepared };
 
-    ghost view = { λ p. record { live = p.live; found = p.found.items;
-        came = p.updates.created.items; went = p.updates.removed.items } };
+    ghost view = { λ p. record {
+      live = p.live;
+      found = p.found.items;
+      came = p.updates.created.items;
+      went = p.updates.removed.items;
+    } };
 }
 
 impl Prepared {

@@ -60,8 +60,11 @@ impl Model for Session {
     ghost use Rattle.be_table.specs.Works.{AreNew};
     ghost use Rattle.be_store.specs.Passes.{IsPassOf};
 
-    ghost view = { λ s. record { store = s.shared.value; knows = s.pass.knows;
-        spare = vec_len s.spare } };
+    ghost view = { λ s. record {
+      store = s.shared.value;
+      knows = s.pass.knows;
+      spare = vec_len s.spare;
+    } };
 
     ghost invariant = { λ s. IsPassOf s.shared.value s.pass
         × AreNew s.shared.value 0 s.spare.items };

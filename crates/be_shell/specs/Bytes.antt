@@ -83,7 +83,7 @@ AreShort lines = All (λ line. length line ≤ 65536) lines
 
 -- All of the script was heard, and what was said is an output of it.
 pub record IsWhole (store : Store) (script told : List ℕ) (last : Session) (end : Known) : Type 0
-    where
-  pub out : List ℕ
-  pub said : end.told ≡ Some (told ++ out)
-  pub output : IsOutputTo store script last.store out
+  where
+    pub out : List ℕ
+    pub said : end.told ≡ Some (told ++ out)
+    pub output : IsOutputTo store script last.store out

@@ -56,7 +56,7 @@ abbrev pub IsTalk : Session → List Heard → List Event → Session → Type 0
 IsTalk s [] events last = (last ≡ s) × (events ≡ [])
 IsTalk s (line ∷ lines) events last =
     (after : Session) × (reply : List ℕ) × (rest : List Event) × RepliedTo s line after reply
-        × IsTalk after lines rest last × (events ≡ exchange line reply ++ rest)
+    × IsTalk after lines rest last × (events ≡ exchange line reply ++ rest)
 
 -- The events happen one after the other, and take a peer from the one state to the other. What each
 -- of them does is the peer's own to say.
@@ -103,7 +103,7 @@ IsBroken Read s events = events ≡ fails ∷ []
 IsBroken TooLong s events = ⊥
 IsBroken Write s events =
     (line : Heard) × (after : Session) × (reply : List ℕ) × (cut : List Event)
-        × RepliedTo s line after reply × IsCut reply cut × (events ≡ hears line ∷ cut)
+    × RepliedTo s line after reply × IsCut reply cut × (events ≡ hears line ∷ cut)
 IsBroken Memory s events = (events ≡ fails ∷ []) ⊎ ((line : Heard) × (events ≡ hears line ∷ []))
 
 -- an exchange that a fault broke off; and one behind the line that was heard
@@ -125,8 +125,8 @@ IsCutShort e s lines events = IsBroken e s events
 abbrev pub BrokeOff : {P : Type 0} → (P → Event → P → Type 0) → RunFault → Session → P → P → Type 0
 BrokeOff does e s p q =
     (lines : List Heard) × (talk : List Event) × (mid : Session) × (broken : List Event)
-        × IsTalk s lines talk mid × IsCutShort e mid lines broken
-        × Happens does p (talk ++ broken) q
+    × IsTalk s lines talk mid × IsCutShort e mid lines broken
+    × Happens does p (talk ++ broken) q
 
 -- a fault before a store was there
 abbrev pub IsUnopened : RunFault → Type 0
@@ -142,7 +142,7 @@ abbrev pub ShellLeaves : {P Q : Type 0} → (P → Event → P → Type 0) → (
     → RunFault → Session → P → P → Q → Q → Type 0
 ShellLeaves first second e s p p' q q' =
     (IsUnopened e × (p' ≡ p) × (q' ≡ q)) ⊎ (BrokeOff first e s p p' × (q' ≡ q))
-        ⊎ ((mid : Session) × TalkedTo first s p mid p' × BrokeOff second e mid q q')
+    ⊎ ((mid : Session) × TalkedTo first s p mid p' × BrokeOff second e mid q q')
 
 -- all that is said by events
 abbrev pub said : List Event → List ℕ

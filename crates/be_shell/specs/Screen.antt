@@ -21,7 +21,7 @@ shows does p torn (hears line) q torn' = does p (hears line) q × (torn' ≡ tor
 shows does p torn ends q torn' = does p ends q × (torn' ≡ torn)
 shows does p torn (says bytes) q torn' =
     (SaysAll does p (shown bytes) q × (torn' ≡ torn))
-        ⊎ ((front : List ℕ) × IsFrontOf (shown bytes) front × SaysAll does p front q
-        × (torn' ≡ true))
+    ⊎ ((front : List ℕ) × IsFrontOf (shown bytes) front × SaysAll does p front q
+    × (torn' ≡ true))
 shows does p torn flushes q torn' = does p flushes q × (torn' ≡ torn)
 shows does p torn fails q torn' = does p fails q × (torn' ≡ torn)

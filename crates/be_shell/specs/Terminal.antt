@@ -47,5 +47,5 @@ IsOfFile fails = ⊥
 abbrev pub asks : {P : Type 0} → (P → Event → P → Type 0) → P → Bool → Event → P → Bool → Type 0
 asks does p reads event q reads' =
     ((below : Event) × (event ≡ passes below) × does p below q
-        × (reads' ≡ true → (reads ≡ true) ⊎ IsReading below))
+    × (reads' ≡ true → (reads ≡ true) ⊎ IsReading below))
     ⊎ ((reads ≡ true) × (q ≡ p) × IsOfFile event)

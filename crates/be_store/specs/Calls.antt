@@ -24,7 +24,7 @@ Call a c =
     ⊎ Learns a c
     ⊎ ((n : ℕ) × Pins a c n)
     ⊎ ((c ≡ unpins (with_history a c.history))
-        × Makes a.number a.history (Unpin a.number ∷ []) c.history)
+    × Makes a.number a.history (Unpin a.number ∷ []) c.history)
     ⊎ HasRead a c
     ⊎ ((log : List Commit) × StartsWith log a.seen × (c ≡ met a log))
 

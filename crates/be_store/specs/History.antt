@@ -82,7 +82,7 @@ IsRefusedAt c ops e =
     (steps (volume_seen c) ops ≡ Err e)
     ⊎ (IsOk (steps (volume_seen c) ops) × HasNoRoom e c)
     ⊎ (IsOk (steps (volume_seen c) ops) × (length c.seen < c.limits.commits)
-        × IsFullOf (IsSpent c) e)
+    × IsFullOf (IsSpent c) e)
 
 -- Why a write is refused: its one try found that another pass holds the lock, and nothing more was
 -- seen; or else.
@@ -121,8 +121,14 @@ pub record Pins (a c : Knowledge) (n : ℕ) : Type 0 where
   pub number : n ≡ length c.seen
   pub pin : IsPinnedTo c n
   pub moves : MovesNow a (Look a.number ∷ Announce a.number ∷ LookAgain a.number ∷ []) c
-  pub same : c ≡ record a { seen = c.seen; phase = c.phase; image = c.image; steps = a.steps
-      + 3; history = c.history }
+  pub same : c ≡ record a {
+    seen = c.seen;
+    phase = c.phase;
+    image = c.image;
+    steps = a.steps
+        + 3;
+    history = c.history;
+  }
 
 -- the journal's text, as far as the pass has seen it
 abbrev pub text_seen : Knowledge → List ℕ

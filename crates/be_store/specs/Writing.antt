@@ -39,7 +39,7 @@ abbrev pub ScansEarly : Work → Work → Type 0
 ScansEarly old new =
     ((count_by is_retired old.knows.places < old.left + 32) × (new ≡ old))
     ⊎ ((old.left + 32 ≤ count_by is_retired old.knows.places)
-        × ((least : ℕ) × MakesScan old new least))
+    × ((least : ℕ) × MakesScan old new least))
 
 -- the pass is still the same pass, with its pin
 pub record IsSame (a c : Knowledge) : Type 0 where

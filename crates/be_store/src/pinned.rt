@@ -28,9 +28,9 @@ use crate::{Live, Pass, Store};
 use be_paged::{Cell, HeldName};
 use be_plan::{Cover, PreparedQuery};
 use be_query::Query;
-use be_volume_state::Place;
 use be_value::{Kind, Name, Refusal, Value};
 use be_volume::Op;
+use be_volume_state::Place;
 use std::alloc::Global;
 
 /// A pass that is pinned as long as this lives. Whichever way it goes, the pass is unpinned then.
@@ -39,8 +39,8 @@ pub struct Pinned<'a> {
     pass: &'a mut Pass,
     number: u64,
     ghost seat: { IsSeatOf store.now pass.now },
-    ghost between: { IsBetweenCalls store.now.limits.passes pass.now.knows.phase } by
-        { IsBetweenCalls-prop store.now.limits.passes pass.now.knows.phase },
+    ghost between: { IsBetweenCalls store.now.limits.passes pass.now.knows.phase }
+        by { IsBetweenCalls-prop store.now.limits.passes pass.now.knows.phase },
 }
 
 impl Store {

@@ -6,8 +6,8 @@ ghost use Rattle.be_paged.specs.Version.{IsVersion};
 
 use be_paged::whole;
 use be_pages::Look;
-use be_volume_state::{Place, next_list};
 use be_volume::Op;
+use be_volume_state::{Place, next_list};
 use std::alloc::{AllocError, Global};
 
 /// The next list of a version's operations, and the reader back.

@@ -18,10 +18,10 @@ use be_journal::{Entry, Journal};
 use be_paged::{attrs, first_page, get, indices, next, nodes};
 use be_plan::{Cover, PreparedQuery};
 use be_query::Query;
-use be_volume_state::Place;
 use be_table::{PinnedLook, Status, VersionTable, Witness, Writing};
 use be_value::{Kind, Name, Refusal, Value};
 use be_volume::{Done, Op};
+use be_volume_state::Place;
 use std::alloc::Global;
 use std::marker::Model;
 

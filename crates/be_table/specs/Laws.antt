@@ -84,10 +84,10 @@ abbrev pub AllowsBy : Limits → ℕ → ℕ → Me (Option Ledger) View → ℕ
     → (ℕ → World → World → Type 0) → (ℕ → Me (Option Ledger) View → Type 0) → Type 0
 AllowsBy limits slots id me i f event then =
     (s : State (Option Ledger) View) (b : Board) → Stands limits s b → length s.homes ≡ slots
-        → get_elem? s.views id ≡ some me.0 → slice_index s.words i < 18446744073709551616
+    → get_elem? s.views id ≡ some me.0 → slice_index s.words i < 18446744073709551616
     → (w : View) × (x : Act (Option Ledger)) × Valid s.homes me.1 x
     × ((d : Board) × Stands limits (stepped s i (f (slice_index s.words i)) id me.1 w x) d
-        × event (slice_index s.words i) b.world d.world)
+    × event (slice_index s.words i) b.world d.world)
     × then (slice_index s.words i) (w, carried_after me.1 x)
 
 -- ## Each step by a pass that may make it
@@ -100,80 +100,80 @@ module _ (limits : Limits) (slots id : ℕ) (a : Knowledge) (carried : List (ℕ
   abbrev pub AnnounceIsItsEvent : Type 0
   AnnounceIsItsEvent = (x : ℕ) → a.phase ≡ Looked x
       → AllowsBy limits slots id (alone a, carried) (16 + 8 * a.number) (λ _. x + 1)
-          (IsAnnounce a.number) (λ _. Told (step slots (16 + 8 * a.number) (x + 1) 0 none)
-          (alone a, carried) (x + 1))
+      (IsAnnounce a.number) (λ _. Told (step slots (16 + 8 * a.number) (x + 1) 0 none)
+      (alone a, carried) (x + 1))
 
   abbrev pub LookAgainIsItsEvent : Type 0
   LookAgainIsItsEvent = (x : ℕ) → a.phase ≡ Announced x
       → AllowsBy limits slots id (alone a, carried) 8 (λ n. n) (IsLookAgain a.number)
-          (PinnedAt (step slots 8 0 0 none) (alone a, carried))
+      (PinnedAt (step slots 8 0 0 none) (alone a, carried))
 
   abbrev pub UnpinIsItsEvent : Type 0
   UnpinIsItsEvent = (x n : ℕ) → a.phase ≡ Pinned x n
       → AllowsBy limits slots id (alone a, carried) (16 + 8 * a.number) (λ _. 0) (IsUnpin a.number)
-          (λ _. Unpinned (step slots (16 + 8 * a.number) 0 0 none) (alone a, carried) 0)
+      (λ _. Unpinned (step slots (16 + 8 * a.number) 0 0 none) (alone a, carried) 0)
 
   abbrev pub PinnedReadIsItsEvent : Type 0
   PinnedReadIsItsEvent = (x n p i : ℕ) → a.phase ≡ Pinned x n → IsTrue (has (reach_at a.seen n) p)
       → i < 512
       → AllowsBy limits slots id (alone a, carried) (word_place p i) (λ n. n)
-          (IsRead a.number n p i) (PinnedRead (step slots (word_place p i) 0 0 none)
-          (alone a, carried))
+      (IsRead a.number n p i) (PinnedRead (step slots (word_place p i) 0 0 none)
+      (alone a, carried))
 
   -- a compare-exchange that finds 0 is Lock, and one that doesn't is no event
   abbrev pub LockIsItsEvent : Type 0
   LockIsItsEvent = a.writes ≡ false
       → AllowsBy limits slots id (alone a, carried) 0 (λ n. either (n == 0) (a.number + 1) n)
-          (IsLock a.number) (Locked (step slots 0 0 (a.number + 1) none) (alone a, carried))
+      (IsLock a.number) (Locked (step slots 0 0 (a.number + 1) none) (alone a, carried))
 
   abbrev pub ScanIsItsEvent : Type 0
   ScanIsItsEvent = a.writes ≡ true → a.published ≡ false
       → AllowsBy limits slots id (alone a, carried) (16 + 8 * a.scanned) (λ n. n)
-          (IsScan a.number a.scanned) (Scanned (step slots (16 + 8 * a.scanned) 0 0 none)
-          (alone a, carried))
+      (IsScan a.number a.scanned) (Scanned (step slots (16 + 8 * a.scanned) 0 0 none)
+      (alone a, carried))
 
   abbrev pub FillIsItsEvent : Type 0
   FillIsItsEvent = (p i x : ℕ) → a.writes ≡ true → a.published ≡ false → MayBeFilled a.places p → i
       < 512
       → AllowsBy limits slots id (alone a, carried) (word_place p i) (λ _. x)
-          (IsFill a.number p i x) (λ _. FilledAt (step slots (word_place p i) x 0 none)
-          (alone a, carried) x)
+      (IsFill a.number p i x) (λ _. FilledAt (step slots (word_place p i) x 0 none)
+      (alone a, carried) x)
 
   -- a load of a word of a page in hand fills it with the word that is there
   abbrev pub FoundFillIsItsEvent : Type 0
   FoundFillIsItsEvent = (p i : ℕ) → a.writes ≡ true → a.published ≡ false → MayBeFilled a.places p
       → i < 512
       → AllowsBy limits slots id (alone a, carried) (word_place p i) (λ n. n)
-          (λ n. IsFill a.number p i n n) (FilledFound (step slots (word_place p i) 0 0 none)
-          (alone a, carried))
+      (λ n. IsFill a.number p i n n) (FilledFound (step slots (word_place p i) 0 0 none)
+      (alone a, carried))
 
   abbrev pub OwnReadIsNoEvent : Type 0
   OwnReadIsNoEvent = (p i : ℕ) → a.writes ≡ true → p < a.limits.pages → i < 512
       → AllowsBy limits slots id (alone a, carried) (word_place p i) (λ n. n) NoEvent
-          (OwnRead (step slots (word_place p i) 0 0 none) (alone a, carried))
+      (OwnRead (step slots (word_place p i) 0 0 none) (alone a, carried))
 
   -- a load that takes a page fills its first word with the word that is there
   abbrev pub TakeIsItsEvent : Type 0
   TakeIsItsEvent = (p : ℕ) → a.writes ≡ true → a.published ≡ false → p < length a.places
       → place_of a.places p ≡ Free
       → AllowsBy limits slots id (alone a, carried) (word_place p 0) (λ n. n)
-          (λ n. IsFill a.number p 0 n n) (PageTaken (step slots (word_place p 0) 0 0 none)
-          (alone a, carried))
+      (λ n. IsFill a.number p 0 n n) (PageTaken (step slots (word_place p 0) 0 0 none)
+      (alone a, carried))
 
   -- the return of a page that the write had taken; of another page no event
   abbrev pub GiveUpIsNoEvent : Type 0
   GiveUpIsNoEvent = (p : ℕ) → a.writes ≡ true → p < length a.places
       → IsTrue (is_held_page (place_of a.places p))
       → AllowsBy limits slots id (alone a, carried) (word_place p 0) (λ n. n)
-          (λ n v w. MatchBool (shows_taken (place_of a.places p)) (IsReturn a.number p n v w)
-          (NoEvent n v w)) (PageGivenUp (step slots (word_place p 0) 0 0 none) (alone a, carried))
+      (λ n v w. MatchBool (shows_taken (place_of a.places p)) (IsReturn a.number p n v w)
+      (NoEvent n v w)) (PageGivenUp (step slots (word_place p 0) 0 0 none) (alone a, carried))
 
   abbrev pub PublishIsItsEvent : Type 0
   PublishIsItsEvent = (e : Entry) (page new : ℕ) → MayPublish limits a e page → new
       ≡ current_word (length a.seen + 1) page
       → AllowsBy limits slots id (alone a, carried) 8 (λ _. new)
-          (IsPublish a.number page (pages_from is_given 0 a.places))
-          (λ _. Published e page (step slots 8 new 0 none) (alone a, carried) new)
+      (IsPublish a.number page (pages_from is_given 0 a.places))
+      (λ _. Published e page (step slots 8 new 0 none) (alone a, carried) new)
 
 abbrev pub UnlockIsItsEvent : Limits → ℕ → ℕ → Knowledge → Ledger → Type 0
 UnlockIsItsEvent limits slots id a ledger = a.writes ≡ true → ledger.journal.entries
@@ -181,20 +181,20 @@ UnlockIsItsEvent limits slots id a ledger = a.writes ≡ true → ledger.journal
     ≡ page_at a.seen (length a.seen) → (ledger_places ledger) ≡ map undone_place a.places
     → LeftAreRetired ledger
     → AllowsBy limits slots id (alone a, (0, Some ledger) ∷ []) 0 (λ _. 0) (IsUnlock a.number)
-        (λ _. Unlocked (step slots 0 0 0 none) (alone a, (0, Some ledger) ∷ []) 0)
+    (λ _. Unlocked (step slots 0 0 0 none) (alone a, (0, Some ledger) ∷ []) 0)
 
 abbrev pub CompareIsNoEvent : Limits → ℕ → ℕ → Knowledge → Knowledge → List (ℕ × Option Ledger)
     → Type 0
 CompareIsNoEvent limits slots id a c carried = a.writes ≡ false → c.writes ≡ false
     → AllowsBy limits slots id (beside a c, carried) 0 (λ n. n) NoEvent
-        (Compared (step slots 0 0 0 none) (beside a c, carried))
+    (Compared (step slots 0 0 0 none) (beside a c, carried))
 
 -- a pass takes in the front that its seat has
 abbrev pub LearnIsNoEvent : Limits → ℕ → ℕ → Knowledge → List Commit → List (ℕ × Option Ledger)
     → Type 0
 LearnIsNoEvent limits slots id a front carried = a.writes ≡ false
     → AllowsBy limits slots id (informed a front, carried) 0 (λ n. n) NoEvent
-        (Learned (step slots 0 0 0 none) (informed a front, carried))
+    (Learned (step slots 0 0 0 none) (informed a front, carried))
 
 -- ## Seats
 
@@ -211,25 +211,25 @@ abbrev pub SplitIsNoEvent : Limits → ℕ → Knowledge → List Knowledge → 
 SplitIsNoEvent limits id a v fronts =
     let all : View = record { passes = a ∷ v; fronts = fronts } in
     (s : State (Option Ledger) View) (b : Board) → Stands limits s b → get_elem? s.views id
-        ≡ some all
+    ≡ some all
     → StaysShown limits b (with_views s
-        (slice_set s.views id (other_seats all) ++ first_seat all ∷ []))
+    (slice_set s.views id (other_seats all) ++ first_seat all ∷ []))
 
 -- what the pass of a seat has seen gets a new seat with no pass, and the seat keeps what it has
 abbrev pub AttestIsNoEvent : Limits → ℕ → Knowledge → Type 0
 AttestIsNoEvent limits id a =
     (s : State (Option Ledger) View) (b : Board) → Stands limits s b → get_elem? s.views id
-        ≡ some (alone a)
+    ≡ some (alone a)
     → StaysShown limits b (with_views s
-        (slice_set s.views id (alone (one_step_on a)) ++ witnessing a.seen ∷ []))
+    (slice_set s.views id (alone (one_step_on a)) ++ witnessing a.seen ∷ []))
 
 -- what the seat `other` has goes to the seat `id`, and `other` is left with nothing
 abbrev pub JoinIsNoEvent : Limits → ℕ → View → ℕ → View → Type 0
 JoinIsNoEvent limits id v other w =
     (s : State (Option Ledger) View) (b : Board) → Stands limits s b → get_elem? s.views id ≡ some v
-        → ¬ (other ≡ id) → get_elem? (slice_set s.views id (seats_together v w)) other ≡ some w
+    → ¬ (other ≡ id) → get_elem? (slice_set s.views id (seats_together v w)) other ≡ some w
     → StaysShown limits b (with_views s
-        (slice_set (slice_set s.views id (seats_together v w)) other empty_view))
+    (slice_set (slice_set s.views id (seats_together v w)) other empty_view))
 
 -- there is one seat more, with no pass
 abbrev pub ArrivalIsNoEvent : Limits → Type 0

@@ -57,9 +57,15 @@ pub record StaysOpen : Type 0 where
   pub begun : List Move
 
 abbrev pub open_of : Work → StaysOpen
-open_of w = record { table = w.table; number = w.knows.number; limits = w.knows.limits;
-    phase = w.knows.phase; seen = w.knows.seen; published = w.knows.published;
-    begun = upto_lock w.knows.number w.knows.history }
+open_of w = record {
+  table = w.table;
+  number = w.knows.number;
+  limits = w.knows.limits;
+  phase = w.knows.phase;
+  seen = w.knows.seen;
+  published = w.knows.published;
+  begun = upto_lock w.knows.number w.knows.history;
+}
 
 -- the pages of the pinned version
 abbrev pub reach_of : Phase → List Commit → List ℕ

@@ -166,8 +166,12 @@ pub record IsSoundBoard (limits : Limits) (b : Board) : Type 0 where
 
 -- the machine's holder, as a pass that holds the lock knows it
 abbrev pub known_holder : Knowledge → Holder
-known_holder a = record { pass = a.number; scanned = a.scanned; least = a.least;
-    published = a.published }
+known_holder a = record {
+  pass = a.number;
+  scanned = a.scanned;
+  least = a.least;
+  published = a.published;
+}
 
 -- what the holder knows
 pub record Holds (b : Board) (a : Knowledge) : Type 0 where
@@ -224,10 +228,10 @@ ViewsFit limits b views = (seat : ℕ) (v : View) → get_elem? views seat ≡ s
 
 -- The moves lead from the first state to this one, and none after the history of a pass is by it.
 pub record IsTrace (limits : Limits) (w : World) (views : List View) (trace : List Move) : Type 0
-    where
-  pub words : ℕ → ℕ → ℕ
-  pub runs : RunsTo limits words trace w
-  pub rests : (seat : ℕ) (v : View) → get_elem? views seat ≡ some v → AllRest trace v.passes
+  where
+    pub words : ℕ → ℕ → ℕ
+    pub runs : RunsTo limits words trace w
+    pub rests : (seat : ℕ) (v : View) → get_elem? views seat ≡ some v → AllRest trace v.passes
 
 pub record Stands (limits : Limits) (s : State (Option Ledger) View) (b : Board) : Type 0 where
   pub table : ShowsBoard b s
@@ -269,9 +273,24 @@ pub record StoodBefore (a : Knowledge) (move : Move) (history : List Move) : Typ
 
 -- a pass that has seen nothing
 abbrev pub newcomer : Limits → ℕ → ℕ → Knowledge
-newcomer limits steps k = record { number = k; limits = limits; seen = []; mine = []; phase = Idle;
-    image = []; writes = false; scanned = 0; least = 0; published = false; places = []; words = [];
-    held = []; holders = []; steps = steps; history = [] }
+newcomer limits steps k = record {
+  number = k;
+  limits = limits;
+  seen = [];
+  mine = [];
+  phase = Idle;
+  image = [];
+  writes = false;
+  scanned = 0;
+  least = 0;
+  published = false;
+  places = [];
+  words = [];
+  held = [];
+  holders = [];
+  steps = steps;
+  history = [];
+}
 
 -- the passes from k on, so many
 unfoldable pub newcomers : Limits → ℕ → ℕ → ℕ → List Knowledge
@@ -306,8 +325,11 @@ abbrev pub other_seats : View → View
 other_seats v = record { passes = map one_step_on (drop 1 v.passes); fronts = v.fronts }
 
 abbrev pub seats_together : View → View → View
-seats_together v w = record { passes = map one_step_on v.passes
-    ++ map one_step_on w.passes; fronts = v.fronts ++ w.fronts }
+seats_together v w = record {
+  passes = map one_step_on v.passes
+      ++ map one_step_on w.passes;
+  fronts = v.fronts ++ w.fronts;
+}
 
 abbrev pub nobody : Knowledge
 nobody = newcomer (record { pages = 0; passes = 0; commits = 0 }) 0 0

@@ -22,8 +22,11 @@ known_of [] = nobody
 known_of (v ∷ vs) = pass_of v
 
 abbrev pub facts_of : Inside → SeatFacts
-facts_of s = record { blank = is_vacant s.badge.views; table = s.badge.table_id;
-    knows = known_of s.badge.views }
+facts_of s = record {
+  blank = is_vacant s.badge.views;
+  table = s.badge.table_id;
+  knows = known_of s.badge.views;
+}
 
 -- the seat's numbers are those of its pass, which doesn't hold the lock
 pub record IsTold (a : Knowledge) (number seen : ℕ) : Type 0 where

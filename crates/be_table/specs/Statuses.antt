@@ -20,7 +20,7 @@ IsOldest words None = (k : ℕ) → k < length words → slice_index words k ≡
 IsOldest words (Some o) =
     (o.pass < length words) × (slice_index words o.pass ≡ suc o.number)
     × ((k a : ℕ) → k < length words → slice_index words k ≡ suc a → (o.number ≤ a)
-        × (k < o.pass → o.number < a))
+    × (k < o.pass → o.number < a))
 
 -- the oldest of the announcements that a whole scan of the pass k found, one after the other
 pub record FindsOldest (limits : Limits) (k : ℕ) (before after : List Move)

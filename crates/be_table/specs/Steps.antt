@@ -51,21 +51,37 @@ pub record IsPass (a : Knowledge) : Type 0 where
 
 -- a pass after a look that found this journal
 abbrev pub looks : Knowledge → List Commit → Knowledge
-looks a log = record a { seen = log; phase = phase_after_look a.phase (length log); steps = a.steps
-    + 1 }
+looks a log = record a {
+  seen = log;
+  phase = phase_after_look a.phase (length log);
+  steps = a.steps
+      + 1;
+}
 
 -- a pass that has the lock now, with the ledger's places and the table's words
 abbrev pub takes_lock : Knowledge → List Commit → List Place → List ℕ → Knowledge
-takes_lock a log places words = record a
-    { seen = log; writes = true; scanned = 0; least = length log; published = false;
-    places = places; words = words; held = []; steps = a.steps + 1 }
+takes_lock a log places words = record a {
+  seen = log;
+  writes = true;
+  scanned = 0;
+  least = length log;
+  published = false;
+  places = places;
+  words = words;
+  held = [];
+  steps = a.steps + 1;
+}
 
 abbrev pub announces : Knowledge → ℕ → Knowledge
 announces a x = record a { phase = Announced x; steps = a.steps + 1 }
 
 abbrev pub pins : Knowledge → ℕ → List Commit → List ℕ → Knowledge
-pins a x log image = record a { seen = log; phase = Pinned x (length log); image = image;
-    steps = a.steps + 1 }
+pins a x log image = record a {
+  seen = log;
+  phase = Pinned x (length log);
+  image = image;
+  steps = a.steps + 1;
+}
 
 abbrev pub unpins : Knowledge → Knowledge
 unpins a = record a { phase = Idle; steps = a.steps + 1 }
@@ -101,9 +117,13 @@ abbrev pub scans_on : Knowledge → ℕ → Knowledge
 scans_on a n = record a { scanned = suc a.scanned; least = least_then a n; steps = a.steps + 1 }
 
 abbrev pub scans_out : Knowledge → ℕ → Knowledge
-scans_out a n = record a { scanned = 0; least = least_then a n;
-    places = map (swept_place (least_then a n)) a.places; held = pages_from is_in_hand 0 a.places;
-    steps = a.steps + 1 }
+scans_out a n = record a {
+  scanned = 0;
+  least = least_then a n;
+  places = map (swept_place (least_then a n)) a.places;
+  held = pages_from is_in_hand 0 a.places;
+  steps = a.steps + 1;
+}
 
 -- the page is in no version from l to the last that was seen
 abbrev pub NoCommitReaches : List Commit → ℕ → ℕ → Type 0
@@ -124,8 +144,11 @@ scans_all a (n ∷ ns) = scans_all (scans a n) ns
 
 -- a word of a page is stored
 abbrev pub fills : Knowledge → ℕ → ℕ → ℕ → Knowledge
-fills a p i x = record a { places = slice_set a.places p Filled;
-    words = slice_set a.words (word_place p i) x; steps = a.steps + 1 }
+fills a p i x = record a {
+  places = slice_set a.places p Filled;
+  words = slice_set a.words (word_place p i) x;
+  steps = a.steps + 1;
+}
 
 -- A word of a page is filled: a load tells whether it is there already, and is the fill then; else
 -- a store follows.
@@ -141,8 +164,10 @@ takes_page a p = record a { places = slice_set a.places p Reserved; steps = a.st
 
 -- a page is given up. One that the write has taken is free at once
 abbrev pub gives_up : Knowledge → ℕ → Knowledge
-gives_up a p = record a { places = slice_set a.places p (given_place (place_of a.places p));
-    steps = a.steps + 1 }
+gives_up a p = record a {
+  places = slice_set a.places p (given_place (place_of a.places p));
+  steps = a.steps + 1;
+}
 
 -- a write by this pass
 abbrev pub entry_by : Knowledge → List Op → List Done → Entry
@@ -154,9 +179,15 @@ commit_of a e v = record { entry = e; page = v; reach = pages_from is_of_next 0 
 
 -- a pass with one more entry of its own
 abbrev pub publishes : Knowledge → Entry → ℕ → Knowledge
-publishes a e v = record a { seen = a.seen ++ commit_of a e v ∷ []; mine = a.mine ++ e
-    ∷ []; published = true; places = map (published_place (length a.seen)) a.places; steps = a.steps
-    + 1 }
+publishes a e v = record a {
+  seen = a.seen ++ commit_of a e v ∷ [];
+  mine = a.mine ++ e
+      ∷ [];
+  published = true;
+  places = map (published_place (length a.seen)) a.places;
+  steps = a.steps
+      + 1;
+}
 
 -- a pass that holds the lock may publish this entry, with this version page
 pub record MayPublish (limits : Limits) (a : Knowledge) (e : Entry) (v : ℕ) : Type 0 where
@@ -187,8 +218,8 @@ abbrev pub LookTold : Step (Option Ledger) → Me (Option Ledger) View → ℕ �
 LookTold st m n r =
     (log : List Commit) × let a = pass_of m.0 in let c = looks a log in
     (r ≡ (alone c, m.1)) × StartsWith log a.seen × IsPass c
-        × (n ≡ current_word (length log) (page_at log (length log)))
-        × (page_at log (length log) < 4294967296)
+    × (n ≡ current_word (length log) (page_at log (length log)))
+    × (page_at log (length log) < 4294967296)
 
 -- the ledger, as a pass finds it that takes the lock
 pub record IsFound (ledger : Ledger) (c : Knowledge) : Type 0 where
@@ -209,7 +240,7 @@ pub record IsFound (ledger : Ledger) (c : Knowledge) : Type 0 where
 abbrev pub Gets : Me (Option Ledger) View → Me (Option Ledger) View → Type 0
 Gets m r =
     (ledger : Ledger) × (log : List Commit) × (words : List ℕ) × let a = pass_of m.0
-        in let c = takes_lock a log (ledger_places ledger) words in
+    in let c = takes_lock a log (ledger_places ledger) words in
     (r ≡ (alone c, (0, Some ledger) ∷ m.1)) × StartsWith log a.seen × IsPass c × IsFound ledger c
 
 -- a pass whose try found the pass b holding the lock
@@ -246,7 +277,7 @@ abbrev pub Compared : Step (Option Ledger) → Me (Option Ledger) View → ℕ �
 Compared st m n r =
     let a = pass_of m.0 in let c = second_of m.0 in let log = longer a.seen c.seen in
     (r ≡ (beside (having_seen a log) (having_seen c log), m.1)) × StartsWith log a.seen
-        × StartsWith log c.seen × IsPass (having_seen a log) × IsPass (having_seen c log)
+    × StartsWith log c.seen × IsPass (having_seen a log) × IsPass (having_seen c log)
 
 -- the pass of a seat has seen the longer of what it had seen and the front that its seat has, which
 -- contains the other, and the seat has no front any more
@@ -255,7 +286,7 @@ abbrev pub Learned : Step (Option Ledger) → Me (Option Ledger) View → ℕ �
 Learned st m n r =
     let a = pass_of m.0 in let front = front_of m.0 in let log = longer a.seen front in
     (r ≡ (alone (having_seen a log), m.1)) × StartsWith log a.seen × StartsWith log front
-        × IsPass (having_seen a log)
+    × IsPass (having_seen a log)
 
 -- a new seat has no pass
 abbrev pub Arrived : Step (Option Ledger) → Me (Option Ledger) View → ℕ → Me (Option Ledger) View
@@ -293,10 +324,10 @@ abbrev pub PinnedAt : Step (Option Ledger) → Me (Option Ledger) View → ℕ �
     → Type 0
 PinnedAt st m n r =
     (log : List Commit) × (x : ℕ) × (image : List ℕ) × let a = pass_of m.0
-        in let c = pins a x log image in
+    in let c = pins a x log image in
     (a.phase ≡ Announced x) × (r ≡ (alone c, m.1)) × StartsWith log a.seen × IsPass c
-        × (n ≡ current_word (length log) (page_at log (length log)))
-        × (page_at log (length log) < 4294967296)
+    × (n ≡ current_word (length log) (page_at log (length log)))
+    × (page_at log (length log) < 4294967296)
 
 abbrev pub Unpinned : Step (Option Ledger) → Me (Option Ledger) View → ℕ → Me (Option Ledger) View
     → Type 0
@@ -347,8 +378,14 @@ PageGivenUp st m n r = let a = pass_of m.0 in (p : ℕ) → st.word ≡ word_pla
 
 -- the pass s is what a became by j announcements of a scan, of which this is the least
 pub record IsPart (passes : ℕ) (a s : Knowledge) (j least : ℕ) : Type 0 where
-  pub same : s ≡ record a { scanned = s.scanned; least = s.least; places = s.places; held = s.held;
-      steps = s.steps; history = s.history }
+  pub same : s ≡ record a {
+    scanned = s.scanned;
+    least = s.least;
+    places = s.places;
+    held = s.held;
+    steps = s.steps;
+    history = s.history;
+  }
   pub turn : j < passes → s.scanned ≡ j
   pub waits : j < passes → s.places ≡ a.places
   pub whole : j ≡ passes → (s.scanned ≡ 0) × (s.places ≡ map (swept_place least) a.places)
@@ -382,7 +419,7 @@ abbrev pub Moving : Move → (World → Type 0)
     → Me (Option Ledger) View → Type 0
 Moving move so told m r =
     let a = pass_of m.0 in (h : List Move) × Makes a.number a.history (move ∷ []) h
-        × Reaches (pass_of r.0) so × told (alone (with_history a h), m.1) r
+    × Reaches (pass_of r.0) so × told (alone (with_history a h), m.1) r
 
 abbrev pub LookMoves : Step (Option Ledger) → Me (Option Ledger) View → ℕ → Me (Option Ledger) View
     → Type 0
@@ -422,8 +459,8 @@ abbrev pub ScanMoves : Step (Option Ledger) → Me (Option Ledger) View → ℕ 
     → Type 0
 ScanMoves st m n r =
     let a = pass_of m.0 in (h : List Move)
-        × Makes a.number a.history (Scan a.number a.scanned ∷ []) h
-        × Reaches (pass_of r.0) (λ w. n ≡ announce_word (w.phases a.scanned))
+    × Makes a.number a.history (Scan a.number a.scanned ∷ []) h
+    × Reaches (pass_of r.0) (λ w. n ≡ announce_word (w.phases a.scanned))
     × (Scanned st (alone (with_history a h), m.1) n r × StoodBefore a (Scan a.number a.scanned) h)
 
 abbrev pub FillMoves : Step (Option Ledger) → Me (Option Ledger) View → ℕ → Me (Option Ledger) View
@@ -431,7 +468,7 @@ abbrev pub FillMoves : Step (Option Ledger) → Me (Option Ledger) View → ℕ 
 FillMoves st m n r =
     let a = pass_of m.0 in (p i : ℕ) → st.word ≡ word_place p i → i < 512
     → (h : List Move) × Makes a.number a.history (Fill a.number p i n ∷ []) h
-        × (r ≡ (alone (fills (with_history a h) p i n), m.1))
+    × (r ≡ (alone (fills (with_history a h) p i n), m.1))
 
 abbrev pub FoundFillMoves : Step (Option Ledger) → Me (Option Ledger) View → ℕ
     → Me (Option Ledger) View → Type 0
@@ -445,8 +482,8 @@ abbrev pub TakeMoves : Step (Option Ledger) → Me (Option Ledger) View → ℕ 
     → Type 0
 TakeMoves st m n r =
     let a = pass_of m.0 in ((p : ℕ) → st.word ≡ word_place p 0 → (h : List Move)
-        × Makes a.number a.history (Fill a.number p 0 n ∷ []) h
-        × (r ≡ (alone (takes_page (with_history a h) p), m.1)))
+    × Makes a.number a.history (Fill a.number p 0 n ∷ []) h
+    × (r ≡ (alone (takes_page (with_history a h) p), m.1)))
     × (n ≡ slice_index a.words st.word)
 
 -- a word of a page is filled with what is there, and then with x where that is another
@@ -464,7 +501,7 @@ abbrev pub GiveUpMoves : Step (Option Ledger) → Me (Option Ledger) View → �
 GiveUpMoves st m n r =
     let a = pass_of m.0 in (p : ℕ) → st.word ≡ word_place p 0
     → (h : List Move) × Makes a.number a.history (given_moves a p) h
-        × (r ≡ (alone (gives_up (with_history a h) p), m.1))
+    × (r ≡ (alone (gives_up (with_history a h) p), m.1))
 
 -- the pages that the write gives up
 abbrev pub given_of : Knowledge → List ℕ

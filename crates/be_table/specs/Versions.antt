@@ -23,9 +23,9 @@ in_pages words q i = if nat_lt i 512 then words q i else 0
 -- The version of these pages, with these words, spells the volume from its version page, and has
 -- exactly the pages that it reaches from there.
 pub record SpellsVolume (pages : List ℕ) (words : ℕ → ℕ → ℕ) (page : ℕ) (volume : State) : Type 0
-    where
-  pub version : IsVersion (λ q. at_start (has pages q)) words page volume
-  pub exact : (q : ℕ) → times q (reach words page) ≡ bit (has pages q)
+  where
+    pub version : IsVersion (λ q. at_start (has pages q)) words page volume
+    pub exact : (q : ℕ) → times q (reach words page) ≡ bit (has pages q)
 
 -- So many pages can spell the volume: some of them do, with some words, 512 each.
 pub record CanSpell (pages : ℕ) (volume : State) : Type 0 where

@@ -12,8 +12,11 @@ front_in [] = []
 front_in (v ∷ vs) = front_of v
 
 abbrev pub facts_of : Inside → WitnessFacts
-facts_of w = record { blank = is_vacant w.badge.views; table = w.badge.table_id;
-    seen = front_in w.badge.views }
+facts_of w = record {
+  blank = is_vacant w.badge.views;
+  table = w.badge.table_id;
+  seen = front_in w.badge.views;
+}
 
 -- the seat has a front and no pass, and the number is the front's length
 abbrev pub IsAttested : List View → ℕ → Type 0

@@ -114,9 +114,17 @@ pub record MakesScan (old new : Work) (least : ℕ) : Type 0 where
   pub held : new.knows.held ≡ pages_from is_in_hand 0 old.knows.places
   pub leaves : UnreachedAreFree new.knows
   pub left : new.left ≡ count_by is_retired new.knows.places
-  pub same : new ≡ record old { knows = record old.knows
-      { scanned = 0; least = least; places = new.knows.places; held = new.knows.held;
-      steps = new.knows.steps; history = new.knows.history }; left = new.left }
+  pub same : new ≡ record old {
+    knows = record old.knows {
+      scanned = 0;
+      least = least;
+      places = new.knows.places;
+      held = new.knows.held;
+      steps = new.knows.steps;
+      history = new.knows.history;
+    };
+    left = new.left;
+  }
 
 -- no page is free
 abbrev pub HasNoFree : Work → Type 0
@@ -134,8 +142,10 @@ pub record TakesPage (old new : Work) (page : ℕ) : Type 0 where
   pub inside : page < length between.knows.places
   pub small : page < 16384
   pub free : place_of between.knows.places page ≡ Free
-  pub taken : new ≡ record between { knows = takes_page
-      (with_history between.knows new.knows.history) page }
+  pub taken : new ≡ record between {
+    knows = takes_page
+        (with_history between.knows new.knows.history) page;
+  }
   pub moves : Makes between.knows.number between.knows.history (take_moves between.knows page)
       new.knows.history
 

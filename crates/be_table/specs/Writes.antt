@@ -8,8 +8,12 @@ use Rattle.be_table.specs.Steps.{IsPass}
 use Rattle.be_table.specs.Working.{HasWorked}
 
 abbrev pub work_of : Inside → Work
-work_of w = record { table = w.table.now; knows = pass_of w.base.me.0; reserved = w.reserved;
-    left = w.ledger.left }
+work_of w = record {
+  table = w.table.now;
+  knows = pass_of w.base.me.0;
+  reserved = w.reserved;
+  left = w.ledger.left;
+}
 
 -- the seat is at the table with the slot, the ledger has what the pass has seen, and until it
 -- publishes, the pass has only worked

@@ -165,9 +165,10 @@ impl<'a> Writing<'a> {
         requires taken { (page < length self.old.knows.places)
             × IsTrue (is_in_hand (place_of self.old.knows.places page)) }
         requires place { i < 512 }
-        ensures write { self.new ≡ record self.old
-            { knows = fills_word (with_history self.old.knows self.new.knows.history) page i
-            word } }
+        ensures write { self.new ≡ record self.old {
+          knows = fills_word (with_history self.old.knows self.new.knows.history) page i
+              word;
+        } }
         ensures moves { Makes self.old.knows.number self.old.knows.history
             (fill_moves self.old.knows page i word) self.new.knows.history }
         ensures inside { word_place page i < length self.old.knows.words }
@@ -203,8 +204,10 @@ impl<'a> Writing<'a> {
             × (place_of self.old.knows.places page ≡ Place.Free)) }
         ensures small { IfSome result (λ page. page < 16384) }
         ensures taken { IfSome result (λ page. self.new
-            ≡ record self.old { knows = takes_page
-            (with_history self.old.knows self.new.knows.history) page }) }
+            ≡ record self.old {
+              knows = takes_page
+                  (with_history self.old.knows self.new.knows.history) page;
+            }) }
         ensures moves { IfSome result (λ page. Makes self.old.knows.number self.old.knows.history
             (take_moves self.old.knows page) self.new.knows.history) }
         ensures none { IfNone result ((p : ℕ) → p < length self.old.knows.places
@@ -347,7 +350,7 @@ impl<'a> Writing<'a> {
             ≡ bit (is_kept (standing_among self.old.knows.places q)) }
         ensures write { self.new ≡ record self.old {
           knows = publishes (with_history self.old.knows self.new.knows.history)
-          (entry_by self.old.knows ops.now dones.now) page;
+              (entry_by self.old.knows ops.now dones.now) page;
           reserved = 0;
         } }
         ensures moves { Moves self.old.knows
@@ -421,9 +424,11 @@ fn store_version<E: NextVersion>(
         × MayPublish table.now.limits (pass_of base.old.me.0) E.entry page }
     requires word { word ≡ current_word (length (pass_of base.old.me.0).seen + 1) page }
     ensures seat { (base.new.table_id ≡ base.old.table_id) × (base.new.id ≡ base.old.id) }
-    ensures me { base.new.me ≡ (alone (publishes
-        (with_history (pass_of base.old.me.0) (pass_of base.new.me.0).history) E.entry page),
-        base.old.me.1) }
+    ensures me { base.new.me ≡ (
+      alone (publishes
+          (with_history (pass_of base.old.me.0) (pass_of base.new.me.0).history) E.entry page),
+      base.old.me.1,
+    ) }
     ensures moves { Moves (pass_of base.old.me.0)
         (moves.Publish (pass_of base.old.me.0).number page (given_of (pass_of base.old.me.0)) ∷ [])
         (pass_of base.new.me.0) }
@@ -442,9 +447,11 @@ fn tell_taken(table: &VersionTable, base: &mut Base, page: u64)
     requires page { (page < table.now.limits.pages) × (page < length (pass_of base.old.me.0).places)
         × (place_of (pass_of base.old.me.0).places page ≡ Place.Free) }
     ensures seat { (base.new.table_id ≡ base.old.table_id) × (base.new.id ≡ base.old.id) }
-    ensures me { base.new.me ≡ (alone (takes_page
-        (with_history (pass_of base.old.me.0) (pass_of base.new.me.0).history) page),
-        base.old.me.1) }
+    ensures me { base.new.me ≡ (
+      alone (takes_page
+          (with_history (pass_of base.old.me.0) (pass_of base.new.me.0).history) page),
+      base.old.me.1,
+    ) }
     ensures moves { Makes (pass_of base.old.me.0).number (pass_of base.old.me.0).history
         (take_moves (pass_of base.old.me.0) page) (pass_of base.new.me.0).history }
 {
@@ -462,9 +469,11 @@ fn fill_word(table: &VersionTable, base: &mut Base, page: u64, i: usize, word: u
         × MayBeFilled (pass_of base.old.me.0).places page }
     requires place { i < 512 }
     ensures seat { (base.new.table_id ≡ base.old.table_id) × (base.new.id ≡ base.old.id) }
-    ensures me { base.new.me ≡ (alone (fills_word
-        (with_history (pass_of base.old.me.0) (pass_of base.new.me.0).history) page i word),
-        base.old.me.1) }
+    ensures me { base.new.me ≡ (
+      alone (fills_word
+          (with_history (pass_of base.old.me.0) (pass_of base.new.me.0).history) page i word),
+      base.old.me.1,
+    ) }
     ensures moves { Makes (pass_of base.old.me.0).number (pass_of base.old.me.0).history
         (fill_moves (pass_of base.old.me.0) page i word)
         (pass_of base.new.me.0).history }
@@ -482,9 +491,11 @@ fn read_announcement(table: &VersionTable, base: &mut Base, pass: u64) -> u64
     requires seat { base.old.table_id ≡ table.now.id }
     requires pass { MayReadAnnouncement table.now.limits base.old.me pass }
     ensures seat { (base.new.table_id ≡ base.old.table_id) × (base.new.id ≡ base.old.id) }
-    ensures me { base.new.me ≡ (alone (scans
-        (with_history (pass_of base.old.me.0) (pass_of base.new.me.0).history) result),
-        base.old.me.1) }
+    ensures me { base.new.me ≡ (
+      alone (scans
+          (with_history (pass_of base.old.me.0) (pass_of base.new.me.0).history) result),
+      base.old.me.1,
+    ) }
     ensures moves { Makes (pass_of base.old.me.0).number (pass_of base.old.me.0).history
         (moves.Scan (pass_of base.old.me.0).number (pass_of base.old.me.0).scanned ∷ [])
         (pass_of base.new.me.0).history }
@@ -524,8 +535,11 @@ fn read_all(table: &VersionTable, base: &mut Base, current: u64) -> Found
         × (current ≡ length (pass_of base.old.me.0).seen) }
     ensures seat { (base.new.table_id ≡ base.old.table_id) × (base.new.id ≡ base.old.id) }
     ensures me { (found : List ℕ) × (length found ≡ table.now.limits.passes)
-        × (base.new.me ≡ (alone (with_history (scans_all (pass_of base.old.me.0) found)
-        (pass_of base.new.me.0).history), base.old.me.1))
+        × (base.new.me ≡ (
+          alone (with_history (scans_all (pass_of base.old.me.0) found)
+              (pass_of base.new.me.0).history),
+          base.old.me.1,
+        ))
         × IsLeastAnnounced current found result.least
         × AreFound (pass_of base.old.me.0).limits (pass_of base.old.me.0).number
         (pass_of base.old.me.0).history (pass_of base.new.me.0).history found }

@@ -56,7 +56,7 @@ abbrev pub AreShaped : ℕ → (words : ℕ → ℕ → ℕ) (items : List Pair)
 AreShaped zero words items = Unit {0}
 AreShaped (suc level) words items =
     All (λ b. IsNode level 6 (words (child b)) × IsBranch b (pairs_at level words (child b))
-        × AreShaped level words (items_of (words (child b)))) items
+    × AreShaped level words (items_of (words (child b)))) items
 
 -- what stands below the items of a node: well formed, in order, and its pages in use once each
 pub record IsBelow (level : ℕ) (standing : ℕ → Standing) (words : ℕ → ℕ → ℕ) (items : List Pair) :
@@ -88,12 +88,12 @@ IsTree standing words (suc page) = IsTreeAt (level_of (words page))
 
 -- the page of a branch has these items
 pub record IsWritten (level : ℕ) (words : ℕ → ℕ → ℕ) (items : List Pair) (branch : Pair) : Type 0
-    where
-  pub is_page : IsPage (words (child branch))
-  pub at_level : level_of (words (child branch)) ≡ level
-  pub has_items : items_of (words (child branch)) ≡ items
-  pub key : branch.key ≡ (slice_index_or items 0 branch).key
-  pub names_page : length branch.payload ≡ 8
+  where
+    pub is_page : IsPage (words (child branch))
+    pub at_level : level_of (words (child branch)) ≡ level
+    pub has_items : items_of (words (child branch)) ≡ items
+    pub key : branch.key ≡ (slice_index_or items 0 branch).key
+    pub names_page : length branch.payload ≡ 8
 
 -- the pages in use before have become those below the items of a node, which have these pairs
 pub record Becomes {S K : Type 0} (kept_of : S → K) (standing_of : S → ℕ → Standing)

@@ -18,8 +18,10 @@ impl Model for Item {
 
     ghost Value = { Pair };
 
-    ghost view = { λ a. record { key = take a.key_len a.bytes.items;
-        payload = drop a.key_len a.bytes.items } };
+    ghost view = { λ a. record {
+      key = take a.key_len a.bytes.items;
+      payload = drop a.key_len a.bytes.items;
+    } };
 
     ghost invariant = { λ a. (a.key_len ≤ length a.bytes.items) × (length a.bytes.items ≤ 328) };
 }

@@ -20,8 +20,8 @@ abbrev pub IsNext : (List ℕ → Type 0) → List ℕ → Bool → Option (List
 IsNext Is from after None = (k : List ℕ) → Is k → is_at_or_after from after k ≡ false
 IsNext Is from after (Some next) =
     Is next × (is_at_or_after from after next ≡ true)
-        × ((k : List ℕ) → Is k → is_at_or_after from after k ≡ true → is_lt (name_cmp k next)
-        ≡ false)
+    × ((k : List ℕ) → Is k → is_at_or_after from after k ≡ true → is_lt (name_cmp k next)
+    ≡ false)
 
 -- the key of a pair, none where the value can't stand in an index
 abbrev pub own_key : Value → ℕ → Option (List ℕ)

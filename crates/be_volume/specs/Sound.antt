@@ -29,12 +29,12 @@ IsOperation (RmIndex name) = IsName name
 -- what a pair (value, node) in an index of that name and kind tells: it is the node's attribute,
 -- and has the index's kind
 pub record IsPaired (s : State) (name : List ℕ) (kind : Kind) (node : ℕ) (value : Value) : Type 0
-    where
-  pub attribute_is : attribute s node name ≡ Some value
-  pub kind_is : kind_of value ≡ kind
-  pub is_value : IsValue value
-  pub node_fits : node < 2 ^ 64
-  pub node_below : node < s.next
+  where
+    pub attribute_is : attribute s node name ≡ Some value
+    pub kind_is : kind_of value ≡ kind
+    pub is_value : IsValue value
+    pub node_fits : node < 2 ^ 64
+    pub node_below : node < s.next
 
 -- Each pair of an index is its node's attribute of that name and has the index's kind, which is
 -- indexable. Attributes have names and values of the program, and each node is below the next. A

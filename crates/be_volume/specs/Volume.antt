@@ -36,34 +36,67 @@ empty = record { next = 1; nodes = map.empty; indices = map.empty }
 
 -- What an operation answers and leaves, or the first refusal.
 abbrev pub step : State → Op → Result (State × Done) Refusal
-step s New = Ok (record { next = s.next
-    + 1; nodes = map.insert s.nodes s.next map.empty; indices = s.indices }, Node s.next)
+step s New = Ok (
+  record {
+    next = s.next
+        + 1;
+    nodes = map.insert s.nodes s.next map.empty;
+    indices = s.indices;
+  },
+  Node s.next,
+)
 step s (Set node name value) =
     if not (map.contains_key s.nodes node) then Err NoNode
     else if not (map.contains_key (attributes_of s.nodes node) name)
-        && nat_le 64 (map.len (attributes_of s.nodes node)) then Err TooManyAttrs
-    else Ok (record { next = s.next; nodes = with_attribute s.nodes node name value;
-        indices = with_pair s.indices name node value }, Nothing)
+    && nat_le 64 (map.len (attributes_of s.nodes node)) then Err TooManyAttrs
+    else Ok (
+      record {
+        next = s.next;
+        nodes = with_attribute s.nodes node name value;
+        indices = with_pair s.indices name node value;
+      },
+      Nothing,
+    )
 step s (MkIndex name kind) =
     if map.contains_key s.indices name then Err IndexExists
     else if nat_le 32 (map.len s.indices) then Err TooManyIndices
     else if not (is_indexable kind) then Err NotIndexable
-    else Ok (record { next = s.next; nodes = s.nodes;
-        indices = map.insert s.indices name (record { kind = kind; pairs = map.empty }) }, Nothing)
+    else Ok (
+      record {
+        next = s.next;
+        nodes = s.nodes;
+        indices = map.insert s.indices name (record { kind = kind; pairs = map.empty });
+      },
+      Nothing,
+    )
 step s (Drop node) =
     if not (map.contains_key s.nodes node) then Err NoNode
-    else Ok (record { next = s.next; nodes = map.remove s.nodes node;
-        indices = without_node s.indices node }, Nothing)
+    else Ok (
+      record {
+        next = s.next;
+        nodes = map.remove s.nodes node;
+        indices = without_node s.indices node;
+      },
+      Nothing,
+    )
 step s (Unset node name) =
     if not (map.contains_key s.nodes node) then Err NoNode
     else if not (map.contains_key (attributes_of s.nodes node) name) then Err NoAttr
-    else Ok (record { next = s.next; nodes = map.insert s.nodes node
-        (map.remove (attributes_of s.nodes node) name);
-        indices = without_pair s.indices name node }, Nothing)
+    else Ok (
+      record {
+        next = s.next;
+        nodes = map.insert s.nodes node
+            (map.remove (attributes_of s.nodes node) name);
+        indices = without_pair s.indices name node;
+      },
+      Nothing,
+    )
 step s (RmIndex name) =
     if not (map.contains_key s.indices name) then Err NoSuchIndex
-    else Ok (record { next = s.next; nodes = s.nodes; indices = map.remove s.indices name },
-        Nothing)
+    else Ok (
+      record { next = s.next; nodes = s.nodes; indices = map.remove s.indices name },
+      Nothing,
+    )
 
 -- one more operation, after those that were accepted
 abbrev pub advance : Result (State × List Done) Refusal → Op → Result (State × List Done) Refusal

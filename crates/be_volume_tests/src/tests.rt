@@ -1,14 +1,14 @@
 //! Worked examples, by calls. Most are written as lines `REQUEST => REPLY`, in the words of a
 //! script; a list of several operations has `;` between them.
 
-use be_script_language::{Reply, Request, read_line};
 use be_query::parse;
-use be_volume_state::{Place, WholeVolume, next_list, whole_volume};
+use be_script_language::{Reply, Request, read_line};
 use be_test_tools::{
     Answers, EQUAL_VALUES, EXAMPLES, LISTS, check_lines, done_lines, list_of, reply_lines,
 };
 use be_value::{Kind, Name, Refusal};
 use be_volume::{Op, Volume};
+use be_volume_state::{Place, WholeVolume, next_list, whole_volume};
 use std::alloc::Global;
 use std::test::Fail;
 

@@ -112,7 +112,7 @@ WritesSpelled s t spelled bytes places filled number code =
     ((e : Fault) × (code ≡ fault_code e) × IsMisspelt spelled bytes e number × (t ≡ s))
     ⊎ (IsWriteCount (length spelled) × (ops : List Op) × AreMeant spelled bytes ops ×
     (((code ≡ 0) × (dones : List Done) × Accepts s.knows t.knows ops number dones
-        × (filled ≡ over (map node_of dones) places))
+    × (filled ≡ over (map node_of dones) places))
     ⊎ ((e : Fault) × Refuses e number code × IsUnwritten s.knows t.knows ops e)))
 
 -- A conditional write, as such a write: what is spelled is misspelt, and then nothing has happened;
@@ -125,7 +125,7 @@ WritesSpelledIf s t expected spelled bytes places filled number code =
     ((e : Fault) × (code ≡ fault_code e) × IsMisspelt spelled bytes e number × (t ≡ s))
     ⊎ (IsWriteCount (length spelled) × (ops : List Op) × AreMeant spelled bytes ops ×
     (((code ≡ 0) × (dones : List Done) × AcceptsAt s.knows t.knows expected ops number dones
-        × (filled ≡ over (map node_of dones) places))
+    × (filled ≡ over (map node_of dones) places))
     ⊎ ((e : Fault) × Refuses e number code × IsUnwrittenIf s.knows t.knows expected ops e)))
 
 -- a number of the pinned version, if there is a pin
@@ -153,7 +153,7 @@ Finds s t text places filled count code =
     ((e : Fault) × Refuses e count code × IsNoQuery text e × (t ≡ s))
     ⊎ ((query : Formula) × IsTextOf text query × HasRead s.knows t.knows
     × PutsOutAtPin (pinned_number s.knows.phase) (scan (volume_pinned s.knows) query) places filled
-        count code)
+    count code)
 
 -- What a query would be answered from, by its text: the bytes are no query, and then nothing has
 -- happened; or they are one, and what is said of it is put out.
@@ -162,7 +162,7 @@ Explains s t text places filled count code =
     ((e : Fault) × Refuses e count code × IsNoQuery text e × (t ≡ s))
     ⊎ ((query : Formula) × IsTextOf text query × HasRead s.knows t.knows
     × PutsOutAtPin (pinned_number s.knows.phase) (explanation_in (volume_pinned s.knows) query)
-        places filled count code)
+    places filled count code)
 
 -- A query by its items: they are none, and then nothing has happened; or they build one, and its
 -- answer is put out.
@@ -172,13 +172,13 @@ FindsBuilt s t spelled bytes places filled count code =
     ((e : Fault) × (code ≡ fault_code e) × IsUnbuilt spelled bytes e count × (t ≡ s))
     ⊎ ((query : Formula) × IsBuilt spelled bytes query × HasRead s.knows t.knows
     × PutsOutAtPin (pinned_number s.knows.phase) (scan (volume_pinned s.knows) query) places filled
-        count code)
+    count code)
 
 -- a value's type code, number and length are told, and as many of its bytes as there are places
 abbrev pub ShowsValue : Value → Attribute → List ℕ → List ℕ → Type 0
 ShowsValue value told places filled =
     (bytes : List ℕ) × IsValueMeant told.code told.number bytes value
-        × HasNoMore told.number bytes value
+    × HasNoMore told.number bytes value
     × (told.length ≡ length bytes) × (filled ≡ over bytes places)
 
 -- what is there in the pinned version, if there is a pin, is shown
@@ -194,13 +194,13 @@ abbrev pub Reads : Sitting → Sitting → ℕ → List ℕ → Attribute → Li
 Reads s t node name told places filled code =
     ((e : Fault) × (code ≡ fault_code e) × IsNoName name e × (t ≡ s))
     ⊎ (HasRead s.knows t.knows × Shown (pinned_number s.knows.phase)
-        (attribute (volume_pinned s.knows) node name) told places filled code)
+    (attribute (volume_pinned s.knows) node name) told places filled code)
 
 -- what is there in the pinned version, if there is a pin, is shown: that of a name that is held
 abbrev pub ReadsHeld : Sitting → Sitting → ℕ → List ℕ → Attribute → List ℕ → List ℕ → ℕ → Type 0
 ReadsHeld s t node name told places filled code =
     HasRead s.knows t.knows × Shown (pinned_number s.knows.phase)
-        (attribute (volume_pinned s.knows) node name) told places filled code
+    (attribute (volume_pinned s.knows) node name) told places filled code
 
 -- A name is checked and held; or the bytes are none, and what was held stays.
 abbrev pub HoldsName : List ℕ → HeldName → HeldName → ℕ → Type 0
@@ -226,7 +226,7 @@ IsPutOut ops counts places filled byte_places bytes code =
     (code ≡ 10)
     ⊎ ((code ≡ 0) × (os : List Operation) × (bs : List ℕ) × AreSpelled os bs ops
     × (counts.operations ≡ length os) × (filled ≡ over os places) × (counts.bytes ≡ length bs)
-        × (bytes ≡ over bs byte_places))
+    × (bytes ≡ over bs byte_places))
 
 -- A list in the pinned version, if there is a pin: it is put out as the operations that would make
 -- it; or why there is no list.
@@ -261,11 +261,11 @@ abbrev pub Asked : Sitting → PreparedQuery → PreparedQuery → List ℕ → 
 Asked s p q places filled count code =
     (q ≡ with_found p q.found)
     × (((code ≡ 0) × (n : ℕ) × IsPinnedTo s.knows n
-        × (scan (volume_pinned s.knows) p.live.query ≡ Ok q.found)
+    × (scan (volume_pinned s.knows) p.live.query ≡ Ok q.found)
     × (count ≡ length q.found) × (filled ≡ over q.found places))
     ⊎ ((e : Fault) × Refuses e count code × (q.found ≡ [])
-        × IsUnrefreshed (pinned_number s.knows.phase) (scan (volume_pinned s.knows) p.live.query)
-        e))
+    × IsUnrefreshed (pinned_number s.knows.phase) (scan (volume_pinned s.knows) p.live.query)
+    e))
 
 -- An asking of a prepared query: its handle is closed and stays so, and then nothing has happened;
 -- or it stays open, and is asked.
@@ -289,10 +289,10 @@ ShowsFound (Some p) from places filled count code = (code ≡ 0) × (count ≡ l
 abbrev pub Refreshed : Sitting → PreparedQuery → PreparedQuery → UpdateCounts → ℕ → Type 0
 Refreshed s p q counts code =
     ((code ≡ 0) × (n : ℕ) × IsPinnedTo s.knows n
-        × Refreshes (volume_pinned s.knows) p.live q.live q.came q.went
+    × Refreshes (volume_pinned s.knows) p.live q.live q.came q.went
     × (counts.created ≡ length q.came) × (counts.removed ≡ length q.went))
     ⊎ ((e : Fault) × (code ≡ fault_code e) × (q ≡ p)
-        × IsUnrefreshed (pinned_number s.knows.phase) (scan (volume_pinned s.knows) p.live.query) e)
+    × IsUnrefreshed (pinned_number s.knows.phase) (scan (volume_pinned s.knows) p.live.query) e)
 
 -- A refresh of a prepared query: its handle is closed and stays so, and then nothing has happened;
 -- or it stays open, and is refreshed.
@@ -316,8 +316,8 @@ abbrev pub PrintsPrepared : Option PreparedQuery → List ℕ → List ℕ → �
 PrintsPrepared None places filled count code = IsClosed count code
 PrintsPrepared (Some p) places filled count code =
     Refuses (Refused OutOfMemory) count code
-        ⊎ ((code ≡ 0) × (count ≡ length (or_text p.live.query))
-        × (filled ≡ over (or_text p.live.query) places))
+    ⊎ ((code ≡ 0) × (count ≡ length (or_text p.live.query))
+    × (filled ≡ over (or_text p.live.query) places))
 
 -- An entry of the journal, if there is one: its pass, and a spelling of its operations, in which
 -- each that made a node has that node. The lengths of the operations and of their bytes are
@@ -329,9 +329,9 @@ IsEntryPutOut None by counts places filled byte_places bytes = (by ≡ 0) × (co
     × (counts.bytes ≡ 0) × (filled ≡ places) × (bytes ≡ byte_places)
 IsEntryPutOut (Some entry) by counts places filled byte_places bytes =
     (by ≡ entry.by) × (os : List Operation) × (bs : List ℕ) × AreSpelled os bs entry.ops
-        × TellNodes os entry.ops entry.dones
+    × TellNodes os entry.ops entry.dones
     × (counts.operations ≡ length os) × (filled ≡ over os places) × (counts.bytes ≡ length bs)
-        × (bytes ≡ over bs byte_places)
+    × (bytes ≡ over bs byte_places)
 
 -- The entry with this index of the journal, as far as the pass has then seen it, and the journal's
 -- length: the call's moves are a lock and an unlock. Or an error, with what it carries.
@@ -340,8 +340,8 @@ abbrev pub TellsEntry : Sitting → Sitting → ℕ → ℕ → Counts → List 
 TellsEntry s t from by counts places filled byte_places bytes number code =
     Learns s.knows t.knows
     × (((code ≡ 0) × LocksAndUnlocks s.knows t.knows × (number ≡ length t.knows.seen)
-        × IsEntryPutOut (slice_get (entries t.knows.seen) from) by counts places filled byte_places
-        bytes)
+    × IsEntryPutOut (slice_get (entries t.knows.seen) from) by counts places filled byte_places
+    bytes)
     ⊎ ((why : Refusal) × Refuses (Refused why) number code × IsUntold s.knows t.knows why))
 
 -- The journal, as far as the pass has then seen it, is legal, and its text is told: how many bytes
@@ -351,5 +351,5 @@ abbrev pub TellsJournal : Sitting → Sitting → List ℕ → List ℕ → ℕ 
 TellsJournal s t places filled count code =
     Learns s.knows t.knows × IsLegal (entries t.knows.seen)
     × (((code ≡ 0) × LocksAndUnlocks s.knows t.knows × (count ≡ length (text_seen t.knows))
-        × (filled ≡ over (text_seen t.knows) places))
+    × (filled ≡ over (text_seen t.knows) places))
     ⊎ ((why : Refusal) × Refuses (Refused why) count code × IsUntold s.knows t.knows why))

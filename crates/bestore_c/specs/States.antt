@@ -26,7 +26,7 @@ abbrev pub StaysToTell : List Op → List Op → Counts → List Operation → L
 StaysToTell ops rest counts places byte_places still =
     ((counts.operations ≤ length places) × (counts.bytes ≤ length byte_places) × (still ≡ rest))
     ⊎ (((length places < counts.operations) ⊎ (length byte_places < counts.bytes))
-        × (still ≡ ops ++ rest))
+    × (still ≡ ops ++ rest))
 
 -- Of operations that are still to be told the next list is put out; or memory was refused, and then
 -- they are all still to be told.
@@ -36,7 +36,7 @@ TellsNext left still counts places filled byte_places bytes code =
     ((code ≡ 10) × (still ≡ left))
     ⊎ ((ops : List Op) × (rest : List Op) × (left ≡ ops ++ rest) × IsNextList ops rest × (code ≡ 0)
     × IsPutOut ops counts places filled byte_places bytes code
-        × StaysToTell ops rest counts places byte_places still)
+    × StaysToTell ops rest counts places byte_places still)
 
 -- The same in the pinned version, if there is a pin.
 abbrev pub TellsState : Option ℕ → List Op → List Op → Counts → List Operation → List Operation

@@ -32,5 +32,5 @@ abbrev pub TellsUsage : Sitting → Sitting → Usage → ℕ → ℕ → Type 0
 TellsUsage s t usage number code =
     Learns s.knows t.knows
     × (((code ≡ 0) × (number ≡ 0) × (told : Status) × TellsStatus s.knows t.knows told
-        × Shows told usage)
+    × Shows told usage)
     ⊎ ((why : Refusal) × Refuses (Refused why) number code × FoundHeld why s.knows t.knows))

@@ -114,8 +114,8 @@ pub(crate) fn attrs_pages(
     requires version { (volume : State)
         × IsVersion (⟦<VecRoom as Look>⟧.standing room.old) (⟦<VecRoom as Look>⟧.words room.old)
         page volume }
-    ensures unchanged { IsUnchanged ⟦<VecRoom as Look>⟧.kept ⟦<VecRoom as Look>⟧.standing ⟦<VecRoom
-        as Look>⟧.words room.old room.new }
+    ensures unchanged { IsUnchanged ⟦<VecRoom as Look>⟧.kept ⟦<VecRoom as Look>⟧.standing
+        ⟦<VecRoom as Look>⟧.words room.old room.new }
 {
     match attrs(alloc, room, page, node) {
         Err(Refusal::OutOfMemory) => attrs(alloc, room, page, node),
@@ -139,8 +139,8 @@ pub(crate) fn indices_pages(
     requires version { (volume : State)
         × IsVersion (⟦<VecRoom as Look>⟧.standing room.old) (⟦<VecRoom as Look>⟧.words room.old)
         page volume }
-    ensures unchanged { IsUnchanged ⟦<VecRoom as Look>⟧.kept ⟦<VecRoom as Look>⟧.standing ⟦<VecRoom
-        as Look>⟧.words room.old room.new }
+    ensures unchanged { IsUnchanged ⟦<VecRoom as Look>⟧.kept ⟦<VecRoom as Look>⟧.standing
+        ⟦<VecRoom as Look>⟧.words room.old room.new }
 {
     match indices(alloc, room, page) {
         Err(Refusal::OutOfMemory) => indices(alloc, room, page),

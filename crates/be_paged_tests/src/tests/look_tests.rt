@@ -91,8 +91,8 @@ fn expect_before(
 ) -> Result<VecRoom, Fail>
     requires version { IsVersion (λ q. after_undo (⟦<VecRoom as Look>⟧.standing room q))
         (⟦<VecRoom as Look>⟧.words room) page plain.now }
-    ensures unchanged { IfOk result (λ r. IsUnchanged ⟦<VecRoom as Look>⟧.kept ⟦<VecRoom as
-        Look>⟧.standing ⟦<VecRoom as Look>⟧.words room r) }
+    ensures unchanged { IfOk result (λ r. IsUnchanged ⟦<VecRoom as Look>⟧.kept
+        ⟦<VecRoom as Look>⟧.standing ⟦<VecRoom as Look>⟧.words room r) }
 {
     let before = Before { look: room };
     let before = expect_look(alloc, plain, before, page, text, expected)?;

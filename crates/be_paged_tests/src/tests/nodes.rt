@@ -26,8 +26,8 @@ fn nodes_pages(
     requires version { (volume : State)
         × IsVersion (⟦<VecRoom as Look>⟧.standing room.old) (⟦<VecRoom as Look>⟧.words room.old)
         page volume }
-    ensures unchanged { IsUnchanged ⟦<VecRoom as Look>⟧.kept ⟦<VecRoom as Look>⟧.standing ⟦<VecRoom
-        as Look>⟧.words room.old room.new }
+    ensures unchanged { IsUnchanged ⟦<VecRoom as Look>⟧.kept ⟦<VecRoom as Look>⟧.standing
+        ⟦<VecRoom as Look>⟧.words room.old room.new }
 {
     match nodes(alloc, room, page, from, most) {
         Err(Refusal::OutOfMemory) => nodes(alloc, room, page, from, most),

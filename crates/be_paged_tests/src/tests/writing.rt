@@ -67,8 +67,8 @@ pub(crate) fn apply_pages(
     ensures ok { IfOk result (λ r. Applies ⟦<VecRoom as Look>⟧.kept ⟦<VecRoom as Look>⟧.standing
         ⟦<VecRoom as Look>⟧.words
         page r.0 volume ops.now r.1.items room.old room.new) }
-    ensures err { IfErr result (λ e. IsRefusedList ⟦<VecRoom as Look>⟧.kept ⟦<VecRoom as
-        Look>⟧.standing ⟦<VecRoom as Look>⟧.words
+    ensures err { IfErr result (λ e. IsRefusedList ⟦<VecRoom as Look>⟧.kept
+        ⟦<VecRoom as Look>⟧.standing ⟦<VecRoom as Look>⟧.words
         ⟦<VecRoom as Room>⟧.full volume ops.now e room.old room.new) }
 {
     apply(room, page, ops)

@@ -164,8 +164,7 @@ fn long_queries(rt: HostRuntime) -> Result<(), Fail> {
 fn commits_spent(rt: HostRuntime) -> Result<(), Fail> {
     let script =
         b"new\ndrop 9\nmkindex k LONG\nnew\ndrop 9\nquery k==1\nbegin\nnew\ncommit\ncommit\n";
-    let replies =
-        "node 1\nrefused 2 NoNode\nok\nrefused 9 CommitsSpent\nrefused 2 \
+    let replies = "node 1\nrefused 2 NoNode\nok\nrefused 9 CommitsSpent\nrefused 2 \
          NoNode\nnodes\nok\nqueued\n\
         refused 9 CommitsSpent\nnot begun\n";
     check_bytes(rt.alloc(), script, replies, 2)

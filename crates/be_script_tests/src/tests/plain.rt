@@ -5,8 +5,8 @@ ghost use Rattle.be_value.specs.declared.refusals.Refusal.TheVariants.{OutOfMemo
 ghost use Rattle.be_script_runner.specs.Store.{start, viewed, MayWrite};
 
 use arrayvec::ArrayVec;
-use be_journal_text::volume_text;
 use be_journal::Journal;
+use be_journal_text::volume_text;
 use be_plan::{Cover, choose_from, volume_source};
 use be_query::Query;
 use be_script_runner::Server;
