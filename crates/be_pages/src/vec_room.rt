@@ -57,11 +57,7 @@ impl Room for VecRoom {
         self.pool.is_in_hand(page)
     }
 
-    #[tactic(auto, using(
-        crate::proofs::Rooms::stands_set,
-        crate::proofs::Rooms::unretired_set,
-        crate::proofs::Rooms::busy_place,
-    ))]
+    #[tactic(auto, using(crate::proofs::Rooms::taking))]
     fn take(&mut self) -> Result<u64, Refusal> {
         match self.pool.take() {
             Some(page) => Ok(page),
@@ -69,12 +65,7 @@ impl Room for VecRoom {
         }
     }
 
-    #[tactic(auto, using(
-        crate::proofs::Rooms::stands_set,
-        crate::proofs::Rooms::unretired_set,
-        crate::proofs::Rooms::in_hand,
-        crate::proofs::Rooms::inside,
-    ))]
+    #[tactic(auto, using(crate::proofs::Rooms::filling))]
     fn fill(&mut self, page: u64, i: usize, word: u64) {
         self.words[page as usize * PAGE_WORDS + i] = word;
         self.pool.fill(page);

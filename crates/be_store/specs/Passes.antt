@@ -26,6 +26,13 @@ IsBetweenCalls-prop passes (Looked x) = λ a b. absurd a
 IsBetweenCalls-prop passes (Announced x) = λ a b. absurd a
 IsBetweenCalls-prop passes (Pinned x n) = →_prop (Coded-set coded_ℕ x n)
 
+-- the same of a pass of this store
+abbrev pub IsAtRest : Opened → SeatFacts → Type 0
+IsAtRest store pass = IsBetweenCalls store.limits.passes pass.knows.phase
+
+pub IsAtRest-prop : (store : Opened) (pass : SeatFacts) → IsProp (IsAtRest store pass)
+IsAtRest-prop store pass = IsBetweenCalls-prop store.limits.passes pass.knows.phase
+
 -- a pass of this store
 abbrev pub IsPassOf : Opened → SeatFacts → Type 0
 IsPassOf store pass = IsSeatOf store pass × IsBetweenCalls store.limits.passes pass.knows.phase

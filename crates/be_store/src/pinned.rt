@@ -20,7 +20,7 @@ ghost use Rattle.be_table.specs.Steps.{unpins, with_history};
 ghost use Rattle.be_table.specs.Works.{IsSeatOf};
 ghost use Rattle.be_store.specs.History.{Pins};
 ghost use Rattle.be_store.specs.Live.{Refreshes};
-ghost use Rattle.be_store.specs.Passes.{IsBetweenCalls, IsBetweenCalls-prop, IsPassOf, IsPinnedTo};
+ghost use Rattle.be_store.specs.Passes.{IsAtRest, IsAtRest-prop, IsPassOf, IsPinnedTo};
 ghost use Rattle.be_store.specs.Passes.{HasRead, volume_pinned};
 
 use crate::answers::{Answer, Updates};
@@ -39,8 +39,7 @@ pub struct Pinned<'a> {
     pass: &'a mut Pass,
     number: u64,
     ghost seat: { IsSeatOf store.now pass.now },
-    ghost between: { IsBetweenCalls store.now.limits.passes pass.now.knows.phase }
-        by { IsBetweenCalls-prop store.now.limits.passes pass.now.knows.phase },
+    ghost between: { IsAtRest store.now pass.now } by { IsAtRest-prop store.now pass.now },
 }
 
 impl Store {

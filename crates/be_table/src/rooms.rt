@@ -36,10 +36,7 @@ impl<'a> Room for Writing<'a> {
 
     ghost full = { λ w least. IsSpent w.knows least };
 
-    #[tactic(auto, using(
-        crate::proofs::Standings::readable_inside,
-        crate::proofs::Standings::taken_among,
-    ))]
+    #[tactic(auto, using(crate::proofs::Standings::taken))]
     fn is_taken(&self, page: u64) -> bool {
         Writing::is_taken(self, page)
     }
