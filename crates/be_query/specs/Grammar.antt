@@ -102,7 +102,7 @@ comparisons (Or l r) = comparisons l + comparisons r
 abbrev pub Spells : List Token → Formula → Type 0
 Spells ts tree = (o : OrPhrase) × (or_tokens o ≡ ts) × (or_tree o ≡ tree)
 
--- some tokens behind these make a sentence
+-- some tokens after these make a sentence
 abbrev pub Viable : List Token → Type 0
 Viable ts = (more : List Token) × (o : OrPhrase) × (or_tokens o ≡ ts ++ more)
 

@@ -10,8 +10,8 @@ ghost use Rattle.be_query.specs.Printing.{IsKept, IsPrintable, IsQuotable, IsWho
 ghost use Rattle.be_query.specs.Printing.{with_backslashes, or_printed, or_text, limit_of};
 ghost use Rattle.be_query.specs.Lexing.{tokens};
 
-/// A token list is read on exactly as long as some tokens behind it make a sentence, is a sentence
-/// exactly where it is read to its end, and has one tree at most.
+/// A token list is read on exactly as long as some tokens after it make a sentence. It is a
+/// sentence exactly if it is read to its end, and it has one tree at most.
 pub fn reading()
     ensures viable { (ts : List Token) (s : Awaited × List Mark) → read ts ≡ Some s → Viable ts }
     ensures stuck { (ts : List Token) → read ts ≡ None → Viable ts → ⊥ }

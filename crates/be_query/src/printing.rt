@@ -42,7 +42,7 @@ pub fn print(alloc: Global, query: &Query) -> Result<String, Refusal>
     Ok(text)
 }
 
-/// The canonical text of one comparison, as it stands in that of a query.
+/// The canonical text of one comparison, as it is in that of a query.
 pub fn print_comparison(alloc: Global, comparison: &Comparison) -> Result<String, Refusal>
     ensures ok { IfOk result (λ s. string_bytes s
         ≡ leaf_text comparison.now.name comparison.now.op (literal comparison.now.literal)) }

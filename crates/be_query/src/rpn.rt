@@ -48,7 +48,7 @@ pub enum Item {
     Not,
 }
 
-/// What stands on the stack.
+/// A thing on the stack.
 #[derive(Drop)]
 pub(crate) enum Thing {
     Attribute(Name),
@@ -139,7 +139,7 @@ fn finish(stack: &mut Stack, len: usize) -> Result<Tree, Refusal>
     Err(Refusal::BadRpn(len))
 }
 
-/// Works an item, and sees that the stack is not too high behind it.
+/// Applies an item, and checks that the stack is not too high after it.
 fn take_item(alloc: Global, stack: &mut Stack, at: usize, item: &Item) -> Result<(), Refusal>
     ensures ok { IfOk result (λ _. shallow
         (work at (stack_of stack.old).0 (stack_of stack.old).1 (item_of item.now))
@@ -256,7 +256,7 @@ fn given_literal(alloc: Global, op: Cmp, text: String) -> Result<Result<Literal,
     }
 }
 
-/// Compares the attribute with the literal text above it, which may have a `*` before it and behind
+/// Compares the attribute with the literal text above it, which may have a `*` before it and after
 /// it.
 fn surround(
     alloc: Global,
