@@ -77,8 +77,8 @@ pub record StandsFor (literal : Literal) (kind : Kind) (bound : Value) : Type 0 
   pub compares : (op : Cmp) (value : Value) → kind_of value ≡ kind → holds op value literal
       ≡ is_true_of op (value_cmp value bound)
 
--- A front stands before each key of the value. Behind it stands `first` with the least node, and
--- with the greatest node what `after` has before its zero byte.
+-- Each key of the value begins with the front. After the front comes `first` with the least node.
+-- With the greatest node comes what `after` has before its zero byte.
 pub record HasEnds (bound : Value) (front first after : List ℕ) : Type 0 where
   pub below : List ℕ
   pub last : List ℕ
@@ -109,7 +109,7 @@ LeavesRest f name kind low high rest =
     → Within low high (key value node) → sees s node name ≡ Some value → sat s f node
     ≡ rest_true s rest node
 
--- what is above the byte behind a pattern's literal characters
+-- a limit above each byte that may follow a pattern's literal characters
 abbrev pub limit : Bool → ℕ
 limit true = 1
 limit false = 255

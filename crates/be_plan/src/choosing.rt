@@ -76,7 +76,7 @@ pub(crate) fn count(tree: &Tree) -> usize
     }
 }
 
-/// What is chosen for a part of a query, and the place behind its last comparison.
+/// What is chosen for a part of a query, and the place after its last comparison.
 #[derive(Drop)]
 pub(crate) struct PartChoice {
     pub(crate) cover: Option<Cover>,

@@ -1,7 +1,7 @@
 //! The truth of a query at a node, asked of a source.
 //!
-//! The source tells of each comparison whether it is true of what it sees: on an indexed name of
-//! what the index holds, and else of the attribute.
+//! The source says of each comparison whether it is true of what it sees: on an indexed name of
+//! what the index holds, otherwise of the attribute.
 ghost use Rattle.std.specs.Prelude.{◌≡◌, Some};
 ghost use Rattle.be_query.specs.View.{formula};
 ghost use Rattle.be_volume.specs.Query.{sees, sat};

@@ -1,19 +1,19 @@
 //! The keys that a walk over an index has to pass.
 //!
 //! A walk for a pick begins with all keys of the index and leaves out what can't be an answer by
-//! way of this pick: each comparison on the picked name that stands beside it under `&&` gives a
-//! bound, and a pattern gives its literal prefix. A comparison on the other side of an `||` gives
-//! none, since it need not be true. A number outside the index's kind leaves out all keys or none,
-//! by the side on which it lies, and a literal that spells no number leaves out all. Of a text
-//! longer than any value's, the bytes that a value may have tell.
+//! way of this pick: each comparison on the picked name that is beside it under `&&` gives a bound,
+//! and a pattern gives its literal prefix. A comparison on the other side of an `||` gives none,
+//! since it need not be true. A number outside the index's kind leaves out all keys or none, by the
+//! side on which it lies, and a literal that is no number leaves out all. Of a text longer than any
+//! value's, the bytes that a value may have decide.
 //!
 //! Bounds are bytes, both included: a value's key with the least node number or the greatest, or
 //! the bytes next to it where it is left out. So no key in a range of numbers is idle. The key is
 //! never made: its front is the literal's own bytes or the number's, its end one of four.
 //!
-//! What narrows a range tells whether that leaves no value of which the comparison, or the whole
-//! query, is false. Then the node of each key is an answer, and nothing is asked of it. A pattern
-//! is decided where it says no more than how a text begins.
+//! The functions that narrow a range return whether that leaves no value of which the comparison,
+//! or the whole query, is false. Then the node of each key is an answer, and nothing is asked of
+//! it. A pattern is decided by the range if it only says how a text begins.
 ghost use Rattle.std.specs.Prelude.{◌≡◌, ◌<◌, ◌≤◌, ◌+◌, ◌^◌, ℕ, ℤ, ◌≤ℤ◌, true, false, List, []};
 ghost use Rattle.std.specs.Prelude.{◌∷◌, ◌++◌, ◌&&◌};
 ghost use Rattle.std.specs.Prelude.{Some, None, IfSome, IfOk, IfErr, IsUtf8, length};
@@ -40,19 +40,19 @@ use be_query::{Cmp, Comparison, Literal, Tree};
 use be_value::{Kind, Name, counted32, counted64};
 use be_volume::literal_number;
 
-/// What stands in a text's key behind the text, with the least node.
+/// The bytes after the text in a text's key, with the least node.
 const TEXT_FIRST: [u8; 9] = [0; 9];
 
-/// The same with the greatest node, and a zero byte behind that: the bytes next above the key.
+/// The same with the greatest node, and a zero byte after that: the bytes next above the key.
 const TEXT_AFTER: [u8; 10] = [0, 255, 255, 255, 255, 255, 255, 255, 255, 0];
 
-/// What stands in a number's key behind the number, with the least node.
+/// The bytes after the number in a number's key, with the least node.
 const NUMBER_FIRST: [u8; 8] = [0; 8];
 
-/// The same with the greatest node, and a zero byte behind that.
+/// The same with the greatest node, and a zero byte after that.
 const NUMBER_AFTER: [u8; 9] = [255, 255, 255, 255, 255, 255, 255, 255, 0];
 
-/// The end without its last byte. Where that is zero, no bytes lie between the two.
+/// The end without its last byte. If that byte is zero, no bytes lie between the two.
 fn without_last(end: &[u8]) -> &[u8]
     ensures { (bytes : List ℕ) → end.now ≡ bytes ++ 0 ∷ [] → result.now ≡ bytes }
 {
@@ -62,10 +62,10 @@ fn without_last(end: &[u8]) -> &[u8]
     }
 }
 
-/// Leaves out keys of values at which the comparison is false, by a value that stands for its
-/// literal. The keys of this value begin with the front; behind it stands `first` with the least
-/// node, and `after`, but for its zero byte, with the greatest. Whether the comparison is true of
-/// all values that are left.
+/// Leaves out keys of values at which the comparison is false, by a value that takes the place of
+/// its literal. The keys of this value begin with the front. After it comes `first` with the least
+/// node, and `after`, but for its zero byte, with the greatest. Returns whether the comparison is
+/// true of all values that are left.
 fn narrow_by(
     range: &mut Range,
     comparison: &Comparison,
@@ -107,8 +107,8 @@ fn narrow_by_integer(range: &mut Range, comparison: &Comparison, kind: Kind, byt
     narrow_by(range, comparison, kind, bytes, &NUMBER_FIRST, &NUMBER_AFTER)
 }
 
-/// The same by the number that the literal spells, if a value of the kind is this number; else the
-/// range stays.
+/// The same by the number that the literal encodes, if a value of the kind is this number;
+/// otherwise the range stays.
 fn narrow_by_number(
     range: &mut Range,
     comparison: &Comparison,
@@ -209,8 +209,8 @@ fn narrow_integers(range: &mut Range, comparison: &Comparison, kind: Kind) -> bo
     false
 }
 
-/// What is above each byte that may stand behind the pattern's literal characters in a key: a zero
-/// byte where it has no wildcard, else also the first byte of a character.
+/// A limit above each byte that may follow the pattern's literal characters in a key. Without a
+/// wildcard that is a zero byte; with one it may also be the first byte of a character.
 fn limit_of(pattern: &Pattern) -> u8
     ensures { result ≡ limit (is_plain pattern.now) }
 {
@@ -420,10 +420,10 @@ pub(crate) fn narrow_alone<'a>(range: &mut Range, tree: &'a Tree, kind: Kind) ->
     }
 }
 
-/// Leaves out keys of values that a node can't have at this name where the part, whose first
-/// comparison has the place `at`, is true of it by way of the pick. What is left to ask of the
-/// nodes of the other keys; an `||` is decided by the side of the pick. Where the part ends before
-/// the pick, the range stays, and the answer is the place behind the part.
+/// Leaves out keys of values that a node can't have at this name if the part is true of it by way
+/// of the pick. The part's first comparison has the place `at`. Returns what is left to ask of the
+/// nodes of the other keys; an `||` is decided by the side of the pick. If the part ends before the
+/// pick, the range stays, and the function returns the place after the part.
 pub(crate) fn narrow_all<'a>(
     range: &mut Range,
     tree: &'a Tree,
