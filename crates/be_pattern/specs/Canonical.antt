@@ -67,11 +67,11 @@ part_text (Only c) = literal_char c
 abbrev pub canonical : List Part → List ℕ
 canonical = flat_map part_text
 
--- `*`, where it stands
+-- `*`, if the flag is set
 abbrev pub run_if : Bool → List Part
 run_if stands = if stands then Run ∷ [] else []
 
--- a literal text, with `*` before it and behind it where they stand
+-- a literal text, with `*` before it and after it if the flags are set
 abbrev pub around : Bool → List ℕ → Bool → List Part
 around before cs behind = run_if before ++ (map Only cs ++ run_if behind)
 
