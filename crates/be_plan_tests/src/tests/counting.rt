@@ -137,8 +137,8 @@ pub(crate) fn nodes_by(
     Ok(Some((nodes, source.counts)))
 }
 
-/// The nodes by what is chosen where the source tells the kinds, and what was asked to choose and
-/// to find them.
+/// The nodes by the picks that are chosen from a source that knows the kinds, and the counts of
+/// what choosing and finding them asked for.
 pub(crate) fn nodes_chosen(
     alloc: Global,
     volume: &Volume,
