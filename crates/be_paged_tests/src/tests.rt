@@ -44,7 +44,7 @@ fn query(
     Ok((both, nodes_text(alloc, answer)?))
 }
 
-/// The same from the pick whose place stands before the query.
+/// The same from the pick whose place comes before the query.
 fn picked(alloc: Global, both: Both, text: &str) -> Result<(Both, String), Fail> {
     let (place, text) = text.split_once(" ").unwrap_or(("0", text));
     let place = word_of(place.as_bytes()).unwrap_or(99) as usize;
@@ -132,7 +132,7 @@ fn run_line(alloc: Global, both: Both, line: &str) -> Result<Both, Fail> {
     Err(Fail::new(line))
 }
 
-/// Does the requests, and gives what stands then.
+/// Does the requests, and returns both forms after them.
 pub(crate) fn run_lines(alloc: Global, both: Both, lines: &str) -> Result<Both, Fail> {
     let mut both = both;
     for line in lines.lines() {
@@ -141,8 +141,8 @@ pub(crate) fn run_lines(alloc: Global, both: Both, lines: &str) -> Result<Both, 
     Ok(both)
 }
 
-/// Fails unless both forms give these replies, the one in a room of 64 pages. Gives what stands
-/// then.
+/// Fails unless both forms give these replies, the one in a room of 64 pages. Returns both forms
+/// after them.
 fn runs(alloc: Global, lines: &str) -> Result<Both, Fail> {
     let both = Both::new(alloc, 64)?;
     run_lines(alloc, both, lines)

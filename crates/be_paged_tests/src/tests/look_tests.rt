@@ -1,5 +1,5 @@
 //! Versions read by another look than their room: one that counts its calls, and while a write is
-//! open one that sees what stood before it.
+//! open one that sees the pages as they were before it.
 ghost use Rattle.std.specs.Prelude.{◌≡◌, IfOk};
 ghost use Rattle.be_pages.specs.Pages.{IsUnchanged, after_undo};
 ghost use Rattle.be_tree.specs.Forest.{IsWriteStart};
@@ -57,7 +57,7 @@ fn expect_counting(alloc: Global, both: Both, text: &str, expected: &str) -> Res
     })
 }
 
-/// A walk over a hundred names, which looks at each node. The version stands in the room that comes
+/// A walk over a hundred names, which looks at each node. The version is in the room that comes
 /// back, and can be written on.
 #[test]
 fn counting_look(rt: HostRuntime) -> Result<(), Fail> {
@@ -79,8 +79,8 @@ fn copy_of(plain: &Volume) -> Result<Volume, Refusal>
     }
 }
 
-/// Fails unless the version that stood when the open write began gives these nodes. Gives the room
-/// as it was.
+/// Fails unless the version from before the open write gives these nodes. Returns the room as it
+/// was.
 fn expect_before(
     alloc: Global,
     plain: &Volume,

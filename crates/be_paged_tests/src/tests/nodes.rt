@@ -109,6 +109,8 @@ fn with_attributes(mut both: Both, node: u64) -> Result<Both, Fail> {
     Ok(both)
 }
 
+/// Nodes without attributes are listed from any number on, up to the count asked for, as nodes are
+/// added.
 #[test]
 fn bare_nodes(rt: HostRuntime) -> Result<(), Fail> {
     let both = Both::new(rt.alloc(), 128)?;
