@@ -86,7 +86,7 @@ fn steps<L: Look>(look: &mut L, root: u64, count: u64) -> bool
     cursor.next_key(look).is_none()
 }
 
-/// A hundred pairs stand in two levels: some forty words a look-up, one word a step and the pair's
+/// A hundred pairs lie in two levels: some forty words a look-up, one word a step and the pair's
 /// own.
 #[test]
 fn counting_look(rt: HostRuntime) -> Result<(), Fail> {

@@ -78,6 +78,8 @@ fn gives(alloc: Global, state: &mut State, lines: &str) -> Result<bool, Refusal>
     Ok(true)
 }
 
+/// A run of a writer and a reader: a page that the reader pins is not filled again before it is
+/// unpinned.
 #[test]
 fn machine_run(rt: HostRuntime) -> Result<(), Fail> {
     let alloc = rt.alloc();

@@ -102,7 +102,7 @@ fn change<R: Room>(
     }
 }
 
-/// How many words a write stores, on a tree whose keys stand since before it.
+/// How many words a write stores, on a tree whose keys were put before it.
 pub(crate) fn stored_by(alloc: Global, line: &str) -> Result<String, Refusal> {
     let (kind, numbers) = line.split_once(" ").unwrap_or((line, ""));
     let (count, steps) = first_number(numbers);
@@ -115,8 +115,8 @@ pub(crate) fn stored_by(alloc: Global, line: &str) -> Result<String, Refusal> {
     Ok(format!(in alloc; "{stores}")?)
 }
 
-/// A page that a write has taken is edited in place: of a list that comes to the same leaves again
-/// and again most words stand already. A key is put, or taken out and another put beside it; then
+/// A page that a write has taken is edited in place: if a list comes to the same leaves again and
+/// again, most words are there already. A key is put, or taken out and another put beside it; then
 /// 64 are, beside one another and far apart.
 #[test]
 fn stored_words(rt: HostRuntime) -> Result<(), Fail> {

@@ -98,7 +98,7 @@ pub(crate) fn free_without(alloc: Global, line: &str) -> Result<String, Refusal>
     Ok(format!(in alloc; "{accepted} taken, root {root}, {free} free")?)
 }
 
-/// Twelve pairs stand in one page; the thirteenth makes two leaves and an inner page. Rising keys
+/// Twelve pairs fit in one page; the thirteenth makes two leaves and an inner page. Rising keys
 /// fill their pages: 600 pairs take 50 leaves of 12, five pages above them and the root.
 #[test]
 fn tree_pages(rt: HostRuntime) -> Result<(), Fail> {
@@ -121,7 +121,7 @@ free 16384 0 => 16384";
 }
 
 /// In a room of eight pages at least 20 rising keys are accepted and at most 60. The next one is
-/// refused, and its write undone: the pairs before it stand.
+/// refused, and its write undone: the pairs before it stay.
 #[test]
 fn full_tree(rt: HostRuntime) -> Result<(), Fail> {
     let mut room = room_of(rt.alloc(), 8)?;
@@ -155,7 +155,7 @@ fn put_nodes(room: &mut VecRoom, nodes: &[u8]) -> Result<u64, Refusal>
     Ok(root)
 }
 
-/// Whether the keys of these nodes, and no others, stand in the tree from the text `x` on, in this
+/// Whether the tree has the keys of these nodes, and no others, from the text `x` on, in this
 /// order.
 fn has_nodes<L: Look>(look: &mut L, root: u64, nodes: &[u8]) -> bool
     requires { IsTree (L.standing look.old) (L.words look.old) root }

@@ -85,6 +85,8 @@ pub(crate) fn number_spelt(alloc: Global, text: &str) -> Result<String, Refusal>
     }
 }
 
+/// Texts that encode a number, up to the limits of 64 bits and of 20 digits, and texts that encode
+/// none.
 #[test]
 fn texts_spell_numbers(rt: HostRuntime) -> Result<(), Fail> {
     let lines = "number 0 => 0
