@@ -87,7 +87,7 @@ sat s (Leaf name op literal) node = option_map_or (λ value. holds op value lite
 sat s (And a b) node = sat s a node && sat s b node
 sat s (Or a b) node = sat s a node || sat s b node
 
--- whether a formula rests on indices, where this test tells which names have one
+-- whether a formula rests on indices; the test says which names have one
 abbrev pub rests : (List ℕ → Bool) → Formula → Bool
 rests indexed (Leaf name op literal) = indexed name
 rests indexed (And a b) = rests indexed a || rests indexed b

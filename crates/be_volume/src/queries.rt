@@ -1,6 +1,6 @@
 //! What a query sees of a volume, and of which nodes it is true.
 //!
-//! A comparison on a name that has an index sees what the index holds for a node, and else the
+//! A comparison on a name that has an index sees what the index holds for a node, otherwise the
 //! node's attribute; of a node of which it sees nothing it is false, `!=` too. This is the
 //! definition, node by node; a plan that walks the indices has to give the same nodes.
 ghost use Rattle.std.specs.Option.{option_copied};

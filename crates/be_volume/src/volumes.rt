@@ -31,7 +31,7 @@ use std::mem;
 /// has the index's kind.
 ///
 /// The contents are kept twice, so a volume takes twice the room of what it holds: `apply` works on
-/// the one while the other stands, since what was removed from an ordered map can't be put back
+/// one copy while the other stays, since what was removed from an ordered map can't be put back
 /// without memory.
 #[derive(Drop)]
 pub struct Volume {
@@ -116,10 +116,11 @@ impl Volume {
     /// memory is taken. It is refused with OutOfMemory where there is no memory. A refused list
     /// leaves the volume as it was.
     ///
-    /// The operations are done on the twin of the contents, which takes their place, and then the
-    /// old contents follow. So a call costs what it changes, twice, which no clause says. Only
-    /// where there is no twin is the whole volume copied: at the first call after a refusal with
-    /// OutOfMemory, after a `replay`, and on a new copy.
+    /// The operations are done on the shadow copy of the contents, which takes their place, and
+    /// then they are done on the old contents, the new shadow copy. So a call costs what it
+    /// changes, twice, which no clause says. Only if there is no shadow copy is the whole volume
+    /// copied: at the first call after a refusal with OutOfMemory, after a `replay`, and on a new
+    /// copy.
     pub fn apply(&mut self, ops: &[Op]) -> Result<ArrayVec<Done, 64>, Refusal>
         requires some { 1 ≤ length ops.now }
         requires few { length ops.now ≤ 64 }
@@ -244,7 +245,7 @@ impl Volume {
     }
 }
 
-/// The twin of these contents, or a copy where there is none.
+/// The shadow copy of these contents, or a new copy if there is none.
 fn twin_of(contents: &Contents, twin: Option<Contents>) -> Result<Contents, AllocError>
     requires { IfSome twin (λ twin. twin ≡ contents.now) }
     ensures { IfOk result (λ twin. twin ≡ contents.now) }
@@ -255,8 +256,8 @@ fn twin_of(contents: &Contents, twin: Option<Contents>) -> Result<Contents, Allo
     }
 }
 
-/// Performs operations that are accepted. Where there is no memory, what is left of the contents is
-/// not said.
+/// Performs operations that are accepted. If there is no memory, nothing is said of what is left of
+/// the contents.
 fn perform_all(contents: &mut Contents, ops: &[Op]) -> Result<ArrayVec<Done, 64>, AllocError>
     requires few { length ops.now ≤ 64 }
     requires sound { IsSound contents.old }
