@@ -16,7 +16,7 @@ use Rattle.be_volume.specs.declared.ops.Op.TheVariants.{New, Drop, Set, MkIndex}
 abbrev pub pair_at : State → List ℕ → ℕ → Option Value
 pair_at s name node = option_and_then (λ index. map.get index.pairs node) (map.get s.indices name)
 
--- whether the node stands in the index of that name
+-- whether the node is in the index of that name
 abbrev pub is_held : State → ℕ → List ℕ → Bool
 is_held s node name = is_some (pair_at s name node)
 
