@@ -92,7 +92,7 @@ fn made_of(alloc: Global, volume: &Volume) -> Result<Volume, Refusal> {
     Ok(again)
 }
 
-/// A volume that is made again before it answers.
+/// A volume that is made again before each reply.
 #[derive(Drop)]
 struct MadeAgain {
     volume: Volume,
@@ -134,8 +134,8 @@ fn runs_made_again(alloc: Global, lines: &str) -> Result<(), Fail> {
     check_lines(alloc, &mut made, lines)
 }
 
-/// A volume that is made again gives the same replies, with attributes that stand outside of an
-/// index and dropped nodes among them.
+/// A volume that is made again gives the same replies, with attributes that are in no index and
+/// dropped nodes among them.
 #[test]
 fn made_again(rt: HostRuntime) -> Result<(), Fail> {
     for lines in EXAMPLES {
@@ -222,8 +222,8 @@ fn longer_than_keys(alloc: Global, text: &str) -> Result<String, Refusal> {
     }
 }
 
-/// Whether bytes below all keys stand before the first one, those above them before none, and
-/// neither are a key.
+/// Whether bytes below all keys lie before the first one, those above them before none, and neither
+/// are a key.
 fn lie_between(volume: &Volume, below: &[u8], above: &[u8]) -> bool {
     is_next(volume, "k", below, false, &FIRST)
         && is_next(volume, "k", above, false, &[])
