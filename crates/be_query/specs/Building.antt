@@ -133,7 +133,7 @@ abbrev pub tree_at : Stage → Level → List Level → Option Formula
 tree_at (Joints t) level [] = Some (with_side t level)
 tree_at _ _ _ = None
 
--- the tree, where nothing waits any more
+-- the tree, if nothing waits any more
 abbrev pub tree_of : Option State → Option Formula
 tree_of None = None
 tree_of (Some s) = tree_at s.stage s.level s.outer

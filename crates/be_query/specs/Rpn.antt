@@ -93,7 +93,7 @@ abbrev pub complements : ℕ → ℕ → Option (Formula × List Thing) → Resu
 complements at n None = Err (BadRpn at)
 complements at n (Some s) = Ok (n, Whole (complement s.0) ∷ s.1)
 
--- what the item at a place makes of the stack, after that many comparisons
+-- what the item at a place makes of the stack, after `n` comparisons
 abbrev pub work : ℕ → ℕ → List Thing → Item → Result (ℕ × List Thing) Refusal
 work at n stack (Attr name) = Ok (n, Attribute name ∷ stack)
 work at n stack (Given text) = if has_nul text then Err (BadRpn at) else Ok (n, Value text ∷ stack)

@@ -18,17 +18,17 @@ pub fn reading()
     ensures sentence { (ts : List Token) → read ts ≡ Some (Joint, []) → (o : OrPhrase)
         × (or_tokens o ≡ ts) }
     ensures whole { (o : OrPhrase) → read (or_tokens o) ≡ Some (Joint, []) }
-    // What is printed spells its tree, if its names and values are read back.
+    // A printed text encodes its tree, if its names and values are read back.
     ensures printed { (t : Formula) → IsPrintable t → Spells (or_printed t) t }
     ensures unescaped { (bs : List ℕ) → plain (with_backslashes bs) ≡ bs }
     ensures one_tree { (ts : List Token) (s t : Formula) → Spells ts s → Spells ts t → s ≡ t }
 {}
 
-/// The canonical text of a tree spells the tree, and by `reading` no other.
+/// The canonical text of a tree encodes the tree, and by `reading` no other.
 pub fn printing()
     // It is cut into the tokens of the tree, if each name and value is one token.
     ensures tokens { (t : Formula) → IsQuotable t → tokens (or_text t) ≡ or_printed t }
-    // So the text of a tree whose names and values are kept spells it.
+    // So the text of a tree whose names and values are kept encodes it.
     ensures kept { (t : Formula) → IsKept t → IsTextOf (or_text t) t }
     ensures spells { (t : Formula) → IsQuotable t → IsPrintable t → Spells (tokens (or_text t)) t }
     // A name, or an order operator's value, is one token if it has no NUL.

@@ -141,7 +141,7 @@ impl Context {
         }
     }
 
-    /// The tree at the end of a text of so many bytes. Nothing more is taken.
+    /// The tree at the end of a text of `len` bytes. Nothing more is taken.
     pub(crate) fn finish(
         &mut self,
         alloc: Global,
@@ -341,8 +341,8 @@ fn take_joint<'a>(
 }
 
 #[tactic(auto, using(crate::proofs::Short::short_name))]
-/// Whether a text without a NUL spells a name. Backslashes only make it shorter, so they are looked
-/// at in a long text alone.
+/// Whether a text without a NUL encodes a name. Backslashes only make it shorter, so they are
+/// looked at in a long text alone.
 fn spells_name(alloc: Global, raw: &str) -> Result<bool, AllocError>
     requires { has_nul raw.now ≡ false }
     ensures { IfOk result (λ b. is_name raw.now ≡ b) }
@@ -358,7 +358,7 @@ fn spells_name(alloc: Global, raw: &str) -> Result<bool, AllocError>
     }
 }
 
-/// The name that a text spells, if it is one.
+/// The name that a text encodes, if it is one.
 fn read_name(alloc: Global, raw: &str) -> Result<Option<Name>, AllocError>
     ensures { IfOk result (λ o. MatchOption o (is_name raw.now ≡ false)
         (λ n. (n ≡ plain raw.now) × (is_name raw.now ≡ true))) }
@@ -422,7 +422,7 @@ fn unescape(alloc: Global, raw: &str) -> Result<String, AllocError>
     Ok(text)
 }
 
-/// The pattern that a value spells, or where it is faulty.
+/// The pattern that a value encodes, or the place of its fault.
 fn read_pattern(alloc: Global, raw: &str) -> Result<Result<Pattern, usize>, AllocError>
     ensures { IfOk result (λ r. (pattern (chars raw.now) ≡ r)
         × IfErr r (λ at. at ≤ length raw.now)) }
@@ -434,7 +434,7 @@ fn read_pattern(alloc: Global, raw: &str) -> Result<Result<Pattern, usize>, Allo
     }
 }
 
-/// The literal that a value spells, or where its pattern is faulty.
+/// The literal that a value encodes, or the place of its pattern's fault.
 pub(crate) fn read_literal(
     alloc: Global,
     op: Cmp,

@@ -30,7 +30,7 @@ pub(crate) enum Place {
 pub fn print(alloc: Global, query: &Query) -> Result<String, Refusal>
     // It is the canonical text of the tree,
     ensures text { IfOk result (λ s. string_bytes s ≡ or_text query.now) }
-    // which spells the tree,
+    // which encodes the tree,
     ensures spells { IfOk result (λ s. IsTextOf (string_bytes s) query.now) }
     // and no other.
     ensures alone { IfOk result (λ s. (tree : Formula) → IsTextOf (string_bytes s) tree → tree
@@ -82,7 +82,7 @@ fn push_tree(alloc: Global, text: &mut String, tree: &Tree, place: Place) -> Res
     }
 }
 
-/// Appends a text where it is shown.
+/// Appends a text if it is to be shown.
 fn push_if(text: &mut String, shown: bool, piece: &str) -> Result<(), AllocError>
     ensures { IfOk result (λ _. string_bytes text.new ≡ string_bytes text.old
         ++ only_if shown piece.now) }

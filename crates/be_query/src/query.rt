@@ -16,8 +16,8 @@ use std::marker::Model;
 /// The longest text of a query.
 const MAX_LEN: usize = 4096;
 
-/// A query: a tree of at most 256 comparisons whose names and values canonical text can spell. A
-/// contract sees the tree, without where it lies in memory.
+/// A query: a tree of at most 256 comparisons whose names and values canonical text can encode. A
+/// contract sees the tree, without its place in memory.
 #[derive(Debug, Drop)]
 pub struct Query {
     pub(crate) tree: Box<Tree>,
@@ -51,7 +51,7 @@ impl Query {
     }
 }
 
-/// The query that a text spells.
+/// The query that a text encodes.
 ///
 /// A text of more than 4,096 bytes is `TooLong`, whatever is in it. Otherwise the first fault from
 /// the left is returned, with its byte in the text: `Syntax` at a token that can't follow or at the

@@ -48,7 +48,7 @@ pub enum Tree {
 }
 
 impl Cmp {
-    /// The operator that holds where this one does not.
+    /// The operator that is true exactly if this one is false.
     pub fn opposite(self) -> Cmp
         ensures { result ≡ opposite self }
     {
