@@ -13,8 +13,8 @@ use be_query::Tree;
 use be_value::{Name, Value};
 use be_volume::holds;
 
-/// Whether the tree is true of the node, where a comparison on `name` sees this value of it. Only
-/// for comparisons on other names the source is asked.
+/// Whether the tree is true of the node, if a comparison on `name` sees this value of it. The
+/// source is asked only for comparisons on other names.
 pub(crate) fn satisfies<S: Source>(
     source: &mut S,
     tree: &Tree,
@@ -48,7 +48,7 @@ pub(crate) fn satisfies<S: Source>(
     }
 }
 
-/// Whether the tree is true of the node, where the source is asked for each comparison.
+/// Whether the tree is true of the node. The source is asked for each comparison.
 pub(crate) fn is_true<S: Source>(source: &mut S, tree: &Tree, node: u64) -> bool
     requires { (volume : State) × S.answers_for source.old volume }
     ensures answer { (volume : State) → S.answers_for source.old volume → result

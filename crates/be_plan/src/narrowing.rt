@@ -8,8 +8,8 @@
 //! value's, the bytes that a value may have decide.
 //!
 //! Bounds are bytes, both included: a value's key with the least node number or the greatest, or
-//! the bytes next to it where it is left out. So no key in a range of numbers is idle. The key is
-//! never made: its front is the literal's own bytes or the number's, its end one of four.
+//! the bytes next to it if the value is left out. So no key in a range of numbers is idle. The key
+//! is never made: its front is the literal's own bytes or the number's, its end one of four.
 //!
 //! The functions that narrow a range return whether that leaves no value of which the comparison,
 //! or the whole query, is false. Then the node of each key is an answer, and nothing is asked of
@@ -175,7 +175,7 @@ fn is_false_between(op: Cmp, number: Option<i128>, least: i128, greatest: i128) 
     }
 }
 
-/// Whether the comparison is false of all values of an integer kind, as its literal spells no
+/// Whether the comparison is false of all values of an integer kind, because its literal encodes no
 /// number or one on the wrong side of them all.
 fn is_false_of_all(comparison: &Comparison, kind: Kind, number: Option<i128>) -> bool
     requires { number ≡ literal_number (literal comparison.now.literal) }
@@ -217,9 +217,10 @@ fn limit_of(pattern: &Pattern) -> u8
     if pattern.is_plain() { 1 } else { 255 }
 }
 
-/// Leaves out keys of texts that don't begin with the pattern's literal characters: all keys, where
-/// those are more than a value may have. Whether it matches all texts that are left. Literal
-/// characters with a zero byte would reach into the node's number, and decide nothing.
+/// Leaves out keys of texts that don't begin with the pattern's literal characters: all keys, if
+/// those are more than a value may have. Returns whether the pattern matches all texts that are
+/// left. Literal characters with a zero byte would reach into the node's number, and decide
+/// nothing.
 fn narrow_by_pattern(range: &mut Range, pattern: &Pattern) -> bool
     ensures within { (k : List ℕ) → IsIn range.new k → IsIn range.old k }
     ensures keeps { (text : List ℕ) (n : ℕ) → IsUtf8 text → length text ≤ 255
@@ -330,7 +331,7 @@ fn narrow(range: &mut Range, comparison: &Comparison, kind: Kind) -> bool
     }
 }
 
-/// What is left to ask of an `&&`, where this is left of its sides.
+/// What is left to ask of an `&&`, if this is left of its sides.
 fn rest_of_both<'a>(
     tree: &'a Tree,
     left: Option<&'a Tree>,
@@ -350,7 +351,8 @@ fn rest_of_both<'a>(
     }
 }
 
-/// What is left to ask of an `||`, where this is left of one side: nothing, where nothing is.
+/// What is left to ask of an `||`, if this is left of one side: nothing, if nothing is left of
+/// that.
 pub(crate) fn rest_of_or<'a>(tree: &'a Tree, rest: Option<&'a Tree>) -> Option<&'a Tree>
     ensures { (s : State) (node : ℕ) →
         (option_map formula (option_copied rest.entry) ≡ None → sat s (formula tree.now) node
@@ -364,9 +366,9 @@ pub(crate) fn rest_of_or<'a>(tree: &'a Tree, rest: Option<&'a Tree>) -> Option<&
     }
 }
 
-/// Leaves out keys of values that a node can't have at this name where the part is true of it. An
-/// `||` leaves out none, since neither of its sides need be true. What is left to ask of the nodes
-/// of the other keys, none where the range decides the part.
+/// Leaves out keys of values that a node can't have at this name if the part is true of it. An `||`
+/// leaves out none, since neither of its sides need be true. Returns what is left to ask of the
+/// nodes of the other keys, none if the range decides the part.
 pub(crate) fn narrow_beside<'a>(
     range: &mut Range,
     tree: &'a Tree,
@@ -394,7 +396,7 @@ pub(crate) fn narrow_beside<'a>(
     }
 }
 
-/// The same where each comparison is on the index's own name, whatever that is: so no name is
+/// The same if each comparison is on the index's own name, whatever that is: so no name is
 /// compared.
 pub(crate) fn narrow_alone<'a>(range: &mut Range, tree: &'a Tree, kind: Kind) -> Option<&'a Tree>
     ensures within { (k : List ℕ) → IsIn range.new k → IsIn range.old k }

@@ -16,7 +16,7 @@ use std::marker::Model;
 /// The bytes at an end of a range, which are at most those next above the longest key. Few lie in
 /// their own room, since all room is cleared when it is made: 40 bytes are enough for numbers and
 /// for texts of 30 bytes. To write that there are no more clears their room too, so it is written
-/// only where there were.
+/// only if there were more.
 #[derive(Drop)]
 struct Bound {
     few: ArrayVec<u8, 40>,

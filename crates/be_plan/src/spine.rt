@@ -2,9 +2,9 @@
 //!
 //! What lies on the other side of an `||` says nothing of a pick, so a walk for it looks at its own
 //! part only. A query of many parts leans to the left: its last part is the right side of its first
-//! joint, and what is left of that joint begins with the same comparison. So where the picks are
-//! taken from the last to the first, each looks on from where the one before it was found, and all
-//! of them pass the joints once.
+//! joint, and what is left of that joint begins with the same comparison. So if the picks are taken
+//! from the last to the first, each search goes on from the place of the one before it, and all of
+//! them pass the joints once.
 ghost use Rattle.std.specs.Prelude.{◌≡◌, ◌≤◌, ◌<◌, ◌+◌};
 ghost use Rattle.be_query.specs.Grammar.{Formula, comparisons};
 ghost use Rattle.be_query.specs.View.{formula};
@@ -14,7 +14,8 @@ use crate::choosing::count;
 use be_query::Tree;
 
 /// A part of a query that begins with its first comparison, the number of its comparisons, and its
-/// last side: the right one of an `||`, else the part itself, which begins at the place `from`.
+/// last side: the right one of an `||`, otherwise the part itself, which begins at the place
+/// `from`.
 #[derive(Clone, Copy)]
 pub(crate) struct Front<'a> {
     pub(crate) tree: &'a Tree,

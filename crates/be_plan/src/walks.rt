@@ -158,7 +158,7 @@ fn visit_texts<S: Source>(
     Ok(())
 }
 
-/// Adds the node, if the tree is true of it, where the source is asked for each comparison.
+/// Adds the node, if the tree is true of it. The source is asked for each comparison.
 fn add_if_true<S: Source>(
     source: &mut S,
     tree: &Tree,
@@ -276,8 +276,8 @@ fn walk_rest<S: Source>(
     }
 }
 
-/// Adds the nodes of the keys in the range of which the tree is true, where this is left to ask of
-/// them: nothing, where the range decides the tree.
+/// Adds the nodes of the keys in the range of which the tree is true, if this is left to ask of
+/// them: nothing, if the range decides the tree.
 #[inline]
 pub(crate) fn walk<S: Source>(
     alloc: Global,
