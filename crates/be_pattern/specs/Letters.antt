@@ -11,14 +11,14 @@ use Rattle.be_pattern.specs.Parse.{Letter, letters, ending_backslash, is_bare, m
 abbrev pub letter_of : ℕ → code.Letter → Letter
 letter_of at l = record { at = at; escaped = l.escaped; char = l.char }
 
--- the letters of the end of a text of so many bytes
+-- the letters of the end of a text of that many bytes
 abbrev pub letters_in : ℕ → List ℕ → List Letter
 letters_in total rest = letters false (total - length rest) (chars rest)
 
 abbrev pub ending_in : ℕ → List ℕ → Option ℕ
 ending_in total rest = ending_backslash false (total - length rest) (chars rest)
 
--- where so many last bytes begin, if there are any
+-- the place where that many last bytes begin, if there are any
 abbrev pub ending_of : ℕ → ℕ → Option ℕ
 ending_of total zero = None
 ending_of total (suc n) = Some (total - suc n)

@@ -15,7 +15,7 @@ use be_value::Refusal;
 use std::alloc::{AllocError, Global};
 use std::marker::Model;
 
-/// A pattern over characters. A contract sees its tokens, without where they lie in memory.
+/// A pattern over characters. A contract sees its tokens, without their place in memory.
 #[derive(Debug, Drop)]
 pub struct Pattern {
     /// The tokens. A text that is seen to be literal has none: its characters, which are its
