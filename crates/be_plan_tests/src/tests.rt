@@ -36,7 +36,7 @@ fn write(volume: &mut Volume, ops: &[Op]) -> Result<(), Refusal> {
     Ok(())
 }
 
-/// Does the operations of a line, again where they are refused memory.
+/// Does the operations of a line, again if they are refused memory.
 fn write_line(alloc: Global, volume: &mut Volume, line: &str) -> Result<(), Refusal> {
     let ops = list_of(alloc, line)?;
     match write(volume, &ops) {
@@ -331,7 +331,7 @@ list z==1 && (b==2 || z==3) => refused 17";
     replies_of(rt.alloc(), lines, requests)
 }
 
-/// Six nodes, where m is 7 less n.
+/// Six nodes. At each of them m is 7 less n.
 const NUMBERS: &str = "mkindex n LONG
 mkindex m LONG
 6 times new
@@ -360,7 +360,8 @@ fn bounds(rt: HostRuntime) -> Result<(), Fail> {
     replies_of(rt.alloc(), NUMBERS, requests)
 }
 
-/// A number outside the kind of the index bounds a walk as well, and so does what spells no number.
+/// A number outside the kind of the index bounds a walk as well, and so does a text that encodes no
+/// number.
 #[test]
 fn bounds_outside_the_kind(rt: HostRuntime) -> Result<(), Fail> {
     let requests = "0 n>=2147483648 => nodes asks n
@@ -503,8 +504,8 @@ fn with_long(alloc: Global, text: &str) -> Result<String, Refusal> {
     }
 }
 
-/// Fails unless each request has its reply on a volume of these lines, where both have 254 times m
-/// in place of each M.
+/// Fails unless each request has its reply on a volume of these lines. In both each M is replaced
+/// by 254 times m.
 fn replies_of_long(alloc: Global, lines: &str, requests: &str) -> Result<(), Fail> {
     let lines = with_long(alloc, lines)?;
     let requests = with_long(alloc, requests)?;
@@ -608,7 +609,7 @@ fn largest_query(rt: HostRuntime) -> Result<(), Fail> {
     replies_of(rt.alloc(), lines.as_str(), request.as_str())
 }
 
-/// The lines of a volume whose values fall where its 300 nodes rise.
+/// The lines of a volume of 300 nodes whose values fall as their numbers rise.
 fn falling_values(alloc: Global) -> Result<String, Refusal> {
     let mut lines = String::from_str(alloc, "mkindex n LONG")?;
     for node in 1..301u64 {

@@ -12,7 +12,7 @@ use be_volume::Volume;
 use std::alloc::{AllocError, Global};
 use std::test::Fail;
 
-/// A volume with an index k of a kind, of which nodes 1, 2, .. have so many values.
+/// A volume with an index k of a kind. Nodes 1, 2, .. have these values at k, `count` in all.
 fn volume_of_values(
     alloc: Global,
     kind: &str,
@@ -43,8 +43,8 @@ ULNG 0 1 2147483647 2147483648 2147483649 4294967294 4294967295
 ULLG 0 1 9223372036854775807 9223372036854775808 9223372036854775809 18446744073709551614 \
  18446744073709551615";
 
-/// How many keys of seven rising values each range of a comparison with one of them holds, where so
-/// many are below it.
+/// Of seven rising values, `below` are below this one. The text says how many keys each range of a
+/// comparison with it holds.
 fn keys_of_value(alloc: Global, value: &str, below: u64) -> Result<String, AllocError> {
     let above = 6u64.wrapping_sub(below);
     let to = below.wrapping_add(1);
