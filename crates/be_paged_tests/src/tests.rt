@@ -174,7 +174,7 @@ fn batches(rt: HostRuntime) -> Result<(), Fail> {
     Ok(())
 }
 
-/// An index takes no page before it has a pair, and gives up all that it has.
+/// An index takes no page before it has a pair, and frees all pages that it has.
 #[test]
 fn paged_pool(rt: HostRuntime) -> Result<(), Fail> {
     let lines = "free / new / free => 63 / node 1 / 62
@@ -184,7 +184,7 @@ rmindex k / free / drop 1 / free => ok / 62 / ok / 63";
     Ok(())
 }
 
-/// Makes nodes, one list after the other, until one is refused. Gives how many there are.
+/// Makes nodes, one list after the other, until one is refused. Returns how many there are.
 fn make_nodes(both: Both, most: u64) -> Result<(Both, u64), Fail> {
     let mut both = both;
     for i in 0..most {

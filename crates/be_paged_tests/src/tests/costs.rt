@@ -108,7 +108,7 @@ fn count_query(alloc: Global, both: Both, query: &Query) -> Result<Cost, Refusal
     })
 }
 
-/// The same by a query's text, of another volume where memory is refused.
+/// The same by a query's text, of another volume if memory is refused.
 fn query_cost(alloc: Global, text: &str) -> Result<Cost, Fail> {
     let query = read_query(alloc, text)?;
     match count_query(alloc, filled(alloc)?, &query) {
@@ -117,8 +117,7 @@ fn query_cost(alloc: Global, text: &str) -> Result<Cost, Fail> {
     }
 }
 
-/// What a prepared query costs when it is asked again: the nodes, or none where a plan would be
-/// asked.
+/// What a prepared query costs when it is asked again: the nodes, or none if a plan would be asked.
 fn count_again(alloc: Global, both: Both, query: Query) -> Result<Cost, Refusal> {
     let Both {
         plain: _plain,
@@ -137,7 +136,7 @@ fn count_again(alloc: Global, both: Both, query: Query) -> Result<Cost, Refusal>
     })
 }
 
-/// The same by a query's text, of another volume where memory is refused.
+/// The same by a query's text, of another volume if memory is refused.
 fn again_cost(alloc: Global, text: &str) -> Result<Cost, Fail> {
     match count_again(alloc, filled(alloc)?, read_query(alloc, text)?) {
         Err(Refusal::OutOfMemory) => {
@@ -199,7 +198,7 @@ fn sets_of(alloc: Global, kind: &str, count: u8) -> Result<Vec<Op>, Refusal> {
     Ok(ops)
 }
 
-/// The operations of a row: so many sizes or names, or a list in the words of a script.
+/// The operations of a row: that many sizes or names, or a list in the words of a script.
 fn ops_of(alloc: Global, request: &str) -> Result<Vec<Op>, Refusal> {
     let (kind, count) = request.split_once(" ").unwrap_or((request, ""));
     if kind != "sizes" && kind != "names" {
@@ -265,11 +264,11 @@ fn expect_rows(alloc: Global, rows: &str) -> Result<(), Fail> {
     Ok(())
 }
 
-/// By what each would grow: the get by a second descent of the catalog's tree; a query of one node
-/// by a second descent of its index's tree, or by a look at the node; a range and a front by a
-/// descent for each key, where they go along the leaves; and the filter, which makes a descent of
-/// the catalog's tree for each of a hundred nodes, by a hundred for each word that a descent reads
-/// more.
+/// What each cost would grow by. The get: a second descent of the catalog's tree. A query of one
+/// node: a second descent of its index's tree, or a look at the node. A range and a front: a
+/// descent for each key, instead of a step along the leaves. The filter makes a descent of the
+/// catalog's tree for each of a hundred nodes: it would grow by a hundred words for each word that
+/// a descent reads more.
 #[test]
 fn read_costs(rt: HostRuntime) -> Result<(), Fail> {
     let rows = r#"get 150 size => 1 found, 44 words read

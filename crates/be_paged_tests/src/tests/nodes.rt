@@ -93,7 +93,7 @@ fn written(both: Both, op: Op) -> Result<Both, Fail> {
     Ok(both)
 }
 
-/// Makes so many nodes.
+/// Makes that many nodes.
 fn with_nodes(mut both: Both, count: u64) -> Result<Both, Fail> {
     for _ in 0..count {
         both = written(both, Op::New)?;

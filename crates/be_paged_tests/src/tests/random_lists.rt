@@ -171,7 +171,7 @@ fn random_reads(alloc: Global, random: &mut Random, mix: &Mix, both: Both) -> Re
     random_query(alloc, random, both)
 }
 
-/// Writes a random list, and reads where that is asked for.
+/// Writes a random list, and reads if that is asked for.
 fn random_turn(
     alloc: Global,
     random: &mut Random,
