@@ -52,7 +52,7 @@ fn dones_of(alloc: Global, texts: &str) -> Result<Vec<Done>, AllocError> {
     Ok(dones)
 }
 
-/// Pushes the entry of a text. Where the list has several operations it is entered in room that is
+/// Pushes the entry of a text. If the list has several operations it is entered in room that is
 /// reserved.
 fn push_text(alloc: Global, journal: &mut Journal, text: &str) -> Result<(), Refusal> {
     let (ops, dones) = text.split_once(" -> ").unwrap_or((text, ""));
@@ -216,7 +216,7 @@ pub(crate) fn told_end(alloc: Global) -> Result<String, Refusal> {
     Ok(String::from_str(alloc, end)?)
 }
 
-/// How many of so many long lists are found in their journal.
+/// How many of that many long lists are found in their journal.
 pub(crate) fn told_lists(alloc: Global, text: &str) -> Result<String, Refusal> {
     let (count, _) = first_number(text);
     let journal = long_lists(alloc, count)?;

@@ -11,7 +11,7 @@ pub(crate) fn printed(alloc: Global, text: &str) -> Result<String, Refusal> {
     print(alloc, &parse(alloc, text)?)
 }
 
-/// The canonical text of a text's query, which spells the same query.
+/// The canonical text of a text's query, which encodes the same query.
 pub(crate) fn printed_twice(alloc: Global, text: &str) -> Result<String, Refusal> {
     let once = printed(alloc, text)?;
     let twice = printed(alloc, once.as_str())?;
@@ -138,7 +138,7 @@ read 70 !(a==1)&&;a==1 => yes";
     replies(rt.alloc(), lines)
 }
 
-/// A refusal gives up what was built: a tree that leans to the left, levels that wait, a tree that
+/// A refusal drops what was built: a tree that leans to the left, levels that wait, a tree that
 /// leans to the right.
 #[test]
 fn trees_given_up(rt: HostRuntime) -> Result<(), Fail> {
