@@ -15,7 +15,7 @@ abbrev pub is_at_or_after : List ℕ → Bool → List ℕ → Bool
 is_at_or_after from after k = if after then is_gt (name_cmp k from)
     else not (is_lt (name_cmp k from))
 
--- the answer is the least of the keys from there on, or none where there is none
+-- the result is the least of the keys from there on, or none if there is none
 abbrev pub IsNext : (List ℕ → Type 0) → List ℕ → Bool → Option (List ℕ) → Type 0
 IsNext Is from after None = (k : List ℕ) → Is k → is_at_or_after from after k ≡ false
 IsNext Is from after (Some next) =
