@@ -61,7 +61,7 @@ fn split_star(text: &str) -> Option<&str>
     }
 }
 
-/// The runs of a canonical text; none where it has a `?` or a set.
+/// The runs of a canonical text; none if it has a `?` or a set.
 pub(crate) fn read_runs(alloc: Global, text: &str) -> Result<Option<Runs>, AllocError>
     ensures { IfOk result (λ read. IfSome read
         (λ runs. (ps : List Part) → text.now ≡ encode_utf8_all (canonical ps) → IsOfRuns ps runs)) }

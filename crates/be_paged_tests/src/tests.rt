@@ -44,7 +44,7 @@ fn query(
     Ok((both, nodes_text(alloc, answer)?))
 }
 
-/// The same from the pick whose place stands before the query.
+/// The same from the pick whose place comes before the query.
 fn picked(alloc: Global, both: Both, text: &str) -> Result<(Both, String), Fail> {
     let (place, text) = text.split_once(" ").unwrap_or(("0", text));
     let place = word_of(place.as_bytes()).unwrap_or(99) as usize;
@@ -132,7 +132,7 @@ fn run_line(alloc: Global, both: Both, line: &str) -> Result<Both, Fail> {
     Err(Fail::new(line))
 }
 
-/// Does the requests, and gives what stands then.
+/// Does the requests, and returns both forms after them.
 pub(crate) fn run_lines(alloc: Global, both: Both, lines: &str) -> Result<Both, Fail> {
     let mut both = both;
     for line in lines.lines() {
@@ -141,8 +141,8 @@ pub(crate) fn run_lines(alloc: Global, both: Both, lines: &str) -> Result<Both, 
     Ok(both)
 }
 
-/// Fails unless both forms give these replies, the one in a room of 64 pages. Gives what stands
-/// then.
+/// Fails unless both forms give these replies, the one in a room of 64 pages. Returns both forms
+/// after them.
 fn runs(alloc: Global, lines: &str) -> Result<Both, Fail> {
     let both = Both::new(alloc, 64)?;
     run_lines(alloc, both, lines)
@@ -174,7 +174,7 @@ fn batches(rt: HostRuntime) -> Result<(), Fail> {
     Ok(())
 }
 
-/// An index takes no page before it has a pair, and gives up all that it has.
+/// An index takes no page before it has a pair, and frees all pages that it has.
 #[test]
 fn paged_pool(rt: HostRuntime) -> Result<(), Fail> {
     let lines = "free / new / free => 63 / node 1 / 62
@@ -184,7 +184,7 @@ rmindex k / free / drop 1 / free => ok / 62 / ok / 63";
     Ok(())
 }
 
-/// Makes nodes, one list after the other, until one is refused. Gives how many there are.
+/// Makes nodes, one list after the other, until one is refused. Returns how many there are.
 fn make_nodes(both: Both, most: u64) -> Result<(Both, u64), Fail> {
     let mut both = both;
     for i in 0..most {

@@ -14,7 +14,7 @@ pub record Letter : Type 0 where
   pub escaped : Bool
   pub char : ℕ
 
--- the letters of the text from a place on, where a backslash stands before it or not
+-- the letters of the text from a place on; the flag says whether a backslash there precedes them
 abbrev pub letters : Bool → ℕ → List ℕ → List Letter
 letters escaped at [] = []
 letters true at (c ∷ cs) = record { at = at; escaped = true; char = c }
@@ -22,7 +22,7 @@ letters true at (c ∷ cs) = record { at = at; escaped = true; char = c }
 letters false at (c ∷ cs) = if c == 92 then letters true at cs
     else record { at = at; escaped = false; char = c } ∷ letters false (at + len_utf8 c) cs
 
--- where a backslash stands with nothing behind it
+-- the place of a backslash with nothing after it
 abbrev pub ending_backslash : Bool → ℕ → List ℕ → Option ℕ
 ending_backslash true at [] = Some at
 ending_backslash false at [] = None
@@ -64,7 +64,7 @@ abbrev pub with_length : ℕ → Option Part → Option (Part × ℕ)
 with_length n None = None
 with_length n (Some p) = Some (p, n)
 
--- the set behind a `[`, and how many letters it takes with its `]`
+-- the set after a `[`, and how many letters it takes with its `]`
 abbrev pub set_at : List Letter → Option (Part × ℕ)
 set_at ls =
     let body = before_first (is_bare 93) ls in
@@ -74,7 +74,7 @@ abbrev pub and_then : Part → Result (List Part) ℕ → Result (List Part) ℕ
 and_then p (Ok ps) = Ok (p ∷ ps)
 and_then p (Err at) = Err at
 
--- The tokens of the letters behind the first ones, which were taken already; or where the first
+-- The tokens of the letters after the first ones, which were taken already; or where the first
 -- faulty set begins.
 abbrev pub parts_behind : ℕ → List Letter → Result (List Part) ℕ
 parts_behind taken [] = Ok []
@@ -91,7 +91,7 @@ abbrev pub pattern : List ℕ → Result (List Part) ℕ
 pattern cs = elim (ending_backslash false 0 cs)
     [ Some at ↦ Err at | None ↦ parts_behind 0 (letters false 0 cs) ]
 
--- the refusal of a text of so many bytes: want of memory, or the place of its fault
+-- the refusal of a text of that many bytes: out of memory, or the place of its fault
 abbrev pub IsFault : Result (List Part) ℕ → ℕ → Refusal → Type 0
 IsFault read len e = (e ≡ OutOfMemory)
     ⊎ ((at : ℕ) × (e ≡ BadPattern at) × (read ≡ Err at) × (at ≤ len))

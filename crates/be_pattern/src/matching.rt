@@ -45,7 +45,7 @@ fn takes(token: &Token, c: char) -> bool
     }
 }
 
-/// The tokens after a `*` that stands first.
+/// The tokens after a `*` that comes first.
 fn split_run(tokens: &[Token]) -> Option<&[Token]>
     ensures found { IfSome result (λ after. parts_of tokens.now ≡ Run ∷ parts_of after.now) }
     ensures none { IfNone result (begins_with_run (parts_of tokens.now) ≡ false) }

@@ -72,7 +72,7 @@ fn split_letter(text: &str) -> Option<(Letter, &str)>
     ))
 }
 
-/// The text behind the last letter: empty, or an ending backslash.
+/// The text after the last letter: empty, or an ending backslash.
 fn behind_letters(text: &str) -> &str
     ensures within { length result.now ≤ length text.now }
     ensures ending { (total : ℕ) → length text.now ≤ total → ending_in total text.now
@@ -126,8 +126,7 @@ pub(crate) fn parse(alloc: Global, text: &str) -> Result<Vec<Token>, Refusal>
     Ok(tokens)
 }
 
-/// The token that begins with a letter, and the text behind it, or nothing where it is a faulty
-/// set.
+/// The token that begins with a letter, and the text after it, or nothing if it is a faulty set.
 fn read_token(
     alloc: Global,
     letter: Letter,
@@ -152,7 +151,7 @@ fn read_token(
     Ok(Some((Token::Literal(char), text)))
 }
 
-/// The text behind a `^` that stands first.
+/// The text after a `^` that comes first.
 fn split_caret(text: &str) -> Option<&str>
     ensures some { IfSome result (λ after. (total : ℕ) → length text.now ≤ total
         → set_behind (letters_in total text.now)
@@ -172,7 +171,7 @@ fn split_caret(text: &str) -> Option<&str>
     }
 }
 
-/// The set behind a `[`, and the text behind its `]`, or nothing where it is faulty.
+/// The set after a `[`, and the text after its `]`, or nothing if it is faulty.
 fn read_set(alloc: Global, text: &str) -> Result<Option<(Token, &str)>, AllocError>
     ensures set { IfOk result (λ o. (total : ℕ) → length text.now ≤ total → MatchOption o
         (set_behind (letters_in total text.now) ≡ None)
@@ -186,8 +185,8 @@ fn read_set(alloc: Global, text: &str) -> Result<Option<(Token, &str)>, AllocErr
     }
 }
 
-/// The set whose members stand at the front of a text, and the text behind its `]`, or nothing
-/// where it is faulty.
+/// The set whose members begin at the front of a text, and the text after its `]`, or nothing if it
+/// is faulty.
 fn read_members(
     alloc: Global,
     negated: bool,
@@ -216,7 +215,7 @@ fn read_members(
     Ok(None)
 }
 
-/// The last character of a range that goes on at the front of a text, and the text behind it.
+/// The last character of a range that goes on at the front of a text, and the text after it.
 fn split_range(text: &str) -> Option<(char, &str)>
     ensures none { IfNone result ((total : ℕ) → length text.now ≤ total
         → dashed (letters_in total text.now) ≡ None) }
@@ -240,7 +239,7 @@ fn split_range(text: &str) -> Option<(char, &str)>
     Some((last, behind))
 }
 
-/// The last character of a member that begins with this one, and the text behind the member.
+/// The last character of a member that begins with this one, and the text after the member.
 fn range_end(first: char, text: &str) -> (char, &str)
     ensures end { (total : ℕ) → length text.now ≤ total
         → member_end first (letters_in total text.now) ≡ (result.0, letters_in total result.1.now) }

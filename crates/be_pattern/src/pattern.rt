@@ -15,7 +15,7 @@ use be_value::Refusal;
 use std::alloc::{AllocError, Global};
 use std::marker::Model;
 
-/// A pattern over characters. A contract sees its tokens, without where they lie in memory.
+/// A pattern over characters. A contract sees its tokens, without their place in memory.
 #[derive(Debug, Drop)]
 pub struct Pattern {
     /// The tokens. A text that is seen to be literal has none: its characters, which are its
@@ -48,12 +48,12 @@ impl Model for Pattern {
 impl Pattern {
     /// Reads a pattern. The place of a fault is in bytes: of the `[` of the first faulty set (one
     /// without its `]` or without members, or with a range that falls), or of a backslash with
-    /// nothing behind it, which is looked for first. It asks for memory a few times for each token
-    /// at most.
+    /// nothing after it, which is looked for first. It allocates memory at most a few times for
+    /// each token.
     pub fn parse(alloc: Global, text: &str) -> Result<Pattern, Refusal>
-        // The tokens are those that the text spells.
+        // The tokens are those that the text encodes.
         ensures ok { IfOk result (λ p. pattern (chars text.now) ≡ Ok p) }
-        // A bad pattern is told by the place of its fault, unless memory runs out.
+        // A bad pattern is refused with the place of its fault, unless memory runs out.
         ensures err { IfErr result (IsFault (pattern (chars text.now)) (length text.now)) }
     {
         if parsing::is_literal(text) {
@@ -62,8 +62,8 @@ impl Pattern {
         Ok(pattern_of(alloc, parsing::parse(alloc, text)?)?)
     }
 
-    /// The pattern of a text whose characters are all literal, with a `*` before it and behind it
-    /// where asked for.
+    /// The pattern of a text whose characters are all literal, with a `*` before it and after it if
+    /// the arguments say so.
     pub fn around(alloc: Global, before: bool, text: &str, behind: bool) -> Result<Pattern, Refusal>
         ensures ok { IfOk result (λ p. p ≡ around before (chars text.now) behind) }
         ensures err { IfErr result (λ e. e ≡ OutOfMemory) }
@@ -75,7 +75,7 @@ impl Pattern {
     }
 
     /// Whether the pattern matches the whole text. It takes no memory, and mostly one step a
-    /// character: at worst the text's characters times the tokens behind the last `*`.
+    /// character: at worst the text's characters times the tokens after the last `*`.
     pub fn matches(&self, text: &str) -> bool
         ensures { result ≡ matches self.now (chars text.now) }
     {
@@ -96,7 +96,7 @@ impl Pattern {
     /// by how it begins.
     pub fn is_prefix(&self) -> bool
         ensures told { result ≡ is_prefix self.now }
-        // It matches its prefix, and with the `*` also the prefix with anything behind it.
+        // It matches its prefix, and with the `*` also the prefix followed by anything.
         ensures decides { result ≡ true → (behind : List ℕ)
             → (is_plain self.now ≡ true → behind ≡ []) →
             matches self.now (literal_prefix self.now ++ behind) ≡ true }
@@ -112,8 +112,8 @@ impl Pattern {
         &self.prefix
     }
 
-    /// The canonical text, which spells the same tokens (`laws::canonical`): members of sets stand
-    /// in the order written, and a backslash stands only before a character that would mean
+    /// The canonical text, which encodes the same tokens (`laws::canonical`): members of sets come
+    /// in the order written, and a backslash comes only before a character that would mean
     /// something else without it, and `"`.
     pub fn canonical(&self, alloc: Global) -> Result<String, Refusal>
         ensures ok { IfOk result (λ s. string_bytes s ≡ encode_utf8_all (canonical self.now)) }
@@ -157,7 +157,7 @@ fn pattern_of(alloc: Global, tokens: Vec<Token>) -> Result<Pattern, AllocError>
     })
 }
 
-/// The tokens with a `*` more, where it stands.
+/// The tokens, with a `*` added if the flag says so.
 fn push_run(mut tokens: Vec<Token>, stands: bool) -> Result<Vec<Token>, AllocError>
     ensures { IfOk result (λ v. parts_of v.items ≡ parts_of tokens.items ++ run_if stands) }
 {
@@ -168,7 +168,7 @@ fn push_run(mut tokens: Vec<Token>, stands: bool) -> Result<Vec<Token>, AllocErr
     Ok(tokens)
 }
 
-/// The tokens with the characters of a text behind them.
+/// The tokens followed by the characters of a text.
 fn push_literals(mut tokens: Vec<Token>, text: &str) -> Result<Vec<Token>, AllocError>
     ensures { IfOk result (λ v. parts_of v.items ≡ parts_of tokens.items
         ++ map Only (chars text.now)) }

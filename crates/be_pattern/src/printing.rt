@@ -39,7 +39,7 @@ pub(crate) fn is_plain(tokens: &[Token]) -> bool
     true
 }
 
-/// Whether a token that isn't literal is a `*` with nothing behind it.
+/// Whether a token that isn't literal is a `*` with nothing after it.
 fn is_last_run(token: &Token, after: &[Token]) -> bool
     requires { is_literal (part_of token.now) ≡ false }
     ensures { result ≡ is_prefix (part_of token.now ∷ parts_of after.now) }
@@ -64,7 +64,7 @@ pub(crate) fn is_prefix(tokens: &[Token]) -> bool
     true
 }
 
-/// The first token's character and the tokens behind it, if that token is literal.
+/// The first token's character and the tokens after it, if that token is literal.
 fn split_literal(tokens: &[Token]) -> Option<(char, &[Token])>
     ensures some { IfSome result (λ p. parts_of tokens.now ≡ Only p.0 ∷ parts_of p.1.now) }
     ensures none { IfNone result (literal_prefix (parts_of tokens.now) ≡ []) }
@@ -131,7 +131,7 @@ fn is_special_in_set(c: char) -> bool
     c == '"' || c == '\\' || c == '[' || c == ']' || c == '^' || c == '-'
 }
 
-/// Appends a character, behind a backslash where it wants one.
+/// Appends a character, after a backslash if the flag says so.
 fn push_marked(text: &mut String, c: char, backslash: bool) -> Result<(), AllocError>
     ensures { IfOk result (λ _. string_bytes text.new ≡ string_bytes text.old
         ++ encode_utf8_all (marked backslash c)) }

@@ -22,7 +22,7 @@ use Rattle.be_query.specs.Grammar.{Literal}
 use Rattle.be_query.specs.Grammar.{Wild, Exact}
 use Rattle.be_plan.specs.declared.plans.Cover.{Cover}
 
--- a comparison, without where it lies in memory
+-- a comparison, without its place in memory
 pub record Comparison : Type 0 where
   pub name : List ℕ
   pub op : Cmp
@@ -39,7 +39,7 @@ leaves (And a b) = leaves a ++ leaves b
 leaves (Or a b) = leaves a ++ leaves b
 
 -- The picks cover the part of the query whose first comparison has the place `at`: a picked
--- comparison covers itself, an "and" is covered where one side is, and an "or" where both are.
+-- comparison covers itself, an "and" is covered if one side is, and an "or" if both are.
 abbrev pub covers_part : List ℕ → ℕ → Formula → Bool
 covers_part picks at (Leaf name op literal) = list_any (nat_eq at) picks
 covers_part picks at (And a b) = covers_part picks at a || covers_part picks (at + comparisons a) b
@@ -75,8 +75,7 @@ score_of Le literal = 3
 score_of Gt literal = 3
 score_of Ge literal = 3
 
--- the one with the smaller score, the left one at a tie; one alone where the other side is not
--- covered
+-- the one with the smaller score, the left one at a tie; one alone if the other side is not covered
 abbrev pub cheaper : Option Cover → Option Cover → Option Cover
 cheaper None b = b
 cheaper (Some a) None = Some a

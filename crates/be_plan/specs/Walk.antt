@@ -20,7 +20,7 @@ asks_name (Leaf own op literal) name = pointwise nat_eq own name
 asks_name (And a b) name = asks_name a name || asks_name b name
 asks_name (Or a b) name = asks_name a name || asks_name b name
 
--- each comparison of the formula is on this name, and none stands under "or"
+-- each comparison of the formula is on this name, and none is under "or"
 abbrev pub AreAllOn : Formula → List ℕ → Type 0
 AreAllOn (Leaf own op literal) name = own ≡ name
 AreAllOn (And a b) name = AreAllOn a name × AreAllOn b name
@@ -57,7 +57,7 @@ abbrev pub HasOnly : State → List ℕ → List ℕ → Option (List ℕ) → L
 HasOnly s name low high before after = (n : ℕ) → Contains after n → Contains before n
     ⊎ IsNodeWithin s name low high n
 
--- the same of the keys that are not ahead of the walk, which stands at `from`
+-- the same of the keys that are not ahead of the walk, whose place is `from`
 abbrev pub HasPassed : State → (ℕ → Type 0) → List ℕ → List ℕ → Option (List ℕ) → List ℕ → Bool
     → List ℕ → Type 0
 HasPassed s Wanted name low high from after found =

@@ -32,7 +32,7 @@ pub fn choose_from<S: Source>(
     ghost volume: { State }
     requires { S.answers_for source.old volume }
     ensures choice { Answers (λ cover. cover) result (chosen (has_index volume) query.now) }
-    // What is chosen covers the query, so each pick is a place; and nothing is exactly where it
+    // The choice covers the query, so each pick is a place. There is no choice exactly if the query
     // rests on no index.
     ensures covers { IfOk result (λ cover. covers (has_index volume) cover.picks query.now ≡ true) }
     ensures rests { IfOk result (λ _. covered volume query.now ≡ true) }
@@ -76,7 +76,7 @@ pub(crate) fn count(tree: &Tree) -> usize
     }
 }
 
-/// What is chosen for a part of a query, and the place behind its last comparison.
+/// What is chosen for a part of a query, and the place after its last comparison.
 #[derive(Drop)]
 pub(crate) struct PartChoice {
     pub(crate) cover: Option<Cover>,

@@ -1,8 +1,8 @@
 //! Plans: which comparisons a query is answered from, and its answer by walks over their indices.
 //!
-//! A query on a large volume must not look at every node. It is answered from a few of its
+//! A query on a large volume must not look at every node. It is computed from a few of its
 //! comparisons, the picks: the index of each is walked over the keys that can matter, and of each
-//! node found there the whole query is asked. Picks cover a query where no answer can escape these
+//! node found there the whole query is asked. Picks cover a query if no answer can escape these
 //! walks; of an `&&` one side is enough, of an `||` both are needed. The answer depends on no plan:
 //! any picks that cover give the ascending list of all nodes of which the query is true.
 //!

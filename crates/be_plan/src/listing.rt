@@ -20,7 +20,7 @@ use std::alloc::{AllocError, Global};
 /// through the list for each comparison.
 pub fn choose(alloc: Global, query: &Query, indices: &[(Name, Kind)]) -> Result<Cover, Refusal>
     ensures choice { Answers (λ cover. cover) result (chosen (is_listed indices.now) query.now) }
-    // What is chosen covers the query, so each pick is a place; and nothing is exactly where it
+    // The choice covers the query, so each pick is a place. There is no choice exactly if the query
     // rests on no index.
     ensures covers { IfOk result (λ cover. covers (is_listed indices.now) cover.picks query.now
         ≡ true) }

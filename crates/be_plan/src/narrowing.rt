@@ -1,19 +1,19 @@
 //! The keys that a walk over an index has to pass.
 //!
 //! A walk for a pick begins with all keys of the index and leaves out what can't be an answer by
-//! way of this pick: each comparison on the picked name that stands beside it under `&&` gives a
-//! bound, and a pattern gives its literal prefix. A comparison on the other side of an `||` gives
-//! none, since it need not be true. A number outside the index's kind leaves out all keys or none,
-//! by the side on which it lies, and a literal that spells no number leaves out all. Of a text
-//! longer than any value's, the bytes that a value may have tell.
+//! way of this pick: each comparison on the picked name that is beside it under `&&` gives a bound,
+//! and a pattern gives its literal prefix. A comparison on the other side of an `||` gives none,
+//! since it need not be true. A number outside the index's kind leaves out all keys or none, by the
+//! side on which it lies, and a literal that is no number leaves out all. Of a text longer than any
+//! value's, the bytes that a value may have decide.
 //!
 //! Bounds are bytes, both included: a value's key with the least node number or the greatest, or
-//! the bytes next to it where it is left out. So no key in a range of numbers is idle. The key is
-//! never made: its front is the literal's own bytes or the number's, its end one of four.
+//! the bytes next to it if the value is left out. So no key in a range of numbers is idle. The key
+//! is never made: its front is the literal's own bytes or the number's, its end one of four.
 //!
-//! What narrows a range tells whether that leaves no value of which the comparison, or the whole
-//! query, is false. Then the node of each key is an answer, and nothing is asked of it. A pattern
-//! is decided where it says no more than how a text begins.
+//! The functions that narrow a range return whether that leaves no value of which the comparison,
+//! or the whole query, is false. Then the node of each key is an answer, and nothing is asked of
+//! it. A pattern is decided by the range if it only says how a text begins.
 ghost use Rattle.std.specs.Prelude.{◌≡◌, ◌<◌, ◌≤◌, ◌+◌, ◌^◌, ℕ, ℤ, ◌≤ℤ◌, true, false, List, []};
 ghost use Rattle.std.specs.Prelude.{◌∷◌, ◌++◌, ◌&&◌};
 ghost use Rattle.std.specs.Prelude.{Some, None, IfSome, IfOk, IfErr, IsUtf8, length};
@@ -40,19 +40,19 @@ use be_query::{Cmp, Comparison, Literal, Tree};
 use be_value::{Kind, Name, counted32, counted64};
 use be_volume::literal_number;
 
-/// What stands in a text's key behind the text, with the least node.
+/// The bytes after the text in a text's key, with the least node.
 const TEXT_FIRST: [u8; 9] = [0; 9];
 
-/// The same with the greatest node, and a zero byte behind that: the bytes next above the key.
+/// The same with the greatest node, and a zero byte after that: the bytes next above the key.
 const TEXT_AFTER: [u8; 10] = [0, 255, 255, 255, 255, 255, 255, 255, 255, 0];
 
-/// What stands in a number's key behind the number, with the least node.
+/// The bytes after the number in a number's key, with the least node.
 const NUMBER_FIRST: [u8; 8] = [0; 8];
 
-/// The same with the greatest node, and a zero byte behind that.
+/// The same with the greatest node, and a zero byte after that.
 const NUMBER_AFTER: [u8; 9] = [255, 255, 255, 255, 255, 255, 255, 255, 0];
 
-/// The end without its last byte. Where that is zero, no bytes lie between the two.
+/// The end without its last byte. If that byte is zero, no bytes lie between the two.
 fn without_last(end: &[u8]) -> &[u8]
     ensures { (bytes : List ℕ) → end.now ≡ bytes ++ 0 ∷ [] → result.now ≡ bytes }
 {
@@ -62,10 +62,10 @@ fn without_last(end: &[u8]) -> &[u8]
     }
 }
 
-/// Leaves out keys of values at which the comparison is false, by a value that stands for its
-/// literal. The keys of this value begin with the front; behind it stands `first` with the least
-/// node, and `after`, but for its zero byte, with the greatest. Whether the comparison is true of
-/// all values that are left.
+/// Leaves out keys of values at which the comparison is false, by a value that takes the place of
+/// its literal. The keys of this value begin with the front. After it comes `first` with the least
+/// node, and `after`, but for its zero byte, with the greatest. Returns whether the comparison is
+/// true of all values that are left.
 fn narrow_by(
     range: &mut Range,
     comparison: &Comparison,
@@ -107,8 +107,8 @@ fn narrow_by_integer(range: &mut Range, comparison: &Comparison, kind: Kind, byt
     narrow_by(range, comparison, kind, bytes, &NUMBER_FIRST, &NUMBER_AFTER)
 }
 
-/// The same by the number that the literal spells, if a value of the kind is this number; else the
-/// range stays.
+/// The same by the number that the literal encodes, if a value of the kind is this number;
+/// otherwise the range stays.
 fn narrow_by_number(
     range: &mut Range,
     comparison: &Comparison,
@@ -175,7 +175,7 @@ fn is_false_between(op: Cmp, number: Option<i128>, least: i128, greatest: i128) 
     }
 }
 
-/// Whether the comparison is false of all values of an integer kind, as its literal spells no
+/// Whether the comparison is false of all values of an integer kind, because its literal encodes no
 /// number or one on the wrong side of them all.
 fn is_false_of_all(comparison: &Comparison, kind: Kind, number: Option<i128>) -> bool
     requires { number ≡ literal_number (literal comparison.now.literal) }
@@ -209,17 +209,18 @@ fn narrow_integers(range: &mut Range, comparison: &Comparison, kind: Kind) -> bo
     false
 }
 
-/// What is above each byte that may stand behind the pattern's literal characters in a key: a zero
-/// byte where it has no wildcard, else also the first byte of a character.
+/// A limit above each byte that may follow the pattern's literal characters in a key. Without a
+/// wildcard that is a zero byte; with one it may also be the first byte of a character.
 fn limit_of(pattern: &Pattern) -> u8
     ensures { result ≡ limit (is_plain pattern.now) }
 {
     if pattern.is_plain() { 1 } else { 255 }
 }
 
-/// Leaves out keys of texts that don't begin with the pattern's literal characters: all keys, where
-/// those are more than a value may have. Whether it matches all texts that are left. Literal
-/// characters with a zero byte would reach into the node's number, and decide nothing.
+/// Leaves out keys of texts that don't begin with the pattern's literal characters: all keys, if
+/// those are more than a value may have. Returns whether the pattern matches all texts that are
+/// left. Literal characters with a zero byte would reach into the node's number, and decide
+/// nothing.
 fn narrow_by_pattern(range: &mut Range, pattern: &Pattern) -> bool
     ensures within { (k : List ℕ) → IsIn range.new k → IsIn range.old k }
     ensures keeps { (text : List ℕ) (n : ℕ) → IsUtf8 text → length text ≤ 255
@@ -330,7 +331,7 @@ fn narrow(range: &mut Range, comparison: &Comparison, kind: Kind) -> bool
     }
 }
 
-/// What is left to ask of an `&&`, where this is left of its sides.
+/// What is left to ask of an `&&`, if this is left of its sides.
 fn rest_of_both<'a>(
     tree: &'a Tree,
     left: Option<&'a Tree>,
@@ -350,7 +351,8 @@ fn rest_of_both<'a>(
     }
 }
 
-/// What is left to ask of an `||`, where this is left of one side: nothing, where nothing is.
+/// What is left to ask of an `||`, if this is left of one side: nothing, if nothing is left of
+/// that.
 pub(crate) fn rest_of_or<'a>(tree: &'a Tree, rest: Option<&'a Tree>) -> Option<&'a Tree>
     ensures { (s : State) (node : ℕ) →
         (option_map formula (option_copied rest.entry) ≡ None → sat s (formula tree.now) node
@@ -364,9 +366,9 @@ pub(crate) fn rest_of_or<'a>(tree: &'a Tree, rest: Option<&'a Tree>) -> Option<&
     }
 }
 
-/// Leaves out keys of values that a node can't have at this name where the part is true of it. An
-/// `||` leaves out none, since neither of its sides need be true. What is left to ask of the nodes
-/// of the other keys, none where the range decides the part.
+/// Leaves out keys of values that a node can't have at this name if the part is true of it. An `||`
+/// leaves out none, since neither of its sides need be true. Returns what is left to ask of the
+/// nodes of the other keys, none if the range decides the part.
 pub(crate) fn narrow_beside<'a>(
     range: &mut Range,
     tree: &'a Tree,
@@ -394,7 +396,7 @@ pub(crate) fn narrow_beside<'a>(
     }
 }
 
-/// The same where each comparison is on the index's own name, whatever that is: so no name is
+/// The same if each comparison is on the index's own name, whatever that is: so no name is
 /// compared.
 pub(crate) fn narrow_alone<'a>(range: &mut Range, tree: &'a Tree, kind: Kind) -> Option<&'a Tree>
     ensures within { (k : List ℕ) → IsIn range.new k → IsIn range.old k }
@@ -420,10 +422,10 @@ pub(crate) fn narrow_alone<'a>(range: &mut Range, tree: &'a Tree, kind: Kind) ->
     }
 }
 
-/// Leaves out keys of values that a node can't have at this name where the part, whose first
-/// comparison has the place `at`, is true of it by way of the pick. What is left to ask of the
-/// nodes of the other keys; an `||` is decided by the side of the pick. Where the part ends before
-/// the pick, the range stays, and the answer is the place behind the part.
+/// Leaves out keys of values that a node can't have at this name if the part is true of it by way
+/// of the pick. The part's first comparison has the place `at`. Returns what is left to ask of the
+/// nodes of the other keys; an `||` is decided by the side of the pick. If the part ends before the
+/// pick, the range stays, and the function returns the place after the part.
 pub(crate) fn narrow_all<'a>(
     range: &mut Range,
     tree: &'a Tree,

@@ -5,8 +5,8 @@ use std::alloc::{AllocError, Global};
 use std::marker::Model;
 use std::slice::from_ref;
 
-/// Where places lie: one alone, from which most queries are answered, in the value itself, and more
-/// in a list.
+/// A list of places: one alone, which is enough for most queries, is kept in the value itself, and
+/// more in a list.
 #[derive(Debug, Drop)]
 enum Places {
     One(usize),

@@ -2,7 +2,7 @@
 //!
 //! Most queries have all their comparisons on one name, and then depend on the version only by the
 //! index of that name: what range of its keys they leave depends on the query and on the index's
-//! kind. So a prepared query keeps that range, and where the index stood at the last asking.
+//! kind. So a prepared query keeps that range, and the place of the index at the last asking.
 ghost use Rattle.std.specs.Prelude.{◌≡◌, true, IfSome};
 ghost use Rattle.std.specs.Option.{option_copied};
 ghost use Rattle.be_plan.specs.Narrow.{high_of};
@@ -48,7 +48,7 @@ impl Model for PreparedQuery {
         × DecidesIf p.decided p.query p.range.low.items (high_of p.range) };
 }
 
-/// The name that all comparisons of the query are on, if it is one and none stands under `||`.
+/// The name that all comparisons of the query are on, if it is one and none is under `||`.
 fn name_asked(query: &Query) -> Option<Name>
     ensures { IfSome result (λ name. AreAllOn query.now name) }
 {
@@ -92,7 +92,7 @@ impl PreparedQuery {
         &self.query
     }
 
-    /// The name that all comparisons are on, if it is one and none stands under `||`.
+    /// The name that all comparisons are on, if it is one and none is under `||`.
     pub fn name(&self) -> Option<&Name>
         ensures { IfSome (option_copied result) (λ name. AreAllOn self.now name) }
     {
@@ -102,14 +102,14 @@ impl PreparedQuery {
         }
     }
 
-    /// Where the index of that name stood at the last asking, as `meet` was told; 0 before the
+    /// The place of that name's index at the last asking, as it was passed to `meet`; 0 before the
     /// first.
     pub fn place(&self) -> usize {
         self.place
     }
 
     /// Makes the range for an index of the kind, unless it was made for this kind last, and keeps
-    /// where the index stands.
+    /// the index's place.
     #[inline(always)]
     pub fn meet(&mut self, place: usize, kind: Kind)
         ensures { self.new ≡ self.old }

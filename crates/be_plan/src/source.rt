@@ -2,9 +2,9 @@
 //!
 //! A source is read by six calls, and each may change the source itself: a cursor moves, a reader
 //! counts its steps. What stays is said in two ways. `kept` names the facts of the source that no
-//! call changes, and `answers_for` says by a relation which volume it answers for. It is a relation
-//! and not a function, since a reader of pages spells a volume but can't compute it: a contract
-//! says what holds of each volume that the source answers for, and the caller, who knows the
+//! call changes, and `answers_for` is the relation between the source and the volume that it reads.
+//! It is a relation and not a function, since a reader of pages encodes a volume but can't compute
+//! it: a contract says what holds of each volume in that relation, and the caller, who knows the
 //! volume, names it.
 ghost use Rattle.std.specs.Prelude.{◌≡◌, true, OnOk, IfErr};
 ghost use Rattle.std.specs.Option.{option_copied, option_map};
@@ -100,8 +100,8 @@ pub trait Source {
 
     /// Whether the comparison is true of what it sees of the node. A pair of an index is always its
     /// node's attribute, so the index of the comparison's name holds the attribute or nothing, and
-    /// whether it has the attribute's key tells which; without an index the attribute is seen. A
-    /// source that can compare a value where it stands has a body of its own, which moves none.
+    /// whether it has the attribute's key decides which; without an index the attribute is seen. A
+    /// source that can compare a value where it lies has a body of its own, which moves none.
     fn holds(&mut self, node: u64, comparison: &Comparison) -> bool
         requires { (volume : State) × answers_for self.old volume }
         ensures answer { (volume : State) → answers_for self.old volume →

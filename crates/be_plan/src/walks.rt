@@ -1,9 +1,9 @@
 //! Walks over indices.
 //!
-//! A walk collects the nodes of the keys in a range of which the query is true. Where the range
-//! decides the query, all of them are answers, and the source gives them by one call. Where it
-//! decides all that is said of the index's name, the source gives them too, and is asked the rest
-//! of each, the least number first. Elsewhere the walk goes from key to key by `next_key`, from the
+//! A walk collects the nodes of the keys in a range of which the query is true. If the range
+//! decides the query, all of them are answers, and the source gives them by one call. If it decides
+//! all that the query says of the index's name, the source gives them too, and is asked the rest of
+//! each, the least number first. Otherwise the walk goes from key to key by `next_key`, from the
 //! range's low end to the first key above its high end, and asks the query of each node. It asks
 //! for one key more than it passes.
 ghost use Rattle.std.specs.Prelude.{◌≡◌, ◌⊎◌, ◌<◌, ◌^◌, ℕ, true, Some, OnOk, IfErr, IfSome};
@@ -158,7 +158,7 @@ fn visit_texts<S: Source>(
     Ok(())
 }
 
-/// Adds the node, if the tree is true of it, where the source is asked for each comparison.
+/// Adds the node, if the tree is true of it. The source is asked for each comparison.
 fn add_if_true<S: Source>(
     source: &mut S,
     tree: &Tree,
@@ -237,9 +237,9 @@ fn asked_of_texts<'t>(rest: &'t Tree, name: &Name, kind: Kind) -> Option<&'t Com
     }
 }
 
-/// Adds the nodes of the keys in the range of which the tree is true, where this part is left to
-/// ask of them. Where no comparison on the index's name is left, a key tells no more than its node.
-/// It stands by itself, so that a walk whose range decides the tree needs no room for keys.
+/// Adds the nodes of the keys in the range of which the tree is true, if this part is left to ask
+/// of them. If no comparison on the index's name is left, only a key's node is needed. It is a
+/// function of its own, so that a walk whose range decides the tree needs no room for keys.
 #[inline(never)]
 fn walk_rest<S: Source>(
     alloc: Global,
@@ -276,8 +276,8 @@ fn walk_rest<S: Source>(
     }
 }
 
-/// Adds the nodes of the keys in the range of which the tree is true, where this is left to ask of
-/// them: nothing, where the range decides the tree.
+/// Adds the nodes of the keys in the range of which the tree is true, if this is left to ask of
+/// them: nothing, if the range decides the tree.
 #[inline]
 pub(crate) fn walk<S: Source>(
     alloc: Global,

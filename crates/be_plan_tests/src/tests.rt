@@ -1,14 +1,14 @@
 //! Worked examples, over a plain volume's source that writes down its calls.
 //!
 //! A volume is made by lines of a script, such as `set 1 n LONG 5`; `6 times new` is six of them,
-//! and `each n LONG: 5 7` sets the attribute of nodes 1, 2, .. to one of these values each. What is
-//! asked of it stands in lines `COMMAND QUERY => REPLY`. The command `explain` asks what the query
-//! is answered from, and `query` for its nodes by these picks; `list` explains what the list of the
+//! and `each n LONG: 5 7` sets the attribute of nodes 1, 2, .. to one of these values each. The
+//! requests are lines `COMMAND QUERY => REPLY`. The command `explain` returns what the query is
+//! computed from, and `query` its nodes by these picks; `list` explains what the list of the
 //! indices chooses. Digits are a command too: the nodes by these picks, a digit for each. After the
 //! nodes come the indices of which a key was asked, by the first letter of the name for each call;
 //! of a range that is asked for whole, a letter for each key that lies in it and one for its end:
-//! `nodes 2 3 asks nnn`. The commands `keys`, `looks` and `kinds` count what is asked for where the
-//! source tells the kinds, and `ranges` counts the ranges that answer a query whole.
+//! `nodes 2 3 asks nnn`. The commands `keys`, `looks` and `kinds` count the calls to a source that
+//! knows the kinds, and `ranges` counts the ranges that decide a query whole.
 
 mod counting;
 mod ranges;
@@ -36,7 +36,7 @@ fn write(volume: &mut Volume, ops: &[Op]) -> Result<(), Refusal> {
     Ok(())
 }
 
-/// Does the operations of a line, again where they are refused memory.
+/// Does the operations of a line, again if they are refused memory.
 fn write_line(alloc: Global, volume: &mut Volume, line: &str) -> Result<(), Refusal> {
     let ops = list_of(alloc, line)?;
     match write(volume, &ops) {
@@ -64,7 +64,7 @@ fn set_one(
     write_line(alloc, volume, line.as_str())
 }
 
-/// Sets an attribute of nodes 1, 2, .. to a value each. Its name and its kind stand before these.
+/// Sets an attribute of nodes 1, 2, .. to a value each. Its name and its kind come before these.
 fn set_each(alloc: Global, volume: &mut Volume, words: &str) -> Result<(), Refusal> {
     let (attribute, values) = words.split_once(": ").unwrap_or((words, ""));
     let mut node: u64 = 0;
@@ -156,11 +156,12 @@ fn kinds(alloc: Global, nodes: &[u64], kinds: u64, ranges: u64) -> Result<String
     Ok(text)
 }
 
+/// The text of the counts of values asked for and of searches of an index.
 fn looks(alloc: Global, values: u64, searches: u64) -> Result<String, Refusal> {
     Ok(format!(in alloc; "values {values} searches {searches}")?)
 }
 
-/// What was asked for where the source tells the kinds: the keys of a range without its end, the
+/// The counts of calls to a source that knows the kinds: the keys of a range without its end, the
 /// values and the keys that were searched for, or the kinds and the ranges.
 fn counted(
     alloc: Global,
@@ -287,6 +288,8 @@ query b==2 => nodes 1 2 asks bbb
     replies_of(rt.alloc(), lines, requests)
 }
 
+/// A query is covered if both sides of each `||` rest on an index and one side of each `&&` does;
+/// otherwise it is refused.
 #[test]
 fn coverage(rt: HostRuntime) -> Result<(), Fail> {
     let lines = "mkindex a LONG
@@ -328,15 +331,15 @@ list z==1 && (b==2 || z==3) => refused 17";
     replies_of(rt.alloc(), lines, requests)
 }
 
-/// Six nodes, where m is 7 less n.
+/// Six nodes. At each of them m is 7 less n.
 const NUMBERS: &str = "mkindex n LONG
 mkindex m LONG
 6 times new
 each n LONG: 1 2 3 4 5 6
 each m LONG: 6 5 4 3 2 1";
 
-/// A walk is bounded by what stands beside its pick under `&&`, and by nothing under an `||` that
-/// the pick isn't in.
+/// A walk is bounded by what is beside its pick under `&&`, and by nothing under an `||` that the
+/// pick isn't in.
 #[test]
 fn bounds(rt: HostRuntime) -> Result<(), Fail> {
     let requests = "0 n==3 => nodes 3 asks nn
@@ -357,7 +360,8 @@ fn bounds(rt: HostRuntime) -> Result<(), Fail> {
     replies_of(rt.alloc(), NUMBERS, requests)
 }
 
-/// A number outside the kind of the index bounds a walk as well, and so does what spells no number.
+/// A number outside the kind of the index bounds a walk as well, and so does a text that encodes no
+/// number.
 #[test]
 fn bounds_outside_the_kind(rt: HostRuntime) -> Result<(), Fail> {
     let requests = "0 n>=2147483648 => nodes asks n
@@ -470,6 +474,8 @@ fn gives_keys(volume: &Volume, index: &Name, other: &Name) -> bool {
         && is_next_in(volume, other, LAST, false, &[])
 }
 
+/// A volume as a source gives the kind of an index and its keys in order, and neither for a name
+/// without an index.
 #[test]
 fn plan_source(rt: HostRuntime) -> Result<(), Fail> {
     let lines = "mkindex k CSTR
@@ -498,8 +504,8 @@ fn with_long(alloc: Global, text: &str) -> Result<String, Refusal> {
     }
 }
 
-/// Fails unless each request has its reply on a volume of these lines, where both have 254 times m
-/// in place of each M.
+/// Fails unless each request has its reply on a volume of these lines. In both each M is replaced
+/// by 254 times m.
 fn replies_of_long(alloc: Global, lines: &str, requests: &str) -> Result<(), Fail> {
     let lines = with_long(alloc, lines)?;
     let requests = with_long(alloc, requests)?;
@@ -526,7 +532,7 @@ each t CSTR: a Mm Mn z";
 }
 
 /// Texts around the fronts of patterns: of one, two and four bytes a character, with the least byte
-/// behind a front, and of 255 bytes.
+/// after a front, and of 255 bytes.
 const BY_FRONT: &str = "mkindex t CSTR
 10 times new
 each t CSTR: a a\u{1} ab aé aéz aè \u{10ffff} Mm M b";
@@ -603,7 +609,7 @@ fn largest_query(rt: HostRuntime) -> Result<(), Fail> {
     replies_of(rt.alloc(), lines.as_str(), request.as_str())
 }
 
-/// The lines of a volume whose values fall where its 300 nodes rise.
+/// The lines of a volume of 300 nodes whose values fall as their numbers rise.
 fn falling_values(alloc: Global) -> Result<String, Refusal> {
     let mut lines = String::from_str(alloc, "mkindex n LONG")?;
     for node in 1..301u64 {

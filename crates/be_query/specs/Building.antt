@@ -12,9 +12,9 @@ use Rattle.be_query.specs.Reading.{Awaited, Operand, Operator, Value, Joint, Mar
 -- the number of `!`. A tree inside an odd number of `!` is its complement from the start, so each
 -- side here is turned as its level is.
 pub record Level : Type 0 where
-  -- an odd number of `!` stands round the level
+  -- an odd number of `!` applies to the level
   pub negated : Bool
-  -- an odd number stands round the operand that comes next
+  -- an odd number applies to the operand that comes next
   pub operand_negated : Bool
   pub or_left : Option Formula
   pub and_left : Option Formula
@@ -67,7 +67,7 @@ abbrev pub joined : (Formula → Formula → Formula) → Option Formula → For
 joined join None t = t
 joined join (Some l) t = join l t
 
--- behind an operand no `!` waits, and no `&&`
+-- after an operand no `!` waits, and no `&&`
 abbrev pub ended_level : Level → Level
 ended_level level = record {
   negated = level.negated;
@@ -133,7 +133,7 @@ abbrev pub tree_at : Stage → Level → List Level → Option Formula
 tree_at (Joints t) level [] = Some (with_side t level)
 tree_at _ _ _ = None
 
--- the tree, where nothing waits any more
+-- the tree, if nothing waits any more
 abbrev pub tree_of : Option State → Option Formula
 tree_of None = None
 tree_of (Some s) = tree_at s.stage s.level s.outer
@@ -159,7 +159,7 @@ marks_of level outer = negations_on level.negations (outer_marks outer)
 abbrev pub view_of : State → Awaited × List Mark
 view_of s = (awaited_at s.stage, marks_of s.level s.outer)
 
--- behind a whole operand no `!` waits
+-- after a whole operand no `!` waits
 abbrev pub IsSettledAt : Stage → Level → Type 0
 IsSettledAt (Joints t) level = level.negations ≡ 0
 IsSettledAt _ level = Unit {0}

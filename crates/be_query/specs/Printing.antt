@@ -42,7 +42,7 @@ abbrev pub leaf_text : List ℕ → Cmp → Literal → List ℕ
 leaf_text name op value = codes "\"" ++ with_backslashes name ++ codes "\"" ++ cmp_text op
     ++ codes "\"" ++ literal_text value ++ codes "\""
 
--- The text of a tree where an `||`, a side of `||`, or an operand of `&&` may stand.
+-- The text of a tree where an `||`, a side of `||`, or an operand of `&&` is allowed.
 abbrev mutual
   pub or_text : Formula → List ℕ
   or_text (Leaf n op v) = leaf_text n op v
@@ -59,7 +59,7 @@ abbrev mutual
   operand_text (And l r) = codes "(" ++ and_text l ++ codes " && " ++ operand_text r ++ codes ")"
   operand_text (Or l r) = codes "(" ++ or_text l ++ codes " || " ++ and_text r ++ codes ")"
 
--- How many parentheses stand round a comparison of that text at most.
+-- The greatest number of parentheses round a comparison of that text.
 abbrev mutual
   pub or_depth : Formula → ℕ
   or_depth (Leaf n op v) = 0

@@ -30,7 +30,7 @@ pub data Item : Type 0 where
   -- a number, as its decimal text
   Number : List ℕ → Item
   Compare : Cmp → Item
-  -- `==` with the literal text, and whether a `*` stands before it and behind it
+  -- `==` with the literal text, and whether a `*` lies before it and after it
   Around : Bool → Bool → Item
   Both : Item
   Either : Item
@@ -93,7 +93,7 @@ abbrev pub complements : ℕ → ℕ → Option (Formula × List Thing) → Resu
 complements at n None = Err (BadRpn at)
 complements at n (Some s) = Ok (n, Whole (complement s.0) ∷ s.1)
 
--- what the item at a place makes of the stack, behind so many comparisons
+-- what the item at a place makes of the stack, after `n` comparisons
 abbrev pub work : ℕ → ℕ → List Thing → Item → Result (ℕ × List Thing) Refusal
 work at n stack (Attr name) = Ok (n, Attribute name ∷ stack)
 work at n stack (Given text) = if has_nul text then Err (BadRpn at) else Ok (n, Value text ∷ stack)
@@ -104,12 +104,12 @@ work at n stack Both = joins at n And (top_trees stack)
 work at n stack Either = joins at n Or (top_trees stack)
 work at n stack Complement = complements at n (top_tree stack)
 
--- at most 64 things may stand
+-- the stack may have up to 64 things
 abbrev pub shallow : Result (ℕ × List Thing) Refusal → Result (ℕ × List Thing) Refusal
 shallow (Err e) = Err e
 shallow (Ok s) = if nat_lt 64 (length s.1) then Err TooDeep else Ok s
 
--- exactly one tree must stand at the end
+-- exactly one tree must be left at the end
 abbrev pub one_tree : ℕ → List Thing → Result Formula Refusal
 one_tree at (Whole t ∷ []) = Ok t
 one_tree at _ = Err (BadRpn at)

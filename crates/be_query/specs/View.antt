@@ -75,7 +75,7 @@ IsClean Either = Unit {0}
 IsClean (Compares op) = Unit {0}
 IsClean (Text raw) = (has_nul raw ≡ false) × IsUtf8 raw
 
--- and so it is in what stands at the front of a text
+-- and so it is in the front of a text
 abbrev pub IsCleanFront : code_front.Front → Type 0
 IsCleanFront (code_front.TheVariants.Separator rest) = Unit {0}
 IsCleanFront (code_front.TheVariants.Token token shift rest) = IsClean (token_of token)
@@ -122,7 +122,7 @@ abbrev pub fault_in : Stage → code_context.Context → ℕ → List Placed →
 fault_in stage c len xs = first_fault (awaited_at stage)
     (marks_of (level_seen c.level) (outer_of c)) c.comparisons len xs
 
--- the refusal is want of memory, or what it otherwise has to be
+-- the refusal is out of memory, or what it otherwise has to be
 abbrev pub IsMemory : Refusal → Type 0 → Type 0
 IsMemory e otherwise = (e ≡ OutOfMemory) ⊎ otherwise
 
@@ -151,7 +151,7 @@ Refuses stage c at start t e = IsMemory e
     ((len : ℕ) (xs : List Placed) → fault_in stage c len
     (record { at = at; start = start; lexeme = Whole t } ∷ xs) ≡ Some e)
 
--- a lexeme stands at the front of the bytes
+-- a lexeme lies at the front of the bytes
 abbrev pub HasLexeme : List ℕ → Lexeme → ℕ → ℕ → Type 0
 HasLexeme [] lexeme width shift = ⊥
 HasLexeme (b ∷ bs) lexeme width shift = front b bs ≡ Takes lexeme width shift
@@ -173,7 +173,7 @@ abbrev pub second_of : Option ℕ → List ℕ
 second_of None = []
 second_of (Some b) = b ∷ []
 
--- what a sign is before the byte behind it
+-- what a sign is before the byte that follows it
 abbrev pub SignIs : ℕ → Option ℕ → Option (code_token.Token × ℕ) → Type 0
 SignIs first second None = (is_sign first || (first == 0)) ≡ true → front first (second_of second)
     ≡ Takes Odd 1 0

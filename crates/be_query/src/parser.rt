@@ -1,8 +1,7 @@
-//! Reading the tokens of a query from the left, with one level for each open `(`: the sides of `||`
-//! and `&&` that wait for their right one, and the `!` that wait for their operand. A `!` is
+//! Reads the tokens of a query from the left. Each open `(` has one level: it keeps the sides of
+//! `||` and `&&` that wait for their right side, and the `!` that wait for their operand. A `!` is
 //! carried down while its operand is read: inside an odd number of them each comparison and each
-//! joint is made as its complement. So nothing here recurses, and no tree that stands is gone over
-//! again.
+//! joint is made as its complement. So nothing here recurses, and no finished tree is passed again.
 ghost use Rattle.std.specs.Prelude.{false, true, ℕ, ◌≡◌, MatchOption, IfNone, IfSome, [], ◌++◌};
 ghost use Rattle.std.specs.Prelude.{encode_utf8, string_bytes, Some, None};
 ghost use Rattle.std.specs.Prelude.{IfOk, IfErr, ◌<◌, ◌≤◌, ◌+◌, ◌^◌, length};
@@ -39,9 +38,9 @@ pub(crate) const MAX_COMPARISONS: usize = 256;
 /// What waits for its right end inside one pair of parentheses.
 #[derive(Drop)]
 pub(crate) struct Level {
-    /// Whether an odd number of `!` stands round the level.
+    /// Whether an odd number of `!` applies to the level.
     negated: bool,
-    /// Whether an odd number stands round the operand that comes next.
+    /// Whether an odd number applies to the operand that comes next.
     operand_negated: bool,
     /// The left side of `||`.
     or_left: Option<Box<Tree>>,
@@ -98,7 +97,7 @@ impl<'a> Stage<'a> {
     ghost use Rattle.be_query.specs.Faults.{broken_at};
     ghost use Rattle.be_query.specs.Building.{awaited_at};
 
-    /// The fault of a name or value at a place that breaks off so many bytes behind its first.
+    /// The fault of a name or value at a place that breaks off that many bytes after its first.
     pub(crate) fn broken(&self, at: usize, len: usize) -> Refusal
         requires { at + len < 2 ^ 64 }
         ensures { result ≡ Refusal.Syntax (broken_at (awaited_at (stage_of self.now)) at len) }
@@ -142,7 +141,7 @@ impl Context {
         }
     }
 
-    /// The tree at the end of a text of so many bytes. Nothing more is taken.
+    /// The tree at the end of a text of `len` bytes. Nothing more is taken.
     pub(crate) fn finish(
         &mut self,
         alloc: Global,
@@ -240,7 +239,7 @@ fn take_operand<'a>(
     }
 }
 
-/// Takes a token where an operator must stand.
+/// Takes a token where an operator is due.
 fn take_operator<'a>(
     raw: &'a str,
     context: &mut Context,
@@ -260,7 +259,7 @@ fn take_operator<'a>(
     }
 }
 
-/// Takes a token where a value must stand, whose text begins at a place.
+/// Takes a token where a value is due. Its text begins at a place.
 fn take_value<'a>(
     alloc: Global,
     name: &'a str,
@@ -301,7 +300,7 @@ fn take_value<'a>(
     Ok(Stage::Joint(tree))
 }
 
-/// Takes a token behind an operand.
+/// Takes a token after an operand.
 fn take_joint<'a>(
     alloc: Global,
     tree: Box<Tree>,
@@ -342,8 +341,8 @@ fn take_joint<'a>(
 }
 
 #[tactic(auto, using(crate::proofs::Short::short_name))]
-/// Whether a text without a NUL spells a name. Backslashes only make it shorter, so they are looked
-/// at in a long text alone.
+/// Whether a text without a NUL encodes a name. Backslashes only make it shorter, so they are
+/// looked at in a long text alone.
 fn spells_name(alloc: Global, raw: &str) -> Result<bool, AllocError>
     requires { has_nul raw.now ≡ false }
     ensures { IfOk result (λ b. is_name raw.now ≡ b) }
@@ -359,7 +358,7 @@ fn spells_name(alloc: Global, raw: &str) -> Result<bool, AllocError>
     }
 }
 
-/// The name that a text spells, if it is one.
+/// The name that a text encodes, if it is one.
 fn read_name(alloc: Global, raw: &str) -> Result<Option<Name>, AllocError>
     ensures { IfOk result (λ o. MatchOption o (is_name raw.now ≡ false)
         (λ n. (n ≡ plain raw.now) × (is_name raw.now ≡ true))) }
@@ -389,7 +388,7 @@ fn is_plain(raw: &str) -> bool
     !raw.as_bytes().contains(&b'\\')
 }
 
-/// The first character that is meant, and the text behind it.
+/// The first character after escapes are resolved, and the text after it.
 fn split_plain(text: &str) -> Option<(char, &str)>
     ensures none { IfNone result (plain text.now ≡ []) }
     ensures some { IfSome result (λ p. plain text.now ≡ encode_utf8 p.0 ++ plain p.1.now) }
@@ -423,7 +422,7 @@ fn unescape(alloc: Global, raw: &str) -> Result<String, AllocError>
     Ok(text)
 }
 
-/// The pattern that a value spells, or where it is faulty.
+/// The pattern that a value encodes, or the place of its fault.
 fn read_pattern(alloc: Global, raw: &str) -> Result<Result<Pattern, usize>, AllocError>
     ensures { IfOk result (λ r. (pattern (chars raw.now) ≡ r)
         × IfErr r (λ at. at ≤ length raw.now)) }
@@ -435,7 +434,7 @@ fn read_pattern(alloc: Global, raw: &str) -> Result<Result<Pattern, usize>, Allo
     }
 }
 
-/// The literal that a value spells, or where its pattern is faulty.
+/// The literal that a value encodes, or the place of its pattern's fault.
 pub(crate) fn read_literal(
     alloc: Global,
     op: Cmp,

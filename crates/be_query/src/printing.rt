@@ -30,7 +30,7 @@ pub(crate) enum Place {
 pub fn print(alloc: Global, query: &Query) -> Result<String, Refusal>
     // It is the canonical text of the tree,
     ensures text { IfOk result (λ s. string_bytes s ≡ or_text query.now) }
-    // which spells the tree,
+    // which encodes the tree,
     ensures spells { IfOk result (λ s. IsTextOf (string_bytes s) query.now) }
     // and no other.
     ensures alone { IfOk result (λ s. (tree : Formula) → IsTextOf (string_bytes s) tree → tree
@@ -42,7 +42,7 @@ pub fn print(alloc: Global, query: &Query) -> Result<String, Refusal>
     Ok(text)
 }
 
-/// The canonical text of one comparison, as it stands in that of a query.
+/// The canonical text of one comparison, as it is in that of a query.
 pub fn print_comparison(alloc: Global, comparison: &Comparison) -> Result<String, Refusal>
     ensures ok { IfOk result (λ s. string_bytes s
         ≡ leaf_text comparison.now.name comparison.now.op (literal comparison.now.literal)) }
@@ -82,7 +82,7 @@ fn push_tree(alloc: Global, text: &mut String, tree: &Tree, place: Place) -> Res
     }
 }
 
-/// Appends a text where it is shown.
+/// Appends a text if it is to be shown.
 fn push_if(text: &mut String, shown: bool, piece: &str) -> Result<(), AllocError>
     ensures { IfOk result (λ _. string_bytes text.new ≡ string_bytes text.old
         ++ only_if shown piece.now) }

@@ -48,7 +48,7 @@ pub enum Item {
     Not,
 }
 
-/// What stands on the stack.
+/// A thing on the stack.
 #[derive(Drop)]
 pub(crate) enum Thing {
     Attribute(Name),
@@ -66,9 +66,9 @@ pub(crate) struct Stack {
 /// The query that the items build.
 ///
 /// `BadRpn` names the item that finds something else on the stack than it needs, or is a text with
-/// a NUL, or the number of items where other than one query is left; `BadPattern` the item of the
-/// comparison. At one item the order is `BadRpn`, `BadPattern`, `TooMany` (the 257th comparison),
-/// `TooDeep` (more than 64 things on the stack).
+/// a NUL, or the number of items if they leave other than one query; `BadPattern` names the item of
+/// the comparison. At one item the order is `BadRpn`, `BadPattern`, `TooMany` (the 257th
+/// comparison), `TooDeep` (more than 64 things on the stack).
 pub fn from_rpn(alloc: Global, items: &[Item]) -> Result<Query, Refusal>
     // The tree is the one that the items build.
     ensures ok { IfOk result (λ q. rpn (map item_of items.now) ≡ Ok q) }
@@ -125,7 +125,7 @@ fn know_uint(n: u64)
     let _n = n;
 }
 
-/// The tree at the end of so many items.
+/// The tree at the end of that many items.
 fn finish(stack: &mut Stack, len: usize) -> Result<Tree, Refusal>
     ensures ok { IfOk result (λ t. one_tree len (stack_of stack.old).1 ≡ Ok (formula t)) }
     ensures err { IfErr result (λ e. one_tree len (stack_of stack.old).1 ≡ Err e) }
@@ -139,7 +139,7 @@ fn finish(stack: &mut Stack, len: usize) -> Result<Tree, Refusal>
     Err(Refusal::BadRpn(len))
 }
 
-/// Works an item, and sees that the stack is not too high behind it.
+/// Applies an item, and checks that the stack is not too high after it.
 fn take_item(alloc: Global, stack: &mut Stack, at: usize, item: &Item) -> Result<(), Refusal>
     ensures ok { IfOk result (λ _. shallow
         (work at (stack_of stack.old).0 (stack_of stack.old).1 (item_of item.now))
@@ -241,8 +241,8 @@ fn compare(alloc: Global, stack: &mut Stack, at: usize, op: Cmp) -> Result<(), R
     push_comparison(stack, Comparison { name, op, literal })
 }
 
-/// What a text is compared as: a pattern, or where it is faulty as one; by an order operator the
-/// text as it is.
+/// What a text is compared as: a pattern, or the place of its fault; by an order operator the text
+/// as it is.
 fn given_literal(alloc: Global, op: Cmp, text: String) -> Result<Result<Literal, usize>, AllocError>
     ensures ok { IfOk result (λ r. IfOk r
         (λ l. (literal l ≡ given_literal op (string_bytes text))
@@ -256,7 +256,7 @@ fn given_literal(alloc: Global, op: Cmp, text: String) -> Result<Result<Literal,
     }
 }
 
-/// Compares the attribute with the literal text above it, which may have a `*` before it and behind
+/// Compares the attribute with the literal text above it, which may have a `*` before it and after
 /// it.
 fn surround(
     alloc: Global,

@@ -48,7 +48,7 @@ pub enum Tree {
 }
 
 impl Cmp {
-    /// The operator that holds where this one does not.
+    /// The operator that is true exactly if this one is false.
     pub fn opposite(self) -> Cmp
         ensures { result ≡ opposite self }
     {
@@ -64,8 +64,8 @@ impl Cmp {
 }
 
 impl Drop for Tree {
-    /// The joints on the left are turned to the right one by one, and the comparison that comes to
-    /// stand left is let go: at most two rounds for each joint.
+    /// The joints on the left are turned to the right one by one, and each comparison that becomes
+    /// a left side is dropped: at most two rounds for each joint.
     fn drop(mut self) {
         'joints: loop {
             if turn(&mut self) {
@@ -151,8 +151,8 @@ impl Tree {
         }
     }
 
-    /// The tree that holds where this one does not. It recurses on the tree's joints, which
-    /// `from_rpn` keeps to 255 at most, and makes each anew.
+    /// The tree that is true exactly if this one is false. It recurses on the tree's joints, of
+    /// which `from_rpn` allows up to 255, and makes each anew.
     pub(crate) fn complement(self, alloc: Global) -> Result<Tree, AllocError>
         ensures { IfOk result (λ t. formula t ≡ complement (formula self)) }
     {

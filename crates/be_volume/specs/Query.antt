@@ -50,7 +50,7 @@ abbrev pub holds_of_text : Cmp → List ℕ → Literal → Bool
 holds_of_text op text (Wild parts) = is_true_of_match op (matches parts (chars text))
 holds_of_text op text (Exact words) = is_true_of op (name_cmp text words)
 
--- the number that a literal spells; a pattern with a wildcard spells none
+-- the number that a literal encodes; a pattern with a wildcard encodes none
 abbrev pub literal_number : Literal → Option ℤ
 literal_number (Wild parts) = if is_plain parts
     then number_in (encode_utf8_all (literal_prefix parts)) else None
@@ -87,7 +87,7 @@ sat s (Leaf name op literal) node = option_map_or (λ value. holds op value lite
 sat s (And a b) node = sat s a node && sat s b node
 sat s (Or a b) node = sat s a node || sat s b node
 
--- whether a formula rests on indices, where this test tells which names have one
+-- whether a formula rests on indices; the test says which names have one
 abbrev pub rests : (List ℕ → Bool) → Formula → Bool
 rests indexed (Leaf name op literal) = indexed name
 rests indexed (And a b) = rests indexed a || rests indexed b

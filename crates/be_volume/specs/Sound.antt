@@ -26,7 +26,7 @@ IsOperation (Unset node name) = IsName name
 IsOperation (MkIndex name kind) = IsName name
 IsOperation (RmIndex name) = IsName name
 
--- what a pair (value, node) in an index of that name and kind tells: it is the node's attribute,
+-- what a pair (value, node) in an index of that name and kind implies: it is the node's attribute,
 -- and has the index's kind
 pub record IsPaired (s : State) (name : List ℕ) (kind : Kind) (node : ℕ) (value : Value) : Type 0
   where

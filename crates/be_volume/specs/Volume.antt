@@ -109,16 +109,16 @@ advance (Ok reached) op = result_map_both (λ answer. (answer.0, reached.1 ++ an
 abbrev pub steps : State → List Op → Result (State × List Done) Refusal
 steps s ops = fold advance (Ok (s, [])) ops
 
--- A list of operations is accepted as the steps say, with the state after them. Else nothing
--- changes, and it is refused as the steps say, or for want of memory where they accept.
+-- A list of operations is accepted if the steps accept it, with the state after them. Otherwise
+-- nothing changes, and the refusal is that of the steps, or out of memory if they accept.
 abbrev pub Writes : {X : Type 0} → (X → List Done) → State → List Op → Result X Refusal → State
     → Type 0
 Writes dones_of old ops (Ok answer) new = steps old ops ≡ Ok (new, dones_of answer)
 Writes dones_of old ops (Err e) new = (new ≡ old)
     × (((e ≡ OutOfMemory) × IsOk (steps old ops)) ⊎ (steps old ops ≡ Err e))
 
--- The same where memory doesn't count: accepted as the steps say, with the state after them; else
--- refused as they say, and nothing changed.
+-- The same if memory doesn't count: the list is accepted if the steps accept it, with the state
+-- after them; otherwise it is refused as they refuse, and nothing changes.
 abbrev pub Replays : {X : Type 0} → (X → List Done) → State → List Op → Result X Refusal → State
     → Type 0
 Replays dones_of old ops (Ok answer) new = steps old ops ≡ Ok (new, dones_of answer)

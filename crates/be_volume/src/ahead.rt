@@ -1,10 +1,10 @@
 //! The refusal of a list of operations, found ahead from the list and the facts of the old volume.
 //!
-//! Whether an operation is refused may rest on what the operations before it do. Each fact is asked
-//! of the old volume and then carried through those operations, so nothing is copied and no memory
-//! is taken. A list of n costs n steps a fact. The count of attributes would cost n looks for each
-//! of them, so it is made only for a new name, and where the old count and the sets of the node
-//! before it reach the limit together.
+//! Whether an operation is refused may depend on what the operations before it do. Each fact is
+//! asked of the old volume and then carried through those operations, so nothing is copied and no
+//! memory is taken. A list of n costs n steps a fact. The count of attributes would cost n looks
+//! for each of them, so it is made only for a new name, and only if the old count and the sets of
+//! the node before it reach the limit together.
 ghost use Rattle.std.specs.FinMap as map;
 ghost use Rattle.std.specs.Prelude.{◌≡◌, ◌≤◌, ◌<◌, ◌+◌, ◌^◌, IsOk, false, length, nat_le};
 ghost use Rattle.std.specs.Result.{result_err};
@@ -25,7 +25,7 @@ pub const MAX_ATTRIBUTES: usize = 64;
 pub const MAX_INDICES: usize = 32;
 
 /// The refusal, `NoNode` to `NotIndexable`, of the first operation of the list that is refused, or
-/// none where all are accepted. It takes no memory and changes nothing: a caller asks it before the
+/// none if all are accepted. It takes no memory and changes nothing: a caller asks it before the
 /// first change.
 pub fn first_refusal<F: Facts>(facts: &mut F, ops: &[Op]) -> Option<Refusal>
     ghost volume: { State }
@@ -221,7 +221,7 @@ fn attribute_after(op: &Op, next: u64, there: bool, node: u64, name: &Name) -> b
 }
 
 /// Whether the node has as many attributes after these operations as it may. They are counted only
-/// where they may be so many.
+/// if they may be that many.
 fn is_full<F: Facts>(facts: &mut F, before: &[Op], node: u64) -> bool
     ghost volume: { State }
     requires answers { F.answers_for facts.old volume }

@@ -36,7 +36,7 @@ impl Model for IndexKey {
 }
 
 impl IndexKey {
-    /// The key of a pair, if its value can stand in an index.
+    /// The key of a pair, if its value can be in an index.
     pub fn of(value: &Value, node: u64) -> Option<IndexKey>
         ensures key { result ≡ own_key value.now node }
         ensures short { IfSome result (λ k. length k ≤ 264) }
@@ -69,13 +69,13 @@ impl IndexKey {
     }
 }
 
-/// Where the keys at `from` or after it begin, or those strictly after it.
+/// The bound from which the keys at `from` or after it begin, or those strictly after it.
 pub fn start_of(from: &[u8], after: bool) -> Bound<IndexKey>
     ensures { (k : List ℕ) → length k ≤ 264 → is_from_start name_cmp result k
         ≡ is_at_or_after from.now after k }
 {
     if from.len() > MAX_KEY {
-        // No key has so many bytes, so none stands at `from`.
+        // No key has so many bytes, so none is at `from`.
         return Bound::Excluded(IndexKey::new(&from[..MAX_KEY]));
     }
     let key = IndexKey::new(from);

@@ -36,6 +36,7 @@ impl<V> Model for Named<V> {
 }
 
 impl<V: Drop> Named<V> {
+    /// A map without names.
     pub fn new(alloc: Global) -> Named<V>
         ensures { result ≡ map.empty }
     {
@@ -44,18 +45,21 @@ impl<V: Drop> Named<V> {
         }
     }
 
+    /// The number of names.
     pub fn len(&self) -> usize
         ensures { result ≡ map.len self.now }
     {
         self.named.len()
     }
 
+    /// The value of a name, if the map has it.
     pub fn get(&self, name: &Name) -> Option<&V>
         ensures { option_copied result ≡ map.get self.now name.now }
     {
         self.named.get(name)
     }
 
+    /// Sets the value of a name. `AllocError` if there is no memory.
     pub fn insert(&mut self, name: Name, value: V) -> Result<(), AllocError>
         ensures { OnOk result (self.new ≡ map.insert self.old name value) }
     {
@@ -63,6 +67,7 @@ impl<V: Drop> Named<V> {
         Ok(())
     }
 
+    /// Removes a name, if the map has it.
     pub fn remove(&mut self, name: &Name)
         ensures { self.new ≡ map.remove self.old name.now }
     {
@@ -120,6 +125,7 @@ fn numbers_of(alloc: Global, nodes: &BTreeMap<u64, Attributes>) -> Result<Vec<u6
 }
 
 impl Nodes {
+    /// A map without nodes.
     pub fn new(alloc: Global) -> Nodes
         ensures { result ≡ map.empty }
     {
@@ -128,6 +134,7 @@ impl Nodes {
         }
     }
 
+    /// The attributes of a node, if the node is there.
     pub fn get(&self, node: u64) -> Option<&Attributes>
         ensures { option_copied result ≡ map.get self.now node }
     {
@@ -141,6 +148,7 @@ impl Nodes {
         numbers_of(alloc, &self.nodes)
     }
 
+    /// Sets all attributes of a node. `AllocError` if there is no memory.
     pub fn insert(&mut self, node: u64, attributes: Attributes) -> Result<(), AllocError>
         ensures { OnOk result (self.new ≡ map.insert self.old node attributes) }
     {
@@ -148,6 +156,7 @@ impl Nodes {
         Ok(())
     }
 
+    /// Removes a node with its attributes, if the node is there.
     pub fn remove(&mut self, node: u64)
         ensures { self.new ≡ map.remove self.old node }
     {

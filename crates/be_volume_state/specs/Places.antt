@@ -23,7 +23,7 @@ left_from s (Held node) = flat_map (held_ops s) (numbers_from s node)
 abbrev pub left : State → Place → List Op
 left s place = place.ready.items ++ left_from s place.step
 
--- the operations of the list that was given, seen by view; none where no list was
+-- the operations of the list that was returned, seen by view; none if no list was
 abbrev pub given : {X E : Type 0} → (X → List Op) → Result (Option X) E → List Op
 given view (Ok list) = option_map_or view list []
 given view (Err e) = []
@@ -34,7 +34,7 @@ IsNotLast (Number node) next = ⊤
 IsNotLast Indices next = ⊤
 IsNotLast (Held node) next = node < next
 
--- how many steps there are at most, where this is the next number
+-- the greatest number of steps, if this is the next number
 abbrev pub steps_left : ℕ → Step → ℕ
 steps_left next (Number node) = (next - node) + (next + 2)
 steps_left next Indices = next + 1

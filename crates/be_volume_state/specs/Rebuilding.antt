@@ -16,7 +16,7 @@ use Rattle.be_volume.specs.declared.ops.Op.TheVariants.{New, Drop, Set, MkIndex}
 abbrev pub pair_at : State → List ℕ → ℕ → Option Value
 pair_at s name node = option_and_then (λ index. map.get index.pairs node) (map.get s.indices name)
 
--- whether the node stands in the index of that name
+-- whether the node is in the index of that name
 abbrev pub is_held : State → ℕ → List ℕ → Bool
 is_held s node name = is_some (pair_at s name node)
 
@@ -32,8 +32,8 @@ held s node = filter (λ e. is_held s node e.0) (map.entries (attributes_of s.no
 abbrev pub set_all : ℕ → List (List ℕ × Value) → List Op
 set_all node attributes = each (λ e. Set node e.0 e.1) attributes
 
--- A number is given. Its node gets the attributes that no index has; where there is no node any
--- more, it is dropped.
+-- A number is given. Its node gets the attributes that no index has; if there is no node any more,
+-- it is dropped.
 abbrev pub number_ops : State → ℕ → List Op
 number_ops s node = New ∷ (if map.contains_key s.nodes node then set_all node (outside s node)
     else Drop node ∷ [])

@@ -52,8 +52,8 @@ impl Place {
 const FULL: usize = 64;
 
 /// The next list of the operations of a volume, 1 to 64, and none after the last. The lists put end
-/// to end are `state_ops`, and each but the last has 64. Where memory is refused nothing is lost:
-/// the next call goes on.
+/// to end are `state_ops`, and each but the last has 64. If memory is refused nothing is lost: the
+/// next call goes on.
 ///
 /// It reads each number twice over all calls, once for what no index has and once for the rest, and
 /// asks for each attribute twice whether an index has it.
@@ -141,7 +141,7 @@ fn read<W: Whole>(
     }
 }
 
-/// Gives what is ready, up to 64 operations.
+/// Returns what is ready, up to 64 operations.
 fn take(place: &mut Place) -> Result<Option<Vec<Op>>, AllocError>
     ensures list { (volume : State) → left volume place.old ≡ given (λ ops. ops.items) result
         ++ left volume place.new }

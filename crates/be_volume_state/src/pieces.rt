@@ -10,8 +10,8 @@ use be_value::{Kind, Name, Value};
 use be_volume::Op;
 use std::alloc::{AllocError, Global};
 
-/// A number in its turn: it is given, and its node gets what no index has; where there is no node,
-/// it is dropped.
+/// A number in its turn: it is given, and its node gets what no index has; if there is no node, it
+/// is dropped.
 pub(crate) fn number_ops<W: Whole>(
     alloc: Global,
     whole: &mut W,

@@ -82,7 +82,7 @@ fn indices_of(volume: &Volume) -> Result<Vec<(Name, Kind)>, AllocError>
 }
 
 /// Whether the index of that name has the node. A pair of an index is always its node's attribute,
-/// so the attribute's key tells.
+/// so the function looks for the attribute's key.
 fn index_has(volume: &Volume, node: u64, name: &Name) -> bool
     ensures { result ≡ is_held volume.now node name.now }
 {

@@ -1,8 +1,8 @@
 //! What a volume is read through.
 //!
 //! A whole is read by four calls, and each may change the reader itself, as a cursor moves. `kept`
-//! names what no call changes, and `answers_for` says by a relation which volume it reads: a reader
-//! of pages spells a volume but can't compute it.
+//! names what no call changes, and `answers_for` is the relation between the reader and the volume
+//! that it reads: a reader of pages encodes a volume but can't compute it.
 ghost use Rattle.std.specs.FinMap as map;
 ghost use Rattle.std.specs.Option.{option_map};
 ghost use Rattle.std.specs.Prelude.{◌≡◌, IfOk};
@@ -33,7 +33,7 @@ pub trait Whole {
         ensures answers { (volume : State) → answers_for self.old volume
             → answers_for self.new volume };
 
-    /// The attributes of a node, by ascending bytes of their names, and none where the node isn't
+    /// The attributes of a node, by ascending bytes of their names, and none if the node isn't
     /// there.
     fn attrs(&mut self, node: u64) -> Result<Option<Vec<(Name, Value)>>, AllocError>
         requires { (volume : State) × answers_for self.old volume }

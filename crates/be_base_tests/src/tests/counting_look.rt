@@ -12,7 +12,7 @@ use be_value::Refusal;
 use std::alloc::Global;
 use std::test::Fail;
 
-/// A room, at the second call where memory is refused at the first.
+/// A room, at the second call if memory is refused at the first.
 pub(crate) fn room_of(alloc: Global, pages: u64) -> Result<VecRoom, Refusal>
     ensures { IfOk result (λ r. (q : ℕ) → ⟦<VecRoom as Look>⟧.standing r q ≡ Free) }
 {
@@ -22,7 +22,7 @@ pub(crate) fn room_of(alloc: Global, pages: u64) -> Result<VecRoom, Refusal>
     }
 }
 
-/// Inserts the numbers below `count` in order, and gives the root.
+/// Inserts the numbers below `count` in order, and returns the root.
 fn filled<R: Room>(room: &mut R, count: u64) -> Result<u64, Refusal>
     requires { IsTrue (R.is_open (R.kept room.old)) }
     ensures tree { IfOk result (λ root. IsTree (R.standing room.new) (R.words room.new) root) }
@@ -86,7 +86,7 @@ fn steps<L: Look>(look: &mut L, root: u64, count: u64) -> bool
     cursor.next_key(look).is_none()
 }
 
-/// A hundred pairs stand in two levels: some forty words a look-up, one word a step and the pair's
+/// A hundred pairs lie in two levels: some forty words a look-up, one word a step and the pair's
 /// own.
 #[test]
 fn counting_look(rt: HostRuntime) -> Result<(), Fail> {

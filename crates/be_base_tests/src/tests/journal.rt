@@ -52,7 +52,7 @@ fn dones_of(alloc: Global, texts: &str) -> Result<Vec<Done>, AllocError> {
     Ok(dones)
 }
 
-/// Pushes the entry of a text. Where the list has several operations it is entered in room that is
+/// Pushes the entry of a text. If the list has several operations it is entered in room that is
 /// reserved.
 fn push_text(alloc: Global, journal: &mut Journal, text: &str) -> Result<(), Refusal> {
     let (ops, dones) = text.split_once(" -> ").unwrap_or((text, ""));
@@ -64,7 +64,7 @@ fn push_text(alloc: Global, journal: &mut Journal, text: &str) -> Result<(), Ref
     push(journal, ops, dones)
 }
 
-/// A journal of so many entries at most.
+/// A journal of up to `limit` entries.
 fn journal_within(alloc: Global, limit: u64) -> Result<Journal, Refusal> {
     if limit > 2_000 {
         return Err(Refusal::BadLimits);
@@ -186,7 +186,7 @@ fn room(alloc: Global, journal: &mut Journal) -> Result<&'static str, Refusal> {
     }
 }
 
-/// What is told of a journal.
+/// The report on a journal: its text, whether it is legal, whether it has room, and its contents.
 fn told(alloc: Global, mut journal: Journal) -> Result<String, Refusal> {
     let text = journal.text()?;
     let word = if is_legal(&journal)? {
@@ -199,7 +199,7 @@ fn told(alloc: Global, mut journal: Journal) -> Result<String, Refusal> {
     Ok(format!(in alloc; "{text}{word}, {room}, {has}")?)
 }
 
-/// What is told of the journal of a request.
+/// The report on the journal of a request.
 pub(crate) fn told_of(alloc: Global, request: &str) -> Result<String, Refusal> {
     told(alloc, journal_of(alloc, request)?)
 }
@@ -208,7 +208,7 @@ pub(crate) fn told_of_escaped(alloc: Global) -> Result<String, Refusal> {
     told(alloc, escaped(alloc)?)
 }
 
-/// What is told of 1,100 nodes behind the 1,099th entry.
+/// The report on 1,100 nodes, from the text after the 1,099th entry on.
 pub(crate) fn told_end(alloc: Global) -> Result<String, Refusal> {
     let text = told(alloc, nodes(alloc)?)?;
     let front = "\n1099 by 0 new -> node 1099\n";
@@ -216,7 +216,7 @@ pub(crate) fn told_end(alloc: Global) -> Result<String, Refusal> {
     Ok(String::from_str(alloc, end)?)
 }
 
-/// How many of so many long lists are found in their journal.
+/// How many of that many long lists are found in their journal.
 pub(crate) fn told_lists(alloc: Global, text: &str) -> Result<String, Refusal> {
     let (count, _) = first_number(text);
     let journal = long_lists(alloc, count)?;
@@ -260,14 +260,14 @@ journal 3 unset 7 m -> ok | rmindex k -> ok | drop 7 -> ok => 1 by 0 unset 7 \"m
     replies(rt.alloc(), lines)
 }
 
-/// A journal of 1,100 entries is told, checked and played whole.
+/// A journal of 1,100 entries is reported, checked and played whole.
 #[test]
 fn long_journal(rt: HostRuntime) -> Result<(), Fail> {
     let lines = "nodes => 1100 by 0 new -> node 1100 / legal, spent, next 1101 / attrs 0";
     replies(rt.alloc(), lines)
 }
 
-/// Entries are found in a journal's first block, where that is just full, and in those behind it.
+/// Entries are found in a journal's first block, if that is just full, and in those after it.
 #[test]
 fn journal_of_blocks(rt: HostRuntime) -> Result<(), Fail> {
     let lines = "lists 15 => 15 found\nlists 16 => 16 found\nlists 46 => 46 found";

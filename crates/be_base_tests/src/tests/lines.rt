@@ -67,13 +67,13 @@ fn answer_long(alloc: Global, command: &str, text: &str) -> Result<String, Refus
     }
 }
 
-/// The first of these words as a number, 0 where there is none, and the others.
+/// The first of these words as a number, 0 if there is none, and the others.
 pub(crate) fn first_number(words: &str) -> (u64, &str) {
     let (word, others) = words.split_once(" ").unwrap_or((words, ""));
     (word_of(word.as_bytes()).unwrap_or(0), others)
 }
 
-/// The text of `COUNT FRONT;MIDDLE;BACK;END`: the front so many times, the middle, the back so many
+/// The text of `COUNT FRONT;MIDDLE;BACK;END`: the front `COUNT` times, the middle, the back `COUNT`
 /// times, and the end.
 fn repeated(alloc: Global, request: &str) -> Result<String, Refusal> {
     let (count, pieces) = first_number(request);

@@ -1,5 +1,5 @@
 //! The worked example of the machine, and its limits. Every call is made once more after
-//! `OutOfMemory`, and is to give the example's answer then: so the tests also pass where any one
+//! `OutOfMemory`, and is to give the example's answer then: so the tests also pass if any one
 //! request for memory is refused (`rt try --test --fail-alloc N`).
 ghost use Rattle.std.specs.Prelude.{◌≡◌, IfOk};
 ghost use Rattle.be_core.specs.Shown.{page_count};
@@ -10,7 +10,7 @@ use be_value::Refusal;
 use std::alloc::Global;
 use std::test::Fail;
 
-/// A new machine, at the second call where memory is refused at the first.
+/// A new machine, at the second call if memory is refused at the first.
 fn machine(alloc: Global, pages: u64, passes: u64, commits: u64) -> Result<State, Refusal>
     ensures { IfOk result (λ s. page_count s ≡ pages) }
 {
@@ -20,7 +20,7 @@ fn machine(alloc: Global, pages: u64, passes: u64, commits: u64) -> Result<State
     }
 }
 
-/// The answer to the event, at the second call where memory is refused at the first.
+/// The answer to the event, at the second call if memory is refused at the first.
 fn answer(state: &mut State, event: &Event) -> Result<bool, Refusal>
     ensures { page_count state.new ≡ page_count state.old }
 {
@@ -78,6 +78,8 @@ fn gives(alloc: Global, state: &mut State, lines: &str) -> Result<bool, Refusal>
     Ok(true)
 }
 
+/// A run of a writer and a reader: a page that the reader pins is not filled again before it is
+/// unpinned.
 #[test]
 fn machine_run(rt: HostRuntime) -> Result<(), Fail> {
     let alloc = rt.alloc();

@@ -1,5 +1,5 @@
 //! A room's pages, counted. The room is made once more after `OutOfMemory`, so the tests also pass
-//! where any one request for memory is refused (`rt try --test --fail-alloc N`).
+//! if any one request for memory is refused (`rt try --test --fail-alloc N`).
 
 use super::counting_look::room_of;
 use be_pages::{Look, Room, VecRoom};

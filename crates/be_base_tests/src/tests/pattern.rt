@@ -11,7 +11,7 @@ pub(crate) fn canonical(alloc: Global, text: &str) -> Result<String, Refusal> {
     Pattern::parse(alloc, text)?.canonical(alloc)
 }
 
-/// Whether a pattern matches the text behind it.
+/// Whether a pattern matches the text after it.
 pub(crate) fn matches(alloc: Global, request: &str) -> Result<String, Refusal> {
     let (pattern, text) = request.split_once(" ").unwrap_or((request, ""));
     yes_or_no(alloc, Pattern::parse(alloc, pattern)?.matches(text))
@@ -29,7 +29,7 @@ pub(crate) fn is_decided_by_prefix(alloc: Global, text: &str) -> Result<String, 
     yes_or_no(alloc, Pattern::parse(alloc, text)?.is_prefix())
 }
 
-/// The canonical text of a literal text with `*` round it, where a `.` stands before or behind it.
+/// The canonical text of a literal text with a `*` on each side that a `.` marks in the request.
 pub(crate) fn around(alloc: Global, text: &str) -> Result<String, Refusal> {
     let (before, text) = match text.strip_prefix(".") {
         Some(text) => (true, text),

@@ -11,7 +11,7 @@ pub(crate) fn printed(alloc: Global, text: &str) -> Result<String, Refusal> {
     print(alloc, &parse(alloc, text)?)
 }
 
-/// The canonical text of a text's query, which spells the same query.
+/// The canonical text of a text's query, which encodes the same query.
 pub(crate) fn printed_twice(alloc: Global, text: &str) -> Result<String, Refusal> {
     let once = printed(alloc, text)?;
     let twice = printed(alloc, once.as_str())?;
@@ -47,7 +47,7 @@ pub(crate) fn right_pattern(alloc: Global, text: &str) -> Result<String, Refusal
     }
 }
 
-/// Whether the pattern of a query's one comparison matches the text behind it.
+/// Whether the pattern of a query's one comparison matches the text after it.
 pub(crate) fn leaf_matches(alloc: Global, request: &str) -> Result<String, Refusal> {
     let (query, text) = request.split_once(" ").unwrap_or((request, ""));
     let query = parse(alloc, query)?;
@@ -138,7 +138,7 @@ read 70 !(a==1)&&;a==1 => yes";
     replies(rt.alloc(), lines)
 }
 
-/// A refusal gives up what was built: a tree that leans to the left, levels that wait, a tree that
+/// A refusal drops what was built: a tree that leans to the left, levels that wait, a tree that
 /// leans to the right.
 #[test]
 fn trees_given_up(rt: HostRuntime) -> Result<(), Fail> {
@@ -194,7 +194,7 @@ leaf name==\"x.\\*\" x.c => no";
     replies(rt.alloc(), lines)
 }
 
-/// The item of a word: a text behind a `'`, an operator, a number, or else a name.
+/// The item of a word: a text after a `'`, an operator, a number, or otherwise a name.
 fn item_of(alloc: Global, word: &str) -> Result<Item, Refusal> {
     if let Some(text) = word.strip_prefix("'") {
         return Ok(Item::Text(String::from_str(alloc, text)?));
@@ -218,6 +218,7 @@ fn numbered(number: i128) -> Item {
     }
 }
 
+/// The operator item that a word names, none if it names none.
 fn operator_of(word: &str) -> Option<Item> {
     match word {
         "==" => Some(Item::Eq),
@@ -314,8 +315,8 @@ items a 1 == b 1 == => refused 22 BadRpn 6";
     replies(rt.alloc(), lines)
 }
 
-/// 64 things may stand on the stack, and 256 comparisons be built. Items may build a tree whose
-/// canonical text has more parentheses than `parse` takes.
+/// The stack may have up to 64 things, and a predicate up to 256 comparisons. Items may build a
+/// tree whose canonical text has more parentheses than `parse` takes.
 #[test]
 fn predicate_limits(rt: HostRuntime) -> Result<(), Fail> {
     let lines = "build 63 ;a; a => refused 22 BadRpn 64

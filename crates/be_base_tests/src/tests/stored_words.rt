@@ -16,7 +16,7 @@ use std::test::Fail;
 /// How many keys the tree has. Each is a thousand from the next.
 const KEYS: u64 = 600;
 
-/// Puts the keys in an order that is far from rising, each in a write that is kept, and gives the
+/// Puts the keys in an order that is far from rising, each in a write that is kept, and returns the
 /// root.
 fn put_keys(room: &mut VecRoom) -> Result<u64, Refusal>
     requires { (q : ℕ) → ⟦<VecRoom as Look>⟧.standing room.old q ≡ Free }
@@ -30,7 +30,7 @@ fn put_keys(room: &mut VecRoom) -> Result<u64, Refusal>
     Ok(root)
 }
 
-/// Which numbers a write is about: so many from one on, each so far from the next.
+/// The numbers of a write: that many from one on, each that far from the next.
 #[derive(Clone, Copy)]
 struct Numbers {
     first: u64,
@@ -47,7 +47,7 @@ impl Numbers {
     }
 }
 
-/// Puts numbers, and gives the root.
+/// Puts numbers, and returns the root.
 fn put_all<R: Room>(room: &mut R, root: u64, numbers: Numbers) -> Result<u64, Refusal>
     requires tree { IsTree (R.standing room.old) (R.words room.old) root }
     requires open { IsTrue (R.is_open (R.kept room.old)) }
@@ -60,7 +60,7 @@ fn put_all<R: Room>(room: &mut R, root: u64, numbers: Numbers) -> Result<u64, Re
     Ok(root)
 }
 
-/// Takes numbers out, and gives the root.
+/// Takes numbers out, and returns the root.
 fn take_all<R: Room>(room: &mut R, root: u64, numbers: Numbers) -> Result<u64, Refusal>
     requires tree { IsTree (R.standing room.old) (R.words room.old) root }
     requires open { IsTrue (R.is_open (R.kept room.old)) }
@@ -102,7 +102,7 @@ fn change<R: Room>(
     }
 }
 
-/// How many words a write stores, on a tree whose keys stand since before it.
+/// How many words a write stores, on a tree whose keys were put before it.
 pub(crate) fn stored_by(alloc: Global, line: &str) -> Result<String, Refusal> {
     let (kind, numbers) = line.split_once(" ").unwrap_or((line, ""));
     let (count, steps) = first_number(numbers);
@@ -115,8 +115,8 @@ pub(crate) fn stored_by(alloc: Global, line: &str) -> Result<String, Refusal> {
     Ok(format!(in alloc; "{stores}")?)
 }
 
-/// A page that a write has taken is edited in place: of a list that comes to the same leaves again
-/// and again most words stand already. A key is put, or taken out and another put beside it; then
+/// A page that a write has taken is edited in place: if a list comes to the same leaves again and
+/// again, most words are there already. A key is put, or taken out and another put beside it; then
 /// 64 are, beside one another and far apart.
 #[test]
 fn stored_words(rt: HostRuntime) -> Result<(), Fail> {

@@ -37,7 +37,7 @@ pub(crate) fn put_number(room: &mut VecRoom, root: u64, i: u64) -> Result<u64, R
     }
 }
 
-/// Inserts the numbers below another in order, each write kept. Gives the root, and the first
+/// Inserts the numbers below another in order, each write kept. Returns the root, and the first
 /// number that was refused, or the last one's next.
 fn put_numbers(room: &mut VecRoom, root: u64, to: u64) -> (u64, u64)
     requires tree { IsTree (⟦<VecRoom as Look>⟧.standing room.old)
@@ -72,8 +72,8 @@ fn take_numbers(room: &mut VecRoom, root: u64, to: u64) -> Result<u64, Refusal>
     Ok(root)
 }
 
-/// How many of so many pages are free once the numbers below a count are inserted, if they are met
-/// in order then.
+/// How many of that many pages are free once the numbers below a count are inserted, if they are
+/// met in order then.
 pub(crate) fn free_with(alloc: Global, line: &str) -> Result<String, Refusal> {
     let (pages, numbers) = first_number(line);
     let (count, _) = first_number(numbers);
@@ -86,7 +86,7 @@ pub(crate) fn free_with(alloc: Global, line: &str) -> Result<String, Refusal> {
     Ok(format!(in alloc; "{free}")?)
 }
 
-/// The root, and how many of so many pages are free, once the numbers below a count are inserted
+/// The root, and how many of that many pages are free, once the numbers below a count are inserted
 /// and taken out again.
 pub(crate) fn free_without(alloc: Global, line: &str) -> Result<String, Refusal> {
     let (pages, numbers) = first_number(line);
@@ -98,7 +98,7 @@ pub(crate) fn free_without(alloc: Global, line: &str) -> Result<String, Refusal>
     Ok(format!(in alloc; "{accepted} taken, root {root}, {free} free")?)
 }
 
-/// Twelve pairs stand in one page; the thirteenth makes two leaves and an inner page. Rising keys
+/// Twelve pairs fit in one page; the thirteenth makes two leaves and an inner page. Rising keys
 /// fill their pages: 600 pairs take 50 leaves of 12, five pages above them and the root.
 #[test]
 fn tree_pages(rt: HostRuntime) -> Result<(), Fail> {
@@ -121,7 +121,7 @@ free 16384 0 => 16384";
 }
 
 /// In a room of eight pages at least 20 rising keys are accepted and at most 60. The next one is
-/// refused, and its write undone: the pairs before it stand.
+/// refused, and its write undone: the pairs before it stay.
 #[test]
 fn full_tree(rt: HostRuntime) -> Result<(), Fail> {
     let mut room = room_of(rt.alloc(), 8)?;
@@ -143,7 +143,7 @@ fn value_key(node: u8) -> [u8; 10] {
     key
 }
 
-/// Inserts the keys of nodes, and gives the root.
+/// Inserts the keys of nodes, and returns the root.
 fn put_nodes(room: &mut VecRoom, nodes: &[u8]) -> Result<u64, Refusal>
     ensures tree { IfOk result (λ root. IsTree (⟦<VecRoom as Look>⟧.standing room.new)
         (⟦<VecRoom as Look>⟧.words room.new) root) }
@@ -155,7 +155,7 @@ fn put_nodes(room: &mut VecRoom, nodes: &[u8]) -> Result<u64, Refusal>
     Ok(root)
 }
 
-/// Whether the keys of these nodes, and no others, stand in the tree from the text `x` on, in this
+/// Whether the tree has the keys of these nodes, and no others, from the text `x` on, in this
 /// order.
 fn has_nodes<L: Look>(look: &mut L, root: u64, nodes: &[u8]) -> bool
     requires { IsTree (L.standing look.old) (L.words look.old) root }

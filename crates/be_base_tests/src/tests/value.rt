@@ -77,7 +77,7 @@ fn keys_of_no_pair(rt: HostRuntime) {
     assert!(rt; read_key(Kind::Rawt, b"\0\0\0\0\0\0\0\x01").is_none());
 }
 
-/// The number that a text spells.
+/// The number that a text encodes.
 pub(crate) fn number_spelt(alloc: Global, text: &str) -> Result<String, Refusal> {
     match number_of(text) {
         Some(number) => Ok(format!(in alloc; "{number}")?),
@@ -85,6 +85,8 @@ pub(crate) fn number_spelt(alloc: Global, text: &str) -> Result<String, Refusal>
     }
 }
 
+/// Texts that encode a number, up to the limits of 64 bits and of 20 digits, and texts that encode
+/// none.
 #[test]
 fn texts_spell_numbers(rt: HostRuntime) -> Result<(), Fail> {
     let lines = "number 0 => 0

@@ -25,7 +25,7 @@ fn first_words<L: Look>(look: &mut L, root: u64) -> [u64; 6]
 }
 
 /// A leaf with the attribute `size` of node 1, the LONG 5: its level, its count, and the item's
-/// four words. Zeros stand behind the payload in the last of them.
+/// four words. Zeros follow the payload in the last of them.
 #[test]
 fn words_of_an_attribute(rt: HostRuntime) -> Result<(), Fail> {
     let mut room = room_of(rt.alloc(), 8)?;

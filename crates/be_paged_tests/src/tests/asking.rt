@@ -51,7 +51,7 @@ fn cover_of<S: Source>(
 }
 
 /// The nodes of a query, from one pick or from what is chosen. The plain volume isn't asked: it
-/// tells for which volume the source answers.
+/// names the volume that the source reads.
 fn ask<S: Source>(
     alloc: Global,
     _plain: &Volume,

@@ -3,8 +3,8 @@
 //!
 //! A row is `REQUEST => COST`, in the words of a script. Each row has a volume of its own, which is
 //! made alike each time: a page that is used again has words of what was written there before, and
-//! of these none is stored again. So a cost hangs on no other row, and is the same in each run. It
-//! is told exactly: a row fails where its cost grows, and where it falls.
+//! of these none is stored again. So a cost depends on no other row, and is the same in each run.
+//! It is exact: a row fails if its cost grows, and if it falls.
 ghost use Rattle.std.specs.Prelude.{◌≤◌, ◌<◌, ◌+◌, ◌^◌, length, IsTrue};
 ghost use Rattle.be_volume.specs.Volume.{State};
 ghost use Rattle.be_paged.specs.Version.{IsVersion};
@@ -81,7 +81,7 @@ fn count_get(both: Both, node: u64, name: &Name) -> Cost {
 }
 
 /// The nodes of a query, as a store asks for them, and the look. The plain volume isn't asked: it
-/// tells which volume the pages spell.
+/// names the volume that the pages encode.
 fn answer_pages<L: Look>(
     alloc: Global,
     _plain: &Volume,
@@ -108,7 +108,7 @@ fn count_query(alloc: Global, both: Both, query: &Query) -> Result<Cost, Refusal
     })
 }
 
-/// The same by a query's text, of another volume where memory is refused.
+/// The same by a query's text, of another volume if memory is refused.
 fn query_cost(alloc: Global, text: &str) -> Result<Cost, Fail> {
     let query = read_query(alloc, text)?;
     match count_query(alloc, filled(alloc)?, &query) {
@@ -117,8 +117,7 @@ fn query_cost(alloc: Global, text: &str) -> Result<Cost, Fail> {
     }
 }
 
-/// What a prepared query costs when it is asked again: the nodes, or none where a plan would be
-/// asked.
+/// What a prepared query costs when it is asked again: the nodes, or none if a plan would be asked.
 fn count_again(alloc: Global, both: Both, query: Query) -> Result<Cost, Refusal> {
     let Both {
         plain: _plain,
@@ -137,7 +136,7 @@ fn count_again(alloc: Global, both: Both, query: Query) -> Result<Cost, Refusal>
     })
 }
 
-/// The same by a query's text, of another volume where memory is refused.
+/// The same by a query's text, of another volume if memory is refused.
 fn again_cost(alloc: Global, text: &str) -> Result<Cost, Fail> {
     match count_again(alloc, filled(alloc)?, read_query(alloc, text)?) {
         Err(Refusal::OutOfMemory) => {
@@ -147,7 +146,7 @@ fn again_cost(alloc: Global, text: &str) -> Result<Cost, Fail> {
     }
 }
 
-/// Applies a list to the pages. The plain volume isn't asked: it tells which volume they spell.
+/// Applies a list to the pages. The plain volume isn't asked: it names the volume that they encode.
 fn apply_counted<R: Room>(
     _plain: &Volume,
     room: &mut R,
@@ -199,7 +198,7 @@ fn sets_of(alloc: Global, kind: &str, count: u8) -> Result<Vec<Op>, Refusal> {
     Ok(ops)
 }
 
-/// The operations of a row: so many sizes or names, or a list in the words of a script.
+/// The operations of a row: that many sizes or names, or a list in the words of a script.
 fn ops_of(alloc: Global, request: &str) -> Result<Vec<Op>, Refusal> {
     let (kind, count) = request.split_once(" ").unwrap_or((request, ""));
     if kind != "sizes" && kind != "names" {
@@ -265,11 +264,11 @@ fn expect_rows(alloc: Global, rows: &str) -> Result<(), Fail> {
     Ok(())
 }
 
-/// By what each would grow: the get by a second descent of the catalog's tree; a query of one node
-/// by a second descent of its index's tree, or by a look at the node; a range and a front by a
-/// descent for each key, where they go along the leaves; and the filter, which makes a descent of
-/// the catalog's tree for each of a hundred nodes, by a hundred for each word that a descent reads
-/// more.
+/// What each cost would grow by. The get: a second descent of the catalog's tree. A query of one
+/// node: a second descent of its index's tree, or a look at the node. A range and a front: a
+/// descent for each key, instead of a step along the leaves. The filter makes a descent of the
+/// catalog's tree for each of a hundred nodes: it would grow by a hundred words for each word that
+/// a descent reads more.
 #[test]
 fn read_costs(rt: HostRuntime) -> Result<(), Fail> {
     let rows = r#"get 150 size => 1 found, 44 words read
@@ -281,8 +280,8 @@ query name=="101*" && size>=1500 => 50 found, 6734 words read"#;
     expect_rows(rt.alloc(), rows)
 }
 
-/// Prepared queries at their second asking. Each would grow by a search for its index, whose name
-/// is compared where it stood, or by a look at a node.
+/// Prepared queries at their second asking. Each cost would grow by a search for its index, whose
+/// name is compared at its place of the first asking, or by a look at a node.
 #[test]
 fn prepared_costs(rt: HostRuntime) -> Result<(), Fail> {
     let rows = r#"again name=="10150-document.txt" => 1 found, 40 words read
@@ -291,13 +290,13 @@ again size>=1000 && size<2000 => 100 found, 426 words read"#;
     expect_rows(rt.alloc(), rows)
 }
 
-/// A new node, a set with an index, two sets without one, of which the second sets what stands,
-/// lists of sets of many nodes and of one, and a drop.
+/// A new node, a set with an index, two sets without one, of which the second sets the value that
+/// is there already, lists of sets of many nodes and of one, and a drop.
 ///
-/// By what each would grow: in pages by one that is copied twice in a list, as the version's page
-/// for each operation, or by one of a tree that doesn't change; in words stored by a page that is
-/// written whole where it could be edited, or by words that are written though they stand; and in
-/// words read by a descent more, or by what is asked anew for each set of a list.
+/// What each cost would grow by. In pages: one that is copied twice in a list, as the version's
+/// page for each operation, or one of a tree that doesn't change. In words stored: a page that is
+/// written whole instead of edited, or words that are written though they are there already. In
+/// words read: one descent more, or what is asked anew for each set of a list.
 #[test]
 fn write_costs(rt: HostRuntime) -> Result<(), Fail> {
     let rows =

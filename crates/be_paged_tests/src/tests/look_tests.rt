@@ -1,5 +1,5 @@
 //! Versions read by another look than their room: one that counts its calls, and while a write is
-//! open one that sees what stood before it.
+//! open one that sees the pages as they were before it.
 ghost use Rattle.std.specs.Prelude.{◌≡◌, IfOk};
 ghost use Rattle.be_pages.specs.Pages.{IsUnchanged, after_undo};
 ghost use Rattle.be_tree.specs.Forest.{IsWriteStart};
@@ -19,7 +19,7 @@ use be_volume::{Op, Volume};
 use std::alloc::Global;
 use std::test::Fail;
 
-/// Fails unless both forms give these nodes. Gives the look as it was.
+/// Fails unless both forms give these nodes. Returns the look as it was.
 fn expect_look<L: Look + Drop>(
     alloc: Global,
     plain: &Volume,
@@ -40,7 +40,7 @@ fn expect_look<L: Look + Drop>(
 }
 
 /// Fails unless both forms give these nodes, the one over pages by a look that counts its calls.
-/// Gives both as they were.
+/// Returns both as they were.
 fn expect_counting(alloc: Global, both: Both, text: &str, expected: &str) -> Result<Both, Fail> {
     let Both { plain, room, page } = both;
     let counting = Counted {
@@ -57,7 +57,7 @@ fn expect_counting(alloc: Global, both: Both, text: &str, expected: &str) -> Res
     })
 }
 
-/// A walk over a hundred names, which looks at each node. The version stands in the room that comes
+/// A walk over a hundred names, which looks at each node. The version is in the room that comes
 /// back, and can be written on.
 #[test]
 fn counting_look(rt: HostRuntime) -> Result<(), Fail> {
@@ -69,7 +69,7 @@ fn counting_look(rt: HostRuntime) -> Result<(), Fail> {
     Ok(())
 }
 
-/// An equal volume, copied again where memory is refused.
+/// An equal volume, copied again if memory is refused.
 fn copy_of(plain: &Volume) -> Result<Volume, Refusal>
     ensures { IfOk result (λ copy. copy ≡ plain.now) }
 {
@@ -79,8 +79,8 @@ fn copy_of(plain: &Volume) -> Result<Volume, Refusal>
     }
 }
 
-/// Fails unless the version that stood when the open write began gives these nodes. Gives the room
-/// as it was.
+/// Fails unless the version from before the open write gives these nodes. Returns the room as it
+/// was.
 fn expect_before(
     alloc: Global,
     plain: &Volume,
@@ -120,7 +120,7 @@ fn read_copies(
     Ok(room)
 }
 
-/// Drops node 1 of the copy, and gives it with the room and the new version page, while the write
+/// Drops node 1 of the copy, and returns it with the room and the new version page, while the write
 /// is open.
 fn drop_first(
     original: &Volume,

@@ -93,7 +93,7 @@ fn written(both: Both, op: Op) -> Result<Both, Fail> {
     Ok(both)
 }
 
-/// Makes so many nodes.
+/// Makes that many nodes.
 fn with_nodes(mut both: Both, count: u64) -> Result<Both, Fail> {
     for _ in 0..count {
         both = written(both, Op::New)?;
@@ -109,6 +109,8 @@ fn with_attributes(mut both: Both, node: u64) -> Result<Both, Fail> {
     Ok(both)
 }
 
+/// Nodes without attributes are listed from any number on, up to the count asked for, as nodes are
+/// added.
 #[test]
 fn bare_nodes(rt: HostRuntime) -> Result<(), Fail> {
     let both = Both::new(rt.alloc(), 128)?;

@@ -51,7 +51,7 @@ fn apply_plain(plain: &mut Volume, ops: &[Op]) -> Result<ArrayVec<Done, 64>, Ref
     }
 }
 
-/// Applies a list to the pages. The plain volume isn't asked: it tells which volume they spell.
+/// Applies a list to the pages. The plain volume isn't asked: it names the volume that they encode.
 pub(crate) fn apply_pages(
     _plain: &Volume,
     room: &mut VecRoom,
@@ -88,8 +88,8 @@ pub(crate) fn accepts(plain: &mut Volume, ops: &[Op], dones: &[Done]) -> Result<
     }
 }
 
-/// Applies a list to the plain volume, which has to refuse it so. Where the pages are full it has
-/// to accept the list, and isn't asked for more.
+/// Applies a list to the plain volume, which has to refuse it by the same refusal. If the pages are
+/// full, it has to accept the list, and isn't asked for more.
 pub(crate) fn refuses(plain: &mut Volume, ops: &[Op], refusal: Refusal) -> Result<(), Fail>
     requires some { 1 ≤ length ops.now }
     requires few { length ops.now ≤ 64 }

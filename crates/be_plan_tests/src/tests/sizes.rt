@@ -14,7 +14,7 @@ const COUNTS: &str =
      2047 2048 \
 2049 4095 4096 4097 8191 8192 8193 16383 16384 16385 26000";
 
-/// Does a list of operations, again where it is refused memory.
+/// Does a list of operations, again if it is refused memory.
 fn write_again(volume: &mut Volume, ops: &[Op]) -> Result<(), Refusal> {
     match write(volume, ops) {
         Err(Refusal::OutOfMemory) => write(volume, ops),
@@ -22,7 +22,7 @@ fn write_again(volume: &mut Volume, ops: &[Op]) -> Result<(), Refusal> {
     }
 }
 
-/// A volume of so many nodes, each of which has its number in the attribute k.
+/// A volume of that many nodes, each of which has its number in the attribute k.
 fn numbered(alloc: Global, count: u64) -> Result<Volume, Refusal> {
     let mut volume = Volume::new(alloc);
     write_again(&mut volume, &[Op::MkIndex(Name::new("k")?, Kind::Ullg)])?;
