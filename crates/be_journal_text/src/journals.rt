@@ -59,7 +59,8 @@ fn parts_of(alloc: Global, number: u64, line: &[u8]) -> Result<(&[u8], &[u8], &[
     Ok((by, without_last_two(ops), dones))
 }
 
-/// The entry that a line with its LF tells, if it is one that was printed; else any or none.
+/// The entry of a line with its LF, if the line is one that was printed; otherwise any entry or
+/// none.
 fn guess_entry(alloc: Global, number: u64, line: &[u8]) -> Result<Option<Entry>, AllocError>
     ensures whole { IfOk result (λ read. (entry : AnyEntry) → history.CanBeEntry entry → line.now
         ≡ entry_line number entry → read ≡ Some entry) }
@@ -112,8 +113,8 @@ pub(crate) fn first_line(text: &[u8]) -> (&[u8], &[u8])
     }
 }
 
-/// Reads a journal's text: its entries, or None where no journal has this text. Only want of memory
-/// is an error.
+/// Reads a journal's text: its entries, or None if no journal has this text. The only error is out
+/// of memory.
 ///
 /// It is the exact inverse of the text: what it gives has this text, and where entries have this
 /// text it gives them.

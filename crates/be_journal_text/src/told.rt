@@ -72,11 +72,11 @@ fn read_result(alloc: Global, text: &[u8]) -> Result<Option<Vec<Entry>>, AllocEr
     }
 }
 
-/// The journal that a text tells: what a race printed, or a run that prints its journal, or the
-/// journal's text alone. None where it tells none. Only want of memory is an error.
+/// The journal of a text: of what a race printed, or a run that prints its journal, or of the
+/// journal's text alone. None if the text has no journal. The only error is out of memory.
 ///
-/// It is exact: what it gives is told by this text, and what the text tells it gives. So no text
-/// tells two journals.
+/// It is exact: the journal that it returns is the text's, and it returns each journal that a text
+/// has. So no text has two journals.
 pub fn journal_told(alloc: Global, text: &[u8]) -> Result<Option<Vec<Entry>>, AllocError>
     ensures reads { IfOk result (λ read. IfSome read
         (λ entries. CanBeJournal entries.items × spec.TextTells text.now entries.items)) }

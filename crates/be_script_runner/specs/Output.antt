@@ -156,8 +156,8 @@ unwritten s begin = s
 unwritten s commit = with_batch s None
 unwritten s abort = s
 
--- There was no page for these operations, which should be accepted, and the reply tells the least;
--- or another pass was writing.
+-- There was no page for these operations, which would be accepted otherwise, and the reply gives
+-- the least pinned version; or another pass was writing.
 abbrev pub IsHeldUp : Store → List Op → Reply → Type 0
 IsHeldUp store ops reply = ((least : ℕ) × (reply ≡ refused (Full least)) × IsLeastOf store least
     × IsOk (written store ops)) ⊎ ((pass : ℕ) × (reply ≡ refused (Busy pass)) × IsOther store pass)
@@ -220,7 +220,7 @@ MayReplyTo s request text answer reply after =
     ⊎ IsWanting s request reply after
 
 -- What a request may be replied, and the session that it leaves. Reads are of the pinned version,
--- or else of the volume after all writes.
+-- or of the volume after all writes if none is pinned.
 abbrev pub Replies : Session → Request → Reply → Session → Type 0
 Replies s silent reply after = Gives (none, s) reply after
 Replies s malformed reply after = MayReply s malformed (bad_line, s) reply after

@@ -132,9 +132,9 @@ abbrev pub AreFirstPasses : StoreLimits → List (List ℕ) → List ℕ → Typ
 AreFirstPasses limits scripts out = (out ≡ [])
     ⊎ ((whole : List ℕ) × (race : IsRace limits scripts whole) × AreFirstTexts race.replies out)
 
--- What a fault leaves: where the limits or a script's length are at fault, nothing was written;
--- after a failed write a front of what a race writes; and for want of memory nothing, or the first
--- passes whole.
+-- What a fault leaves. If the limits or a script's length are invalid, nothing was written. After a
+-- failed write, a front of what a race writes. Out of memory leaves nothing, or the first passes
+-- whole.
 abbrev pub RaceLeaves : StoreLimits → List (List ℕ) → RunFault → Option (List ℕ) → Option (List ℕ)
     → Type 0
 RaceLeaves limits scripts Limits old new = Keeps old new

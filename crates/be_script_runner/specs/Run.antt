@@ -74,9 +74,8 @@ pub record AreFirstReplies (store : Store) (script out : List ℕ) : Type 0 wher
   pub last : Session
   pub output : Outputs (opening store) lines last out
 
--- What a fault leaves. Where the script was not read whole or was too long, nothing was written;
--- after a failed write the front of an output; and for want of memory the replies to the first
--- lines.
+-- What a fault leaves. If the script was not read whole or was too long, nothing was written. After
+-- a failed write, the front of an output. Out of memory leaves the replies to the first lines.
 abbrev pub RunLeaves : RunFault → Store → Option (List ℕ) → Option (List ℕ) → Option (List ℕ)
     → Type 0
 RunLeaves Limits store input old new = Keeps old new

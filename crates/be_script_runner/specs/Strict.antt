@@ -64,8 +64,8 @@ Accepts s (line ∷ lines) last out =
     (after : Session) × (reply : List ℕ) × (rest : List ℕ) × Judged s line after None reply
     × Accepts after lines last rest × (out ≡ reply ++ rest)
 
--- the first lines of a script were accepted, and the one behind them, which has this number, was
--- refused by this text
+-- the first lines of a script were accepted, and the next one, which has this number, was refused
+-- by this text
 pub record StopsAt (store : Store) (script : List ℕ) (number : ℕ) (text : List ℕ) (new : Store)
     (out : List ℕ) : Type 0 where
   pub lines : List (List ℕ)
@@ -81,8 +81,8 @@ pub record StopsAt (store : Store) (script : List ℕ) (number : ℕ) (text : Li
   pub out_is : out ≡ front ++ text
   pub leaves : after.store ≡ new
 
--- What a script is answered up to its first line that is refused, or whole where none is. A line is
--- told by its number and its reply.
+-- The replies to a script up to its first line that is refused, or to the whole script if none is.
+-- The refused line is given as its number and its reply.
 abbrev pub IsStrictOutput : Store → List ℕ → Option (ℕ × List ℕ) → Store → List ℕ → Type 0
 IsStrictOutput store script None new out = (last : Session)
     × Accepts (opening store) (lines_of script) last out × (last.store ≡ new)

@@ -1,10 +1,10 @@
 //! The reply to each line.
 //!
-//! A session is what serves the script and what the script has beside it: a batch where one is
-//! open, which is the operations queued for one write, and a live query. A line that is refused or
-//! bad leaves both as they were, but a commit ends its batch, refused or not. Where other passes
-//! write, a line is answered from the store as they left it: a read leaves that store, and its
-//! reply is said of it.
+//! A session is what serves the script and what the script has beside it: a batch if one is open,
+//! which is the operations queued for one write, and a live query. A line that is refused or bad
+//! leaves both as they were, but a commit ends its batch, refused or not. If other passes write, a
+//! line is run on the store as they left it: a read leaves that store, and its reply is one of that
+//! store.
 ghost use Rattle.std.specs.Prelude.{◌≡◌, ◌≤◌, Ok, List, Option, length, vec_len};
 ghost use Rattle.be_script_runner.specs.Output as spec;
 ghost use Rattle.be_script_language.specs.Request as requests;

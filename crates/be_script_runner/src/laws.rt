@@ -44,8 +44,8 @@ pub fn state_dump_makes_volume()
         MakesVolume limit (state_dump (replay entries)) (replay entries) (length entries) }
 {}
 
-/// What a strict run is answered is an output: of the whole script where no line is refused, and
-/// else of its first lines, the last of which is the one that was refused.
+/// What a strict run writes is an output: of the whole script if no line is refused, otherwise of
+/// its first lines, the last of which is the one that was refused.
 pub fn strict_output_is_output()
     ensures whole { (store new : Store) (script out : List ℕ)
         → IsStrictOutput store script None new out → IsOutputTo store script new out }

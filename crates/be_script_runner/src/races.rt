@@ -1,9 +1,9 @@
 //! Races: several scripts at once on one shared store, each on a thread of its own.
 //!
 //! Script k is served from pass k of the store, and its replies are kept. Nobody waits for the lock
-//! inside the store, so scripts meet there alone, and what each writes takes its place in one
-//! journal. Once all threads have ended the store is closed. Then the replies are written, script
-//! by script, and behind them the journal and the result of its check.
+//! inside the store, so scripts meet there alone, and each write takes its place in one journal.
+//! Once all threads have ended the store is closed. Then the replies are written, script by script,
+//! and after them the journal and the result of its check.
 //!
 //! A thread promises what it gives back ([`Served`]): a pass of the store, with the script's
 //! number, whose own writes are some of those that the script asks for, and replies that the script
@@ -40,9 +40,9 @@ use std::thread::{Promise, PromisedHandle, Scope, Threads};
 /// A pass that has served a script, and the replies.
 type Outcome = (Pass, Result<Vec<u8>, RunFault>);
 
-/// What a thread promises of its outcome: the pass is of this store and has this number; and where
-/// there are replies, they are an output of this script that leaves what the pass has seen, its own
-/// writes are some of those that the script asks for, and this gate was told of each line.
+/// What a thread promises of its outcome. The pass is of this store and has this number. If there
+/// are replies, they are an output of this script that leaves what the pass has seen; its own
+/// writes are some of those that the script asks for; and this gate was called for each line.
 #[derive(Drop)]
 struct Served<G> {
     store: Snapshot<Store>,
@@ -216,8 +216,8 @@ fn line_of(alloc: Global, pass: usize) -> Result<String, AllocError>
     format!(in alloc; "pass {pass}\n")
 }
 
-/// Writes each pass's line and its replies. After a fault a front of them all was written, and for
-/// want of memory whole ones.
+/// Writes each pass's line and its replies. A failed write leaves a front of the whole text, and
+/// out of memory leaves whole replies of the first passes.
 fn put_replies<W: Write>(alloc: Global, writer: &mut W, replies: &[Vec<u8>]) -> Result<(), RunFault>
     ensures ok { OnOk result (Appends (W.contents writer.old) (W.contents writer.new)
         (replies_text 0 (map (λ t. t.items) replies.now))) }
@@ -238,7 +238,7 @@ fn put_replies<W: Write>(alloc: Global, writer: &mut W, replies: &[Vec<u8>]) -> 
     Ok(())
 }
 
-/// Writes three texts, one behind the other. After a fault a front of them all was written.
+/// Writes three texts, one after the other. A fault leaves a front of the whole text.
 fn put_parts<W: Write>(
     writer: &mut W,
     first: &[u8],
@@ -257,9 +257,9 @@ fn put_parts<W: Write>(
     put(writer, third)
 }
 
-/// Writes how many entries the journal has, their text, and the result of its check, which it
-/// answers: it is legal, and false is never answered. Nothing was written where memory is missing,
-/// and after a failed write a front.
+/// Writes how many entries the journal has, their text, and the result of its check. Returns that
+/// result, which is always true: the journal is legal. Out of memory leaves nothing written, and a
+/// failed write a front.
 pub fn put_result<W: Write>(
     alloc: Global,
     writer: &mut W,
@@ -288,8 +288,8 @@ pub fn put_result<W: Write>(
     Ok(legal)
 }
 
-/// Writes each pass's line and its replies, and behind them what tells the journal; and answers the
-/// result of its check. After a fault a front of them all was written, and for want of memory whole
+/// Writes each pass's line and its replies, and after them the journal. Returns the result of the
+/// journal's check. A failed write leaves a front of the whole text, and out of memory whole
 /// replies alone.
 fn put_race<W: Write>(
     alloc: Global,
@@ -343,15 +343,15 @@ fn serve_on_new<R: Threads + Wait, G: Gate + Sync>(
 /// never answered.
 ///
 /// The limits are looked at first, then the lengths of the scripts, of at most 1,048,576 bytes
-/// each; a fault of these leaves nothing written. Script k is run from pass k, on a thread of its
-/// own; a write that finds another pass writing is tried again, 10,000,000 times at most in all,
-/// and its refusal is the reply then. It returns once all threads have ended. The replies are
-/// written behind a line `pass K` for each pass; then `journal N`, the journal's text, and `replay
-/// ok`. The journal is of the store that replied: it begins with what each pass has seen, and has
-/// its writes just as they were answered. Memory where memory or a thread is missing: nothing was
-/// written then, or the lines and the replies of the first passes, each of them whole. Any error of
-/// a write, and a write of no bytes, is Write, and leaves a front of what a race of these scripts
-/// writes.
+/// each; if one of these is invalid, nothing is written. Script k is run from pass k, on a thread
+/// of its own. A write that finds another pass writing is tried again, in all up to 10,000,000
+/// times, and its refusal is the reply then. It returns once all threads have ended. The replies
+/// are written after a line `pass K` for each pass; then `journal N`, the journal's text, and
+/// `replay ok`. The journal is of the store that replied: it begins with what each pass has seen,
+/// and has its writes just as they were answered. The error is Memory if memory or a thread is
+/// missing: nothing was written then, or the lines and the replies of the first passes, each of
+/// them whole. Any error of a write, and a write of no bytes, is Write, and leaves a front of what
+/// a race of these scripts writes.
 pub fn race<R: Threads + Wait, G: Gate + Sync, W: Write>(
     rt: &R,
     alloc: Global,

@@ -168,9 +168,9 @@ fn run_on_new<W: Write>(
     Ok((refused, journal))
 }
 
-/// Runs a script as [`crate::run`] does, but ends behind the first reply that says that its line
-/// was not done, and gives that line. None where there was no such line: then all lines were run.
-/// The journal of the accepted writes is given too.
+/// Runs a script as [`crate::run`] does, but ends after the first reply that says that its line was
+/// not done, and returns that line. It returns None if there was no such line: then all lines were
+/// run. The journal of the accepted writes is returned too.
 ///
 /// Such replies are a refusal, `bad line`, `already begun`, `not begun`, `full batch`, `empty
 /// batch`, `already pinned`, `not pinned` and `no live query`. What is written is an output of the
