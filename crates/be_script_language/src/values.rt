@@ -1,7 +1,7 @@
 //! Kinds and values, as the words of a line spell them.
 //!
-//! A word that spells no value of its kind makes a bad line. One that does may still be no value
-//! that a store takes (a text of more than 255 bytes): that is a refusal, which comes behind all
+//! A word that encodes no value of its kind makes a bad line. One that does may still be no value
+//! that a store takes (a text of more than 255 bytes): that is a refusal, which comes after all
 //! causes of a bad line.
 ghost use Rattle.std.specs.Option.{option_map};
 ghost use Rattle.std.specs.Prelude.{◌≡◌, ◌<◌, IfOk, IfSome};

@@ -35,7 +35,7 @@ fn save_as<R: Files>(rt: &R, draft: &str, name: &str, text: &str) -> io::Result<
     settled
 }
 
-/// Saves a script in a file of this name, and tells that it did or why not.
+/// Saves a script in a file of this name, and reports on standard error that it did or why not.
 pub(crate) fn save<R: Files + Eprint>(rt: &R, alloc: Global, name: &str, script: Option<&str>) {
     let (Some(text), Ok(draft)) = (script, format!(in alloc; "{name}.part")) else {
         let _ = eprintln!(rt; "not saved: out of memory");

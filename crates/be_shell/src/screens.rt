@@ -58,6 +58,7 @@ pub struct Screen<P> {
 }
 
 impl<P: Peer> Screen<P> {
+    /// Wraps a peer. Nothing was said to it yet.
     pub fn new(peer: P) -> Screen<P>
         ensures { (result.peer ≡ peer) × (result.is_torn ≡ false) }
     {

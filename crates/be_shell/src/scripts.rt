@@ -76,7 +76,7 @@ fn script_of<R: Files>(rt: &R, alloc: Global, name: &str) -> io::Result<Script> 
     })
 }
 
-/// Opens the file of this name, or tells that it can't.
+/// Opens the file of this name, or reports on standard error that it can't.
 pub(crate) fn open_script<R: Files + Eprint>(rt: &R, alloc: Global, name: &[u8]) -> Option<Script> {
     let Ok(name) = str::from_utf8(name) else {
         let _ = eprintln!(rt; "cannot read it: its name isn't UTF-8");

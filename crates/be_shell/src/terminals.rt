@@ -44,7 +44,7 @@ fn passed_on(alloc: Global, line: Line, aside: Aside) -> Option<Line>
     }
 }
 
-/// The name behind the command of a line.
+/// The name after the command of a line.
 fn name_in(line: &[u8]) -> &[u8] {
     let (_, behind) = split_word(skip(line));
     skip(behind).trim_ascii_end()
@@ -173,10 +173,10 @@ fn ask<R: Eprint>(rt: &R, is_batch_open: bool) {
 }
 
 /// A peer at a terminal, who is asked for each line by a prompt on standard error: `batch> ` while
-/// a batch is open, and else `bestore> `. Lines for the terminal itself ([`Aside`]) are answered
+/// a batch is open, otherwise `bestore> `. Lines for the terminal itself ([`Aside`]) are answered
 /// there, and are heard as empty lines; `quit` and `exit` end the lines. The lines of a file that
 /// `read` names are heard in place of typed ones, up to its end. After a reply to a line that is
-/// bad or has a bad query, a hint is told. What can't be written to standard error is left out.
+/// bad or has a bad query, a hint is written. What can't be written to standard error is left out.
 #[derive(Drop)]
 pub struct Terminal<'a, R, P> {
     rt: &'a R,
@@ -190,6 +190,7 @@ pub struct Terminal<'a, R, P> {
 }
 
 impl<'a, R: Files + Eprint, P: Peer> Terminal<'a, R, P> {
+    /// Makes a terminal of a peer. It reads no file yet.
     pub fn new(rt: &'a R, alloc: Global, peer: P) -> Terminal<'a, R, P>
         ensures { (result.peer ≡ peer) × (is_some result.script ≡ false) }
     {
@@ -224,6 +225,8 @@ impl<'a, R: Files + Eprint, P: Peer> Peer for Terminal<'a, R, P> {
     ghost does = { λ old event new. asks P.does old.peer (is_some old.script) event new.peer
         (is_some new.script) };
 
+    /// Hears the next line of the file that is being read. Otherwise prompts, and hears a line of
+    /// the peer. A line for the terminal itself is answered here. The errors are those of the peer.
     fn hear(&mut self, alloc: Global, is_batch_open: bool) -> Result<Option<Line>, RunFault> {
         self.saves_to = None;
         if let Some(heard) = hear_script(self.rt, alloc, &mut self.script) {
