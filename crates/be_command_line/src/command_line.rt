@@ -251,7 +251,7 @@ fn files_of(alloc: Global, matches: &ArgMatches) -> Result<Vec<String>, AllocErr
     Ok(files)
 }
 
-/// The task of `run`, by its two flags. None if the file or the limits are missing.
+/// The task of `run`, by its two flags. None if the file is missing or a limit is out of its range.
 fn run_task(alloc: Global, matches: &ArgMatches) -> Result<Option<Task>, AllocError>
     ensures { IfOk result (λ task. IfSome task IsTask) }
 {
@@ -269,8 +269,8 @@ fn run_task(alloc: Global, matches: &ArgMatches) -> Result<Option<Task>, AllocEr
     }
 }
 
-/// The task of `race`, with a pass for each script. None if the limits are missing or there is no
-/// script.
+/// The task of `race`, with a pass for each script. None if no script is named or a limit is out of
+/// its range.
 fn race_task(alloc: Global, matches: &ArgMatches) -> Result<Option<Task>, AllocError>
     ensures { IfOk result (λ task. IfSome task IsTask) }
 {

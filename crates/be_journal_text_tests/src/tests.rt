@@ -43,7 +43,7 @@ new\n\
 drop 2\n\
 commit\n";
 
-/// A journal with an attribute that stands outside of its index, and one that doesn't.
+/// A journal with an attribute that is outside of its index, and one that isn't.
 const OUTSIDE: &str = "\
 1 by 0 new; set 1 \"k\" LONG 5; mkindex \"k\" LONG -> node 1; ok; ok\n\
 2 by 1 mkindex \"j\" LONG -> ok\n\
@@ -162,7 +162,7 @@ fn other_texts_are_not(rt: HostRuntime) -> Result<(), Fail> {
     Ok(())
 }
 
-/// What stands before the last `journal N` doesn't matter, and what stands behind it does.
+/// What comes before the last `journal N` doesn't matter, and what comes after it does.
 #[test]
 fn results_are_told(rt: HostRuntime) -> Result<(), Fail> {
     let alloc = rt.alloc();
@@ -204,6 +204,8 @@ fn shown(found: &Finding) -> (&str, u64) {
     }
 }
 
+/// Each text has this finding: no journal, right, or the first wrong line; and this number of
+/// entries.
 #[test]
 fn journals_are_checked(rt: HostRuntime) -> Result<(), Fail> {
     let alloc = rt.alloc();

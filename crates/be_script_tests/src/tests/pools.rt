@@ -39,7 +39,7 @@ fn count_nodes(replies: &str) -> usize {
         .count()
 }
 
-/// What stands at the end, where so many nodes fill the pages and `full` refuses the next.
+/// The end of the replies if so many nodes fill the pages and `full` refuses the next.
 fn end_of_full(alloc: Global, full: &str, nodes: usize) -> Result<String, AllocError> {
     format!(in alloc;
         "{full}\npin {nodes}\nnone\nindices 0\nok\nok\nqueued\nqueued\nrefused 2 NoNode\n{full}\n"
