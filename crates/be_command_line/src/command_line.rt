@@ -33,7 +33,7 @@ const STATE: &str = "state";
 /// The arguments of `race`.
 const SCRIPT: &str = "SCRIPT";
 
-/// An option that takes a number between these two, and is the default where it isn't given.
+/// An option that takes a number between these two, and is the default if it isn't given.
 fn number_option<'a>(
     alloc: Global,
     name: &'a str,
@@ -208,7 +208,7 @@ pub fn task<'a>(alloc: Global, words: &'a [&'a str]) -> Result<Task, Error>
     }
 }
 
-/// The limits of a store of one pass, where they are within their ranges, as `clap` has seen to.
+/// The limits of a store of one pass, if they are within their ranges, as `clap` has seen to.
 fn limits_of(matches: &ArgMatches) -> Option<Limits>
     ensures { IfSome result AreForOne }
 {
@@ -320,8 +320,8 @@ fn dump_task(alloc: Global, matches: &ArgMatches) -> Result<Option<Task>, AllocE
     }
 }
 
-/// The task of the command, where there is one and its values are within their ranges, as `clap`
-/// has seen to.
+/// The task of the command, if there is one and its values are within their ranges, as `clap` has
+/// seen to.
 fn task_of(alloc: Global, matches: &ArgMatches) -> Result<Option<Task>, AllocError>
     ensures { IfOk result (λ task. IfSome task IsTask) }
 {

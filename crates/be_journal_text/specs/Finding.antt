@@ -30,7 +30,7 @@ abbrev pub IsFromJ : List ℕ → List ℕ → Type 0
 IsFromJ text rest = (front : List ℕ) × (more : List ℕ) × AreLines front × (text ≡ front ++ rest)
     × (rest ≡ 106 ∷ more)
 
--- the same of the last such line; none where no line begins so
+-- the same of the last such line; none if no line begins so
 abbrev pub IsFromLastJ : List ℕ → Option (List ℕ) → Type 0
 IsFromLastJ text None = (rest : List ℕ) → IsFromJ text rest → ⊥
 IsFromLastJ text (Some last) = IsFromJ text last

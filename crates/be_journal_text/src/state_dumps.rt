@@ -30,7 +30,7 @@ pub fn push_write(alloc: Global, text: &mut String, ops: &[Op]) -> Result<(), Al
     text.push_str(write_text(alloc, ops)?.as_str())
 }
 
-/// Appends the lines of the next list of a volume's operations. False where none was left.
+/// Appends the lines of the next list of a volume's operations. False if none was left.
 fn push_next(
     alloc: Global,
     whole: &mut WholeVolume<'_>,

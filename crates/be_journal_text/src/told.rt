@@ -17,7 +17,7 @@ use std::alloc::{AllocError, Global};
 /// The last line of what was printed.
 const LAST_LINE: &[u8] = b"replay ok\n";
 
-/// The text from its last line on that begins with `j`. None where no line does.
+/// The text from its last line on that begins with `j`. None if no line does.
 fn from_last_j(text: &[u8]) -> Option<&[u8]>
     ensures { spec.IsFromLastJ text.now (option_map (λ t. t.now) result) }
 {
@@ -42,7 +42,7 @@ fn is_head(alloc: Global, text: &[u8], count: usize) -> Result<bool, AllocError>
     Ok(head.as_bytes() == text)
 }
 
-/// The lines before the last one, where that says that the replay is right.
+/// The lines before the last one, if that says that the replay is right.
 fn before_last(text: &[u8]) -> Option<&[u8]>
     ensures { MatchOption result ((lines : List ℕ) → text.now ≢ lines ++ codes "replay ok\n")
         (λ lines. text.now ≡ lines.now ++ codes "replay ok\n") }

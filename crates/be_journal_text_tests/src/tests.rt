@@ -1,7 +1,7 @@
 //! Texts of journals, as docs/SCRIPTS.md shows them: what is read, what isn't, what a check finds,
 //! and the script of a journal.
 //!
-//! Every test passes with any one request for memory refused: a call that wanted memory is made
+//! Every test passes with any one request for memory refused: a call that ran out of memory is made
 //! again.
 use be_journal::{Entry, entry_line};
 use be_journal_text::{Finding, check, dump, dump_state, journal_told, read_journal};
@@ -59,7 +59,7 @@ mkindex \"k\" LONG\n\
 set 1 \"j\" LONG 6\n\
 commit\n";
 
-/// The entries of a text; asked once more where memory was wanted.
+/// The entries of a text; asked once more if memory ran out.
 fn read(alloc: Global, text: &str) -> Result<Option<Vec<Entry>>, AllocError> {
     match read_journal(alloc, text.as_bytes()) {
         Ok(read) => Ok(read),
@@ -280,7 +280,7 @@ fn nodes_told(alloc: Global, count: u64) -> Result<String, AllocError> {
     Ok(text)
 }
 
-/// The script of their state: a batch for each 64, and one for the rest where it is more than one.
+/// The script of their state: a batch for each 64, and one for the rest if it is more than one.
 fn nodes_dumped(alloc: Global, count: u64) -> Result<String, AllocError> {
     let mut text = String::new(alloc);
     for n in 1..=count {

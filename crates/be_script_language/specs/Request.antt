@@ -156,7 +156,7 @@ abbrev pub is_comment : List ℕ → Bool
 is_comment [] = false
 is_comment (c ∷ line) = nat_eq c 35
 
--- bytes as text, where they are UTF-8
+-- bytes as text, if they are UTF-8
 abbrev pub utf8 : List ℕ → Option (List ℕ)
 utf8 bytes = if is_utf8 bytes then Some bytes else None
 

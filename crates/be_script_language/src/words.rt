@@ -121,7 +121,7 @@ fn quoted_word(alloc: Global, text: &[char]) -> Result<Option<(String, &[char])>
     Ok(None)
 }
 
-/// The first word, and what follows it. None where no word is left, or a malformed one.
+/// The first word, and what follows it. None if no word is left, or a malformed one.
 pub fn first_word(alloc: Global, text: &[char]) -> Result<Option<(String, &[char])>, AllocError>
     ensures { IfOk result (λ parts. option_map (λ p. (string_bytes p.0, p.1.now)) parts
         ≡ spec.first_word text.now) }

@@ -130,8 +130,8 @@ IsWant s e = (e ≡ OutOfMemory) ⊎ ((least : ℕ) × (e ≡ Full least) × IsL
 abbrev pub IsBusy : Store → Refusal → Type 0
 IsBusy s e = (pass : ℕ) × (e ≡ Busy pass) × IsOther s pass
 
--- A write is answered as it should be, with the number of its commit. A want comes only where it
--- should be accepted, and a refused write changes nothing.
+-- An accepted write has the outcomes that the volume gives, and the number of its commit. Out of
+-- memory and Full come only for a write that the volume accepts. A refused write changes nothing.
 abbrev pub MayWrite : {X : Type 0} → (X → List Done) → Store → List Op → Result (ℕ × X) Refusal
     → Store → Type 0
 MayWrite dones_of old ops (Ok answer) new = (written old ops ≡ Ok (new, dones_of answer.1))

@@ -50,7 +50,7 @@ abbrev pub numbered : ℕ → Option (List ℕ) → Option (ℕ × List ℕ)
 numbered number None = None
 numbered number (Some text) = Some (number, text)
 
--- The text that a line may be replied, the session that it leaves, and the text again where it says
+-- The text that a line may be replied, the session that it leaves, and the text again if it says
 -- that the line is refused.
 abbrev pub Judged : Session → List ℕ → Session → Option (List ℕ) → List ℕ → Type 0
 Judged s line after found out = (reply : Reply) × Serves s (asked line) reply after
@@ -89,7 +89,7 @@ IsStrictOutput store script None new out = (last : Session)
 IsStrictOutput store script (Some found) new out = StopsAt store script found.0 found.1 new out
 
 -- What such a run writes, from an empty store of one pass on, and the journal that it leaves. After
--- each of its writes the volume is one that as many pages as the limits say can spell.
+-- each of its writes the volume fits into as many pages as the limits say.
 pub record IsStrictRun (limits : StoreLimits) (script : List ℕ) (found : Option (ℕ × List ℕ))
     (journal : List Entry) (out : List ℕ) : Type 0 where
   pub last : Store

@@ -74,8 +74,8 @@ abbrev pub dump_output : ℕ → List Entry → List ℕ
 dump_output n [] = []
 dump_output n (entry ∷ entries) = write_output n entry ++ dump_output (n + 1) entries
 
--- A run of the script on a store of one pass, whose journal has room for `limit` entries, leaves this
--- volume after at most `most` writes.
+-- A run of the script on a store of one pass, whose journal has room for `limit` entries, leaves
+-- this volume after at most `most` writes.
 pub record MakesVolume (limit : ℕ) (script : List ℕ) (volume : State) (most : ℕ) : Type 0 where
   pub last : Store
   pub replies : List ℕ

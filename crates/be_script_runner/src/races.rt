@@ -5,11 +5,11 @@
 //! Once all threads have ended the store is closed. Then the replies are written, script by script,
 //! and after them the journal and the result of its check.
 //!
-//! A thread promises what it gives back ([`Served`]): a pass of the store, with the script's
-//! number, whose own writes are some of those that the script asks for, and replies that the script
-//! may get where others write, of what the pass has seen. So every pass is there when the store is
-//! closed, what the journal has of a pass is what its script asked for, and each script was replied
-//! from that journal.
+//! A thread promises what it returns ([`Served`]): a pass of the store, with the script's number,
+//! whose own writes are some of those that the script asks for, and replies that the script may get
+//! if others write, of what the pass has seen. So every pass is there when the store is closed,
+//! what the journal has of a pass is what its script asked for, and each script was replied from
+//! that journal.
 ghost use Rattle.std.specs.Prelude.{◌≡◌, ◌≤◌, ◌<◌, ℕ, ◌^◌, ◌++◌, ◌↔◌, true, false, length, vec_len};
 ghost use Rattle.std.specs.Prelude.{map, IfOk, IfErr, OnOk, OnErr, Ok, Err, get_or, nat_lt};
 ghost use Rattle.std.specs.Io.KnownBytes.{Appends};
@@ -74,7 +74,7 @@ fn serve_new<G: Gate>(alloc: Global, store: &Store, pass: Pass, gate: &G, script
     serve_pass(alloc, store, pass, gate, script)
 }
 
-/// Starts a thread for each pass, which serves the script of its number. Memory where one can't be
+/// Starts a thread for each pass, which serves the script of its number. Memory if one can't be
 /// started.
 fn start<'s, E, G: Gate + Sync>(
     scope: &Scope<'s, E>,
@@ -127,7 +127,7 @@ fn start<'s, E, G: Gate + Sync>(
     Ok(threads)
 }
 
-/// The passes, and the replies of each. Memory where one has none.
+/// The passes, and the replies of each. Memory if one has none.
 fn part(alloc: Global, outcomes: Vec<Outcome>) -> Result<(Vec<Pass>, Vec<Vec<u8>>), RunFault>
     ensures passes { IfOk result (λ r. r.0.items ≡ map (λ o. o.0) outcomes.items) }
     ensures replies { IfOk result (λ r. map Ok r.1.items ≡ map (λ o. o.1) outcomes.items) }

@@ -54,7 +54,7 @@ pub fn put<W: Write>(writer: &mut W, bytes: &[u8]) -> Result<(), RunFault>
     Ok(())
 }
 
-/// Runs a line, and then writes its reply. Nothing of it was written where memory is missing.
+/// Runs a line, and then writes its reply. Nothing of it was written if memory is missing.
 fn run_line<S: Server, W: Write>(
     alloc: Global,
     server: &mut S,
@@ -90,7 +90,7 @@ fn end_of_line(script: &[u8]) -> Option<usize>
     script.iter().position(|c| *c == b'\n')
 }
 
-/// The first line without its LF, and what follows it, where there is an LF.
+/// The first line without its LF, and what follows it, if there is an LF.
 pub(crate) fn split_line(script: &[u8]) -> Option<(&[u8], &[u8])>
     ensures first { IfSome result (λ parts. lines_of script.now ≡ parts.0.now
         ∷ lines_of parts.1.now) }

@@ -16,8 +16,8 @@ use be_store::{Pass, Store};
 use be_volume_state::Place;
 use std::alloc::{AllocError, Global};
 
-/// Appends the lines of the next list of the operations of a pass's pinned version. False where
-/// none was left.
+/// Appends the lines of the next list of the operations of a pass's pinned version. False if none
+/// was left.
 fn push_next(
     alloc: Global,
     store: &Store,

@@ -54,7 +54,7 @@ pub trait Server {
     ghost refuses: { Self → List AnyOp → AnyRefusal → Self → Type 0 };
 
     /// Writes operations, all or none: the number of the commit, and an answer for each. It is
-    /// refused by Busy where another pass is writing, else by what the volume says, then
+    /// refused by Busy if another pass is writing, otherwise by what the volume says, then
     /// CommitsSpent, then OutOfMemory, then Full. A pin stays.
     fn apply(&mut self, ops: &[Op]) -> Result<(u64, ArrayVec<Done, 64>), Refusal>
         requires some { 1 ≤ length ops.now }
@@ -223,7 +223,7 @@ impl<'a> PassServer<'a> {
         true
     }
 
-    /// Gives the pin of one read up, where the read made it.
+    /// Gives the pin of one read up, if the read made it.
     fn end_read(&mut self, made: bool)
         requires { IsSome (known self.old.knows).pin }
         ensures stays { seat_of self.new ≡ seat_of self.old }

@@ -3,8 +3,8 @@
 //! Each table is run over the shared store and over a plain volume with its journal, and both give
 //! the replies of the rows.
 //!
-//! Every test passes with any one request for memory refused: a run that wanted memory is looked
-//! at, and made again.
+//! Every test passes with any one request for memory refused: a run that ran out of memory is
+//! looked at, and made again.
 ghost use Rattle.std.specs.Prelude.{◌<◌, ◌^◌};
 
 mod alike;
@@ -185,8 +185,8 @@ fn replies_to(
     }
 }
 
-/// Fails unless the script has these replies by this server, at the second run where the first one
-/// wanted memory.
+/// Fails unless the script has these replies by this server, at the second run if memory ran out at
+/// the first.
 fn check_by(by: By, alloc: Global, script: &[u8], replies: &str, commits: u64) -> Result<(), Fail>
     requires { commits < 2 ^ 32 }
 {

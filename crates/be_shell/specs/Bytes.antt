@@ -1,5 +1,5 @@
--- What a conversation does to the bytes that a reader has left and to those that a writer holds,
--- where they are known.
+-- What a conversation does to the bytes that a reader has left and to those that a writer holds, if
+-- they are known.
 use Rattle.std.specs.Prelude.{◌≡◌, ◌⊎◌, ◌≤◌, ◌<◌, ℕ, false, All, List, [], ◌∷◌, ◌++◌, length, Some}
 use Rattle.std.specs.Prelude.{None}
 use Rattle.std.specs.Io.KnownBytes.{Appends, Consumes, IsAtEnd, Keeps}

@@ -75,7 +75,7 @@ abbrev pub TalkedTo : {P : Type 0} → (P → Event → P → Type 0) → Sessio
 TalkedTo does s p last q = (lines : List Heard) × (talk : List Event) × IsTalk s lines talk last
     × Happens does p (talk ++ ends ∷ []) q
 
--- one exchange, or none where no more lines came
+-- one exchange, or none if no more lines came
 abbrev pub Went : {P : Type 0} → (P → Event → P → Type 0) → Session → P → Bool → Session → P
     → Type 0
 Went does s p true after q = (line : Heard) × (reply : List ℕ) × RepliedTo s line after reply

@@ -6,7 +6,7 @@ ghost use Rattle.be_shell.specs.Bytes.{TakesByte};
 
 use std::io::{self, Read};
 
-/// What Ctrl-C types, where a terminal gives it as a character.
+/// What Ctrl-C types, if a terminal gives it as a character.
 const CANCEL: u8 = 3;
 
 /// The next byte, or None at the end.

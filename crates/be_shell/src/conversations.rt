@@ -88,7 +88,7 @@ fn serve_line<S: Server, P: Peer>(
     Ok(())
 }
 
-/// Hands the state of the store to a peer that wants it.
+/// Hands the state of the store to a peer that asks for it.
 fn hand_state<S: Server, P: Peer>(server: &mut S, peer: &mut P)
     ensures same { (event : Event) (before : P) → P.does before event peer.old
         → P.does before event peer.new }
@@ -104,7 +104,7 @@ fn hand_state<S: Server, P: Peer>(server: &mut S, peer: &mut P)
     }
 }
 
-/// Hears a line, runs it, says its reply and sends it off. False where no more lines come.
+/// Hears a line, runs it, says its reply and sends it off. False if no more lines come.
 fn exchange<S: Server, P: Peer>(
     alloc: Global,
     server: &mut S,

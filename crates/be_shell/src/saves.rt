@@ -12,8 +12,7 @@ fn write_new<R: Files>(rt: &R, name: &str, text: &str) -> io::Result<()> {
     file.sync_all()
 }
 
-/// Gives a draft its name, which no file has. Where the file system has no links the draft is
-/// renamed.
+/// Gives a draft its name, which no file has. If the file system has no links the draft is renamed.
 fn settle<R: Files>(rt: &R, draft: &str, name: &str) -> io::Result<()> {
     match fs::hard_link(rt, draft, name) {
         Ok(()) => fs::remove_file(rt, draft),

@@ -34,7 +34,7 @@ impl Script {
         Some(line)
     }
 
-    /// Tells the place of the line that was taken last.
+    /// Writes to standard error the place of the line that was taken last.
     pub(crate) fn tell_place<R: Eprint>(&self, rt: &R) {
         let (name, number) = (self.name.as_str(), self.number);
         let _ = eprint!(rt; "{name}:{number}: ");

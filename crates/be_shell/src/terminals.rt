@@ -33,7 +33,7 @@ fn aside_in(line: &Line) -> Aside {
     }
 }
 
-/// A line as the shell hears it: where it is for the terminal, an empty line, or the end.
+/// A line as the shell hears it: an empty line or the end if it is for the terminal.
 fn passed_on(alloc: Global, line: Line, aside: Aside) -> Option<Line>
     ensures { hearing result ≡ spec.passed_on (line_heard line) aside }
 {
@@ -60,7 +60,7 @@ fn open_named<R: Files + Eprint>(rt: &R, alloc: Global, line: &[u8]) -> Option<S
     open_script(rt, alloc, name)
 }
 
-/// Answers a line that is for the terminal, where an answer on standard error is all of it.
+/// Answers a line that is for the terminal, if an answer on standard error is all of it.
 fn answer_aside<R: Eprint>(rt: &R, line: &Line, aside: Aside) {
     let _ = match (aside, line) {
         (Aside::Cancelled, _) => eprintln!(rt;),
@@ -150,7 +150,7 @@ fn hear_script<R: Eprint>(
     }
 }
 
-/// A copy of a line, for hints; None too where there is no memory for it.
+/// A copy of a line, for hints; None too if there is no memory for it.
 fn remembered(alloc: Global, heard: &Option<Line>) -> Option<Vec<u8>> {
     let Some(Line::Short(bytes)) = heard else {
         return None;
@@ -204,7 +204,8 @@ impl<'a, R: Files + Eprint, P: Peer> Terminal<'a, R, P> {
         }
     }
 
-    /// Tells what a reply to the last line doesn't, after its place in a file.
+    /// Writes to standard error what a reply to the last line doesn't say, after the line's place
+    /// in a file.
     fn tell_hint(&self, reply: &[u8]) {
         let Some(heard) = &self.heard else {
             return;

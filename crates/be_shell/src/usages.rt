@@ -43,7 +43,7 @@ fn usage_of(command: &[u8]) -> Option<&'static str> {
     None
 }
 
-/// Tells of a command, or that there is none of this name.
+/// Writes to standard error how a command is used, or that there is none of this name.
 pub(crate) fn tell_usage<R: Eprint>(rt: &R, command: &[u8]) {
     let _ = match usage_of(command) {
         Some(usage) => eprintln!(rt; "{usage}"),
@@ -127,8 +127,8 @@ pub(crate) fn wants_hint(reply: &[u8]) -> bool {
     reply == b"bad line\n".as_slice() || fault_at(reply).is_some()
 }
 
-/// Tells what a reply doesn't: how the command of a bad line is used, and where a query has its
-/// error.
+/// Writes to standard error what a reply doesn't say: how the command of a bad line is used, and
+/// where a query has its error.
 pub(crate) fn hint<R: Eprint>(rt: &R, alloc: Global, line: &[u8], reply: &[u8]) {
     if reply == b"bad line\n".as_slice() {
         let (word, _) = split_word(skip(line));

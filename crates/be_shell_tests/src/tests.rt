@@ -134,7 +134,7 @@ fn talk(alloc: Global, peer: &mut Strict) -> Result<(), RunFault> {
 const CALLS: usize = 3 * ROWS + 1;
 
 /// Whether a conversation that fails at this call ends there with its fault, all before it in
-/// order; or to its end, where none fails.
+/// order; or to its end, if none fails.
 fn ends_at(alloc: Global, call: usize) -> bool {
     let mut peer = Strict::new(call);
     let ended = talk(alloc, &mut peer);
@@ -174,7 +174,7 @@ fn said_to(alloc: Global, first: &[u8], bytes: &[u8]) -> Result<Vec<u8>, RunFaul
     }
 }
 
-/// Fails unless a shell says this, asked again where memory was wanted.
+/// Fails unless a shell says this, asked again if memory ran out.
 fn check(alloc: Global, first: &[u8], bytes: &[u8], replies: &str) -> Result<(), Fail> {
     for _ in 0..2 {
         if let Ok(said) = said_to(alloc, first, bytes) {
@@ -217,7 +217,7 @@ fn shown_to(alloc: Global, bytes: &[u8]) -> Result<Vec<u8>, RunFault> {
     Ok(late)
 }
 
-/// Fails unless this is shown, asked again where memory was wanted.
+/// Fails unless this is shown, asked again if memory ran out.
 fn check_shown(alloc: Global, bytes: &[u8], replies: &str) -> Result<(), Fail> {
     for _ in 0..2 {
         if let Ok(shown) = shown_to(alloc, bytes) {

@@ -288,7 +288,7 @@ fn open_for_journal<R: Files>(rt: &R, file: &str) -> Result<R::File, Unopened> {
     }
 }
 
-/// How a talk ended, and the journal of its store, where there is one.
+/// How a talk ended, and the journal of its store, if there is one.
 type Talk = (Result<(), RunFault>, Option<Journal>);
 
 /// Which sides of a shell are a terminal.
@@ -516,7 +516,7 @@ enum Telling {
     DumpState,
 }
 
-/// Tells it of the journal in a file.
+/// Prints it of the journal in a file.
 fn tell_of_file<R: Runtime + AllocGlobal>(
     rt: &R,
     file: &str,

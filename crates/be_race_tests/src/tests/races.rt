@@ -57,7 +57,7 @@ fn text_of(written: Vec<u8>) -> Option<String> {
     Some(text)
 }
 
-/// What a race on so many pages writes, or None where memory was wanted.
+/// What a race on so many pages writes, or None if memory ran out.
 fn raced_on<R: Threads + Wait, G: Gate + Sync>(
     rt: &R,
     alloc: Global,
@@ -88,7 +88,7 @@ pub fn raced<R: Threads + Wait, G: Gate + Sync>(
     raced_on(rt, alloc, texts, 256, gate)
 }
 
-/// What a race writes, raced again where memory was wanted.
+/// What a race writes, raced again if memory ran out.
 fn outcome_of<R: Threads + Wait, G: Gate + Sync>(
     rt: &R,
     alloc: Global,
@@ -139,7 +139,7 @@ impl Calls {
         }
     }
 
-    /// A line ends. It is in its turn where it began last, and hasn't ended.
+    /// A line ends. It is in its turn if it began last, and hasn't ended.
     fn end(&self, line: u64) {
         let ended = self.ended.swap(line, SeqCst);
         if line != self.begun.load(SeqCst) || line != ended.wrapping_add(1) {
@@ -288,7 +288,7 @@ fn check_lines<R: Threads + Wait>(rt: &R, alloc: Global, line: &str) -> Result<(
     expect(told == Some(true), line)
 }
 
-/// Blank lines, comments and bad ones count, and what follows the last LF where it isn't empty.
+/// Blank lines, comments and bad ones count, and what follows the last LF if it isn't empty.
 #[test]
 fn lines_at_the_gate(rt: HostRuntime) -> Result<(), Fail> {
     let lines = "1 new\n1 new|\n1 |\n2 ||\n4 # a||new\r|sett|\n2 new| ";
@@ -329,7 +329,7 @@ fn races_of_two_to_four(rt: HostRuntime) -> Result<(), Fail> {
     Ok(())
 }
 
-/// A text so many times. It is made again where memory is refused.
+/// A text so many times. It is made again if memory is refused.
 fn repeated(alloc: Global, text: &str, count: usize) -> Result<String, AllocError> {
     match text.repeat(alloc, count) {
         Err(_) => text.repeat(alloc, count),
@@ -397,7 +397,7 @@ fn end_of_length<R: Threads + Wait>(rt: &R, alloc: Global, length: usize) -> &'s
     end_of(rt, scripts, 64)
 }
 
-/// Fails unless it ends so, at the second race where memory was wanted at the first.
+/// Fails unless it ends so, at the second race if memory ran out at the first.
 fn check_length<R: Threads + Wait>(
     rt: &R,
     alloc: Global,
@@ -454,8 +454,7 @@ fn count_fulls(alloc: Global, written: &str) -> Result<(usize, usize), AllocErro
     Ok((entries, fulls))
 }
 
-/// The same of a race of an empty script and this one, on so many pages; None where memory was
-/// wanted.
+/// The same of a race of an empty script and this one, on so many pages; None if memory ran out.
 fn fulls_on<R: Threads + Wait>(
     rt: &R,
     alloc: Global,
@@ -487,8 +486,8 @@ fn check_fulls<R: Threads + Wait>(
     Err(Fail::new(pages))
 }
 
-/// A race has as many pages as its limits say: 8 refuse some of 60 nodes, and tell the current
-/// version where nothing is pinned; 64 take them all.
+/// A race has as many pages as its limits say: 8 refuse some of 60 nodes, and report the current
+/// version if nothing is pinned; 64 take them all.
 #[test]
 fn pages_of_a_race(rt: HostRuntime) -> Result<(), Fail> {
     let script = repeated(rt.alloc(), "new\n", 60)?;

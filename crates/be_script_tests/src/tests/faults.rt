@@ -31,7 +31,7 @@ fn some_error(number: usize) -> io::Error {
     })
 }
 
-/// Gives its bytes one at a time, then fails where it is to, and counts its reads.
+/// Gives its bytes one at a time, then fails if it is to, and counts its reads.
 #[derive(Drop)]
 struct Dripping<'a> {
     bytes: &'a [u8],
@@ -95,7 +95,7 @@ fn drip(alloc: Global, bytes: &[u8], fails: bool) -> Outcome {
     }
 }
 
-/// Runs a script that comes byte by byte, again where memory was wanted.
+/// Runs a script that comes byte by byte, again if memory ran out.
 pub fn dripped(alloc: Global, bytes: &[u8], fails: bool) -> Outcome {
     let outcome = drip(alloc, bytes, fails);
     if outcome.end == "memory" {
@@ -124,7 +124,7 @@ fn failing_reader(rt: HostRuntime) -> Result<(), Fail> {
 }
 
 /// Whether a run writes as many bytes of the replies as there is room for, and then ends with
-/// `Write`; or with success, where there is room for all.
+/// `Write`; or with success if there is room for all.
 fn fills(alloc: Global, room: usize, fails: bool) -> bool {
     let mut writer = Narrow::new(REPLIES.as_bytes(), room, fails);
     let end = end_of(run(alloc, &mut SCRIPT.as_bytes(), &mut writer, LIMITS));
@@ -135,8 +135,8 @@ fn fills(alloc: Global, room: usize, fails: bool) -> bool {
     }
 }
 
-/// The same of a writer that fails and of one that takes nothing, at the second run where memory
-/// may have been wanted at the first.
+/// The same of a writer that fails and of one that takes nothing, at the second run if memory may
+/// have run out at the first.
 fn fills_by_each(alloc: Global, room: usize) -> bool {
     (fills(alloc, room, true) || fills(alloc, room, true))
         && (fills(alloc, room, false) || fills(alloc, room, false))

@@ -201,7 +201,7 @@ fn run_within(alloc: Global, limits: Limits) -> &'static str {
     end_of(run(alloc, &mut b"# x".as_slice(), &mut written, limits))
 }
 
-/// The same, run again where memory was wanted.
+/// The same, run again if memory ran out.
 fn end_within(alloc: Global, limits: Limits) -> &'static str {
     match run_within(alloc, limits) {
         "memory" => run_within(alloc, limits),
@@ -209,7 +209,7 @@ fn end_within(alloc: Global, limits: Limits) -> &'static str {
     }
 }
 
-/// The number that a word spells, 0 where there is none.
+/// The number that a word encodes, 0 if there is none.
 fn number_in(word: Option<&str>) -> u64 {
     word_of(word.unwrap_or("").as_bytes()).unwrap_or(0)
 }

@@ -18,7 +18,7 @@ fn repeated(
     Ok(script)
 }
 
-/// The replies to a script over so few pages, or none where memory was wanted.
+/// The replies to a script over so few pages, or none if memory ran out.
 fn replies_over(alloc: Global, pages: u64, script: &str) -> Option<String> {
     let mut replies: Vec<u8> = Vec::new(alloc);
     let limits = Limits { pages, ..LIMITS };
