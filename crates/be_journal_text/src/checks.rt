@@ -11,7 +11,8 @@ use std::alloc::{AllocError, Global};
 pub enum Finding {
     /// The text has no journal.
     NoJournal,
-    /// Each of so many entries was answered as a volume answers it that ran those before it.
+    /// The journal has this many entries. Each has the outcomes of a volume that ran those before
+    /// it.
     Right(u64),
     /// The line of the first entry that was not, with its LF, and how many entries the journal has.
     Wrong(String, u64),

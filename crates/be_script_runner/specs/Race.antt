@@ -108,9 +108,8 @@ abbrev pub AreFirstTexts : List (List ℕ) → List ℕ → Type 0
 AreFirstTexts replies out = (k : ℕ) × (out ≡ replies_text 0 (take k replies))
 
 -- What a race writes is the replies to its scripts, and a legal journal of the store that replied.
--- Each entry is by one of the scripts, and the operations that are by a script are some of those
--- that its lines ask for, in their order. After each entry the volume fits into as many pages as
--- the limits say.
+-- Each entry is by one of the scripts. The operations by a script are some of those that its lines
+-- ask for, in their order. After each entry the volume fits into as many pages as the limits say.
 pub record IsRace (limits : StoreLimits) (scripts : List (List ℕ)) (out : List ℕ) : Type 0 where
   pub replies : List (List ℕ)
   pub journal : List Entry

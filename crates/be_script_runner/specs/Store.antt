@@ -102,7 +102,7 @@ entered s ops volume dones = record s {
   volume = volume;
 }
 
--- A write: a refusal of the volume goes before that of a journal at its limit.
+-- A write: a refusal by the volume comes before the refusal of a journal at its limit.
 abbrev pub written_by : Store → List Op → Result (State × List Done) Refusal
     → Result (Store × List Done) Refusal
 written_by s ops (Ok answer) = if nat_lt (length s.journal) s.limit

@@ -5,8 +5,8 @@
 ghost use Rattle.std.specs.Prelude.{ℕ};
 ghost use Rattle.be_script_runner.specs.Gates.{IsNext};
 
-/// Is called for each line of a race, once before it and once after it, on the thread that runs the
-/// line, and may keep that thread waiting. Lines count from 1 over all lines of a script, blank
+/// A race calls it for each line, once before the line and once after it, on the thread that runs
+/// the line. It may keep that thread waiting. Lines count from 1 over all lines of a script, blank
 /// ones and comments too; what follows the last LF is a line only if it isn't empty.
 ///
 /// The two ghosts say which line of which pass has begun and has ended. A gate needn't define them:

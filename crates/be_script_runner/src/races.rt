@@ -6,10 +6,10 @@
 //! and after them the journal and the result of its check.
 //!
 //! A thread promises what it returns ([`Served`]): a pass of the store, with the script's number,
-//! whose own writes are some of those that the script asks for, and replies that the script may get
-//! if others write, of what the pass has seen. So every pass is there when the store is closed,
-//! what the journal has of a pass is what its script asked for, and each script was replied from
-//! that journal.
+//! and replies. The pass's own writes are some of those that the script asks for. The replies are
+//! ones that the script may get of what the pass has seen, if others write too. So every pass is
+//! there when the store is closed. The journal's entries of a pass are writes of its script, and
+//! the replies to each script agree with that journal.
 ghost use Rattle.std.specs.Prelude.{◌≡◌, ◌≤◌, ◌<◌, ℕ, ◌^◌, ◌++◌, ◌↔◌, true, false, length, vec_len};
 ghost use Rattle.std.specs.Prelude.{map, IfOk, IfErr, OnOk, OnErr, Ok, Err, get_or, nat_lt};
 ghost use Rattle.std.specs.Io.KnownBytes.{Appends};
@@ -339,8 +339,8 @@ fn serve_on_new<R: Threads + Wait, G: Gate + Sync>(
 }
 
 /// Races two to four scripts against one another on an empty store, which has the pages and commits
-/// of the limits and a pass for each script, and says whether the journal is legal. It is: false is
-/// never answered.
+/// of the limits and a pass for each script, and returns whether the journal is legal, which is
+/// always true.
 ///
 /// The limits are looked at first, then the lengths of the scripts, of at most 1,048,576 bytes
 /// each; if one of these is invalid, nothing is written. Script k is run from pass k, on a thread

@@ -64,8 +64,8 @@ abbrev pub Happens : {P : Type 0} → (P → Event → P → Type 0) → P → L
 Happens does p [] q = q ≡ p
 Happens {P} does p (event ∷ events) q = (mid : P) × does p event mid × Happens does mid events q
 
--- a peer of which so many lines were heard and replied to, from one session and state of the peer
--- to others
+-- this many lines of a peer were heard and replied to, from one session and state of the peer to
+-- others
 abbrev pub SoFar : {P : Type 0} → (P → Event → P → Type 0) → Session → P → ℕ → Session → P → Type 0
 SoFar does s p count mid q = (lines : List Heard) × (talk : List Event) × IsTalk s lines talk mid
     × Happens does p talk q × (length lines ≡ count)

@@ -131,10 +131,10 @@ fn exchange<S: Server, P: Peer>(
 /// Talks with a peer until no more lines come, or until a fault.
 ///
 /// Each line is run before its reply is said, and the reply is sent off before the next line is
-/// heard. An open batch and a live query go on from the client as it is, and stay in it afterwards,
-/// so that a conversation can be carried on with another peer. A fault leaves what was said before
-/// it, and a front of the reply that it broke off; `Memory` leaves the line run or not. `Read`
-/// comes too after 2^64 - 1 lines.
+/// heard. An open batch and a live query of the client go on, and stay in it afterwards, so a
+/// conversation can go on with another peer. A fault leaves what was said before it, and a front of
+/// the reply that it broke off; `Memory` leaves the line run or not. `Read` comes too after 2^64 -
+/// 1 lines.
 pub fn converse<S: Server, P: Peer>(
     alloc: Global,
     server: &mut S,
