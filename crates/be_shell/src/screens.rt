@@ -58,7 +58,7 @@ pub struct Screen<P> {
 }
 
 impl<P: Peer> Screen<P> {
-    /// Wraps a peer. Nothing was said to it yet.
+    /// Makes a screen over a peer. No write has failed yet.
     pub fn new(peer: P) -> Screen<P>
         ensures { (result.peer ≡ peer) × (result.is_torn ≡ false) }
     {

@@ -33,7 +33,7 @@ fn aside_in(line: &Line) -> Aside {
     }
 }
 
-/// A line as the shell hears it: an empty line or the end if it is for the terminal.
+/// A line as the shell hears it: itself, or an empty line or the end if it is for the terminal.
 fn passed_on(alloc: Global, line: Line, aside: Aside) -> Option<Line>
     ensures { hearing result ≡ spec.passed_on (line_heard line) aside }
 {
