@@ -28,7 +28,7 @@ dump entries = flat_map (λ entry. write_lines entry.ops) entries
 abbrev pub by_only_pass : Entry → Entry
 by_only_pass entry = record { by = 0; ops = entry.ops; dones = entry.dones }
 
--- cut into lists of 64, the last of which may be shorter; so many lists at most
+-- cut into lists of 64, the last of which may be shorter; up to so many lists
 abbrev pub cut_within : ℕ → List Op → List (List Op)
 cut_within zero ops = []
 cut_within (suc most) [] = []
@@ -47,7 +47,7 @@ abbrev pub state_dump : State → List ℕ
 state_dump s = cut_lines (state_ops s)
 
 -- The script of the volume that a text's journal makes, each of whose operations is one of the
--- program; none where the text tells no journal.
+-- program; none if the text has no journal.
 abbrev pub IsStateDump : List ℕ → Option (List ℕ) → Type 0
 IsStateDump text None = (entries : List Entry) → CanBeJournal entries → TextTells text entries → ⊥
 IsStateDump text (Some script) =

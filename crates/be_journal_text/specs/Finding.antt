@@ -1,4 +1,4 @@
--- Which journal a text tells, and what the check of it finds.
+-- Which journal a text has, and what the check of it finds.
 use Rattle.std.specs.Prelude.{◌≡◌, ◌⊎◌, ℕ, ◌+◌, ◌<◌, ◌≤◌, ◌^◌, All, List, [], ◌∷◌, ◌++◌, length}
 use Rattle.std.specs.Prelude.{get_or, Some, None, codes}
 use Rattle.std.specs.Fmt.{decimal}
@@ -19,8 +19,8 @@ AreLines text = (text ≡ []) ⊎ ((front : List ℕ) × (text ≡ front ++ 10 �
 abbrev pub head : ℕ → List ℕ
 head count = codes "journal " ++ (decimal count ++ codes "\n")
 
--- A text tells the journal whose text it is, or that which stands as the result of a race behind
--- its other lines.
+-- A text has the journal whose text it is, or the one that follows the other lines of a race as its
+-- result.
 abbrev pub TextTells : List ℕ → List Entry → Type 0
 TextTells text entries = (text ≡ lines_from 1 entries)
     ⊎ ((front : List ℕ) × AreLines front × (text ≡ front ++ result_text entries))
@@ -30,7 +30,7 @@ abbrev pub IsFromJ : List ℕ → List ℕ → Type 0
 IsFromJ text rest = (front : List ℕ) × (more : List ℕ) × AreLines front × (text ≡ front ++ rest)
     × (rest ≡ 106 ∷ more)
 
--- the same of the last such line; none where no line begins so
+-- the same of the last such line; none if no line begins so
 abbrev pub IsFromLastJ : List ℕ → Option (List ℕ) → Type 0
 IsFromLastJ text None = (rest : List ℕ) → IsFromJ text rest → ⊥
 IsFromLastJ text (Some last) = IsFromJ text last
@@ -40,8 +40,8 @@ IsFromLastJ text (Some last) = IsFromJ text last
 abbrev pub AreChecked : List Entry → Type 0
 AreChecked entries = All IsEntry entries × (length entries < 2 ^ 32)
 
--- what the check of a text finds: that it tells no journal, that its journal of so many entries is
--- right, or how many it has and the line of the first wrong one
+-- what the check of a text finds: that it has no journal, that its journal of this many entries is
+-- right, or how many entries it has and the line of the first wrong one
 pub data Found : Type 0 where
   no_journal : Found
   right : ℕ → Found

@@ -52,7 +52,7 @@ pub record CanBeEntry (entry : Entry) : Type 0 where
 abbrev pub CanBeJournal : List Entry → Type 0
 CanBeJournal entries = All CanBeEntry entries × (length entries < 2 ^ 32)
 
--- the entry of these lists, where they have 1 to 64 operations, and an answer for each
+-- the entry of these lists, if they have 1 to 64 operations, and an answer for each
 abbrev pub entry_of : ℕ → List Op → List Done → Option Entry
 entry_of by ops dones =
     if nat_le 1 (length ops) && (nat_le (length ops) 64 && nat_eq (length dones) (length ops))

@@ -15,7 +15,7 @@ abbrev pub piece_text : Piece → List ℕ
 piece_text (byte c) = c ∷ []
 piece_text (in_quotes characters) = 34 ∷ (flat_map escaped characters ++ 34 ∷ [])
 
--- no end stands here outside quotes
+-- this piece is no end outside quotes
 abbrev pub IsApart : ℕ → Piece → Type 0
 IsApart end (byte c) = (c ≢ end) × (c ≢ 34)
 IsApart end (in_quotes characters) = 34 ≢ end

@@ -9,9 +9,10 @@ use std::alloc::{AllocError, Global};
 /// What the check of a text finds.
 #[derive(Debug, Drop, PartialEq, Eq)]
 pub enum Finding {
-    /// The text tells no journal.
+    /// The text has no journal.
     NoJournal,
-    /// Each of so many entries was answered as a volume answers it that ran those before it.
+    /// The journal has this many entries. Each has the outcomes of a volume that ran those before
+    /// it.
     Right(u64),
     /// The line of the first entry that was not, with its LF, and how many entries the journal has.
     Wrong(String, u64),
@@ -30,9 +31,9 @@ fn finding_of(alloc: Global, entries: &[Entry]) -> Result<Finding, AllocError>
     Ok(Finding::Wrong(line, count))
 }
 
-/// Runs the journal that a text tells again, on an empty volume: whether each entry was answered
-/// the same, or the first that was not, and how many it has. It trusts nothing but the text. Only
-/// want of memory is an error.
+/// Runs the journal of a text again, on an empty volume. Returns whether each entry was answered
+/// the same, or the first that was not, and how many entries there are. It trusts nothing but the
+/// text. The only error is out of memory.
 pub fn check(alloc: Global, text: &[u8]) -> Result<Finding, AllocError>
     ensures { IfOk result (λ found. spec.IsFinding text.now (spec.found_of found)) }
 {

@@ -21,7 +21,7 @@ use std::alloc::{AllocError, Global};
 /// The most entries of a journal.
 const MAX_ENTRIES: usize = (1 << 32) - 1;
 
-/// An entry of these lists, where they fit each other and are no longer than those of a write.
+/// An entry of these lists, if they fit each other and are no longer than those of a write.
 fn entry_of(by: u64, ops: Vec<Op>, dones: Vec<Done>) -> Option<Entry>
     ensures { result ≡ history.entry_of by ops.items dones.items }
 {
@@ -59,7 +59,8 @@ fn parts_of(alloc: Global, number: u64, line: &[u8]) -> Result<(&[u8], &[u8], &[
     Ok((by, without_last_two(ops), dones))
 }
 
-/// The entry that a line with its LF tells, if it is one that was printed; else any or none.
+/// The entry of a line with its LF, if the line is one that was printed; otherwise any entry or
+/// none.
 fn guess_entry(alloc: Global, number: u64, line: &[u8]) -> Result<Option<Entry>, AllocError>
     ensures whole { IfOk result (λ read. (entry : AnyEntry) → history.CanBeEntry entry → line.now
         ≡ entry_line number entry → read ≡ Some entry) }
@@ -78,7 +79,7 @@ fn guess_entry(alloc: Global, number: u64, line: &[u8]) -> Result<Option<Entry>,
     Ok(entry_of(by, ops, dones))
 }
 
-/// The entry of which this is the line, its LF included. None where it is none's.
+/// The entry that has this line, its LF included. None if no entry has it.
 fn read_entry(alloc: Global, number: u64, line: &[u8]) -> Result<Option<Entry>, AllocError>
     ensures reads { IfOk result (λ read. IfSome read
         (λ entry. history.CanBeEntry entry × (line.now ≡ entry_line number entry))) }
@@ -112,11 +113,11 @@ pub(crate) fn first_line(text: &[u8]) -> (&[u8], &[u8])
     }
 }
 
-/// Reads a journal's text: its entries, or None where no journal has this text. Only want of memory
-/// is an error.
+/// Reads a journal's text: its entries, or None if no journal has this text. The only error is out
+/// of memory.
 ///
-/// It is the exact inverse of the text: what it gives has this text, and where entries have this
-/// text it gives them.
+/// It is the exact inverse of the text: what it gives has this text, and if entries have this text
+/// it gives them.
 pub fn read_journal(alloc: Global, text: &[u8]) -> Result<Option<Vec<Entry>>, AllocError>
     ensures reads { IfOk result (λ read. IfSome read
         (λ entries. history.CanBeJournal entries.items × (text.now ≡ lines_from 1 entries.items))) }

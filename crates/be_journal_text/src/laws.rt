@@ -18,7 +18,7 @@ pub fn texts_differ()
         → lines_from 1 entries ≡ lines_from 1 others → entries ≡ others }
 {}
 
-/// No text tells two journals.
+/// No text has two journals.
 pub fn text_tells_one()
     ensures { (text : List ℕ) (entries others : List AnyEntry) → CanBeJournal entries
         → CanBeJournal others → TextTells text entries → TextTells text others →

@@ -1,7 +1,7 @@
 //! The operations and the answers of an entry's line.
 //!
-//! What is read here is right where the text is one that was printed, and else anything: an entry
-//! is printed again once it is read, and is taken only where that gives the line.
+//! What is read here is right if the text is one that was printed; otherwise it may be anything. An
+//! entry is printed again once it is read, and is taken only if that gives the line.
 ghost use Rattle.std.specs.List.{join_by};
 ghost use Rattle.std.specs.Option.{option_map};
 ghost use Rattle.std.specs.Prelude.{◌≡◌, List, All, Some, IfOk, codes};
@@ -31,7 +31,7 @@ fn read_op(alloc: Global, text: &[u8]) -> Result<Option<Op>, AllocError>
     }
 }
 
-/// The answer that a text tells: the number behind `node `, if there is one.
+/// The outcome that a text is for: the number after `node `, if there is one.
 fn read_done(text: &[u8]) -> Done
     ensures { (done : AnyDone) → history.CanBeDone done → text.now ≡ done_text done → result
         ≡ done }

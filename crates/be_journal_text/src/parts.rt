@@ -6,16 +6,16 @@ ghost use Rattle.std.specs.Prelude.{◌≡◌, ◌≤◌, ◌<◌, ◌-◌, ◌�
 ghost use Rattle.std.specs.Prelude.{take, length, nat_eq, if◌then◌else◌};
 ghost use Rattle.be_journal_text.specs.Parts as spec;
 
-/// Whether a byte stands in quotes.
+/// Whether a byte is in quotes.
 #[derive(Clone, Copy, Debug, PartialEq, Eq)]
 pub enum Quoting {
     Outside,
     Inside,
-    /// In quotes, behind a backslash.
+    /// In quotes, after a backslash.
     Escaped,
 }
 
-/// Where the byte behind this one stands.
+/// Whether the byte after this one is in quotes.
 fn behind(quoting: Quoting, byte: u8) -> Quoting
     ensures outside { quoting ≡ Quoting.Outside → result
         ≡ (if nat_eq byte 34 then Quoting.Inside else Quoting.Outside) }
@@ -54,7 +54,7 @@ fn is_end(end: u8, quoting: Quoting, byte: u8) -> bool
     }
 }
 
-/// How many bytes stand before the first `end` outside quotes; all where there is none.
+/// How many bytes come before the first `end` outside quotes; all if there is none.
 fn length_to(end: u8, text: &[u8]) -> usize
     ensures ends { (part more : List ℕ) → spec.IsLinePart end part → text.now ≡ part ++ end ∷ more
         → result ≡ length part }
@@ -86,8 +86,8 @@ pub fn skip(count: usize, text: &[u8]) -> &[u8]
     }
 }
 
-/// What stands before the first `end` outside quotes, and what follows that `end`; all and nothing
-/// where there is none.
+/// What comes before the first `end` outside quotes, and what follows that `end`; all and nothing
+/// if there is none.
 pub fn split_around(end: u8, text: &[u8]) -> (&[u8], &[u8])
     ensures ends { (part more : List ℕ) → spec.IsLinePart end part → text.now ≡ part ++ end ∷ more
         → (result.0.now ≡ part) × (result.1.now ≡ more) }

@@ -30,7 +30,7 @@ pub fn push_write(alloc: Global, text: &mut String, ops: &[Op]) -> Result<(), Al
     text.push_str(write_text(alloc, ops)?.as_str())
 }
 
-/// Appends the lines of the next list of a volume's operations. False where none was left.
+/// Appends the lines of the next list of a volume's operations. False if none was left.
 fn push_next(
     alloc: Global,
     whole: &mut WholeVolume<'_>,
@@ -54,7 +54,7 @@ fn push_next(
 }
 
 /// The script that makes a volume, and not its history: what `dump_state` gives of a journal that
-/// makes this volume. Only want of memory is an error.
+/// makes this volume. The only error is out of memory.
 pub fn volume_text(alloc: Global, volume: &Volume) -> Result<String, AllocError>
     ensures text { IfOk result (λ text. string_bytes text ≡ spec.state_dump volume.now) }
     ensures can { OnOk result (All CanBeOp (state_ops volume.now)) }
@@ -77,9 +77,9 @@ fn entries_text(alloc: Global, entries: &[Entry]) -> Result<String, AllocError>
     volume_text(alloc, &volume)
 }
 
-/// The script that makes the volume of the journal that a text tells, and not its history: nodes
-/// with their numbers, attributes and indices with the pairs that they have, in batches of 64
-/// operations. None where the text tells no journal. Only want of memory is an error.
+/// The script that makes the volume of a text's journal, and not its history: nodes with their
+/// numbers, attributes and indices with the pairs that they have, in batches of 64 operations. None
+/// if the text has no journal. The only error is out of memory.
 ///
 /// An entry that the volume refuses, as only a wrong journal has one, changes nothing. What the
 /// script makes is be_script_runner's law `state_dump_makes_volume`. It costs what the entries

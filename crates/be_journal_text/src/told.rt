@@ -17,7 +17,7 @@ use std::alloc::{AllocError, Global};
 /// The last line of what was printed.
 const LAST_LINE: &[u8] = b"replay ok\n";
 
-/// The text from its last line on that begins with `j`. None where no line does.
+/// The text from its last line on that begins with `j`. None if no line does.
 fn from_last_j(text: &[u8]) -> Option<&[u8]>
     ensures { spec.IsFromLastJ text.now (option_map (λ t. t.now) result) }
 {
@@ -42,7 +42,7 @@ fn is_head(alloc: Global, text: &[u8], count: usize) -> Result<bool, AllocError>
     Ok(head.as_bytes() == text)
 }
 
-/// The lines before the last one, where that says that the replay is right.
+/// The lines before the last one, if that says that the replay is right.
 fn before_last(text: &[u8]) -> Option<&[u8]>
     ensures { MatchOption result ((lines : List ℕ) → text.now ≢ lines ++ codes "replay ok\n")
         (λ lines. text.now ≡ lines.now ++ codes "replay ok\n") }
@@ -72,11 +72,11 @@ fn read_result(alloc: Global, text: &[u8]) -> Result<Option<Vec<Entry>>, AllocEr
     }
 }
 
-/// The journal that a text tells: what a race printed, or a run that prints its journal, or the
-/// journal's text alone. None where it tells none. Only want of memory is an error.
+/// The journal of a text: of what a race printed, or a run that prints its journal, or of the
+/// journal's text alone. None if the text has no journal. The only error is out of memory.
 ///
-/// It is exact: what it gives is told by this text, and what the text tells it gives. So no text
-/// tells two journals.
+/// It is exact: the journal that it returns is the text's, and it returns each journal that a text
+/// has. So no text has two journals.
 pub fn journal_told(alloc: Global, text: &[u8]) -> Result<Option<Vec<Entry>>, AllocError>
     ensures reads { IfOk result (λ read. IfSome read
         (λ entries. CanBeJournal entries.items × spec.TextTells text.now entries.items)) }

@@ -1,7 +1,7 @@
 //! Texts of journals, as docs/SCRIPTS.md shows them: what is read, what isn't, what a check finds,
 //! and the script of a journal.
 //!
-//! Every test passes with any one request for memory refused: a call that wanted memory is made
+//! Every test passes with any one request for memory refused: a call that ran out of memory is made
 //! again.
 use be_journal::{Entry, entry_line};
 use be_journal_text::{Finding, check, dump, dump_state, journal_told, read_journal};
@@ -43,7 +43,7 @@ new\n\
 drop 2\n\
 commit\n";
 
-/// A journal with an attribute that stands outside of its index, and one that doesn't.
+/// A journal with an attribute that is outside of its index, and one that isn't.
 const OUTSIDE: &str = "\
 1 by 0 new; set 1 \"k\" LONG 5; mkindex \"k\" LONG -> node 1; ok; ok\n\
 2 by 1 mkindex \"j\" LONG -> ok\n\
@@ -59,7 +59,7 @@ mkindex \"k\" LONG\n\
 set 1 \"j\" LONG 6\n\
 commit\n";
 
-/// The entries of a text; asked once more where memory was wanted.
+/// The entries of a text; asked once more if memory ran out.
 fn read(alloc: Global, text: &str) -> Result<Option<Vec<Entry>>, AllocError> {
     match read_journal(alloc, text.as_bytes()) {
         Ok(read) => Ok(read),
@@ -162,7 +162,7 @@ fn other_texts_are_not(rt: HostRuntime) -> Result<(), Fail> {
     Ok(())
 }
 
-/// What stands before the last `journal N` doesn't matter, and what stands behind it does.
+/// What comes before the last `journal N` doesn't matter, and what comes after it does.
 #[test]
 fn results_are_told(rt: HostRuntime) -> Result<(), Fail> {
     let alloc = rt.alloc();
@@ -204,6 +204,8 @@ fn shown(found: &Finding) -> (&str, u64) {
     }
 }
 
+/// Each text has this finding: no journal, right, or the first wrong line; and this number of
+/// entries.
 #[test]
 fn journals_are_checked(rt: HostRuntime) -> Result<(), Fail> {
     let alloc = rt.alloc();
@@ -278,7 +280,7 @@ fn nodes_told(alloc: Global, count: u64) -> Result<String, AllocError> {
     Ok(text)
 }
 
-/// The script of their state: a batch for each 64, and one for the rest where it is more than one.
+/// The script of their state: a batch for each 64, and one for the rest if it is more than one.
 fn nodes_dumped(alloc: Global, count: u64) -> Result<String, AllocError> {
     let mut text = String::new(alloc);
     for n in 1..=count {

@@ -21,8 +21,8 @@ use Rattle.be_script_language.specs.Values.{same, kind_in, value_in}
 use Rattle.be_script_language.specs.Words.{is_blank, is_empty, skip, end_of_word, bytes_of}
 use Rattle.be_script_language.specs.Words.{first_word, one_word, two_words}
 
--- What a line asks for. A name or a value may be one that no store takes: then its refusal stands
--- in its place.
+-- What a line asks for. A name or a value may be one that no store takes: then its refusal takes
+-- its place.
 pub data Request : Type 0 where
   silent : Request
   malformed : Request
@@ -44,7 +44,8 @@ pub data Request : Type 0 where
 abbrev pub named : (List ℕ → Op) → List ℕ → Result Op Refusal
 named op name = result_map_both op (λ e. e) (name_from name)
 
--- the operation that sets an attribute, or the refusal of its name, or else that of its value
+-- the operation that sets an attribute, or the refusal of its name, or that of its value if the
+-- name is taken
 abbrev pub set_op : ℕ → Result (List ℕ) Refusal → Result Value Refusal → Result Op Refusal
 set_op node (Ok name) (Ok value) = Ok (Set node name value)
 set_op node (Ok name) (Err e) = Err e
@@ -155,7 +156,7 @@ abbrev pub is_comment : List ℕ → Bool
 is_comment [] = false
 is_comment (c ∷ line) = nat_eq c 35
 
--- bytes as text, where they are UTF-8
+-- bytes as text, if they are UTF-8
 abbrev pub utf8 : List ℕ → Option (List ℕ)
 utf8 bytes = if is_utf8 bytes then Some bytes else None
 

@@ -1,4 +1,4 @@
--- Kinds and values as words of a line spell them.
+-- Kinds and values as words of a line encode them.
 use Rattle.std.specs.Prelude.{ℕ, ◌+◌, ◌*◌, ◌-◌, ◌^◌, Bool, List, [], ◌∷◌, length, nat_eq, nat_lt}
 use Rattle.std.specs.Prelude.{nat_le, ◌&&◌, if◌then◌else◌, Some, None, Ok, codes, pos, negsuc}
 use Rattle.std.specs.Option.{option_and_then, option_map}
@@ -74,15 +74,15 @@ first_byte_in [] = None
 first_byte_in (c ∷ []) = None
 first_byte_in (c ∷ d ∷ word) = option_map (λ byte. (byte, word)) (byte_in c d)
 
--- the bytes that an even number of hexadecimal digits spell
+-- the bytes that an even number of hexadecimal digits encode
 abbrev pub hex_in : List ℕ → Option (List ℕ)
 hex_in [] = Some []
 hex_in (c ∷ []) = None
 hex_in (c ∷ d ∷ word) = option_and_then (λ byte. option_map (λ bytes. byte ∷ bytes) (hex_in word))
     (byte_in c d)
 
--- The value of this kind that a word spells, or why the store takes no such value. None where the
--- word spells none.
+-- The value of this kind that a word encodes, or why the store takes no such value. None if the
+-- word encodes none.
 abbrev pub value_in : Kind → List ℕ → Option (Result Value Refusal)
 value_in kinds.Cstr word = Some (result_map_both Cstr (λ e. e) (text_from word))
 value_in kinds.Long word = option_map (λ n. Ok (Long n)) (int32_in word)

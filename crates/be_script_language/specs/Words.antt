@@ -1,4 +1,4 @@
--- The words of a line, which is a list of characters here. A word is told by its bytes.
+-- The words of a line, which is a list of characters here. A word is given as its bytes.
 use Rattle.std.specs.Prelude.{ℕ, Bool, true, List, [], ◌∷◌, ◌++◌, length, nat_eq, take, drop}
 use Rattle.std.specs.Prelude.{position, unwrap_or, ◌||◌, if◌then◌else◌, Some, None}
 use Rattle.std.specs.List.{list_all, flat_map}
@@ -19,7 +19,7 @@ abbrev pub skip : List ℕ → List ℕ
 skip [] = []
 skip (c ∷ text) = if is_blank c then skip text else c ∷ text
 
--- where the first blank stands, or the length
+-- the position of the first blank, or the length
 abbrev pub end_of_word : List ℕ → ℕ
 end_of_word text = unwrap_or (position is_blank text) (length text)
 
@@ -40,7 +40,7 @@ meaning_of c =
 abbrev pub behind : List ℕ → Option (List ℕ × List ℕ) → Option (List ℕ × List ℕ)
 behind bytes parts = option_map (λ p. (bytes ++ p.0, p.1)) parts
 
--- behind an opening quote: what the quoted word stands for, and what follows the closing quote
+-- after an opening quote: what the quoted word stands for, and what follows the closing quote
 abbrev pub quoted_in : List ℕ → Option (List ℕ × List ℕ)
 quoted_in [] = None
 quoted_in (c ∷ []) = if nat_eq c 34 then Some ([], []) else None
@@ -58,8 +58,8 @@ ends_word (c ∷ text) = is_blank c
 abbrev pub if_ended : List ℕ × List ℕ → Option (List ℕ × List ℕ)
 if_ended parts = if ends_word parts.1 then Some parts else None
 
--- the word at the front of a text, and what follows it; none where no word stands there, or a
--- malformed one
+-- the word at the front of a text, and what follows it; none if there is no word, or a malformed
+-- one
 abbrev pub word_at : List ℕ → Option (List ℕ × List ℕ)
 word_at [] = None
 word_at (c ∷ text) =

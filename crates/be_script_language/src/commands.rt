@@ -2,7 +2,7 @@
 ghost use Rattle.std.specs.Prelude.{◌≡◌};
 ghost use Rattle.be_script_language.specs.Request as spec;
 
-/// A command of a script, told by the first word of a line.
+/// A command of a script, which is the first word of a line.
 #[derive(Clone, Copy, Debug, PartialEq, Eq)]
 pub enum Command {
     New,

@@ -2,7 +2,7 @@
 //!
 //! A script is a text with a command a line; each line but a blank one and a comment has a reply.
 //! [`read_line`] reads what a line asks for, and [`reply_text`] writes a reply. Neither knows what
-//! serves a script. From the bottom up: the words of a line, the values that they spell, the
+//! serves a script. From the bottom up: the words of a line, the values that they encode, the
 //! commands, the request of a line; and replies with their texts.
 #![tactic(auto)]
 

@@ -1,7 +1,7 @@
 //! Replies and their texts.
 //!
 //! A reply is a line or several, each with its LF. Its whole text is made before any of it is
-//! written, so that a want of memory never leaves half a reply behind.
+//! written, so out of memory never leaves half a reply written.
 ghost use Rattle.std.specs.Prelude.{◌≡◌, ◌++◌, ◌∷◌, IfOk, OnOk, codes, decimal, flat_map};
 ghost use Rattle.std.specs.String.{string_bytes};
 ghost use Rattle.be_script_language.specs.Reply as spec;

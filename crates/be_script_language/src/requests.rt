@@ -1,7 +1,7 @@
 //! What a line asks for.
 //!
 //! A line is looked at in a fixed order: is it a text at all, has it a reply at all, then its
-//! command word and the words behind it. Whatever doesn't fit makes it a bad line. Names and values
+//! command word and the words after it. Whatever doesn't fit makes it a bad line. Names and values
 //! that fit and that no store takes leave their refusal in the request.
 ghost use Rattle.std.specs.List.{list_all};
 ghost use Rattle.std.specs.Option.{option_map};
@@ -104,6 +104,8 @@ fn set_from(
     }
 }
 
+/// The request of a line `set`, from the words after the command: node, name, kind and value. None
+/// if the line is bad.
 fn set_request(alloc: Global, rest: &[char]) -> Result<Option<Request>, AllocError>
     ensures { IfOk result (λ request. option_map request_of request ≡ spec.set_in rest.now) }
 {
@@ -252,7 +254,7 @@ fn command_of(alloc: Global, line: &[char]) -> Result<Request, AllocError>
     }
 }
 
-/// Whether nothing but spaces and tabs stands in the line.
+/// Whether the line has only spaces and tabs.
 fn is_blank_line(line: &[u8]) -> bool
     ensures { result ≡ list_all is_blank line.now }
 {

@@ -1,7 +1,7 @@
-//! Kinds and values, as the words of a line spell them.
+//! Kinds and values, as the words of a line encode them.
 //!
-//! A word that spells no value of its kind makes a bad line. One that does may still be no value
-//! that a store takes (a text of more than 255 bytes): that is a refusal, which comes behind all
+//! A word that encodes no value of its kind makes a bad line. One that does may still be no value
+//! that a store takes (a text of more than 255 bytes): that is a refusal, which comes after all
 //! causes of a bad line.
 ghost use Rattle.std.specs.Option.{option_map};
 ghost use Rattle.std.specs.Prelude.{◌≡◌, ◌<◌, IfOk, IfSome};
@@ -94,7 +94,7 @@ fn first_byte(word: &[u8]) -> Option<(u8, &[u8])>
     Some((byte_of(*c, *d)?, rest))
 }
 
-/// The bytes that an even number of hexadecimal digits spell.
+/// The bytes that an even number of hexadecimal digits encode.
 fn bytes_of(alloc: Global, word: &[u8]) -> Result<Option<Vec<u8>>, AllocError>
     ensures { IfOk result (λ bytes. option_map (λ b. b.items) bytes ≡ spec.hex_in word.now) }
 {
@@ -111,8 +111,8 @@ fn bytes_of(alloc: Global, word: &[u8]) -> Result<Option<Vec<u8>>, AllocError>
     }
 }
 
-/// The value of this kind that a word spells, or why the store takes no such value. None where the
-/// word spells none.
+/// The value of this kind that a word encodes, or why the store takes no such value. None if the
+/// word encodes none.
 pub fn value_of(
     alloc: Global,
     kind: Kind,

@@ -1,10 +1,10 @@
 //! The words of a line.
 //!
 //! A line is a list of characters here. Blanks (spaces and tabs) part its words. A word that begins
-//! with a quote goes to the next quote without a backslash, behind which a blank or the end has to
-//! stand; in it a backslash stands before `"`, `\`, `n` (LF) and `r` (CR) alone. Any other word is
-//! taken as it is. A word is handed out as the text that it stands for, so what reads numbers,
-//! names and values doesn't see how a word was written.
+//! with a quote goes to the next quote without a backslash, which a blank or the end must follow.
+//! In it a backslash may come before `"`, `\`, `n` (LF) and `r` (CR) only. Any other word is taken
+//! as it is. A word is returned as the text that it stands for, so what reads numbers, names and
+//! values doesn't see how a word was written.
 ghost use Rattle.std.specs.Option.{option_map};
 ghost use Rattle.std.specs.Prelude.{◌≡◌, IfOk, position, take, drop};
 ghost use Rattle.std.specs.String.{string_bytes};
@@ -40,7 +40,7 @@ pub fn skip(text: &[char]) -> &[char]
     rest
 }
 
-/// Where the first blank stands.
+/// The position of the first blank.
 fn first_blank(text: &[char]) -> Option<usize>
     ensures { result ≡ position spec.is_blank text.now }
 {
@@ -91,7 +91,7 @@ fn ends_word(text: &[char]) -> bool
     }
 }
 
-/// What a quoted word stands for, and what follows its closing quote; given what stands behind its
+/// What a quoted word stands for, and what follows its closing quote, from the text after its
 /// opening quote.
 fn quoted_word(alloc: Global, text: &[char]) -> Result<Option<(String, &[char])>, AllocError>
     ensures { IfOk result (λ parts. option_map (λ p. (string_bytes p.0, p.1.now)) parts
@@ -121,7 +121,7 @@ fn quoted_word(alloc: Global, text: &[char]) -> Result<Option<(String, &[char])>
     Ok(None)
 }
 
-/// The first word, and what follows it. None where no word is left, or a malformed one.
+/// The first word, and what follows it. None if no word is left, or a malformed one.
 pub fn first_word(alloc: Global, text: &[char]) -> Result<Option<(String, &[char])>, AllocError>
     ensures { IfOk result (λ parts. option_map (λ p. (string_bytes p.0, p.1.now)) parts
         ≡ spec.first_word text.now) }

@@ -1,8 +1,8 @@
--- What the gate of a race is told.
+-- Which calls the gate of a race gets.
 use Rattle.std.specs.Prelude.{◌≡◌, ◌⊎◌, ◌≤◌, ℕ, ◌+◌, ◌<◌, List, [], ◌∷◌, length, slice_index_or}
 use Rattle.be_script_language.specs.Request.{lines_of}
 
--- what stands behind the last LF, as a number of lines: it is one only where it isn't empty
+-- the number of lines that what follows the last LF makes: one if it isn't empty, otherwise none
 abbrev pub last_count : List ℕ → ℕ
 last_count [] = 0
 last_count (c ∷ line) = 1
@@ -24,7 +24,7 @@ IsNext ended line = (line ≡ 1) ⊎ ((before : ℕ) × (line ≡ before + 1) ×
 abbrev pub AreTold : (ℕ → Type 0) → (ℕ → Type 0) → ℕ → Type 0
 AreTold begun ended count = (line : ℕ) → 1 ≤ line → line ≤ count → begun line × ended line
 
--- the same of each script's lines, which its pass tells
+-- the same for the lines of each script, by the calls of its pass
 abbrev pub AreAllTold : (ℕ → ℕ → Type 0) → (ℕ → ℕ → Type 0) → List (List ℕ) → Type 0
 AreAllTold begun ended scripts = (k : ℕ) → k < length scripts
     → AreTold (begun k) (ended k) (line_count (slice_index_or scripts k []))

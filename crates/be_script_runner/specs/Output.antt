@@ -29,8 +29,8 @@ use Rattle.be_script_language.specs.Request.{commit, abort, asked, lines_of}
 use Rattle.be_script_runner.specs.Store.{PinnedVolume, Store, Meanwhile, IsLeastOf, IsOther, viewed}
 use Rattle.be_script_runner.specs.Store.{pinned, unpinned, written}
 
--- a script under way: its store, the operations of its batch where one is open, and its live query
--- where it has one
+-- a script under way: its store, the operations of its batch if one is open, and its live query if
+-- it has one
 pub record Session : Type 0 where
   pub store : Store
   pub batch : Option (List Op)
@@ -60,7 +60,7 @@ abbrev pub write_reply : Session → Result (Store × List Done) Refusal → Rep
 write_reply s (Ok answer) = (done_reply answer.1, with_store s answer.0)
 write_reply s (Err e) = (refused e, s)
 
--- An operation is written, or queued where a batch is open, which takes 64.
+-- An operation is written, or queued if a batch is open, which takes 64.
 abbrev pub taken : Session → Option (List Op) → Op → Reply × Session
 taken s None op = write_reply s (written s.store (op ∷ []))
 taken s (Some ops) op =
@@ -119,7 +119,7 @@ abbrev pub replied : {X : Type 0} → (X → Reply) → Result X Refusal → Rep
 replied reply (Ok x) = reply x
 replied reply (Err e) = refused e
 
--- the reply to a query that a text spells, or that it fails to spell
+-- the reply to the query of a text, or to a text that is no query
 abbrev pub queried : State → Result Formula Refusal → Reply
 queried volume (Ok f) = replied nodes (scan volume f)
 queried volume (Err e) = refused e
@@ -133,12 +133,13 @@ abbrev pub got : State → ℕ → Result (List ℕ) Refusal → Reply
 got volume n (Ok name) = value (attribute volume n name)
 got volume n (Err e) = refused e
 
--- what a text is as a query: the one that it spells, or its fault
+-- what a text is as a query: the query, or its fault
 abbrev pub IsQuery : List ℕ → Result Formula Refusal → Type 0
 IsQuery text (Ok f) = (fault text ≡ None) × Spells (tokens text) f
 IsQuery text (Err e) = fault text ≡ Some e
 
--- the session after a line that was answered with a want: only a commit ends its batch
+-- the session after a line that memory ran out for, or whose write was held up: only a commit ends
+-- its batch
 abbrev pub unwritten : Session → Request → Session
 unwritten s silent = s
 unwritten s malformed = s
@@ -156,8 +157,8 @@ unwritten s begin = s
 unwritten s commit = with_batch s None
 unwritten s abort = s
 
--- There was no page for these operations, which should be accepted, and the reply tells the least;
--- or another pass was writing.
+-- There was no page for these operations, which the volume accepts, and the reply gives the least
+-- version that is read; or another pass was writing.
 abbrev pub IsHeldUp : Store → List Op → Reply → Type 0
 IsHeldUp store ops reply = ((least : ℕ) × (reply ≡ refused (Full least)) × IsLeastOf store least
     × IsOk (written store ops)) ⊎ ((pass : ℕ) × (reply ≡ refused (Busy pass)) × IsOther store pass)
@@ -168,13 +169,13 @@ IsHeldUpAt s None (write (Ok op)) reply = IsHeldUp s.store (op ∷ []) reply
 IsHeldUpAt s (Some (op ∷ ops)) commit reply = IsHeldUp s.store (op ∷ ops) reply
 IsHeldUpAt s batch request reply = ⊥
 
--- An operation takes memory where it is written and should be accepted, and where an open batch has
--- room for it.
+-- An operation takes memory if it is written and the store accepts it, or if an open batch has room
+-- for it.
 abbrev pub OpTakesMemory : Session → Option (List Op) → Op → Type 0
 OpTakesMemory s None op = IsOk (written s.store (op ∷ []))
 OpTakesMemory s (Some ops) op = length ops < 64
 
--- A commit does where its batch should be accepted.
+-- A commit takes memory if the store accepts its batch.
 abbrev pub CommitTakesMemory : Session → Option (List Op) → Type 0
 CommitTakesMemory s None = ⊥
 CommitTakesMemory s (Some []) = ⊥
@@ -208,11 +209,13 @@ IsWanting s request reply after = (after ≡ unwritten s request)
 abbrev pub Gives : Reply × Session → Reply → Session → Type 0
 Gives answer reply after = answer ≡ (reply, after)
 
--- the reply that is meant and the session that it leaves, or a want
+-- the reply that is meant and the session that it leaves; or the refusal of a line that memory ran
+-- out for, or whose write was held up
 abbrev pub MayReply : Session → Request → Reply × Session → Reply → Session → Type 0
 MayReply s request answer reply after = Gives answer reply after ⊎ IsWanting s request reply after
 
--- what is replied to the query that a text spells or to its fault, or a want
+-- what is replied to the query of a text or to its fault; or the refusal of a line that memory ran
+-- out for
 abbrev pub MayReplyTo : Session → Request → List ℕ → (Result Formula Refusal → Reply × Session)
     → Reply → Session → Type 0
 MayReplyTo s request text answer reply after =
@@ -220,7 +223,7 @@ MayReplyTo s request text answer reply after =
     ⊎ IsWanting s request reply after
 
 -- What a request may be replied, and the session that it leaves. Reads are of the pinned version,
--- or else of the volume after all writes.
+-- or of the volume after all writes if none is pinned.
 abbrev pub Replies : Session → Request → Reply → Session → Type 0
 Replies s silent reply after = Gives (none, s) reply after
 Replies s malformed reply after = MayReply s malformed (bad_line, s) reply after

@@ -108,9 +108,8 @@ abbrev pub AreFirstTexts : List (List ℕ) → List ℕ → Type 0
 AreFirstTexts replies out = (k : ℕ) × (out ≡ replies_text 0 (take k replies))
 
 -- What a race writes is the replies to its scripts, and a legal journal of the store that replied.
--- Each entry is by one of the scripts, and the operations that are by a script are some of those
--- that its lines ask for, in their order. After each entry the volume is one that as many pages as
--- the limits say can spell.
+-- Each entry is by one of the scripts. The operations by a script are some of those that its lines
+-- ask for, in their order. After each entry the volume fits into as many pages as the limits say.
 pub record IsRace (limits : StoreLimits) (scripts : List (List ℕ)) (out : List ℕ) : Type 0 where
   pub replies : List (List ℕ)
   pub journal : List Entry
@@ -132,9 +131,9 @@ abbrev pub AreFirstPasses : StoreLimits → List (List ℕ) → List ℕ → Typ
 AreFirstPasses limits scripts out = (out ≡ [])
     ⊎ ((whole : List ℕ) × (race : IsRace limits scripts whole) × AreFirstTexts race.replies out)
 
--- What a fault leaves: where the limits or a script's length are at fault, nothing was written;
--- after a failed write a front of what a race writes; and for want of memory nothing, or the first
--- passes whole.
+-- What a fault leaves. If the limits or a script's length are invalid, nothing was written. After a
+-- failed write, a front of what a race writes. Out of memory leaves nothing, or the first passes
+-- whole.
 abbrev pub RaceLeaves : StoreLimits → List (List ℕ) → RunFault → Option (List ℕ) → Option (List ℕ)
     → Type 0
 RaceLeaves limits scripts Limits old new = Keeps old new

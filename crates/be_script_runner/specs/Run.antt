@@ -19,7 +19,7 @@ pub record Wrote (old new : Option (List ℕ)) (P : List ℕ → Type 0) : Type 
   pub is : P out
 
 -- What a run writes: an output of the script, from an empty store of one pass on. After each of its
--- writes the volume is one that as many pages as the limits say can spell.
+-- writes the volume fits into as many pages as the limits say.
 pub record IsRun (limits : StoreLimits) (script out : List ℕ) : Type 0 where
   pub last : Store
   pub output : IsOutputTo (start limits.commits) script last out
@@ -53,7 +53,7 @@ ReadsFew old new = (bytes : List ℕ) × Consumes old new bytes × (length bytes
 abbrev pub ReadsMany : Option (List ℕ) → Option (List ℕ) → Type 0
 ReadsMany old new = (bytes : List ℕ) × Consumes old new bytes × (2 ^ 20 < length bytes)
 
--- What was read where a script was not: too many bytes exactly where it is too long.
+-- What was read if a script was not: too many bytes if and only if it is too long.
 abbrev pub ReadFault : RunFault → Option (List ℕ) → Option (List ℕ) → Type 0
 ReadFault Limits old new = ⊥
 ReadFault Read old new = ReadsFew old new
@@ -61,7 +61,7 @@ ReadFault TooLong old new = ReadsMany old new
 ReadFault Write old new = ⊥
 ReadFault Memory old new = ReadsFew old new
 
--- What was read where a run stopped: too many bytes exactly where the script is too long.
+-- What was read if a run stopped: too many bytes if and only if the script is too long.
 abbrev pub HasReadScript : RunFault → Option (List ℕ) → Option (List ℕ) → Type 0
 HasReadScript TooLong old new = ReadsMany old new
 HasReadScript e old new = ReadsFew old new
@@ -74,9 +74,8 @@ pub record AreFirstReplies (store : Store) (script out : List ℕ) : Type 0 wher
   pub last : Session
   pub output : Outputs (opening store) lines last out
 
--- What a fault leaves. Where the script was not read whole or was too long, nothing was written;
--- after a failed write the front of an output; and for want of memory the replies to the first
--- lines.
+-- What a fault leaves. If the script was not read whole or was too long, nothing was written. After
+-- a failed write, the front of an output. Out of memory leaves the replies to the first lines.
 abbrev pub RunLeaves : RunFault → Store → Option (List ℕ) → Option (List ℕ) → Option (List ℕ)
     → Type 0
 RunLeaves Limits store input old new = Keeps old new

@@ -36,7 +36,8 @@ known a = record {
   pin = option_map (pin_at a) (pinned_number a.phase);
 }
 
--- Why a server's write is refused: by Busy after 10,000,000 tries, each of which found a pass
--- holding the lock, and the last one the pass that Busy names; else as the store refuses it.
+-- Why a server's write is refused. Busy is the reason after 10,000,000 tries, each of which found a
+-- pass holding the lock; Busy names the pass that the last try found. Otherwise the write is
+-- refused as the store refuses it.
 abbrev pub IsRefusedBy : Knowledge → List Op → Refusal → Knowledge → Type 0
 IsRefusedBy a ops e c = IsLastReason 10000000 a c ops e

@@ -65,8 +65,8 @@ start limit = record {
 abbrev pub IsOther : Store → ℕ → Type 0
 IsOther s k = (k < s.passes) × (k ≢ s.pass)
 
--- What the other passes may have made of the store: entries of theirs stand behind, and the volume
--- is that after them.
+-- What the other passes may have made of the store: they append entries, and the volume is the one
+-- after these entries.
 pub record Joins (old new : Store) : Type 0 where
   pub others : List Entry
   pub theirs : All (λ e. IsOther old e.by) others
@@ -82,7 +82,7 @@ pub record Meanwhile (old : Store) (P : Store → Type 0) : Type 0 where
   pub joins : Joins old now
   pub is : P now
 
--- the volume that is read: the pinned one, or else that after all writes
+-- the volume that is read: the pinned one, or the one after all writes if none is pinned
 abbrev pub viewed : Store → State
 viewed s = option_map_or (λ (p : PinnedVolume). p.volume) s.pin s.volume
 
@@ -102,7 +102,7 @@ entered s ops volume dones = record s {
   volume = volume;
 }
 
--- A write: a refusal of the volume goes before that of a journal at its limit.
+-- A write: a refusal by the volume comes before the refusal of a journal at its limit.
 abbrev pub written_by : Store → List Op → Result (State × List Done) Refusal
     → Result (Store × List Done) Refusal
 written_by s ops (Ok answer) = if nat_lt (length s.journal) s.limit
@@ -112,17 +112,17 @@ written_by s ops (Err e) = Err e
 abbrev pub written : Store → List Op → Result (Store × List Done) Refusal
 written s ops = written_by s ops (steps s.volume ops)
 
--- which version is read, by how many writes were accepted before it: the pinned one, or else that
--- after all writes
+-- the version that is read, as the number of writes accepted before it: the pinned one, or the one
+-- after all writes if none is pinned
 abbrev pub viewed_number : Store → ℕ
 viewed_number s = option_map_or (λ (p : PinnedVolume). p.number) s.pin (length s.journal)
 
--- The least that a full store tells is no later than the version that is read; and where no other
--- pass reads, it is that version.
+-- The least version that a full store reports is no later than the version that is read; and if no
+-- other pass reads, it is that version.
 abbrev pub IsLeastOf : Store → ℕ → Type 0
 IsLeastOf s least = (least ≤ viewed_number s) × (s.passes ≡ 1 → least ≡ viewed_number s)
 
--- a refusal for want of memory, or of pages with the least
+-- a refusal because memory ran out, or because the pages ran out, with the least version
 abbrev pub IsWant : Store → Refusal → Type 0
 IsWant s e = (e ≡ OutOfMemory) ⊎ ((least : ℕ) × (e ≡ Full least) × IsLeastOf s least)
 
@@ -130,8 +130,8 @@ IsWant s e = (e ≡ OutOfMemory) ⊎ ((least : ℕ) × (e ≡ Full least) × IsL
 abbrev pub IsBusy : Store → Refusal → Type 0
 IsBusy s e = (pass : ℕ) × (e ≡ Busy pass) × IsOther s pass
 
--- A write is answered as it should be, with the number of its commit. A want comes only where it
--- should be accepted, and a refused write changes nothing.
+-- An accepted write has the outcomes that the volume gives, and the number of its commit. Out of
+-- memory and Full come only for a write that the volume accepts. A refused write changes nothing.
 abbrev pub MayWrite : {X : Type 0} → (X → List Done) → Store → List Op → Result (ℕ × X) Refusal
     → Store → Type 0
 MayWrite dones_of old ops (Ok answer) new = (written old ops ≡ Ok (new, dones_of answer.1))

@@ -50,7 +50,7 @@ abbrev pub numbered : ℕ → Option (List ℕ) → Option (ℕ × List ℕ)
 numbered number None = None
 numbered number (Some text) = Some (number, text)
 
--- The text that a line may be replied, the session that it leaves, and the text again where it says
+-- The text that a line may be replied, the session that it leaves, and the text again if it says
 -- that the line is refused.
 abbrev pub Judged : Session → List ℕ → Session → Option (List ℕ) → List ℕ → Type 0
 Judged s line after found out = (reply : Reply) × Serves s (asked line) reply after
@@ -64,8 +64,8 @@ Accepts s (line ∷ lines) last out =
     (after : Session) × (reply : List ℕ) × (rest : List ℕ) × Judged s line after None reply
     × Accepts after lines last rest × (out ≡ reply ++ rest)
 
--- the first lines of a script were accepted, and the one behind them, which has this number, was
--- refused by this text
+-- the first lines of a script were accepted, and the next one, which has this number, was refused
+-- by this text
 pub record StopsAt (store : Store) (script : List ℕ) (number : ℕ) (text : List ℕ) (new : Store)
     (out : List ℕ) : Type 0 where
   pub lines : List (List ℕ)
@@ -81,15 +81,15 @@ pub record StopsAt (store : Store) (script : List ℕ) (number : ℕ) (text : Li
   pub out_is : out ≡ front ++ text
   pub leaves : after.store ≡ new
 
--- What a script is answered up to its first line that is refused, or whole where none is. A line is
--- told by its number and its reply.
+-- The replies to a script up to its first line that is refused, or to the whole script if none is.
+-- The refused line is given as its number and its reply.
 abbrev pub IsStrictOutput : Store → List ℕ → Option (ℕ × List ℕ) → Store → List ℕ → Type 0
 IsStrictOutput store script None new out = (last : Session)
     × Accepts (opening store) (lines_of script) last out × (last.store ≡ new)
 IsStrictOutput store script (Some found) new out = StopsAt store script found.0 found.1 new out
 
 -- What such a run writes, from an empty store of one pass on, and the journal that it leaves. After
--- each of its writes the volume is one that as many pages as the limits say can spell.
+-- each of its writes the volume fits into as many pages as the limits say.
 pub record IsStrictRun (limits : StoreLimits) (script : List ℕ) (found : Option (ℕ × List ℕ))
     (journal : List Entry) (out : List ℕ) : Type 0 where
   pub last : Store

@@ -1,4 +1,4 @@
--- What a run writes that tells its journal, and what the script of a journal is answered.
+-- What a run writes if it writes its journal too, and the replies to the script of a journal.
 use Rattle.std.specs.Prelude.{◌≡◌, ◌⊎◌, ℕ, ◌+◌, ◌<◌, ◌≤◌, ◌^◌, List, [], ◌∷◌, ◌++◌, flat_map}
 use Rattle.std.specs.Prelude.{length, map, nat_lt, if◌then◌else◌, IfSome, None}
 use Rattle.std.specs.Io.KnownBytes.{Keeps}
@@ -19,9 +19,8 @@ use Rattle.be_script_runner.specs.declared.faults.RunFault.{RunFault}
 use Rattle.be_script_runner.specs.declared.faults.RunFault.TheVariants.{Limits, Read, TooLong}
 use Rattle.be_script_runner.specs.declared.faults.RunFault.TheVariants.{Write, Memory}
 
--- The replies are an output of the script, and behind them stands the journal of the store that
--- this output leaves. After each of its writes the volume is one that as many pages as the limits
--- say can spell.
+-- The replies are an output of the script, and the journal of the store that this output leaves
+-- follows them. After each of its writes the volume fits into as many pages as the limits say.
 pub record IsToldRun (limits : StoreLimits) (script out : List ℕ) : Type 0 where
   pub last : Store
   pub replies : List ℕ
@@ -30,15 +29,15 @@ pub record IsToldRun (limits : StoreLimits) (script out : List ℕ) : Type 0 whe
   pub volumes : CanSpellEach limits.pages last.journal
   pub is : out ≡ replies ++ result_text last.journal
 
--- the text is a front of the replies to the script, or all of them and a front of the journal
--- behind them
+-- the text is a front of the replies to the script, or all of them and a front of the journal after
+-- them
 abbrev pub IsToldInPart : StoreLimits → List ℕ → List ℕ → Type 0
 IsToldInPart limits script front = IsFrontOfOutput (start limits.commits) script front
     ⊎ ((rest : List ℕ) × IsToldRun limits script (front ++ rest))
 
--- What a fault leaves: where the limits or the script are at fault, nothing was written; after a
--- failed write a part of the whole, from its front on; and for want of memory the replies to the
--- first lines, each of them whole, and nothing of the journal.
+-- What a fault leaves. If the limits or the script are invalid, nothing was written. After a failed
+-- write, a front of the whole text. Out of memory leaves the replies to the first lines, each of
+-- them whole, and nothing of the journal.
 abbrev pub TellingLeaves : StoreLimits → RunFault → Option (List ℕ) → Option (List ℕ)
     → Option (List ℕ) → Type 0
 TellingLeaves limits Limits input old new = Keeps old new
@@ -75,8 +74,8 @@ abbrev pub dump_output : ℕ → List Entry → List ℕ
 dump_output n [] = []
 dump_output n (entry ∷ entries) = write_output n entry ++ dump_output (n + 1) entries
 
--- A run of the script on a store of one pass with so much room in its journal leaves this volume,
--- by so many writes at most.
+-- A run of the script on a store of one pass, whose journal has room for `limit` entries, leaves
+-- this volume after at most `most` writes.
 pub record MakesVolume (limit : ℕ) (script : List ℕ) (volume : State) (most : ℕ) : Type 0 where
   pub last : Store
   pub replies : List ℕ

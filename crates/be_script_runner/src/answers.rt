@@ -1,10 +1,10 @@
 //! The reply to each line.
 //!
-//! A session is what serves the script and what the script has beside it: a batch where one is
-//! open, which is the operations queued for one write, and a live query. A line that is refused or
-//! bad leaves both as they were, but a commit ends its batch, refused or not. Where other passes
-//! write, a line is answered from the store as they left it: a read leaves that store, and its
-//! reply is said of it.
+//! A session is what serves the script and what the script has beside it: a batch if one is open,
+//! which is the operations queued for one write, and a live query. A line that is refused or bad
+//! leaves both as they were, but a commit ends its batch, refused or not. If other passes write, a
+//! line is run on the store as they left it: a read leaves that store, and its reply is one of that
+//! store.
 ghost use Rattle.std.specs.Prelude.{◌≡◌, ◌≤◌, Ok, List, Option, length, vec_len};
 ghost use Rattle.be_script_runner.specs.Output as spec;
 ghost use Rattle.be_script_language.specs.Request as requests;
@@ -74,7 +74,7 @@ fn write<S: Server>(server: &mut S, op: Op) -> Reply
     }
 }
 
-/// Queues an operation where there is a place for it.
+/// Queues an operation if there is a place for it.
 fn enqueue(ops: &mut Vec<Op>, op: Op) -> Reply
     requires few { vec_len ops.old ≤ 64 }
     ensures replies { (store : Store) (live : Option LiveQuery) →
@@ -91,7 +91,7 @@ fn enqueue(ops: &mut Vec<Op>, op: Op) -> Reply
     }
 }
 
-/// Writes an operation, or queues it where a batch is open.
+/// Writes an operation, or queues it if a batch is open.
 fn take<S: Server>(server: &mut S, client: &mut Client, op: Op) -> Reply
     requires few { length (queued_ops client.old) ≤ 64 }
     ensures replies { spec.Serves (session (S.shows server.old) client.old) (requests.write (Ok op))
@@ -210,7 +210,7 @@ fn indices<S: Server>(server: &mut S) -> Reply
     }
 }
 
-/// Pins the version after all writes so far, where none is pinned.
+/// Pins the version after all writes so far, if none is pinned.
 fn pin<S: Server>(server: &mut S) -> Reply
     ensures replies { (client : Client) →
         spec.Serves (session (S.shows server.old) client) requests.pin (reply_of result)

@@ -10,7 +10,7 @@ use be_volume::Op;
 /// What a script has beside the store that serves it.
 #[derive(Drop)]
 pub struct Client {
-    /// The operations queued since `begin`, where a batch is open.
+    /// The operations queued since `begin`, if a batch is open.
     pub batch: Option<Vec<Op>>,
     /// The query of the last `live` that was accepted.
     pub live: Option<Live>,

@@ -25,8 +25,8 @@ fn read_file<R: Files + Input>(rt: &R, alloc: Global, file: &str) -> Result<Vec<
     }
 }
 
-/// What ends the reading where the file at this place is too long: the first file behind it that
-/// can't be read, or else this one.
+/// What ends the reading if the file at this place is too long: the first later file that can't be
+/// read, or this one if all can be read.
 fn stop_at<R: Files + Input>(
     rt: &R,
     alloc: Global,
@@ -45,9 +45,10 @@ fn stop_at<R: Files + Input>(
     (place, RunFault::TooLong)
 }
 
-/// Reads the scripts of these files, in their order; `-` is standard input, of which a second `-`
-/// finds nothing left. The first that can't be read ends it: which one that is, from 0, and Read or
-/// Memory. Where all can be read and some are too long, it is the first of these, and TooLong.
+/// Reads the scripts of these files, in their order; `-` is standard input, and a second `-` reads
+/// as empty. The first file that can't be read ends it: the error is its place, from 0, and Read or
+/// Memory. If all can be read and some are too long, the error is the place of the first of these,
+/// and TooLong.
 pub fn read_files<R: Files + Input>(
     rt: &R,
     alloc: Global,

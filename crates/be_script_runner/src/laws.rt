@@ -26,26 +26,25 @@ pub fn answered_alone()
         Replies s request reply after × (after.store.passes ≡ 1) × (after.store.pass ≡ 0) }
 {}
 
-/// The script of a journal makes it again: a run of it, where memory and pages are there, has the
-/// same journal but for the numbers of passes, and the same volume.
+/// The script of a journal makes it again: a run of it, if memory and pages suffice, has the same
+/// journal but for the numbers of passes, and the same volume.
 pub fn dump_makes_journal()
     ensures { (limit : ℕ) (entries : List AnyEntry) → CanBeJournal entries → IsLegal entries
         → length entries ≤ limit →
         IsOutputTo (start limit) (dump entries) (made limit entries) (dump_output 1 entries) }
 {}
 
-/// The script of the state that a journal leaves makes this state: a run of it, where memory and
-/// pages are there, leaves the journal's volume, by no more writes than the journal has. Of the
-/// operations of a volume at hand be_journal_text's `dump_state` says that they are such of the
-/// program.
+/// The script of the state that a journal leaves makes this state: a run of it, if memory and pages
+/// suffice, leaves the journal's volume, by no more writes than the journal has. Of the operations
+/// of a volume at hand be_journal_text's `dump_state` says that they are such of the program.
 pub fn state_dump_makes_volume()
     ensures { (limit : ℕ) (entries : List AnyEntry) → CanBeJournal entries
         → All CanBeOp (state_ops (replay entries)) → length entries ≤ limit →
         MakesVolume limit (state_dump (replay entries)) (replay entries) (length entries) }
 {}
 
-/// What a strict run is answered is an output: of the whole script where no line is refused, and
-/// else of its first lines, the last of which is the one that was refused.
+/// What a strict run writes is an output: of the whole script if no line is refused, otherwise of
+/// its first lines, the last of which is the one that was refused.
 pub fn strict_output_is_output()
     ensures whole { (store new : Store) (script out : List ℕ)
         → IsStrictOutput store script None new out → IsOutputTo store script new out }

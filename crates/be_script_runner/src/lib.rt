@@ -3,14 +3,14 @@
 //! [`run`] reads a script whole, runs its lines in order on a shared store of its own, from that
 //! store's one pass, and writes the replies. What a script may be answered is one definition
 //! (`Output` in specs/), and `run` is proved to write nothing else. [`race`] runs several scripts
-//! at once, each on a thread of its own and from a pass of its own of one store, and writes their
+//! at once, each on a thread of its own and from a pass of its own of one store. It writes their
 //! replies and the store's journal, which is proved to be legal and to have nothing that the
 //! scripts don't ask for. [`run_and_tell`] is a run that writes its journal too. [`read_files`]
 //! reads the scripts of a race. [`run_strictly`] is a run that ends at the first line that is
 //! refused. [`answer`] answers one line, for callers that have the lines from elsewhere, and
 //! [`save_state`] writes the script of the version that is read. From the bottom up: the script of
-//! a version, what serves a line, the reply to it, the run, the race, the run that tells, the
-//! strict run, and the files.
+//! a version, what serves a line, the reply to it, the run, the race, the run that writes its
+//! journal, the strict run, and the files.
 #![tactic(auto)]
 
 mod answers;

@@ -1,15 +1,15 @@
 //! Races: several scripts at once on one shared store, each on a thread of its own.
 //!
 //! Script k is served from pass k of the store, and its replies are kept. Nobody waits for the lock
-//! inside the store, so scripts meet there alone, and what each writes takes its place in one
-//! journal. Once all threads have ended the store is closed. Then the replies are written, script
-//! by script, and behind them the journal and the result of its check.
+//! inside the store, so scripts meet there alone, and each write takes its place in one journal.
+//! Once all threads have ended the store is closed. Then the replies are written, script by script,
+//! and after them the journal and the result of its check.
 //!
-//! A thread promises what it gives back ([`Served`]): a pass of the store, with the script's
-//! number, whose own writes are some of those that the script asks for, and replies that the script
-//! may get where others write, of what the pass has seen. So every pass is there when the store is
-//! closed, what the journal has of a pass is what its script asked for, and each script was replied
-//! from that journal.
+//! A thread promises what it returns ([`Served`]): a pass of the store, with the script's number,
+//! and replies. The pass's own writes are some of those that the script asks for. The replies are
+//! ones that the script may get of what the pass has seen, if others write too. So every pass is
+//! there when the store is closed. The journal's entries of a pass are writes of its script, and
+//! the replies to each script agree with that journal.
 ghost use Rattle.std.specs.Prelude.{◌≡◌, ◌≤◌, ◌<◌, ℕ, ◌^◌, ◌++◌, ◌↔◌, true, false, length, vec_len};
 ghost use Rattle.std.specs.Prelude.{map, IfOk, IfErr, OnOk, OnErr, Ok, Err, get_or, nat_lt};
 ghost use Rattle.std.specs.Io.KnownBytes.{Appends};
@@ -40,9 +40,9 @@ use std::thread::{Promise, PromisedHandle, Scope, Threads};
 /// A pass that has served a script, and the replies.
 type Outcome = (Pass, Result<Vec<u8>, RunFault>);
 
-/// What a thread promises of its outcome: the pass is of this store and has this number; and where
-/// there are replies, they are an output of this script that leaves what the pass has seen, its own
-/// writes are some of those that the script asks for, and this gate was told of each line.
+/// What a thread promises of its outcome. The pass is of this store and has this number. If there
+/// are replies, they are an output of this script that leaves what the pass has seen; its own
+/// writes are some of those that the script asks for; and this gate was called for each line.
 #[derive(Drop)]
 struct Served<G> {
     store: Snapshot<Store>,
@@ -74,7 +74,7 @@ fn serve_new<G: Gate>(alloc: Global, store: &Store, pass: Pass, gate: &G, script
     serve_pass(alloc, store, pass, gate, script)
 }
 
-/// Starts a thread for each pass, which serves the script of its number. Memory where one can't be
+/// Starts a thread for each pass, which serves the script of its number. Memory if one can't be
 /// started.
 fn start<'s, E, G: Gate + Sync>(
     scope: &Scope<'s, E>,
@@ -127,7 +127,7 @@ fn start<'s, E, G: Gate + Sync>(
     Ok(threads)
 }
 
-/// The passes, and the replies of each. Memory where one has none.
+/// The passes, and the replies of each. Memory if one has none.
 fn part(alloc: Global, outcomes: Vec<Outcome>) -> Result<(Vec<Pass>, Vec<Vec<u8>>), RunFault>
     ensures passes { IfOk result (λ r. r.0.items ≡ map (λ o. o.0) outcomes.items) }
     ensures replies { IfOk result (λ r. map Ok r.1.items ≡ map (λ o. o.1) outcomes.items) }
@@ -216,8 +216,8 @@ fn line_of(alloc: Global, pass: usize) -> Result<String, AllocError>
     format!(in alloc; "pass {pass}\n")
 }
 
-/// Writes each pass's line and its replies. After a fault a front of them all was written, and for
-/// want of memory whole ones.
+/// Writes each pass's line and its replies. A failed write leaves a front of the whole text, and
+/// out of memory leaves whole replies of the first passes.
 fn put_replies<W: Write>(alloc: Global, writer: &mut W, replies: &[Vec<u8>]) -> Result<(), RunFault>
     ensures ok { OnOk result (Appends (W.contents writer.old) (W.contents writer.new)
         (replies_text 0 (map (λ t. t.items) replies.now))) }
@@ -238,7 +238,7 @@ fn put_replies<W: Write>(alloc: Global, writer: &mut W, replies: &[Vec<u8>]) -> 
     Ok(())
 }
 
-/// Writes three texts, one behind the other. After a fault a front of them all was written.
+/// Writes three texts, one after the other. A fault leaves a front of the whole text.
 fn put_parts<W: Write>(
     writer: &mut W,
     first: &[u8],
@@ -257,9 +257,9 @@ fn put_parts<W: Write>(
     put(writer, third)
 }
 
-/// Writes how many entries the journal has, their text, and the result of its check, which it
-/// answers: it is legal, and false is never answered. Nothing was written where memory is missing,
-/// and after a failed write a front.
+/// Writes how many entries the journal has, their text, and the result of its check. Returns that
+/// result, which is always true: the journal is legal. Out of memory leaves nothing written, and a
+/// failed write a front.
 pub fn put_result<W: Write>(
     alloc: Global,
     writer: &mut W,
@@ -288,8 +288,8 @@ pub fn put_result<W: Write>(
     Ok(legal)
 }
 
-/// Writes each pass's line and its replies, and behind them what tells the journal; and answers the
-/// result of its check. After a fault a front of them all was written, and for want of memory whole
+/// Writes each pass's line and its replies, and after them the journal. Returns the result of the
+/// journal's check. A failed write leaves a front of the whole text, and out of memory whole
 /// replies alone.
 fn put_race<W: Write>(
     alloc: Global,
@@ -339,19 +339,19 @@ fn serve_on_new<R: Threads + Wait, G: Gate + Sync>(
 }
 
 /// Races two to four scripts against one another on an empty store, which has the pages and commits
-/// of the limits and a pass for each script, and says whether the journal is legal. It is: false is
-/// never answered.
+/// of the limits and a pass for each script, and returns whether the journal is legal, which is
+/// always true.
 ///
 /// The limits are looked at first, then the lengths of the scripts, of at most 1,048,576 bytes
-/// each; a fault of these leaves nothing written. Script k is run from pass k, on a thread of its
-/// own; a write that finds another pass writing is tried again, 10,000,000 times at most in all,
-/// and its refusal is the reply then. It returns once all threads have ended. The replies are
-/// written behind a line `pass K` for each pass; then `journal N`, the journal's text, and `replay
-/// ok`. The journal is of the store that replied: it begins with what each pass has seen, and has
-/// its writes just as they were answered. Memory where memory or a thread is missing: nothing was
-/// written then, or the lines and the replies of the first passes, each of them whole. Any error of
-/// a write, and a write of no bytes, is Write, and leaves a front of what a race of these scripts
-/// writes.
+/// each; if one of these is invalid, nothing is written. Script k is run from pass k, on a thread
+/// of its own. A write that finds another pass writing is tried again, in all up to 10,000,000
+/// times, and its refusal is the reply then. It returns once all threads have ended. The replies
+/// are written after a line `pass K` for each pass; then `journal N`, the journal's text, and
+/// `replay ok`. The journal is of the store that replied: it begins with what each pass has seen,
+/// and has its writes just as they were answered. The error is Memory if memory or a thread is
+/// missing: nothing was written then, or the lines and the replies of the first passes, each of
+/// them whole. Any error of a write, and a write of no bytes, is Write, and leaves a front of what
+/// a race of these scripts writes.
 pub fn race<R: Threads + Wait, G: Gate + Sync, W: Write>(
     rt: &R,
     alloc: Global,

@@ -2,8 +2,8 @@
 //!
 //! A script is read whole before its first line is run, so a script that can't be read or is too
 //! long writes nothing. Then each line is run, its reply is made as a text, and the text is
-//! written: a fault leaves the front of an output, which ends behind a whole reply where no write
-//! has failed.
+//! written: a fault leaves the front of an output, which ends after a whole reply if no write has
+//! failed.
 ghost use Rattle.std.specs.Prelude.{◌≡◌, ◌<◌, ◌≤◌, ◌^◌, ◌↔◌, ◌∷◌, [], length, vec_len, position};
 ghost use Rattle.std.specs.Prelude.{IfOk, OnOk, IfErr, IfSome, OnErr, IfNone, Err};
 ghost use Rattle.std.specs.Io.KnownBytes.{Appends};
@@ -54,7 +54,7 @@ pub fn put<W: Write>(writer: &mut W, bytes: &[u8]) -> Result<(), RunFault>
     Ok(())
 }
 
-/// Runs a line, and then writes its reply. Nothing of it was written where memory is missing.
+/// Runs a line, and then writes its reply. Nothing of it was written if memory is missing.
 fn run_line<S: Server, W: Write>(
     alloc: Global,
     server: &mut S,
@@ -90,7 +90,7 @@ fn end_of_line(script: &[u8]) -> Option<usize>
     script.iter().position(|c| *c == b'\n')
 }
 
-/// The first line without its LF, and what follows it, where there is an LF.
+/// The first line without its LF, and what follows it, if there is an LF.
 pub(crate) fn split_line(script: &[u8]) -> Option<(&[u8], &[u8])>
     ensures first { IfSome result (λ parts. lines_of script.now ≡ parts.0.now
         ∷ lines_of parts.1.now) }
@@ -103,8 +103,8 @@ pub(crate) fn split_line(script: &[u8]) -> Option<(&[u8], &[u8])>
     }
 }
 
-/// Runs the lines of a script in turn, each between two calls of the gate, which are told the
-/// pass's number and the line's. What follows the last LF is a line only where it isn't empty.
+/// Runs the lines of a script in turn, each between two calls of the gate, which get the pass's
+/// number and the line's. What follows the last LF is a line only if it isn't empty.
 pub(crate) fn run_lines<S: Server, G: Gate, W: Write>(
     alloc: Global,
     server: &mut S,
@@ -213,7 +213,7 @@ pub(crate) fn read_script<R: ScriptReader>(
     unreachable!()
 }
 
-/// Runs a script on what serves it. Where the reader's bytes and the writer's are known, what is
+/// Runs a script on what serves it. If the reader's bytes and the writer's are known, what is
 /// written is an output of the script from there on, and leaves what then serves.
 pub fn serve<S: Server, R: ScriptReader, W: Write>(
     alloc: Global,
@@ -246,11 +246,10 @@ pub fn serve<S: Server, R: ScriptReader, W: Write>(
 /// The limits are looked at first, and then the store is opened. The script is read whole, in at
 /// most 1,048,577 reads, before its first line is run; any error of a read is `Read`. Each line is
 /// run before its reply is written; any error of a write, and a write of no bytes, is `Write`.
-/// `TooLong` comes where more than 1,048,576 bytes were read, and no other fault comes then. Where
-/// the reader's bytes and the writer's are known, as those of a slice and a vector are, what is
-/// written is an output of the script. After `Write` it is the front of one, after `Memory` the
-/// replies to the script's first lines, each of them whole, and after any other fault nothing was
-/// written.
+/// `TooLong` comes if more than 1,048,576 bytes were read, and no other fault comes then. If the
+/// reader's bytes and the writer's are known, as those of a slice and a vector are, what is written
+/// is an output of the script. After `Write` it is the front of one, after `Memory` the replies to
+/// the script's first lines, each of them whole, and after any other fault nothing was written.
 pub fn run<R: ScriptReader, W: Write>(
     alloc: Global,
     reader: &mut R,

@@ -12,12 +12,12 @@ use crate::runs::put;
 use crate::stores::Server;
 use std::io::Write;
 
-/// Writes the script that makes the version again that is read, the pinned one or else that after
-/// all writes: what `bestore dump --state` prints of a journal that leaves it. An open batch is no
-/// part of it.
+/// Writes the script that makes the version again that is read, the pinned one or the one after all
+/// writes: what `bestore dump --state` prints of a journal that leaves it. An open batch is no part
+/// of it.
 ///
-/// `Memory` where there is none for the script; nothing was written then. Any error of a write, and
-/// a write of no bytes, is `Write`, and leaves a front of the script written. It doesn't flush.
+/// `Memory` if there is none for the script; nothing was written then. Any error of a write, and a
+/// write of no bytes, is `Write`, and leaves a front of the script written. It doesn't flush.
 pub fn save_state<S: Server, W: Write>(server: &mut S, writer: &mut W) -> Result<(), RunFault>
     ensures saved { OnOk result (Appends (W.contents writer.old) (W.contents writer.new)
         (state_dump (viewed (S.shows server.new)))) }

@@ -10,9 +10,9 @@ use std::io::Read;
 /// What gives the bytes of a script: whatever can be read.
 ///
 /// The ghost `was_read` says how often it was. A reader needn't define it: code that has any reader
-/// knows the number from its own reads alone, so that a clause of it tells how many it made.
+/// knows the number from its own reads alone, so a clause about it says how many it made.
 pub trait ScriptReader {
-    /// The bytes that reads will give from here on, where they are known.
+    /// The bytes that reads will give from here on, if they are known.
     ghost remaining: { Self → Option (List ℕ) };
 
     /// It was read so many times.

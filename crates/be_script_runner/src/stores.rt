@@ -1,10 +1,10 @@
 //! What serves a script.
 //!
-//! A script's lines need few calls. [`Server`] names them, and tells by one ghost member what they
-//! are answered from: a journal, the volume that it stands for, the limit on its entries, and the
-//! pinned version. Other passes may write between two calls, and a call is answered from the store
-//! as they left it. What runs scripts is proved over that trait, so it holds for whatever serves.
-//! [`PassServer`] is a shared store with one of its passes.
+//! A script's lines need few calls. [`Server`] names them. One ghost member says what the calls
+//! work on: a journal, the volume that it stands for, the limit on its entries, and the pinned
+//! version. Other passes may write between two calls, and a call works on the store as they left
+//! it. What runs scripts is proved over that trait, so it holds for whatever serves. [`PassServer`]
+//! is a shared store with one of its passes.
 ghost use Rattle.std.specs.Prelude.{◌≡◌, ◌≤◌, true, All, List, Ok, None, IsSome, is_some, length};
 ghost use Rattle.std.specs.Prelude.{IfOk, IfErr, OnOk, if◌then◌else◌};
 ghost use Rattle.std.specs.String.{string_bytes};
@@ -40,7 +40,8 @@ use std::marker::Model;
 /// How often a write is tried while another pass is writing.
 const MAX_TRIES: u64 = 10_000_000;
 
-/// What serves a script. Reads are of the pinned version, or else of the volume after all writes.
+/// What serves a script. Reads are of the pinned version, or of the volume after all writes if none
+/// is pinned.
 pub trait Server {
     ghost Kept: { Type 0 };
 
@@ -53,7 +54,7 @@ pub trait Server {
     ghost refuses: { Self → List AnyOp → AnyRefusal → Self → Type 0 };
 
     /// Writes operations, all or none: the number of the commit, and an answer for each. It is
-    /// refused by Busy where another pass is writing, else by what the volume says, then
+    /// refused by Busy if another pass is writing, otherwise by what the volume says, then
     /// CommitsSpent, then OutOfMemory, then Full. A pin stays.
     fn apply(&mut self, ops: &[Op]) -> Result<(u64, ArrayVec<Done, 64>), Refusal>
         requires some { 1 ≤ length ops.now }
@@ -67,7 +68,7 @@ pub trait Server {
     fn is_pinned(&self) -> bool
         ensures { result ≡ is_some (shows self.now).pin };
 
-    /// Pins the version after all writes so far, and tells how many these are.
+    /// Pins the version after all writes so far, and returns the number of these writes.
     fn pin(&mut self) -> u64
         requires { (shows self.old).pin ≡ None }
         ensures stays { kept self.new ≡ kept self.old }
@@ -115,7 +116,7 @@ pub trait Server {
         ensures answers { Answers (λ list. list.items) result
             (Ok (index_kinds (viewed (shows self.new)))) };
 
-    /// The script that makes the version again that is read: the pinned one, or else that after all
+    /// The script that makes the version again that is read: the pinned one, or the one after all
     /// writes. It is what be_journal_text's `dump_state` gives of a journal that leaves this
     /// version.
     fn state_text(&mut self) -> Result<String, AllocError>
@@ -127,7 +128,7 @@ pub trait Server {
 }
 
 /// Opens a store of one pass before its first write, with as many pages and commits as the limits
-/// say. Refused for want of memory alone.
+/// say. Only out of memory is refused.
 pub fn open_for_one(alloc: Global, limits: Limits) -> Result<(be_store::Store, Pass), Refusal>
     requires { IsWithin limits }
     ensures opened { IfOk result (λ r. IsPassOf r.0 r.1
@@ -146,7 +147,7 @@ pub fn open_for_one(alloc: Global, limits: Limits) -> Result<(be_store::Store, P
     Ok((store, pass))
 }
 
-/// Writes, and tries again while another pass is writing, 10,000,000 times at most in all. Before
+/// Writes, and tries again while another pass is writing, in all up to 10,000,000 times. Before
 /// each further try another thread may run.
 fn apply_at_last(
     store: &be_store::Store,
@@ -190,6 +191,7 @@ impl<'a> Model for PassServer<'a> {
 }
 
 impl<'a> PassServer<'a> {
+    /// Serves a script from this pass of the store.
     pub fn new(alloc: Global, store: &'a be_store::Store, pass: Pass) -> PassServer<'a>
         requires { IsPassOf store.now pass }
         ensures { (result.store ≡ store.now) × (result.knows ≡ pass.knows) }
@@ -205,7 +207,7 @@ impl<'a> PassServer<'a> {
         pass
     }
 
-    /// Pins for one read where no version is pinned, and tells whether it did.
+    /// Pins for one read if no version is pinned, and returns whether it did.
     fn begin_read(&mut self) -> bool
         ensures stays { seat_of self.new ≡ seat_of self.old }
         ensures pinned { IsSome (known self.new.knows).pin }
@@ -221,7 +223,7 @@ impl<'a> PassServer<'a> {
         true
     }
 
-    /// Gives the pin of one read up, where the read made it.
+    /// Gives the pin of one read up, if the read made it.
     fn end_read(&mut self, made: bool)
         requires { IsSome (known self.old.knows).pin }
         ensures stays { seat_of self.new ≡ seat_of self.old }

@@ -2,7 +2,7 @@
 //!
 //! Each line is run and its reply written, as in any run. Behind a reply that says that its line
 //! was not done nothing more is run: that reply is the last that is written. The store is closed
-//! then, and its journal is given back.
+//! then, and its journal is returned.
 ghost use Rattle.std.specs.Option.{option_map};
 ghost use Rattle.std.specs.Prelude.{◌≡◌, ◌≤◌, ◌^◌, ◌↔◌, length, IfOk, OnOk, IfErr, IfSome, OnErr};
 ghost use Rattle.std.specs.Prelude.{if◌then◌else◌};
@@ -52,7 +52,7 @@ fn is_refusal(reply: &Reply) -> bool
     }
 }
 
-/// The text of a reply, where it says that its line was not done.
+/// The text of a reply, if it says that its line was not done.
 fn refusal_in(is_refused: bool, text: String) -> Option<String>
     ensures { option_map string_bytes result
         ≡ (if is_refused then Some (string_bytes text) else None) }
@@ -60,8 +60,8 @@ fn refusal_in(is_refused: bool, text: String) -> Option<String>
     if is_refused { Some(text) } else { None }
 }
 
-/// Runs a line, and then writes its reply, which is given back where it says that the line was not
-/// done. Nothing of it was written where memory is missing.
+/// Runs a line, and then writes its reply, which is returned if it says that the line was not done.
+/// Nothing of it was written if memory is missing.
 fn run_line<S: Server, W: Write>(
     alloc: Global,
     server: &mut S,
@@ -92,7 +92,7 @@ fn run_line<S: Server, W: Write>(
     Ok(refusal_in(is_refusal(&reply), text))
 }
 
-/// The refused line of this number, where there is a reply of one.
+/// The refused line of this number, if there is a reply of one.
 fn refused_line(number: u64, reply: Option<String>) -> Option<RefusedLine>
     ensures { option_map strict.line_refused result
         ≡ strict.numbered number (option_map string_bytes reply) }
@@ -104,7 +104,7 @@ fn refused_line(number: u64, reply: Option<String>) -> Option<RefusedLine>
 }
 
 /// Runs the lines of a script in turn, up to the first that is refused, and gives that one. What
-/// follows the last LF is a line only where it isn't empty.
+/// follows the last LF is a line only if it isn't empty.
 fn run_lines<S: Server, W: Write>(
     alloc: Global,
     server: &mut S,
@@ -168,9 +168,9 @@ fn run_on_new<W: Write>(
     Ok((refused, journal))
 }
 
-/// Runs a script as [`crate::run`] does, but ends behind the first reply that says that its line
-/// was not done, and gives that line. None where there was no such line: then all lines were run.
-/// The journal of the accepted writes is given too.
+/// Runs a script as [`crate::run`] does, but ends after the first reply that says that its line was
+/// not done, and returns that line. It returns None if there was no such line: then all lines were
+/// run. The journal of the accepted writes is returned too.
 ///
 /// Such replies are a refusal, `bad line`, `already begun`, `not begun`, `full batch`, `empty
 /// batch`, `already pinned`, `not pinned` and `no live query`. What is written is an output of the

@@ -76,16 +76,16 @@ fn run_on_new<W: Write>(
     put_result(alloc, writer, &journal)
 }
 
-/// Runs a script as [`crate::run`] does, and writes behind the replies what a race writes behind
-/// them: `journal N`, the journal's text, and `replay ok`. It says whether the journal is legal. It
-/// is: false is never answered.
+/// Runs a script as [`crate::run`] does, and writes after the replies what a race writes after
+/// them: `journal N`, the journal's text, and `replay ok`. Returns whether the journal is legal,
+/// which is always true.
 ///
 /// The script is read before the store is opened. The journal is that which the replies leave: each
-/// accepted write of the script, in its order; after each of them the volume is one that as many
-/// pages as the limits say can spell. Faults are those of `run`; `Write` leaves a front of the
-/// replies written, or all of them and a front of what stands behind them, `Memory` the replies to
-/// the script's first lines, each of them whole, and nothing of the journal, and any other fault
-/// leaves nothing.
+/// accepted write of the script, in its order; after each of them the volume fits into as many
+/// pages as the limits say. Faults are those of `run`. `Write` leaves a front of the replies
+/// written, or all of them and a front of what follows them. `Memory` leaves the replies to the
+/// script's first lines, each of them whole, and nothing of the journal. Any other fault leaves
+/// nothing.
 pub fn run_and_tell<R: ScriptReader, W: Write>(
     alloc: Global,
     reader: &mut R,

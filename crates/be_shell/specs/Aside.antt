@@ -15,7 +15,7 @@ abbrev pub skip : List ℕ → List ℕ
 skip [] = []
 skip (c ∷ line) = if is_blank c then skip line else c ∷ line
 
--- where the first blank is, or the length
+-- the position of the first blank, or the length
 abbrev pub end_of_word : List ℕ → ℕ
 end_of_word line = unwrap_or (position is_blank line) (length line)
 

@@ -1,5 +1,5 @@
--- What a conversation does to the bytes that a reader has left and to those that a writer holds,
--- where they are known.
+-- What a conversation does to the bytes that a reader has left and to those that a writer holds, if
+-- they are known.
 use Rattle.std.specs.Prelude.{◌≡◌, ◌⊎◌, ◌≤◌, ◌<◌, ℕ, false, All, List, [], ◌∷◌, ◌++◌, length, Some}
 use Rattle.std.specs.Prelude.{None}
 use Rattle.std.specs.Io.KnownBytes.{Appends, Consumes, IsAtEnd, Keeps}
@@ -20,8 +20,8 @@ abbrev pub IsHeardOf : List ℕ → Heard → Type 0
 IsHeardOf bytes (short_line line) = (bytes ≡ line) × (length bytes ≤ 65536)
 IsHeardOf bytes long_line = 65536 < length bytes
 
--- A line was taken off the front: its bytes and the LF behind them, or all that was left, where no
--- LF is in it.
+-- A line was taken off the front: its bytes and the LF after them, or all that was left if it has
+-- no LF.
 pub record TakesLine (old new : Option (List ℕ)) (line : Heard) : Type 0 where
   pub bytes : List ℕ
   pub within : IsWithinLine bytes
@@ -34,8 +34,8 @@ abbrev pub TakesByte : Option (List ℕ) → Option (List ℕ) → Option ℕ �
 TakesByte old new (Some byte) = Consumes old new (byte ∷ [])
 TakesByte old new None = Consumes old new [] × IsAtEnd new
 
--- What was taken so far of a line, where these bytes of it are kept: all of them, or else one more
--- than 65,536.
+-- What was taken so far of a line if these bytes of it are kept. Up to 65,536 kept bytes are all
+-- that was taken; more say that the line is longer than that.
 pub record HasTaken (old new : Option (List ℕ)) (kept : List ℕ) : Type 0 where
   pub bytes : List ℕ
   pub within : IsWithinLine bytes

@@ -64,8 +64,8 @@ abbrev pub Happens : {P : Type 0} → (P → Event → P → Type 0) → P → L
 Happens does p [] q = q ≡ p
 Happens {P} does p (event ∷ events) q = (mid : P) × does p event mid × Happens does mid events q
 
--- a peer of which so many lines were heard and replied to, from one session and state of the peer
--- to others
+-- this many lines of a peer were heard and replied to, from one session and state of the peer to
+-- others
 abbrev pub SoFar : {P : Type 0} → (P → Event → P → Type 0) → Session → P → ℕ → Session → P → Type 0
 SoFar does s p count mid q = (lines : List Heard) × (talk : List Event) × IsTalk s lines talk mid
     × Happens does p talk q × (length lines ≡ count)
@@ -75,7 +75,7 @@ abbrev pub TalkedTo : {P : Type 0} → (P → Event → P → Type 0) → Sessio
 TalkedTo does s p last q = (lines : List Heard) × (talk : List Event) × IsTalk s lines talk last
     × Happens does p (talk ++ ends ∷ []) q
 
--- one exchange, or none where no more lines came
+-- one exchange, or none if no more lines came
 abbrev pub Went : {P : Type 0} → (P → Event → P → Type 0) → Session → P → Bool → Session → P
     → Type 0
 Went does s p true after q = (line : Heard) × (reply : List ℕ) × RepliedTo s line after reply
@@ -95,8 +95,8 @@ IsDeaf TooLong = ⊥
 IsDeaf Write = ⊥
 IsDeaf Memory = Unit {0}
 
--- What a fault leaves of an exchange: no line was heard; or one was, and for want of memory nothing
--- was said; or its reply was cut off.
+-- What a fault leaves of an exchange: no line was heard; or one was heard, and nothing was said
+-- because memory ran out; or its reply was cut off.
 abbrev pub IsBroken : RunFault → Session → List Event → Type 0
 IsBroken Limits s events = ⊥
 IsBroken Read s events = events ≡ fails ∷ []
@@ -106,7 +106,7 @@ IsBroken Write s events =
     × RepliedTo s line after reply × IsCut reply cut × (events ≡ hears line ∷ cut)
 IsBroken Memory s events = (events ≡ fails ∷ []) ⊎ ((line : Heard) × (events ≡ hears line ∷ []))
 
--- an exchange that a fault broke off; and one behind the line that was heard
+-- an exchange that a fault broke off, and one that it broke off after the line was heard
 abbrev pub Broke : {P : Type 0} → (P → Event → P → Type 0) → RunFault → Session → P → P → Type 0
 Broke does e s p q = (broken : List Event) × IsBroken e s broken × Happens does p broken q
 
@@ -115,13 +115,13 @@ abbrev pub BrokeBehind : {P : Type 0} → (P → Event → P → Type 0) → Run
 BrokeBehind does e s line p q = (broken : List Event) × IsBroken e s (hears line ∷ broken)
     × Happens does p broken q
 
--- What ends a conversation behind these lines: an exchange that a fault broke off; or that 2^64 - 1
--- lines were heard, as many as are counted, which is told as Read.
+-- What ends a conversation after these lines: an exchange that a fault broke off; or Read after
+-- 2^64 - 1 lines, as many as are counted.
 abbrev pub IsCutShort : RunFault → Session → List Heard → List Event → Type 0
 IsCutShort e s lines events = IsBroken e s events
     ⊎ ((e ≡ Read) × (length lines + 1 ≡ 2 ^ 64) × (events ≡ []))
 
--- A peer that was talked to until a fault. Nothing is said behind that.
+-- A peer that was talked to until a fault. Nothing is said after the fault.
 abbrev pub BrokeOff : {P : Type 0} → (P → Event → P → Type 0) → RunFault → Session → P → P → Type 0
 BrokeOff does e s p q =
     (lines : List Heard) × (talk : List Event) × (mid : Session) × (broken : List Event)
@@ -136,8 +136,8 @@ IsUnopened TooLong = ⊥
 IsUnopened Write = ⊥
 IsUnopened Memory = Unit {0}
 
--- What a fault leaves of two conversations, one behind the other: there was no store for them; or
--- the first was broken off, and the second peer was left alone; or the second was.
+-- What a fault leaves of two conversations, one after the other. There was no store for them; or
+-- the first was broken off, and the second peer was left alone; or the second was broken off.
 abbrev pub ShellLeaves : {P Q : Type 0} → (P → Event → P → Type 0) → (Q → Event → Q → Type 0)
     → RunFault → Session → P → P → Q → Q → Type 0
 ShellLeaves first second e s p p' q q' =

@@ -11,7 +11,7 @@ abbrev pub asks_of : Heard → Aside
 asks_of (short_line line) = typed_of line
 asks_of long_line = Cut
 
--- A line as the shell hears it: where it is for the terminal, an empty line, or the end.
+-- A line as the shell hears it: itself, or an empty line or the end if it is for the terminal.
 abbrev pub passed_on : Heard → Aside → Event
 passed_on line Nothing = hears line
 passed_on line Quit = ends

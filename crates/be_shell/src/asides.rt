@@ -48,7 +48,7 @@ fn is_all_blank(line: &[u8]) -> bool
     line.iter().all(|c| is_blank(*c))
 }
 
-/// Where the first blank is.
+/// The position of the first blank.
 fn first_blank(line: &[u8]) -> Option<usize>
     ensures { result ≡ position spec.is_blank line.now }
 {

@@ -6,7 +6,7 @@ ghost use Rattle.be_shell.specs.Bytes.{TakesByte};
 
 use std::io::{self, Read};
 
-/// What Ctrl-C types, where a terminal gives it as a character.
+/// What Ctrl-C types, if a terminal gives it as a character.
 const CANCEL: u8 = 3;
 
 /// The next byte, or None at the end.
@@ -32,6 +32,7 @@ pub struct Breaking<R> {
 }
 
 impl<R: Read> Breaking<R> {
+    /// Makes a reader of the one below it, before its first read.
     pub fn new(reader: R) -> Breaking<R>
         ensures { breaks_left R.remaining result ≡ option_map broken (R.remaining reader) }
     {
@@ -45,6 +46,8 @@ impl<R: Read> Breaking<R> {
 impl<R: Read> Read for Breaking<R> {
     ghost remaining = { breaks_left R.remaining };
 
+    /// Reads up to one byte: an LF after a byte 3, otherwise the next byte of the reader below. The
+    /// errors are those of that reader.
     fn read(&mut self, buf: &mut [u8]) -> io::Result<usize> {
         if buf.len() == 0 {
             return Ok(0);

@@ -1,4 +1,4 @@
-//! A store that is talked with, and whose journal is given back at the end.
+//! A store that is talked with, and whose journal is returned at the end.
 ghost use Rattle.std.specs.Prelude.{◌≡◌, ◌≤◌, ◌↔◌, IfErr, IfSome, OnOk, Err, length};
 ghost use Rattle.be_journal.specs.Journal.{IsLegal};
 ghost use Rattle.be_script_runner.specs.Output.{Session, opening};
@@ -38,9 +38,8 @@ fn converse_with_both<S: Server, F: Peer, P: Peer>(
     converse(alloc, server, client, peer)
 }
 
-/// Talks as [`crate::shell`] does, and gives the store's journal back, also where a fault has ended
-/// the talk: what was accepted by then. None where no store was opened, or memory was missing to
-/// close it.
+/// Talks as [`crate::shell`] does, and returns the store's journal, also if a fault has ended the
+/// talk: what was accepted by then. None if no store was opened, or memory was missing to close it.
 pub fn shell_and_close<F: Peer, P: Peer>(
     alloc: Global,
     first: &mut F,

@@ -88,7 +88,7 @@ fn serve_line<S: Server, P: Peer>(
     Ok(())
 }
 
-/// Hands the state of the store to a peer that wants it.
+/// Hands the state of the store to a peer that asks for it.
 fn hand_state<S: Server, P: Peer>(server: &mut S, peer: &mut P)
     ensures same { (event : Event) (before : P) → P.does before event peer.old
         → P.does before event peer.new }
@@ -104,7 +104,7 @@ fn hand_state<S: Server, P: Peer>(server: &mut S, peer: &mut P)
     }
 }
 
-/// Hears a line, runs it, says its reply and sends it off. False where no more lines come.
+/// Hears a line, runs it, says its reply and sends it off. False if no more lines come.
 fn exchange<S: Server, P: Peer>(
     alloc: Global,
     server: &mut S,
@@ -131,10 +131,10 @@ fn exchange<S: Server, P: Peer>(
 /// Talks with a peer until no more lines come, or until a fault.
 ///
 /// Each line is run before its reply is said, and the reply is sent off before the next line is
-/// heard. What the session has beside its store, an open batch and a live query, goes on from the
-/// client as it is, and stands in it afterwards, so that a conversation can be carried on with
-/// another peer. A fault leaves what was said before it, and of the reply that it broke off a
-/// front; `Memory` leaves the line run or not. `Read` comes too after 2^64 - 1 lines.
+/// heard. An open batch and a live query of the client go on, and stay in it afterwards, so a
+/// conversation can go on with another peer. A fault leaves what was said before it, and a front of
+/// the reply that it broke off; `Memory` leaves the line run or not. `Read` comes too after 2^64 -
+/// 1 lines.
 pub fn converse<S: Server, P: Peer>(
     alloc: Global,
     server: &mut S,

@@ -56,8 +56,7 @@ fn line_of(kept: Vec<u8>) -> Line
     }
 }
 
-/// The line behind the last LF, of which these bytes were kept: it is one only where it isn't
-/// empty.
+/// The line after the last LF, of which these bytes were kept: it is one only if it isn't empty.
 fn last_line(kept: Vec<u8>) -> Option<Line>
     ensures none { vec_len kept ≡ 0 → hearing result ≡ ends }
     ensures short { 1 ≤ vec_len kept → vec_len kept ≤ 65536 → hearing result
@@ -98,8 +97,8 @@ fn hear_line<R: Read>(alloc: Global, reader: &mut R) -> Result<Option<Line>, Run
 }
 
 /// A reader that is heard, a line at a time and to its LF, and a writer to which replies are said.
-/// It reads a byte at a time, so a reader of a file or a pipe is to stand behind a `BufReader`. It
-/// doesn't prompt.
+/// It reads a byte at a time, so a reader of a file or a pipe should be wrapped in a `BufReader`.
+/// It doesn't prompt.
 #[derive(Drop)]
 pub struct Ends<R, W> {
     reader: R,
@@ -107,6 +106,7 @@ pub struct Ends<R, W> {
 }
 
 impl<R: Read, W: Write> Ends<R, W> {
+    /// Makes a peer of this reader and this writer.
     pub fn new(reader: R, writer: W) -> Ends<R, W>
         ensures { (result.reader ≡ reader) × (result.writer ≡ writer) }
     {

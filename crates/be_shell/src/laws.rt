@@ -13,7 +13,7 @@ pub fn talk_is_output()
 {}
 
 /// A conversation of a script's lines is an output of that script, and leaves the same store. It
-/// doesn't matter whether the empty line behind a last LF is heard.
+/// doesn't matter whether the empty line after a last LF is heard.
 pub fn talk_of_script_is_output()
     ensures whole { (store : Store) (script : List ℕ) (talk : List Event) (last : Session) →
         IsTalk (opening store) (all_short (lines_of script)) talk last
@@ -24,8 +24,8 @@ pub fn talk_of_script_is_output()
         → IsOutputTo store script last.store (said talk) }
 {}
 
-/// Where the bytes that come are a script none of whose lines is long, a conversation over them to
-/// their end says an output of that script: as `run` does of the same bytes.
+/// If the bytes that come are a script none of whose lines is long, a conversation over them to
+/// their end says an output of that script, as `run` does of the same bytes.
 pub fn talk_of_bytes_is_output()
     ensures { (store : Store) (script told : List ℕ) (last : Session) (end : Known)
         → AreShort (lines_of script) →

@@ -10,11 +10,12 @@ use std::alloc::Global;
 /// Who the shell talks with: lines come from it, and replies go to it.
 pub trait Peer {
     /// What an event makes of the peer. The peer goes from state to state by events alone, so a
-    /// chain of them tells the order in which all was heard and said.
+    /// chain of them gives the order in which all was heard and said.
     ghost does: { Self → Event → Self → Type 0 };
 
-    /// Waits for the next line: None where no more come. `Read` or `Memory` where it can't be had;
-    /// a part of it may be lost then. A peer that prompts is told whether a batch is open.
+    /// Waits for the next line: None if no more come. The error is `Read` or `Memory` if the line
+    /// can't be read; a part of it may be lost then. A peer that prompts learns from the flag
+    /// whether a batch is open.
     fn hear(&mut self, alloc: Global, is_batch_open: bool) -> Result<Option<Line>, RunFault>
         ensures heard { IfOk result (λ next. does self.old (hearing next) self.new) }
         ensures deaf { OnErr result (does self.old fails self.new) }

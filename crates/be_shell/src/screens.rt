@@ -48,9 +48,9 @@ fn say_shown<P: Peer>(peer: &mut P, bytes: &[u8]) -> Result<(), RunFault>
     Ok(())
 }
 
-/// A peer to whom replies are said with control characters, but the LF, as `\x1b`, by two
-/// hexadecimal digits of their code, so that a terminal shows them and takes no orders from a
-/// value. It needs no memory. After a failed write a front of what is shown was said.
+/// A peer to whom replies are said with control characters, but the LF, written as `\x1b`: by two
+/// hexadecimal digits of their code. So a terminal shows them and takes no orders from a value. It
+/// needs no memory. After a failed write a front of what is shown was said.
 #[derive(Drop)]
 pub struct Screen<P> {
     peer: P,
@@ -58,6 +58,7 @@ pub struct Screen<P> {
 }
 
 impl<P: Peer> Screen<P> {
+    /// Makes a screen over a peer. No write has failed yet.
     pub fn new(peer: P) -> Screen<P>
         ensures { (result.peer ≡ peer) × (result.is_torn ≡ false) }
     {

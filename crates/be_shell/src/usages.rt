@@ -1,5 +1,5 @@
-//! What a terminal tells on standard error. What can't be written there, or needs memory that isn't
-//! there, is left out.
+//! What a terminal writes to standard error. What can't be written there, or finds memory full, is
+//! left out.
 use crate::asides::{skip, split_word};
 use std::alloc::{AllocError, Global};
 use std::io::Eprint;
@@ -43,7 +43,7 @@ fn usage_of(command: &[u8]) -> Option<&'static str> {
     None
 }
 
-/// Tells of a command, or that there is none of this name.
+/// Writes to standard error how a command is used, or that there is none of this name.
 pub(crate) fn tell_usage<R: Eprint>(rt: &R, command: &[u8]) {
     let _ = match usage_of(command) {
         Some(usage) => eprintln!(rt; "{usage}"),
@@ -51,7 +51,7 @@ pub(crate) fn tell_usage<R: Eprint>(rt: &R, command: &[u8]) {
     };
 }
 
-/// Answers the line `help`, with a command behind it or not.
+/// Answers the line `help`, with a command after it or without.
 pub(crate) fn tell_help<R: Eprint>(rt: &R, line: &[u8]) {
     let (_, behind) = split_word(skip(line));
     let (command, _) = split_word(skip(behind));
@@ -76,7 +76,7 @@ fn number_at(text: &[u8]) -> usize {
     number
 }
 
-/// Where a query has its error, by the reply.
+/// The place of the error in a query, as the reply gives it.
 fn fault_at(reply: &[u8]) -> Option<usize> {
     if let Some(number) = reply.strip_prefix(b"refused 12 Syntax ".as_slice()) {
         return Some(number_at(number));
@@ -127,8 +127,8 @@ pub(crate) fn wants_hint(reply: &[u8]) -> bool {
     reply == b"bad line\n".as_slice() || fault_at(reply).is_some()
 }
 
-/// Tells what a reply doesn't: how the command of a bad line is used, and where a query has its
-/// error.
+/// Writes to standard error what a reply doesn't say: how the command of a bad line is used, and
+/// where a query has its error.
 pub(crate) fn hint<R: Eprint>(rt: &R, alloc: Global, line: &[u8], reply: &[u8]) {
     if reply == b"bad line\n".as_slice() {
         let (word, _) = split_word(skip(line));

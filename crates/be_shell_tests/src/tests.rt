@@ -61,7 +61,7 @@ impl Strict {
         }
     }
 
-    /// Notes a call, and tells whether it is to fail.
+    /// Notes a call, and returns whether it is to fail.
     fn fails_at(&mut self, call: Awaits) -> bool {
         if self.awaits != call {
             self.is_in_order = false;
@@ -83,6 +83,8 @@ fn line_of(alloc: Global, text: &str) -> Result<Line, AllocError> {
 impl Peer for Strict {
     ghost does = { λ _ _ _. ⊤ };
 
+    /// Gives the line of the next row, or None after the last one. Fails with `Read` if it is to,
+    /// or out of turn.
     fn hear(&mut self, alloc: Global, _is_batch_open: bool) -> Result<Option<Line>, RunFault> {
         if self.fails_at(Awaits::Hear) {
             return Err(RunFault::Read);
@@ -121,7 +123,7 @@ impl Peer for Strict {
     }
 }
 
-/// A conversation with this peer, behind no other.
+/// A conversation with this peer, after no other.
 fn talk(alloc: Global, peer: &mut Strict) -> Result<(), RunFault> {
     let mut written: Vec<u8> = Vec::new(alloc);
     let mut nothing = Ends::new(b"".as_slice(), &mut written);
@@ -132,7 +134,7 @@ fn talk(alloc: Global, peer: &mut Strict) -> Result<(), RunFault> {
 const CALLS: usize = 3 * ROWS + 1;
 
 /// Whether a conversation that fails at this call ends there with its fault, all before it in
-/// order; or to its end, where none fails.
+/// order; or to its end, if none fails.
 fn ends_at(alloc: Global, call: usize) -> bool {
     let mut peer = Strict::new(call);
     let ended = talk(alloc, &mut peer);
@@ -156,7 +158,7 @@ fn failing_peer(rt: HostRuntime) -> Result<(), Fail> {
     Ok(())
 }
 
-/// What a shell says to the bytes of a reader, behind those of a first one.
+/// What a shell says to the bytes of a reader, after those of a first one.
 fn said_to(alloc: Global, first: &[u8], bytes: &[u8]) -> Result<Vec<u8>, RunFault> {
     let mut early: Vec<u8> = Vec::new(alloc);
     let mut late: Vec<u8> = Vec::new(alloc);
@@ -172,7 +174,7 @@ fn said_to(alloc: Global, first: &[u8], bytes: &[u8]) -> Result<Vec<u8>, RunFaul
     }
 }
 
-/// Fails unless a shell says this, asked again where memory was wanted.
+/// Fails unless a shell says this, asked again if memory ran out.
 fn check(alloc: Global, first: &[u8], bytes: &[u8], replies: &str) -> Result<(), Fail> {
     for _ in 0..2 {
         if let Ok(said) = said_to(alloc, first, bytes) {
@@ -215,7 +217,7 @@ fn shown_to(alloc: Global, bytes: &[u8]) -> Result<Vec<u8>, RunFault> {
     Ok(late)
 }
 
-/// Fails unless this is shown, asked again where memory was wanted.
+/// Fails unless this is shown, asked again if memory ran out.
 fn check_shown(alloc: Global, bytes: &[u8], replies: &str) -> Result<(), Fail> {
     for _ in 0..2 {
         if let Ok(shown) = shown_to(alloc, bytes) {
@@ -279,7 +281,7 @@ fn long_lines(rt: HostRuntime) -> Result<(), Fail> {
     check_comment(rt.alloc(), 1_100_000, "bad line\nnode 1\n")
 }
 
-/// Holds what it is given until a flush sends it, and fails at each flush behind so many.
+/// Holds what it is given until a flush sends it, and fails at each flush after the first so many.
 #[derive(Drop)]
 struct Sending {
     held: u64,
@@ -305,7 +307,7 @@ impl Write for Sending {
 }
 
 /// Whether a conversation of three lines over a writer that sends so many replies ends with `Write`
-/// behind them; or well, where it sends each.
+/// after them; or with success if it sends each.
 fn sends(alloc: Global, most: u64) -> bool {
     let mut early: Vec<u8> = Vec::new(alloc);
     let mut late = Sending {

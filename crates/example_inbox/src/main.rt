@@ -132,6 +132,7 @@ fn count_letters<R: AllocGlobal + Threads + Sync>(rt: &R) -> Result<(usize, usiz
     Ok((before?, since?))
 }
 
+/// Prints both numbers of letters, or on standard error why the store refused.
 fn main(rt: HostRuntime) -> io::Result<ExitCode> {
     match count_letters(&rt) {
         Ok((before, since)) => {

@@ -31,7 +31,7 @@ fn some_error(number: usize) -> io::Error {
     })
 }
 
-/// Gives its bytes one at a time, then fails where it is to, and counts its reads.
+/// Gives its bytes one at a time, then fails if it is to, and counts its reads.
 #[derive(Drop)]
 struct Dripping<'a> {
     bytes: &'a [u8],
@@ -40,6 +40,8 @@ struct Dripping<'a> {
 }
 
 impl Read for Dripping<'_> {
+    /// Counts the read, and gives the next byte; after the last one the end, or an error if it is
+    /// to fail.
     fn read(&mut self, buf: &mut [u8]) -> io::Result<usize> {
         self.reads = self.reads.saturating_add(1);
         let Some((byte, rest)) = self.bytes.split_first() else {
@@ -77,6 +79,7 @@ pub struct Outcome {
     pub reads: usize,
 }
 
+/// Runs a script that comes byte by byte once.
 fn drip(alloc: Global, bytes: &[u8], fails: bool) -> Outcome {
     let mut reader = Dripping {
         bytes,
@@ -92,7 +95,7 @@ fn drip(alloc: Global, bytes: &[u8], fails: bool) -> Outcome {
     }
 }
 
-/// Runs a script that comes byte by byte, again where memory was wanted.
+/// Runs a script that comes byte by byte, again if memory ran out.
 pub fn dripped(alloc: Global, bytes: &[u8], fails: bool) -> Outcome {
     let outcome = drip(alloc, bytes, fails);
     if outcome.end == "memory" {
@@ -101,7 +104,7 @@ pub fn dripped(alloc: Global, bytes: &[u8], fails: bool) -> Outcome {
     outcome
 }
 
-/// Whether a run of a script whose reader fails behind these bytes ends with `Read`, and writes
+/// Whether a run of a script whose reader fails after these bytes ends with `Read`, and writes
 /// nothing.
 fn fails_behind(alloc: Global, bytes: &[u8]) -> bool {
     let outcome = dripped(alloc, bytes, true);
@@ -121,7 +124,7 @@ fn failing_reader(rt: HostRuntime) -> Result<(), Fail> {
 }
 
 /// Whether a run writes as many bytes of the replies as there is room for, and then ends with
-/// `Write`; or with success, where there is room for all.
+/// `Write`; or with success if there is room for all.
 fn fills(alloc: Global, room: usize, fails: bool) -> bool {
     let mut writer = Narrow::new(REPLIES.as_bytes(), room, fails);
     let end = end_of(run(alloc, &mut SCRIPT.as_bytes(), &mut writer, LIMITS));
@@ -132,8 +135,8 @@ fn fills(alloc: Global, room: usize, fails: bool) -> bool {
     }
 }
 
-/// The same of a writer that fails and of one that takes nothing, at the second run where memory
-/// may have been wanted at the first.
+/// The same of a writer that fails and of one that takes nothing, at the second run if memory may
+/// have run out at the first.
 fn fills_by_each(alloc: Global, room: usize) -> bool {
     (fills(alloc, room, true) || fills(alloc, room, true))
         && (fills(alloc, room, false) || fills(alloc, room, false))
@@ -150,11 +153,11 @@ fn failing_writer(rt: HostRuntime) -> Result<(), Fail> {
     Ok(())
 }
 
-/// What is written where no line wants memory.
+/// What is written if memory never runs out.
 const OUTPUT: &str = "node 1\nok\nok\nnodes\n";
 
-/// What may be written where a line wants memory, but its last LF, with a blank line between: that
-/// line is refused, and those behind it see a store without it.
+/// What may be written if memory runs out in a line, but its last LF, with a blank line between:
+/// that line is refused, and those after it see a store without it.
 const OUTPUTS: &str = "refused 10 OutOfMemory\nrefused 2 NoNode\nok\nnodes\n
 node 1\nrefused 10 OutOfMemory\nok\nnodes\n
 node 1\nok\nrefused 10 OutOfMemory\nrefused 17 NotCovered\n
@@ -180,8 +183,8 @@ fn is_among(text: &str, texts: &str) -> bool {
     false
 }
 
-/// Where a request for memory is refused, the line is answered so, or the run ends with `Memory`
-/// and a front is written.
+/// If a request for memory is refused, the line is answered so, or the run ends with `Memory` and a
+/// front is written.
 #[test]
 fn refused_memory(rt: HostRuntime) -> Result<(), Fail> {
     let alloc = rt.alloc();

@@ -85,7 +85,8 @@ fn longest_replies(rt: HostRuntime) -> Result<(), Fail> {
     check_bytes(rt.alloc(), script.as_bytes(), &replies, LIMITS.commits)
 }
 
-/// There are 32 indices at most. An index of that name is told first, and its kind last.
+/// A store has up to 32 indices. If the name has an index, that is reported before the limit, and a
+/// kind that can't be indexed after it.
 #[test]
 fn too_many_indices(rt: HostRuntime) -> Result<(), Fail> {
     let last = "
@@ -170,7 +171,7 @@ fn commits_spent(rt: HostRuntime) -> Result<(), Fail> {
     check_bytes(rt.alloc(), script, replies, 2)
 }
 
-/// Whether a run of these bytes, each of which costs a read, ends so behind 1,048,577 reads, and
+/// Whether a run of these bytes, each of which costs a read, ends so after 1,048,577 reads, and
 /// writes nothing.
 fn ends_unwritten(alloc: Global, bytes: &[u8], fails: bool, end: &str) -> bool {
     let outcome = dripped(alloc, bytes, fails);
@@ -178,7 +179,7 @@ fn ends_unwritten(alloc: Global, bytes: &[u8], fails: bool, end: &str) -> bool {
 }
 
 /// 1,048,576 bytes run, a byte more is too long, and each byte costs a read. A read that fails
-/// behind the last byte that there may be is told, and one behind a byte more is never made.
+/// after the last allowed byte is reported, and a read after one byte more is never made.
 #[test]
 fn longest_script(rt: HostRuntime) -> Result<(), Fail> {
     let alloc = rt.alloc();
@@ -200,7 +201,7 @@ fn run_within(alloc: Global, limits: Limits) -> &'static str {
     end_of(run(alloc, &mut b"# x".as_slice(), &mut written, limits))
 }
 
-/// The same, run again where memory was wanted.
+/// The same, run again if memory ran out.
 fn end_within(alloc: Global, limits: Limits) -> &'static str {
     match run_within(alloc, limits) {
         "memory" => run_within(alloc, limits),
@@ -208,7 +209,7 @@ fn end_within(alloc: Global, limits: Limits) -> &'static str {
     }
 }
 
-/// The number that a word spells, 0 where there is none.
+/// The number that a word encodes, 0 if there is none.
 fn number_in(word: Option<&str>) -> u64 {
     word_of(word.unwrap_or("").as_bytes()).unwrap_or(0)
 }

@@ -23,7 +23,7 @@ pub struct PlainStore {
     journal: Journal,
     /// How many writes were accepted before the pinned version.
     pin: Option<u64>,
-    /// The pinned version's volume, where a write was tried since.
+    /// The pinned version's volume, if a write was tried since.
     kept: Option<Volume>,
 }
 
@@ -93,7 +93,7 @@ impl PlainStore {
     }
 }
 
-/// Keeps a copy of the volume for a pinned version, where none is kept.
+/// Keeps a copy of the volume for a pinned version, if none is kept.
 fn keep(is_pinned: bool, kept: &mut Option<Volume>, volume: &Volume) -> Result<(), Refusal>
     ensures kept { OnOk result (is_pinned ≡ true → IsSome kept.new) }
     ensures same { unwrap_or kept.new volume.now ≡ unwrap_or kept.old volume.now }

@@ -18,7 +18,7 @@ fn repeated(
     Ok(script)
 }
 
-/// The replies to a script over so few pages, or none where memory was wanted.
+/// The replies to a script over so few pages, or none if memory ran out.
 fn replies_over(alloc: Global, pages: u64, script: &str) -> Option<String> {
     let mut replies: Vec<u8> = Vec::new(alloc);
     let limits = Limits { pages, ..LIMITS };
@@ -39,7 +39,7 @@ fn count_nodes(replies: &str) -> usize {
         .count()
 }
 
-/// What stands at the end, where so many nodes fill the pages and `full` refuses the next.
+/// The end of the replies if so many nodes fill the pages and `full` refuses the next.
 fn end_of_full(alloc: Global, full: &str, nodes: usize) -> Result<String, AllocError> {
     format!(in alloc;
         "{full}\npin {nodes}\nnone\nindices 0\nok\nok\nqueued\nqueued\nrefused 2 NoNode\n{full}\n"

@@ -3,6 +3,7 @@
 use super::check;
 use std::test::Fail;
 
+/// Which lines are comments or blank, and what a CR and other blank-like characters in a line are.
 #[test]
 fn lines(rt: HostRuntime) -> Result<(), Fail> {
     check(
@@ -35,6 +36,7 @@ fn lines(rt: HostRuntime) -> Result<(), Fail> {
     )
 }
 
+/// How a line is parted into words, and what a quoted word stands for.
 #[test]
 fn words(rt: HostRuntime) -> Result<(), Fail> {
     check(
@@ -76,6 +78,7 @@ fn words(rt: HostRuntime) -> Result<(), Fail> {
     )
 }
 
+/// A line whose command isn't known, or whose words are too many or too few, is bad.
 #[test]
 fn counts(rt: HostRuntime) -> Result<(), Fail> {
     check(
@@ -113,6 +116,7 @@ fn counts(rt: HostRuntime) -> Result<(), Fail> {
     )
 }
 
+/// The digits and the range of a node's number and of LONG, LLNG, ULNG and ULLG values.
 #[test]
 fn numbers(rt: HostRuntime) -> Result<(), Fail> {
     check(
@@ -165,6 +169,7 @@ fn numbers(rt: HostRuntime) -> Result<(), Fail> {
     )
 }
 
+/// The kinds, and which words encode a value of each.
 #[test]
 fn kinds(rt: HostRuntime) -> Result<(), Fail> {
     check(
@@ -199,6 +204,7 @@ fn kinds(rt: HostRuntime) -> Result<(), Fail> {
     )
 }
 
+/// All causes of a bad line come before a refusal, and refusals have an order too.
 #[test]
 fn order_of_faults(rt: HostRuntime) -> Result<(), Fail> {
     check(
@@ -239,6 +245,7 @@ fn order_of_faults(rt: HostRuntime) -> Result<(), Fail> {
     )
 }
 
+/// The text of a query isn't split into words, and its errors have their place.
 #[test]
 fn query_texts(rt: HostRuntime) -> Result<(), Fail> {
     check(
@@ -281,6 +288,7 @@ fn query_texts(rt: HostRuntime) -> Result<(), Fail> {
     )
 }
 
+/// Comparisons with sets, with numbers, and with texts that are no number; and faulty sets.
 #[test]
 fn comparisons(rt: HostRuntime) -> Result<(), Fail> {
     check(
@@ -316,6 +324,7 @@ fn comparisons(rt: HostRuntime) -> Result<(), Fail> {
     )
 }
 
+/// A batch keeps its operations until `commit` or `abort`, whatever other lines come between.
 #[test]
 fn batches(rt: HostRuntime) -> Result<(), Fail> {
     check(
@@ -360,6 +369,7 @@ fn batches(rt: HostRuntime) -> Result<(), Fail> {
     )
 }
 
+/// A pin is the number of accepted writes, and stays until `unpin`.
 #[test]
 fn pins(rt: HostRuntime) -> Result<(), Fail> {
     check(
@@ -416,6 +426,7 @@ fn pins(rt: HostRuntime) -> Result<(), Fail> {
     )
 }
 
+/// A pin and an open batch don't change one another.
 #[test]
 fn pins_and_batches(rt: HostRuntime) -> Result<(), Fail> {
     check(
@@ -449,6 +460,7 @@ fn pins_and_batches(rt: HostRuntime) -> Result<(), Fail> {
     )
 }
 
+/// What `live` and `refresh` reply, and what leaves a live query as it was.
 #[test]
 fn live_queries(rt: HostRuntime) -> Result<(), Fail> {
     check(
