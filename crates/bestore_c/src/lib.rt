@@ -599,7 +599,7 @@ pub extern "C" fn bes_attributes(
     tell_attributes(alloc, node, answer, counts, listed, bytes)
 }
 
-/// Lists the indices of the pinned version, as the operations that make them; else as
+/// Lists the indices of the pinned version, as the operations that make them. Otherwise as
 /// `bes_attributes`.
 #[unsafe(no_mangle)]
 pub extern "C" fn bes_indices(
@@ -623,9 +623,9 @@ pub extern "C" fn bes_indices(
     tell_indices(alloc, answer, counts, listed, bytes)
 }
 
-/// Returns the next operations that make the pinned version again, 64 at most and none after the
-/// last, with how many they are, and how many bytes their parts are in, and of both as much as
-/// there is room for: where that is all, the place goes behind them.
+/// Returns the next operations that rebuild the pinned version, up to 64, and none after the last.
+/// It returns how many they are and how many bytes their parts take, and of both as much as there
+/// is room for. If there is room for all of it, the place moves after them.
 #[unsafe(no_mangle)]
 pub extern "C" fn bes_state(
     alloc: Global,
@@ -660,7 +660,7 @@ pub extern "C" fn bes_state(
     )
 }
 
-/// Closes the handle of a place: it stands before the first operation again.
+/// Closes the handle of a place: it is before the first operation again.
 #[unsafe(no_mangle)]
 pub extern "C" fn bes_leave(alloc: Global, place: &mut PlaceHandle) -> u32
     ensures closed { place.new.owned.value ≡ None }
@@ -870,7 +870,7 @@ pub extern "C" fn bes_found(
 }
 
 /// Refreshes a prepared query in the pinned version. Returns how many nodes came since its last
-/// refresh, and how many went; `bes_changes` tells which.
+/// refresh, and how many went; `bes_changes` returns which.
 #[unsafe(no_mangle)]
 pub extern "C" fn bes_refresh(
     pass: &mut Handle,

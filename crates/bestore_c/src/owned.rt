@@ -39,6 +39,7 @@ impl Owned {
         unsafe { &mut *(self.at as *mut Session) }
     }
 
+    /// Owns nothing: a null pointer.
     pub fn none(alloc: Global) -> Owned
         ensures { result.value ≡ None }
     {
@@ -69,12 +70,14 @@ impl Owned {
         }
     }
 
+    /// Owns this session, whose box becomes a pointer.
     pub fn of(session: Box<Session, Global>) -> Owned
         ensures { result.value ≡ Some session.value }
     {
         Owned::of_loose(Loose::of(session))
     }
 
+    /// The owned session in its box again.
     pub fn into_box(self) -> Box<Session, Global>
         requires { is_some self.value ≡ true }
         ensures { self.value ≡ Some result.value }

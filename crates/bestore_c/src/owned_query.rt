@@ -40,6 +40,7 @@ impl OwnedQuery {
         unsafe { &mut *(self.at as *mut Prepared) }
     }
 
+    /// Owns nothing: a null pointer.
     pub fn none(alloc: Global) -> OwnedQuery
         ensures { result.value ≡ None }
     {
@@ -70,12 +71,14 @@ impl OwnedQuery {
         }
     }
 
+    /// Owns this query, whose box becomes a pointer.
     pub fn of(prepared: Box<Prepared, Global>) -> OwnedQuery
         ensures { result.value ≡ Some prepared.value }
     {
         OwnedQuery::of_loose(Loose::of(prepared))
     }
 
+    /// The owned query in its box again.
     pub fn into_box(self) -> Box<Prepared, Global>
         requires { is_some self.value ≡ true }
         ensures { self.value ≡ Some result.value }
