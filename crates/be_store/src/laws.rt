@@ -47,8 +47,8 @@ pub fn pin_reads_all_seen()
 {}
 
 /// Whoever has joined a witness pins what that had seen, or more, and its accepted writes come
-/// after it. So it is with a commit of another pass: a witness that this pass made after its write
-/// has seen that write.
+/// after it. This holds for a commit of another pass, too: a witness that this pass made after its
+/// write has seen that write.
 pub fn told_order()
     ensures told { (told : List Commit) (d : Knowledge) → StartsWith d.seen told
         → ComesAfter told d }
@@ -58,8 +58,8 @@ pub fn told_order()
 {}
 
 /// A pin has each write that ended before it, and is at each pin that ended before it or later, of
-/// whatever passes: of two calls the one ended first whose history the other one's begins with.
-/// `close` has both in one list of moves.
+/// whatever passes. Of two calls one ended before the other if the history of the other begins with
+/// its history. `close` has both in one list of moves.
 pub fn pins_have_earlier_writes()
     ensures writes { (a c b d : Knowledge) (ops : List Op) (n m : ℕ) (dones : List Done)
         → Accepts a c ops n dones → IsPin b d m → EndedBefore c d → n ≤ m }
