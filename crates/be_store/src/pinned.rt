@@ -39,7 +39,8 @@ pub struct Pinned<'a> {
     pass: &'a mut Pass,
     number: u64,
     ghost seat: { IsSeatOf store.now pass.now },
-    ghost between: { IsBetweenCalls store.now.limits.passes pass.now.knows.phase } by { IsBetweenCalls-prop store.now.limits.passes pass.now.knows.phase },
+    ghost between: { IsBetweenCalls store.now.limits.passes pass.now.knows.phase }
+        by { IsBetweenCalls-prop store.now.limits.passes pass.now.knows.phase },
 }
 
 impl Store {

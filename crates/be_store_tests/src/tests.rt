@@ -280,8 +280,8 @@ fn fill(alloc: Global, room: &mut Room, lines: &str) -> Result<i32, Fail> {
     Ok(first.unwrap_or(500))
 }
 
-/// The first value that found no page in the room while pass 1 stays pinned. After its unpin a write
-/// is accepted.
+/// The first value that found no page in the room while pass 1 stays pinned. After its unpin a
+/// write is accepted.
 fn fill_pinned(alloc: Global, room: &mut Room) -> Result<i32, Fail> {
     check_lines(alloc, room, ZERO)?;
     let first = fill(alloc, room, "1 query k==0 => pin 3 / nodes 1")?;
