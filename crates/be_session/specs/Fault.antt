@@ -1,4 +1,4 @@
--- The numbers of faults.
+-- The numbers of errors.
 use Rattle.std.specs.Prelude.{ℕ, unwrap_or}
 use Rattle.be_value.specs.Refusal.{carried, refusal_number}
 use Rattle.be_store.specs.declared.conditional.ApplyIfError.{ApplyIfError}

@@ -1,8 +1,8 @@
-//! What a pass of a store knows, and how it is with the only pass of one.
+//! What a pass of a store knows, and what holds for the only pass of a store.
 //!
 //! Each law does nothing; its contract is the law, for the crates above. The laws of the only pass
-//! speak of what a pass knows before and after a call: `alone` says of a pass at hand that it is
-//! such.
+//! speak of what a pass knows before and after a call: `alone` says that a given pass is the only
+//! one.
 ghost use Rattle.std.specs.Prelude.{◌≡◌, ◌≤◌, ◌<◌, ℕ, List, IsOk, length};
 ghost use Rattle.be_value.specs.declared.refusals.Refusal.{Refusal};
 ghost use Rattle.be_volume.specs.Ahead.{state_after};
@@ -26,7 +26,7 @@ use crate::{Pass, Store};
 use be_journal::replay_push;
 
 /// What a pass has seen is a legal journal, of entries by passes of the store, and its own writes
-/// are just the entries by its number. The store's pages can spell the volume after each entry.
+/// are exactly the entries by its number. The store's pages can hold the volume after each entry.
 pub fn seen_is_legal(store: &Store, pass: &Pass)
     requires { IsPassOf store.now pass.now }
     ensures pass { IsPass pass.now.knows }

@@ -599,8 +599,8 @@ impl Store {
     /// threads. A write that was accepted with the number n is the journal's n-th entry, with its
     /// pass, its operations and its outcomes. What a pass read at a pin n was the volume after the
     /// journal's first n entries. `moves` is the order of all steps: there is one list of moves,
-    /// and after each call its pass's history is a front of it. It costs a load and a join for each
-    /// pass, and no memory.
+    /// and after each call its pass's history is a prefix of it. It costs a load and a join for
+    /// each pass, and no memory.
     pub fn close(self, passes: Vec<Pass>) -> Journal
         requires passes { AllAt self.id passes.items }
         requires all { (k : ℕ) → k < self.limits.passes → Has (map knows_of passes.items) k }

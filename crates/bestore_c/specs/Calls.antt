@@ -321,7 +321,7 @@ PrintsPrepared (Some p) places filled count code =
     ⊎ ((code ≡ 0) × (count ≡ length (or_text p.live.query))
     × (filled ≡ over (or_text p.live.query) places))
 
--- An entry of the journal, if there is one: its pass, and a spelling of its operations, in which
+-- An entry of the journal, if there is one: its pass, and an encoding of its operations, in which
 -- each that made a node has that node. The lengths of the operations and of their bytes are
 -- returned, and up to as many of each as there are places. If there is no entry, the lists stay as
 -- they were, and all three numbers are 0.

@@ -30,7 +30,7 @@ impl Owned {
     ghost use Rattle.std.specs.Borrow.{sem};
     ghost use Rattle.bestore_c.specs.Lent.{LendsSession};
 
-    /// The session that is owned, lent: what becomes of it is what is owned then.
+    /// Borrows the owned session. What it has become at the borrow's end is owned then.
     pub fn lent(&mut self) -> &mut Session
         requires { is_some self.old.value ≡ true }
         ensures* writes_back { sem 𝓛 (LendsSession self.entry result) }

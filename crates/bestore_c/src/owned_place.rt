@@ -29,7 +29,7 @@ impl OwnedPlace {
     ghost use Rattle.std.specs.Borrow.{sem};
     ghost use Rattle.bestore_c.specs.Lent.{LendsPlace};
 
-    /// The place that is owned, lent: what becomes of it is what is owned then.
+    /// Borrows the owned place. What it has become at the borrow's end is owned then.
     pub fn lent(&mut self) -> &mut StatePlace
         requires { is_some self.old.value ≡ true }
         ensures* writes_back { sem 𝓛 (LendsPlace self.entry result) }

@@ -31,7 +31,7 @@ impl OwnedQuery {
     ghost use Rattle.std.specs.Borrow.{sem};
     ghost use Rattle.bestore_c.specs.Lent.{LendsQuery};
 
-    /// The query that is owned, lent: what becomes of it is what is owned then.
+    /// Borrows the owned query. What it has become at the borrow's end is owned then.
     pub fn lent(&mut self) -> &mut Prepared
         requires { is_some self.old.value ≡ true }
         ensures* writes_back { sem 𝓛 (LendsQuery self.entry result) }

@@ -12,7 +12,7 @@ use crate::owned_place::OwnedPlace;
 use be_session::{Operation, Session, StatePlace};
 use std::alloc::{AllocError, Global};
 
-/// Opens the handle of a place where it is closed.
+/// Opens the handle of a place if it is closed.
 pub(crate) fn begin(alloc: Global, place: &mut PlaceHandle) -> Result<(), AllocError>
     ensures same { (volume : State) → untold_at volume place.new.owned.value
         ≡ untold_at volume place.old.owned.value }

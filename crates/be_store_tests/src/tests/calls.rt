@@ -116,7 +116,7 @@ fn find_into(
     Ok(Answer { pin, nodes })
 }
 
-/// The answer to a live query that is asked twice, in one list.
+/// The nodes that a live query finds, asked twice with one list.
 fn find_again(
     store: &Store,
     alloc: Global,
