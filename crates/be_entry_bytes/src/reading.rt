@@ -161,8 +161,8 @@ fn negative64(n: u64) -> i64
     -1 - n as i64
 }
 
-/// The number of a value, after the byte of its kind and sign, and the bytes after it; None if that
-/// byte is none of a number, or the number is too large for its kind.
+/// The number of a value, after the byte of its kind and sign, and the bytes after it. None if no
+/// number has that byte, or if the number is too large for its kind.
 #[tactic(auto, unfolding(crate::specs::Decoding::number_value_at))]
 fn number_value_of(first: u8, rest: &[u8]) -> Option<(Value, &[u8])>
     ensures { option_map (λ x. (x.0, x.1.now)) result ≡ spec.number_value_at first rest.now }
