@@ -1,4 +1,4 @@
--- What a handle owns, while it is lent.
+-- What a handle owns, while it is borrowed.
 use Rattle.std.specs.Prelude.{Some}
 use Rattle.std.specs.Borrow.{Lends, MutBor, Fml}
 use Rattle.be_session.specs.Prepared.{PreparedQuery}
@@ -18,18 +18,18 @@ use Rattle.bestore_c.specs.declared.owned_query.OwnedQuery.{OwnedQuery}
 abbrev pub with_session : Owned → Sitting → Owned
 with_session o s = record o { value = Some s }
 
--- what is owned ends with what the session became
+-- after the borrow the handle owns what the session has become
 abbrev pub LendsSession : MutBor Owned → MutBor Sitting → Fml
 LendsSession o s = Lends owned.the_row session.the_row o s (with_session o.now)
 
--- the same of a prepared query
+-- the same for a prepared query
 abbrev pub with_query : OwnedQuery → PreparedQuery → OwnedQuery
 with_query o p = record o { value = Some p }
 
 abbrev pub LendsQuery : MutBor OwnedQuery → MutBor PreparedQuery → Fml
 LendsQuery o p = Lends owned_query.the_row prepared.the_row o p (with_query o.now)
 
--- and of a place
+-- and for a place
 abbrev pub with_place : OwnedPlace → StatePlace → OwnedPlace
 with_place o p = record o { value = Some p }
 

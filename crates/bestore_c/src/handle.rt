@@ -25,8 +25,8 @@ pub struct PreparedHandle {
     ghost full: { live ≡ is_some owned.value },
 }
 
-/// What C holds of how far a version's operations were told: closed, before the first of them, or
-/// open with the place. Zero bytes are a closed one.
+/// What C holds of how far a version's operations were returned: closed, before the first of them,
+/// or open with the place. Zero bytes are a closed one.
 #[repr(C)]
 #[derive(Drop)]
 pub struct PlaceHandle {
@@ -42,8 +42,8 @@ pub fn may_move(pass: Handle) -> Handle
     sent(pass)
 }
 
-/// What C is told of a value: its type code, its length in bytes, and the number that it is, or 0.
-/// A signed number is in two's complement.
+/// What C gets of a value: its type code, its length in bytes, and the number that it is, or 0. A
+/// signed number is in two's complement.
 #[repr(C)]
 #[derive(Clone, Copy)]
 pub struct Attribute {
@@ -52,7 +52,7 @@ pub struct Attribute {
     pub number: u64,
 }
 
-/// How many operations a list is told as, and how many bytes their parts are in.
+/// How many operations a returned list has, and how many bytes their parts take.
 #[repr(C)]
 #[derive(Clone, Copy)]
 pub struct Counts {
