@@ -265,7 +265,7 @@ after_return w p = record w { taken = update w.taken p false; free = update w.fr
 
 -- ## Schedules
 
--- what stands in a schedule: an event, or a page of T that goes back to F
+-- one entry of a schedule: an event, or a page of T that goes back to F
 pub data Move : Type 0 where
   happens : Event → Move
   returns : ℕ → Move

@@ -1,4 +1,4 @@
--- The state of the machine that a `State` shows, and what a step of it answers.
+-- The state of the machine that a `State` shows, and what a step of it returns.
 use Rattle.std.specs.Prelude.{◌≡◌, ℕ, Bool, true, false, Option, Some, None, slice_get, slice_index}
 use Rattle.std.specs.Prelude.{slice_index_or, vec_len, Vec, []}
 use Rattle.std.specs.declared.alloc.Global.{Global}

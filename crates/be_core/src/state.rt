@@ -335,6 +335,8 @@ impl State {
         }
     }
 
+    /// Pass k takes the lock. False, and nothing changes, if there is no such pass or a pass holds
+    /// the lock.
     fn lock(&mut self, k: u64) -> bool
         ensures done { MakesStep self.old (λ w. MayLock w k) (λ w. after_lock w k) result self.new }
         ensures size { page_count self.new ≡ page_count self.old }
@@ -430,6 +432,9 @@ impl State {
         }
     }
 
+    /// The holder k reads pass j's announcement, as the next one of its scan. After the last pass
+    /// it frees each page that is retired with a number below the least that it found. False, and
+    /// nothing changes, if the step isn't allowed.
     fn scan(&mut self, k: u64, j: u64) -> bool
         ensures done { MakesStep self.old (λ w. MayScan w k j) (λ w. after_scan w j) result
             self.new }
@@ -495,6 +500,8 @@ impl State {
         Ok(row)
     }
 
+    /// The holder k publishes a version: its pages are the current ones without those given, and
+    /// those that k took. False, and nothing changes, if it may not. The only error is OutOfMemory.
     fn publish(&mut self, k: u64, version: u64, given: &[u64]) -> Result<bool, Refusal>
         ensures done { IfOk result (λ done. MakesStep self.old
             (λ w. MayPublish w k version given.now) (λ w. after_publish w given.now) done

@@ -57,11 +57,7 @@ impl Room for VecRoom {
         self.pool.is_in_hand(page)
     }
 
-    #[tactic(auto, using(
-        crate::proofs::Rooms::stands_set,
-        crate::proofs::Rooms::unretired_set,
-        crate::proofs::Rooms::busy_place,
-    ))]
+    #[tactic(auto, using(crate::proofs::Rooms::stands_set, crate::proofs::Rooms::unretired_set, crate::proofs::Rooms::busy_place,))]
     fn take(&mut self) -> Result<u64, Refusal> {
         match self.pool.take() {
             Some(page) => Ok(page),
@@ -69,12 +65,7 @@ impl Room for VecRoom {
         }
     }
 
-    #[tactic(auto, using(
-        crate::proofs::Rooms::stands_set,
-        crate::proofs::Rooms::unretired_set,
-        crate::proofs::Rooms::in_hand,
-        crate::proofs::Rooms::inside,
-    ))]
+    #[tactic(auto, using(crate::proofs::Rooms::stands_set, crate::proofs::Rooms::unretired_set, crate::proofs::Rooms::in_hand, crate::proofs::Rooms::inside,))]
     fn fill(&mut self, page: u64, i: usize, word: u64) {
         self.words[page as usize * PAGE_WORDS + i] = word;
         self.pool.fill(page);
@@ -121,7 +112,7 @@ impl VecRoom {
         self.pool.keep();
     }
 
-    /// The write is undone: pages that it took are free, and pages that it gave up stand.
+    /// The write is undone: pages that it took are free, and pages that it gave up are old again.
     pub fn undo(&mut self)
         ensures standing { (q : ℕ) → ⟦<VecRoom as Look>⟧.standing self.new q
             ≡ after_undo (⟦<VecRoom as Look>⟧.standing self.old q) }

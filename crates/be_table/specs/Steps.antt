@@ -58,7 +58,7 @@ looks a log = record a {
       + 1;
 }
 
--- a pass that has the lock now, with the ledger's places and the table's words
+-- a pass that has the lock now, with the places of the writer state and the table's words
 abbrev pub takes_lock : Knowledge → List Commit → List Place → List ℕ → Knowledge
 takes_lock a log places words = record a {
   seen = log;
@@ -150,8 +150,8 @@ fills a p i x = record a {
   steps = a.steps + 1;
 }
 
--- A word of a page is filled: a load tells whether it is there already, and is the fill then; else
--- a store follows.
+-- A word of a page is filled. A load reads whether the word is there already; if so, the load is
+-- the fill. Otherwise a store follows.
 abbrev pub fill_steps : Knowledge → ℕ → ℕ → ℕ → ℕ
 fill_steps a p i x = if slice_index a.words (word_place p i) == x then 1 else 2
 
@@ -221,7 +221,7 @@ LookTold st m n r =
     × (n ≡ current_word (length log) (page_at log (length log)))
     × (page_at log (length log) < 4294967296)
 
--- the ledger, as a pass finds it that takes the lock
+-- the writer state, as a pass that takes the lock finds it
 pub record IsFound (ledger : Ledger) (c : Knowledge) : Type 0 where
   pub journal : ledger.journal.entries ≡ entries c.seen
   pub limit : ledger.journal.limit ≡ c.limits.commits
@@ -309,12 +309,12 @@ KeepsSeen log [] = Unit {0}
 KeepsSeen log (a ∷ v) = StartsWith log (entries a.seen) × (by_pass a.number log ≡ a.mine)
     × KeepsSeen log v
 
--- the ledger is at home
+-- the writer state lies in its slot
 abbrev pub Unlocked : Step (Option Ledger) → Me (Option Ledger) View → ℕ → Me (Option Ledger) View
     → Type 0
 Unlocked st m n r = let a = pass_of m.0 in r ≡ (alone (without_lock a), [])
 
--- the announcement stands
+-- the announcement is made
 abbrev pub Told : Step (Option Ledger) → Me (Option Ledger) View → ℕ → Me (Option Ledger) View
     → Type 0
 Told st m n r = let a = pass_of m.0 in r ≡ (alone (announces a (n - 1)), m.1)
@@ -413,7 +413,7 @@ Published e v st m n r = let a = pass_of m.0 in (r ≡ (alone (publishes a e v),
 -- ## The moves of the steps
 
 -- A step makes this move: the history of the pass ends with it, the machine is then as the pass
--- knows it, and the rest is told of the pass with this history
+-- knows it, and the other facts hold of the pass with this history
 abbrev pub Moving : Move → (World → Type 0)
     → (Me (Option Ledger) View → Me (Option Ledger) View → Type 0) → Me (Option Ledger) View
     → Me (Option Ledger) View → Type 0

@@ -3,14 +3,15 @@
 //! # What passes share
 //! Passes are the users of a store, one a thread. They share a table of atomic words: LOCK,
 //! CURRENT, an announcement for each pass, and the words of all pages. LOCK, CURRENT and each
-//! announcement lie on a cache line of their own. Beside the words there is one slot, in which the
-//! ledger lies while nobody holds the lock: the journal, the version page, and where each page is.
+//! announcement lie on a cache line of their own. Beside the words there is one slot. The writer
+//! state lies in it while nobody holds the lock: the journal, the version page, and where each page
+//! is.
 //!
 //! # How a write goes
-//! A pass takes the lock (one compare-exchange), and with it the ledger. It takes free pages, fills
-//! them, gives up pages of the current version, and publishes all by one store to CURRENT. Then it
-//! puts the ledger back and frees the lock. Pages are never changed in place, so readers go on
-//! meanwhile.
+//! A pass takes the lock (one compare-exchange), and with it the writer state. It takes free pages,
+//! fills them, gives up pages of the current version, and publishes all by one store to CURRENT.
+//! Then it puts the writer state back and frees the lock. Pages are never changed in place, so
+//! readers go on meanwhile.
 //!
 //! # How a reader pins a version
 //! It loads CURRENT, announces the number that it found, loads CURRENT again, and has pinned what

@@ -173,8 +173,8 @@ impl VersionTable {
         *seat = Seat::of(base, marks);
     }
 
-    /// Pins the version that is current once the announcement stands, which may be later than the
-    /// announced one. Answers its number and its version page. One load.
+    /// Pins the version that is current once the announcement is made, which may be later than the
+    /// announced one. Returns its number and its version page. One load.
     pub fn look_again(&self, seat: &mut Seat) -> (u64, u64)
         requires seat { IsSeatOf self.now seat.old }
         requires announced { (x : ℕ) × (seat.old.knows.phase ≡ Phase.Announced x) }

@@ -1,8 +1,8 @@
-//! An open write: the lock is held, and the ledger is in hand.
+//! An open write: the pass holds the lock and has the writer state.
 //!
-//! A write takes pages, fills them, gives pages up, and publishes. Until it publishes, nothing of
-//! it can be seen by others, and `unlock` undoes it. It is never let go of but by `unlock`, since
-//! it has no `Drop`: so the ledger always comes back.
+//! A write takes pages, fills them, gives pages up, and publishes. Until it publishes, others see
+//! nothing of it, and `unlock` undoes it. It has no `Drop`, so it can end by `unlock` alone, and
+//! the writer state always comes back.
 ghost use Rattle.std.specs.Prelude.{map, get_or, slice_index, IsTrue, List, IfOk, IfErr, IfSome};
 ghost use Rattle.std.specs.Prelude.{IfNone, ◌≢◌, Ok, string_bytes, ◌≡◌, ◌≤◌, All, suc, ◌+◌, ◌*◌};
 ghost use Rattle.std.specs.Prelude.{◌^◌, ◌<◌, true, false, [], ◌∷◌, length, count_by, None};
@@ -188,7 +188,7 @@ impl<'a> Writing<'a> {
         ensures moves { Makes self.old.knows.number self.old.knows.history
             (given_moves self.old.knows page) self.new.knows.history }
     {
-        // The load tells that the page is given up.
+        // The load records that the page is given up.
         let table = self.table;
         table
             .table
@@ -220,9 +220,10 @@ impl<'a> Writing<'a> {
         Some(page)
     }
 
-    /// Takes a free page, the one that was freed last. Where none is free it scans, and answers
-    /// Full with the least that it found where none is free even then: each page that no version
-    /// from the least on has is then held by this write. One load, and a scan's where it scans.
+    /// Takes a free page, the one that was freed last. If none is free, it scans. If none is free
+    /// after the scan either, the error is Full with the least number that the scan found: this
+    /// write then holds each page that no version from that number on has. One load; with a scan,
+    /// the scan's loads too.
     pub fn take(&mut self) -> Result<u64, Refusal>
         requires open { self.old.knows.published ≡ false }
         ensures ok { IfOk result (λ page. TakesPage self.old self.new page) }
@@ -293,7 +294,7 @@ impl<'a> Writing<'a> {
         }
     }
 
-    /// Scans, and tells how full the table is then, and the oldest of the announcements that the
+    /// Scans, and returns how full the table is then, and the oldest of the announcements that the
     /// scan found. It costs what `scan` does.
     pub fn status(&mut self) -> Status
         requires open { self.old.knows.published ≡ false }
@@ -324,7 +325,7 @@ impl<'a> Writing<'a> {
         Ok(())
     }
 
-    /// A page that stands filled is one of the table. It does nothing.
+    /// A page whose standing is filled is one of the table. It does nothing.
     fn is_filled(&self, page: u64)
         requires { standing_among self.now.knows.places page ≡ Full }
         ensures { (page < length self.now.knows.places)
@@ -372,7 +373,7 @@ impl<'a> Writing<'a> {
         version
     }
 
-    /// Gives the ledger and the lock back. What wasn't published is undone. One store.
+    /// Gives the writer state and the lock back. What wasn't published is undone. One store.
     pub fn unlock(self) -> Seat
         ensures seat { IsSeatOf self.entry.table result }
         ensures pass { result.knows ≡ without_lock

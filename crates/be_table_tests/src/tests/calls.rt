@@ -13,7 +13,7 @@ use std::alloc::{AllocError, Global};
 /// What is answered as a text, or why it was refused.
 pub(crate) type Text = Result<String, Refusal>;
 
-/// The number, told again where memory is refused.
+/// The number as a line, written again if its memory is refused once.
 pub(crate) fn number_text(alloc: Global, number: u64) -> Text {
     match format!(in alloc; "{number}\n") {
         Err(_) => Ok(format!(in alloc; "{number}\n")?),
@@ -51,7 +51,7 @@ fn push(text: &mut String, part: &str) -> Result<(), Refusal> {
     Ok(())
 }
 
-/// Appends a reply, or the line that tells why it was refused.
+/// Appends a reply, or the line that says why it was refused.
 fn push_reply(alloc: Global, text: &mut String, reply: Text) -> Result<(), Refusal> {
     match reply {
         Ok(reply) => push(text, reply.as_str()),
@@ -60,7 +60,7 @@ fn push_reply(alloc: Global, text: &mut String, reply: Text) -> Result<(), Refus
     }
 }
 
-/// Two replies, one behind the other.
+/// Two replies, one after the other.
 pub(crate) fn both_texts(alloc: Global, first: Text, second: Text) -> Text {
     let mut text = String::new(alloc);
     push_reply(alloc, &mut text, first)?;

@@ -53,6 +53,7 @@ pub(crate) fn count_seats(alloc: Global, limits: Limits) -> Result<usize, Refusa
     Ok(seats.len())
 }
 
+/// A room of three passes and these many pages. Errors: those of `open`.
 fn open_room(alloc: Global, pages: u64) -> Result<Room, Refusal> {
     let limits = Limits {
         pages,
@@ -80,8 +81,8 @@ pub(crate) fn opened(alloc: Global, pages: u64) -> Result<Room, Refusal> {
     }
 }
 
-/// What two passes are answered, whose requests stand before and behind ` | `, while another one
-/// holds the lock.
+/// The replies to two passes while another one holds the lock. Their requests are before and after
+/// ` | `.
 fn hold(
     table: &VersionTable,
     alloc: Global,
@@ -227,6 +228,8 @@ impl Room {
         both
     }
 
+    /// The reply to a request, whose first word names a pass or an act of several. BadLimits for
+    /// any other.
     fn answer(&mut self, alloc: Global, request: &str) -> Text {
         let (who, words) = request.split_once(" ").unwrap_or((request, ""));
         match who {
