@@ -548,9 +548,9 @@ impl State {
             Event::Unlock(k) => Ok(self.unlock(*k)),
         }
     }
-    /// Does what the event says, and answers whether it was allowed. It is not where a page, a
-    /// place in one or a pass is out of range. Refused with `OutOfMemory` alone, which only
-    /// `Publish` may be.
+    /// Does what the event says, and returns whether it was allowed. It isn't allowed if a page, a
+    /// place in one or a pass is out of range. The only error is `OutOfMemory`, which only
+    /// `Publish` may give.
     pub fn step(&mut self, event: &Event) -> Result<bool, Refusal>
         ensures done { IfOk result (λ done. MakesStep self.old (λ w. Allowed w event.now)
             (λ w. after_event w event.now) done self.new) }

@@ -46,8 +46,8 @@ fn count_anew<L: Look>(look: &mut L, version: &Version, node: u64) -> Option<usi
     attribute_count(look, version.catalog, node)
 }
 
-/// The same, as it is remembered of the node that was counted last, or else by a look, and
-/// remembered.
+/// The same. If the node was counted last, the count is the remembered one; otherwise it is looked
+/// up, and remembered.
 fn count_of<L: Look>(
     look: &mut L,
     version: &Version,

@@ -86,8 +86,7 @@ impl<L: Look> Whole for PagedWhole<L> {
     }
 }
 
-/// The attributes of a node, by ascending bytes of their names, and none where the node isn't
-/// there.
+/// The attributes of a node, by ascending bytes of their names, and None if the node isn't there.
 fn attrs_of<L: Look>(
     alloc: Global,
     look: &mut L,
@@ -108,7 +107,7 @@ fn attrs_of<L: Look>(
     }
 }
 
-/// None where there is no node; every other refusal is a want of memory.
+/// None if there is no node; every other refusal is OutOfMemory.
 fn none_for(refusal: Refusal) -> Result<Option<Vec<(Name, Value)>>, AllocError>
     ensures { IfOk result (λ list. (option_map (λ l. l.items) list ≡ None) × (refusal ≡ NoNode)) }
 {

@@ -12,14 +12,14 @@
 //! and undoing it changes no words.
 //!
 //! # Who keeps where each page is
-//! To a tree each page has one of five standings (`Standing`): free, old, given up, taken, or taken
+//! To a tree each page has one of five states (`Standing`): free, old, given up, taken, or taken
 //! and filled. A pool knows more: a page may also be retired, which is given up by an earlier write
 //! while a reader may still look at it. `PagePool` keeps a place for each page (`Place`), and makes
 //! each change at the cost of the pages that it changes. `VecRoom` and the shared table are built
 //! on it.
 //!
 //! # What is proved
-//! What each call of a look and of a room does to the words and to the standings of pages
+//! What each call of a look and of a room does to the words and to the states of pages
 //! (`specs/Pages.antt`), for each type that implements the traits; and what becomes of the places
 //! of a pool's pages, by equations (`specs/Place.antt`).
 #![tactic(auto)]

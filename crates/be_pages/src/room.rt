@@ -1,9 +1,9 @@
 //! The two traits over pages.
 //!
-//! # Standings
-//! A page's standing in a write is one function of the page, so the sets of pages that can be read,
-//! taken or given up cannot disagree. Ghost members give this function, the words of each page and
-//! the facts that no call changes; none of them says who holds the words.
+//! # The states of pages
+//! A page's state in a write (`Standing`) is one function of the page, so the sets of pages that
+//! can be read, taken or given up cannot disagree. Ghost members give this function, the words of
+//! each page and the facts that no call changes; none of them says who holds the words.
 ghost use Rattle.std.specs.Prelude.{◌≡◌, ℕ, ◌<◌, ◌^◌, ◌==◌, ◌≢◌, if◌then◌else◌, IsTrue, Bool, IfOk};
 ghost use Rattle.std.specs.Prelude.{IfErr, OnErr};
 ghost use Rattle.be_pages.specs.declared.room.Standing.{Standing as Stands};
@@ -16,7 +16,7 @@ use be_value::Refusal;
 /// How many words a page has.
 pub const PAGE_WORDS: usize = 512;
 
-/// The standing of a page in a write.
+/// The state of a page in a write.
 #[derive(Clone, Copy, Debug, PartialEq, Eq)]
 pub enum Standing {
     /// Neither readable nor taken.
@@ -41,7 +41,7 @@ pub trait Look {
     /// Whether a reader with these facts may be written: its write is open.
     ghost is_open: { Kept → Bool };
 
-    /// The standing of each page.
+    /// The state of each page.
     ghost standing: { Self → ℕ → Stands };
 
     /// The word of a page at a place.

@@ -57,7 +57,11 @@ impl Room for VecRoom {
         self.pool.is_in_hand(page)
     }
 
-    #[tactic(auto, using(crate::proofs::Rooms::stands_set, crate::proofs::Rooms::unretired_set, crate::proofs::Rooms::busy_place,))]
+    #[tactic(auto, using(
+        crate::proofs::Rooms::stands_set,
+        crate::proofs::Rooms::unretired_set,
+        crate::proofs::Rooms::busy_place,
+    ))]
     fn take(&mut self) -> Result<u64, Refusal> {
         match self.pool.take() {
             Some(page) => Ok(page),
@@ -65,7 +69,12 @@ impl Room for VecRoom {
         }
     }
 
-    #[tactic(auto, using(crate::proofs::Rooms::stands_set, crate::proofs::Rooms::unretired_set, crate::proofs::Rooms::in_hand, crate::proofs::Rooms::inside,))]
+    #[tactic(auto, using(
+        crate::proofs::Rooms::stands_set,
+        crate::proofs::Rooms::unretired_set,
+        crate::proofs::Rooms::in_hand,
+        crate::proofs::Rooms::inside,
+    ))]
     fn fill(&mut self, page: u64, i: usize, word: u64) {
         self.words[page as usize * PAGE_WORDS + i] = word;
         self.pool.fill(page);
@@ -78,7 +87,7 @@ impl Room for VecRoom {
 
 impl VecRoom {
     /// A room whose pages are all free. `BadLimits` for a number of pages out of its range, else
-    /// `OutOfMemory` where a growth was refused.
+    /// `OutOfMemory` if a growth was refused.
     pub fn new(alloc: Global, pages: u64) -> Result<VecRoom, Refusal>
         ensures ok { IfOk result (λ r. (8 ≤ pages) × (pages ≤ 16384)
             × (⟦<VecRoom as Look>⟧.kept r ≡ pages)) }

@@ -122,7 +122,7 @@ pub record ShowsBoard (b : Board) (s : State (Option Ledger) View) : Type 0 wher
   pub home : IsHome b.world.holder b.world b.log s.homes
   pub version : b.world.current ≡ length b.log
 
--- ## The second part: the journal's and the machine's invariants, and what each version spells
+-- ## The second part: the journal's and the machine's invariants, and what each version encodes
 
 -- limits that a table may have
 abbrev pub IsWithin : Limits → Type 0

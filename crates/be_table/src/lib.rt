@@ -20,18 +20,18 @@
 //! that number. So the pages of a pinned version are never filled.
 //!
 //! # What a version says
-//! The pages of version n, with the words that they had when it was published, spell from its
+//! The pages of version n, with the words that they had when it was published, encode from its
 //! version page the volume after the first n entries of the journal, and are exactly the pages that
 //! be_paged reaches from there (`specs/Versions.antt`). So `publish` asks for both, a pinned pass
 //! reads that volume, and a write begins with that of the whole journal.
 //!
 //! # What is proved
 //! Between any two steps one rule holds (`specs/Rule.antt`), in four parts: the words and the slot
-//! show a state of be_core's machine and the journal; the journal is legal, each version spells its
-//! volume, and the machine's invariant holds; what each pass knows is so; and the trace, a list of
-//! moves of the machine, leads from its first state to the one that is shown (`specs/Trace.antt`).
-//! Each step keeps it. A pass knows the trace up to its own last move as its history, so the
-//! contract of a call names the events that its steps are.
+//! show a state of be_core's machine and the journal; the journal is legal, each version encodes
+//! its volume, and the machine's invariant holds; what each pass knows is so; and the trace, a list
+//! of moves of the machine, leads from its first state to the one that is shown
+//! (`specs/Trace.antt`). Each step keeps it. A pass knows the trace up to its own last move as its
+//! history, so the contract of a call names the events that its steps are.
 #![tactic(auto)]
 
 mod deal;

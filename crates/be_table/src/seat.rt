@@ -98,7 +98,7 @@ impl Seat {
     }
 
     /// The version page of the version to which the pass is pinned. From there the version's pages,
-    /// with the words that they had when it was published, spell the volume after so many entries
+    /// with the words that they had when it was published, encode the volume after so many entries
     /// as its number says.
     pub fn version_page(&self) -> u64
         requires seat { self.now.blank ≡ false }

@@ -82,11 +82,11 @@ impl VersionTable {
     ghost use Rattle.be_table.specs.declared.pass.Move.TheVariants as moves;
 
     /// A table with an empty journal, and the seats of its passes in the order of their numbers.
-    /// Version 0 is the page `first`, which spells the empty volume, at page 0; the other pages are
-    /// free.
+    /// Version 0 is the page `first`, which encodes the empty volume, at page 0; the other pages
+    /// are free.
     ///
-    /// BadLimits exactly where a limit is out of its range, and OutOfMemory where a growth was
-    /// refused. No later call but `reserve` takes memory.
+    /// BadLimits exactly if a limit is out of its range, and OutOfMemory if a growth was refused.
+    /// No later call but `reserve` takes memory.
     pub fn open(
         alloc: Global,
         limits: Limits,
@@ -246,7 +246,7 @@ impl VersionTable {
         found
     }
 
-    /// A reader of the pages of the pinned version, which spell the volume after the journal's
+    /// A reader of the pages of the pinned version, which encode the volume after the journal's
     /// entries up to the version's number. No step.
     pub fn pinned_look(&self, seat: Seat) -> PinnedLook<'_>
         requires seat { IsSeatOf self.now seat }
@@ -261,10 +261,10 @@ impl VersionTable {
         PinnedLook::of(self, seat)
     }
 
-    /// Two passes tell each other what they have seen, in three steps: their seats are joined, a
-    /// load compares what they have seen, and the seats are cut apart again. Both passes have then
-    /// seen what either had: of two beginnings of one journal the longer. Answers its length. What
-    /// the two have done so far lies in one trace, and a meeting adds nothing to it.
+    /// Two passes share what they have seen, in three steps: their seats are joined, a load
+    /// compares what they have seen, and the seats are cut apart again. Both passes have then seen
+    /// the longer of their two beginnings of the journal. Returns its length. What the two have
+    /// done so far lies in one trace, and a meeting adds nothing to it.
     pub fn meet(&self, left: Seat, right: Seat) -> (Seat, Seat, u64)
         requires { IsSeatOf self.now left × IsSeatOf self.now right }
         ensures seats { IsSeatOf self.now result.0 × IsSeatOf self.now result.1 }
@@ -303,10 +303,9 @@ impl VersionTable {
         Witness::of(front, marks.seen)
     }
 
-    /// The pass and the witness tell each other what they have seen, in three steps, as two passes
-    /// do that meet: the seats are joined, a load compares, and the witness gets a seat again. Both
-    /// have then seen what either had: of two beginnings of one journal the longer. Answers its
-    /// length. No move.
+    /// The pass and the witness share what they have seen, in three steps, as two passes do that
+    /// meet: the seats are joined, a load compares, and the witness gets a seat again. Both have
+    /// then seen the longer of their two beginnings of the journal. Returns its length. No move.
     pub fn join(&self, seat: &mut Seat, witness: &mut Witness) -> u64
         requires { IsSeatOf self.now seat.old × IsWitnessOf self.now witness.old }
         ensures of { IsSeatOf self.now seat.new × IsWitnessOf self.now witness.new }

@@ -252,9 +252,9 @@ impl<'a> Writing<'a> {
         self.ledger.pool.retired().saturating_sub(self.ledger.left) >= EARLY
     }
 
-    /// Reads every announcement once. Answers the least of them and of the current number; the
-    /// pages that were retired with a smaller number are free. A load for each pass, and work for
-    /// each page that becomes free. It is called right after the lock, or where no page is free.
+    /// Reads every announcement once. Returns the least of them and of the current number; the
+    /// pages that were retired with a smaller number are then free. A load for each pass, and work
+    /// for each page that becomes free. It is called right after the lock, or if no page is free.
     pub fn scan(&mut self) -> u64
         requires open { self.old.knows.published ≡ false }
         requires reason { HasReasonToScan self.old }
@@ -309,8 +309,8 @@ impl<'a> Writing<'a> {
         self.count(found.oldest)
     }
 
-    /// Makes room for one entry of so many operations. CommitsSpent where the journal is as long as
-    /// the limit, and OutOfMemory where a growth was refused; either leaves the write as it was.
+    /// Makes room for one entry of so many operations. CommitsSpent if the journal is as long as
+    /// the limit, and OutOfMemory if a growth was refused; either leaves the write as it was.
     #[tactic(auto, using(crate::proofs::Opened::no_room, crate::proofs::Opened::has_room))]
     pub fn reserve(&mut self, count: usize) -> Result<(), Refusal>
         requires open { self.old.knows.published ≡ false }
@@ -325,7 +325,7 @@ impl<'a> Writing<'a> {
         Ok(())
     }
 
-    /// A page whose standing is filled is one of the table. It does nothing.
+    /// A page whose state is filled is one of the table. It does nothing.
     fn is_filled(&self, page: u64)
         requires { standing_among self.now.knows.places page ≡ Full }
         ensures { (page < length self.now.knows.places)
@@ -333,7 +333,7 @@ impl<'a> Writing<'a> {
     {}
 
     /// Enters a write into the journal, with the version of the pages that the write keeps, which
-    /// spells the volume after the entry and reaches just these pages. Answers the journal's
+    /// encodes the volume after the entry and reaches just these pages. Returns the journal's
     /// length, which is the new version's number. One store, which takes no memory, and work for
     /// each page that the write took or gave up.
     pub fn publish(&mut self, page: u64, ops: &[Op], dones: &[Done]) -> u64
@@ -460,7 +460,7 @@ fn tell_taken(table: &VersionTable, base: &mut Base, page: u64)
     table.table.shared.load::<TakePage>(base, at);
 }
 
-/// Stores a word of a page in hand, where it isn't there.
+/// Stores a word of a page in hand, if it isn't there already.
 fn fill_word(table: &VersionTable, base: &mut Base, page: u64, i: usize, word: u64)
     requires seat { base.old.table_id ≡ table.now.id }
     requires pass { (base.old.me.0 ≡ alone (pass_of base.old.me.0))

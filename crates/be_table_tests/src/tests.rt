@@ -126,9 +126,9 @@ fn scans_early(alloc: Global, room: &mut Room) -> Result<bool, Fail> {
     Ok(before == 16 && beyond == 11)
 }
 
-/// A scan is due once 32 pages are retired, and, where a pin keeps them, again once there are 32
-/// more. A write of a node retires two pages while the catalog is one, and three once it has an
-/// inner page.
+/// A scan is due once 32 pages are retired, and, if a pin keeps them, again once there are 32 more.
+/// A write of a node retires two pages while the catalog is one, and three once it has an inner
+/// page.
 #[test]
 fn scan_due(rt: HostRuntime) -> Result<(), Fail> {
     assert!(rt; scans_early(rt.alloc(), &mut opened(rt.alloc(), 1024)?)?);

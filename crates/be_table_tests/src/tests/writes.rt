@@ -50,7 +50,7 @@ fn apply_to(
 }
 
 /// Applies a list of operations to the current version, and publishes the version that it makes.
-/// Answers the journal's length.
+/// Returns the journal's length.
 fn write(writing: &mut Writing<'_>, ops: &[Op]) -> Result<u64, Refusal>
     requires begun { (a : Knowledge) × TakesLock a writing.old.knows }
     requires count { (1 ≤ length ops.now) × (length ops.now ≤ 64) }
@@ -79,7 +79,7 @@ fn look_round(writing: &mut Writing<'_>, words: &str) -> u64
     }
 }
 
-/// Writes a list, or looks round where it is empty. BadLimits where it has more than 64 operations.
+/// Writes a list, or only reads if it is empty. BadLimits if it has more than 64 operations.
 pub(crate) fn act(writing: &mut Writing<'_>, ops: &[Op], words: &str) -> Result<u64, Refusal>
     requires begun { (a : Knowledge) × TakesLock a writing.old.knows }
     ensures table { writing.new.table ≡ writing.old.table }
