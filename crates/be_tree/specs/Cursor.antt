@@ -13,7 +13,7 @@ abbrev pub pairs_past : (words : ℕ → ℕ → ℕ) → Place → List Pair
 pairs_past words place = pairs_below place.level words
     (drop place.next (items_of (words place.page)))
 
--- the pairs that stand past the places of a path, those of the deepest first
+-- the pairs past the places of a path, those of the deepest first
 abbrev pub pairs_along : (words : ℕ → ℕ → ℕ) → List Place → List Pair
 pairs_along words [] = []
 pairs_along words (place ∷ path) = pairs_along words path ++ pairs_past words place

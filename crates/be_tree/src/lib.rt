@@ -1,10 +1,10 @@
 //! Copy-on-write B+trees over pages of words.
 //!
 //! # What a tree is
-//! A sorted list of pairs, each a key of at most 264 bytes and a payload. A tree is told by its
-//! root: 0 for the empty tree, else the number of its root's page + 1. A leaf has pairs; an inner
-//! page has branches, each with the least key below it and the number of a page. A page has at most
-//! 12 items, and each but the root has 6 at least.
+//! A sorted list of pairs, each a key of at most 264 bytes and a payload. A tree is named by its
+//! root: 0 for the empty tree, otherwise the number of its root's page + 1. A leaf has pairs; an
+//! inner page has branches, each with the least key below it and the number of a page. A page has
+//! at most 12 items, and each but the root has at least 6.
 //!
 //! # Who holds the pages
 //! be_pages says what a page is to those who only read it (`Look`) and to a write (`Room`). A tree

@@ -43,8 +43,8 @@ use arrayvec::ArrayVec;
 use be_pages::{Look, Room};
 use be_value::Refusal;
 
-/// Takes a key out of a tree, and gives the new root. An absent key gives the same root and takes
-/// no page. After an error the tree stands again once the room is undone.
+/// Takes a key out of a tree, and returns the new root. An absent key gives the same root and takes
+/// no page. After an error, undoing the room brings the tree back.
 pub fn remove<R: Room>(room: &mut R, root: u64, key: &[u8]) -> Result<u64, Refusal>
     requires tree { IsTree (R.standing room.old) (R.words room.old) root }
     requires open { IsTrue (R.is_open (R.kept room.old)) }
@@ -157,8 +157,8 @@ fn slots_without<L: Look>(
     Ok(())
 }
 
-/// Takes a key out below a page, and puts the page's items without it, still to be written, into an
-/// empty list. The page is not written over nor given up yet, since some of them stand there.
+/// Takes a key out below a page. The page's items without it, still to be written, enter an empty
+/// list. The page is not written over nor given up yet, since some of the items lie there.
 #[cycle(removal)]
 fn remove_at<R: Room>(
     room: &mut R,
@@ -210,8 +210,8 @@ fn remove_at<R: Room>(
     Ok(())
 }
 
-/// What stands in the place of an inner node's item, once this key was taken out below it and its
-/// child was written as this branch: the item itself, where the child was written over where it is
+/// What comes in the place of an inner node's item, once this key was taken out below it and its
+/// child was written as this branch. It is the item itself, if the child was written over in place
 /// and the key isn't the item's, so that its least key is the same.
 fn kept_item<L: Look>(
     look: &mut L,
@@ -277,7 +277,7 @@ fn remove_alone<R: Room>(
     Ok(Slot::Branch(page as u32))
 }
 
-/// Takes a key out below one of two neighbours, which stands on this side, and writes both anew.
+/// Takes a key out below one of two neighbours, which is on this side, and writes both anew.
 #[cycle(removal)]
 fn remove_beside<R: Room>(
     room: &mut R,

@@ -16,15 +16,14 @@ use crate::slot::Slot;
 use arrayvec::ArrayVec;
 use be_pages::Look;
 
-/// On which side of its neighbour a page stands.
+/// On which side of its neighbour a page is.
 #[derive(Clone, Copy)]
 pub(crate) enum Side {
     Left,
     Right,
 }
 
-/// Of two neighbours the left one and the right one, where the first of these pages stands on this
-/// side.
+/// Of two neighbours the left one and the right one, if the first of these pages is on this side.
 pub(crate) fn pages_in_order(side: Side, one: u64, other: u64) -> (u64, u64)
     ensures left { result.0 ≡ left_of side one other }
     ensures right { result.1 ≡ right_of side one other }
