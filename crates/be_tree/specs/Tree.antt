@@ -31,7 +31,7 @@ pages_below (suc level) words items = flat_map
 abbrev pub pages_at : ℕ → (words : ℕ → ℕ → ℕ) (page : ℕ) → List ℕ
 pages_at level words page = page ∷ pages_below level words (items_of (words page))
 
--- a tree's pairs and pages, by its root: 0 for none, else page + 1
+-- a tree's pairs and pages, by its root: 0 for none, otherwise page + 1
 abbrev pub pairs : (words : ℕ → ℕ → ℕ) (root : ℕ) → List Pair
 pairs words zero = []
 pairs words (suc page) = pairs_at (level_of (words page)) words page

@@ -7,7 +7,7 @@
 //! leaf mostly, and a walk over a whole tree reads each inner page about once, while a look-up for
 //! each pair would go down from the root each time.
 //!
-//! No page may have more than 12 items, and each but the root has 6 at least. So a tree of fewer
+//! No page may have more than 12 items, and each but the root has at least 6. So a tree of fewer
 //! than 2^32 pages has no level above 13, and the way down has at most 14 places.
 ghost use Rattle.std.specs.Prelude.{◌≡◌, ◌≢◌, ℕ, [], ◌+◌, ◌-◌, ◌/◌, ◌<◌, ◌≤◌, ◌++◌, IsTrue, length};
 ghost use Rattle.std.specs.Prelude.{option_map, drop, IfNone, IfSome, Some, slice_get};
@@ -128,8 +128,8 @@ impl Cursor {
         (page, next)
     }
 
-    /// The pair that comes next, and a step past it; none once all were given. It is the pair that
-    /// `range` answers for the last one's key and `after`, without the descent.
+    /// The pair that comes next, and a step past it; None once all were returned. It is the pair
+    /// that `range` returns for the last one's key and `after`, without the descent.
     pub fn next<L: Look>(&mut self, look: &mut L) -> Option<TreeItem>
         requires cursor { IsCursor (L.standing look.old) (L.words look.old) self.old }
         ensures item { option_map pair_in result

@@ -13,11 +13,11 @@
 //! other threads.
 //!
 //! # How a tree changes
-//! `insert` and `remove` go down to a leaf, write it and the pages above it, and give the root of a
-//! new tree, which shares all other pages with the old one. No page that was there when the write
+//! `insert` and `remove` go down to a leaf, write it and the pages above it, and return the root of
+//! a new tree, which shares all other pages with the old one. No page that was there when the write
 //! began is changed: its node is written to a page that is taken for it, and the old one is given
-//! up. A page that the write has taken before is written over where it is, so a second change near
-//! the first one mostly takes no page. `clear` gives up each page of a tree.
+//! up. A page that the write has taken before is written over in place, so a second change near the
+//! first one mostly takes no page. `clear` gives up each page of a tree.
 //!
 //! # What is proved
 //! Reading spells the list from the words (`specs/Tree.antt`). `find_into`, `range`, `Cursor`,

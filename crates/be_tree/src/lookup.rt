@@ -132,7 +132,7 @@ pub(crate) fn rank<L: Look>(look: &mut L, page: u64, key: &[u8]) -> usize
     count
 }
 
-/// Where the items of a page end.
+/// The end of a page's items.
 #[inline(always)]
 pub(crate) fn end_of<L: Look>(look: &mut L, page: u64) -> usize
     requires readable { IsTrue (is_readable (L.standing look.old page)) }

@@ -302,7 +302,7 @@ fn push_to<L: Look>(
     Ok(false)
 }
 
-/// The first word of the bound, or 0 where there is none.
+/// The first word of the bound, or 0 if there is none.
 fn first_of(high: Option<&[u8]>) -> u64
     ensures { IsFirstOf (option_copied high.entry) result }
 {

@@ -2,9 +2,9 @@
 //!
 //! # Neighbours
 //! A page of more than six items is written anew alone. One of six is written anew together with a
-//! neighbour under the same parent, the next one where there is one: the items of both go into one
-//! page where they fit, else into two. So no page is left under-full, and pages that were thin are
-//! joined. A removal writes two pages a level at most.
+//! neighbour under the same parent, the next one if there is one: the items of both go into one
+//! page if they fit, otherwise into two. So no page is left under-full, and pages that were thin
+//! are joined. A removal writes up to two pages a level.
 //!
 //! # Absent keys
 //! Nothing is written on the way down. A leaf without the key stops the removal, and nothing has
@@ -78,8 +78,8 @@ pub fn remove<R: Room>(room: &mut R, root: u64, key: &[u8]) -> Result<u64, Refus
     Ok(new)
 }
 
-/// Writes what is left of a root as a tree, and gives its root: none where nothing is left, and the
-/// page of the one branch that is left of an inner root. The old root's page is given up where it
+/// Writes what is left of a root as a tree, and returns its root: 0 if nothing is left, and the
+/// page of the one branch that is left of an inner root. The old root's page is given up if it
 /// isn't written over.
 fn write_rest<R: Room>(room: &mut R, old: u64, node: Node<'_>) -> Result<u64, Refusal>
     requires low { node.level < 2 ^ 32 }
@@ -122,8 +122,8 @@ fn child_of<L: Look>(look: &mut L, slot: Slot, pair: &Item) -> u64
     }
 }
 
-/// Puts the slots of a leaf's items but the one at a number into an empty list, if that one has the
-/// key.
+/// Writes the slots of a leaf's items but the one at a number into an empty list, if that one has
+/// the key.
 fn slots_without<L: Look>(
     look: &mut L,
     page: u64,

@@ -24,7 +24,7 @@ pub struct TreeItem {
 }
 
 /// The least pair whose key is at or after `from`; with `after` set, strictly after it. It costs
-/// one descent, and one more to the next leaf where the leaf that was found has no such pair.
+/// one descent, and one more to the next leaf if the leaf that was found has no such pair.
 pub fn range<L: Look>(look: &mut L, root: u64, from: &[u8], after: bool) -> Option<TreeItem>
     requires tree { IsTree (L.standing look.old) (L.words look.old) root }
     ensures item { option_map pair_in result
@@ -49,7 +49,7 @@ pub fn key_at<L: Look>(look: &mut L, page: u64, at: usize) -> ArrayVec<u8, 264>
     key
 }
 
-/// Puts the key at a place of a page into an empty vector.
+/// Writes the key at a place of a page into an empty vector.
 pub(crate) fn fill_key<L: Look>(look: &mut L, page: u64, at: usize, key: &mut ArrayVec<u8, 264>)
     requires readable { IsTrue (is_readable (L.standing look.old page)) }
     requires in_page { at + 42 ≤ 512 }

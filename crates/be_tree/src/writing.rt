@@ -11,9 +11,9 @@
 //! is.
 //!
 //! # Two pages
-//! A node of more than twelve items is written in two pages, of which the first is the old one
-//! where it can be. Of two neighbours the first one is written before the second, since it only
-//! takes items from there, and gives its last ones.
+//! A node of more than twelve items is written in two pages, of which the first is the old one if
+//! it can be. Of two neighbours the first one is written before the second, since it only takes
+//! items from there, and gives its last ones.
 ghost use Rattle.std.specs.Prelude.{◌≡◌, ◌≢◌, ℕ, ◌+◌, ◌-◌, ◌^◌, ◌<◌, ◌≤◌, [], ◌∷◌, ◌++◌, true};
 ghost use Rattle.std.specs.Prelude.{false, length, take, drop, All, IfOk, OnErr, IfErr, IfSome};
 ghost use Rattle.std.specs.Prelude.{IsTrue};
@@ -36,7 +36,7 @@ use arrayvec::ArrayVec;
 use be_pages::Room;
 use be_value::Refusal;
 
-/// Writes a node to a page of its own, and gives the page.
+/// Writes a node to a page of its own, and returns the page.
 fn write_node<R: Room>(room: &mut R, node: Node<'_>) -> Result<u64, Refusal>
     requires some { 0 < length node.slots.now }
     requires few { length node.slots.now ≤ 12 }
@@ -103,8 +103,8 @@ fn write_over<R: Room>(room: &mut R, page: u64, way: Way, node: Node<'_>)
     }
 }
 
-/// Writes a node that is changed over its old page where that can be, else to a page of its own,
-/// and gives the old one up. Gives the page.
+/// Writes a changed node over its old page if that can be. Otherwise it writes the node to a page
+/// of its own, and gives the old one up. Returns the page.
 fn write_changed<R: Room>(room: &mut R, old: u64, node: Node<'_>) -> Result<u64, Refusal>
     requires some { 0 < length node.slots.now }
     requires few { length node.slots.now ≤ 12 }
@@ -193,7 +193,7 @@ pub(crate) fn write_branch<R: Room>(room: &mut R, old: u64, node: Node<'_>) -> R
     Ok(page)
 }
 
-/// Writes a node in hand in two pages, the first `cut` items in the first, and gives them. The
+/// Writes a node in hand in two pages, the first `cut` items in the first, and returns them. The
 /// second one is taken, and written before the first one is written as `rewrite` does.
 fn write_parts<R: Room>(
     room: &mut R,
@@ -239,8 +239,8 @@ fn first_of_two(len: usize) -> usize
     }
 }
 
-/// Writes a node in hand, in one page or in two, of which the first is the old one where it can be,
-/// and gives the branches to them. The old page is given up where it isn't among them.
+/// Writes a node in hand, in one page or in two, of which the first is the old one if it can be,
+/// and returns the branches to them. The old page is given up if it isn't among them.
 pub(crate) fn pack<R: Room>(
     room: &mut R,
     old: u64,
@@ -463,7 +463,7 @@ pub(crate) fn pack_two<R: Room>(
     Ok(branches)
 }
 
-/// Writes items as a tree of one page, and gives its root.
+/// Writes items as a tree of one page, and returns its root.
 pub(crate) fn write_first_root<R: Room>(
     room: &mut R,
     slots: &[Slot],
@@ -490,8 +490,8 @@ pub(crate) fn write_first_root<R: Room>(
     Ok(top + 1)
 }
 
-/// Writes items as a tree of their own, over the old root's page where that can be, else it is
-/// given up. Gives the root.
+/// Writes items as a tree of their own, over the old root's page if that can be; otherwise that
+/// page is given up. Returns the root.
 pub(crate) fn write_root<R: Room>(room: &mut R, old: u64, node: Node<'_>) -> Result<u64, Refusal>
     requires node { CanBeWritten node.level (R.standing room.old) (R.words room.old) node.pair.now
         node.slots.now }

@@ -79,7 +79,8 @@ fn look_round(writing: &mut Writing<'_>, words: &str) -> u64
     }
 }
 
-/// Writes a list, or only reads if it is empty. BadLimits if it has more than 64 operations.
+/// Writes a list. If it is empty, scans or asks whether a scan is due, as the words say. BadLimits
+/// if it has more than 64 operations.
 pub(crate) fn act(writing: &mut Writing<'_>, ops: &[Op], words: &str) -> Result<u64, Refusal>
     requires begun { (a : Knowledge) × TakesLock a writing.old.knows }
     ensures table { writing.new.table ≡ writing.old.table }
