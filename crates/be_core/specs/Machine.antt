@@ -1,5 +1,4 @@
--- The reclamation machine: versions of a set of pages, a writer that takes and retires pages, and
--- passes that pin versions.
+-- The reclamation machine: versions of a set of pages, a writer of pages, and passes that pin.
 use Rattle.std.specs.Prelude.{◌≡◌, ◌≢◌, ℕ, suc, ◌+◌, ◌<◌, ◌≤◌, min, Bool, true, false, not, ◌&&◌}
 use Rattle.std.specs.Prelude.{◌||◌, ◌==◌, nat_lt, if◌then◌else◌, ◌⊎◌, List, [], ◌∷◌, AllPairs, All}
 use Rattle.std.specs.Prelude.{Option, Some, None, is_some, IsTrue, IsFalse, ⊤}
@@ -10,8 +9,8 @@ use Rattle.be_core.specs.declared.event.Event.{Event}
 use Rattle.be_core.specs.declared.event.Event.TheVariants.{Look, Announce, LookAgain, Read, Unpin}
 use Rattle.be_core.specs.declared.event.Event.TheVariants.{Lock, Scan, Fill, Publish, Unlock}
 
--- who holds the lock, how many announcements its scan has read, the least so far, and whether it
--- has published
+-- the holder of the lock, how many announcements its scan has read, the least so far, and whether
+-- it has published
 pub record Holder : Type 0 where
   pub pass : ℕ
   pub scanned : ℕ

@@ -1,4 +1,4 @@
-//! A machine that runs: the events of any list are done one by one, and each answers whether it was
+//! A machine that runs: it does any list of events one by one, and returns whether each was
 //! allowed.
 //!
 //! A `State` shows a state of the machine (`shown`). It doesn't keep what the words were at each
@@ -14,8 +14,8 @@ use crate::event::{Event, Phase};
 use be_value::Refusal;
 use std::alloc::{AllocError, Global};
 
-/// Who holds the lock: its pass, how many announcements its scan has read, the least so far, and
-/// whether it has published.
+/// The holder of the lock: its pass, how many announcements its scan has read, the least so far,
+/// and whether it has published.
 #[derive(Clone, Copy)]
 struct Holder {
     pass: u64,
@@ -405,7 +405,7 @@ impl State {
         true
     }
 
-    /// The holder, where the pass k may read the announcement of the pass j.
+    /// The holder, if the pass k may read the announcement of the pass j.
     fn scanner(&self, k: u64, j: u64) -> Option<Holder>
         ensures some { IfSome result (λ h. (self.now.holder ≡ Some h)
             × MayScan (shown self.now blank) k j) }
@@ -527,7 +527,7 @@ impl State {
         Ok(true)
     }
 
-    /// Does what the event says, and answers whether it was allowed.
+    /// Does what the event says, and returns whether it was allowed.
     fn happen(&mut self, event: &Event) -> Result<bool, Refusal>
         ensures done { IfOk result (λ done. MakesStep self.old (λ w. Allowed w event.now)
             (λ w. after_event w event.now) done self.new) }

@@ -134,8 +134,8 @@ SetsWhatStands volume (RmIndex name) = ⊥
 
 -- A list of operations on a version: the new version page encodes what the steps make of the
 -- volume. The pages of the old version have become exactly those of the new one, each of which is
--- old or filled, and the new version page is one that this write has taken. If all of them set what
--- is there already, each index has the root that it had.
+-- old or filled. The new version page is one that this write has taken. If all of them set what is
+-- there already, each index has the root that it had.
 pub record Applies {S K : Type 0} (kept_of : S → K) (standing_of : S → ℕ → Standing)
     (words_of : S → ℕ → ℕ → ℕ)
     (page new_page : ℕ) (volume : State) (ops : List Op) (dones : List Done) (old new : S) : Type 0

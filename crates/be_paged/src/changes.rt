@@ -185,7 +185,7 @@ fn change_at<R: Room>(
 }
 
 /// Changes the node's pair in the index of a name, if there is one. The value that the node has is
-/// read only then, and looked for only where nothing is known of it.
+/// read only then, and looked for only if nothing is known of it.
 pub(crate) fn change_entry<R: Room>(
     room: &mut R,
     version: &mut Version,

@@ -1,7 +1,7 @@
 //! A version, read whole: what be_volume_state makes a volume again of.
 //!
-//! It keeps nothing of what it read. Whether an index has a node is asked of the index's tree by
-//! the key of the node's attribute, since a pair of an index is always its node's attribute.
+//! It keeps nothing of what it read. To find whether an index has a node, it looks for the key of
+//! the node's attribute in the index's tree. A pair of an index is always its node's attribute.
 ghost use Rattle.std.specs.Prelude.{◌≡◌, IfOk, None, true};
 ghost use Rattle.std.specs.FinMap as map;
 ghost use Rattle.std.specs.Option.{option_map};

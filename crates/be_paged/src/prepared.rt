@@ -75,9 +75,9 @@ fn nodes_of<L: Look>(
     Ok(())
 }
 
-/// Writes the nodes of which a prepared query is true into a list, ascending, in place of what it
-/// had, if a range of one index decides the query. Otherwise it returns false, and the caller runs
-/// the query by a plan. It compares the index's name where the index was last, and makes one
+/// If a range of one index decides a prepared query, this writes the nodes of which it is true into
+/// a list, ascending, in place of what the list had. Otherwise it returns false, and the caller
+/// runs the query by a plan. It compares the index's name where the index was last, and makes one
 /// descent. After false or `OutOfMemory` the list has any numbers.
 #[inline(always)]
 pub fn answer_decided<L: Look>(

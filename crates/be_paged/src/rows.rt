@@ -1,6 +1,6 @@
 //! Many attributes in one call: the values of nodes at names.
 //!
-//! A row is what one node has at the names. One descent leads to the first of its attributes, and a
+//! A row is what one node has at the names. One descent leads to the first of its attributes. A
 //! cursor steps to the next name's as long as the names lie side by side, by ascending bytes. Any
 //! other name costs a descent. If a node has none of the names, the node itself is looked up.
 ghost use Rattle.std.specs.Prelude.{◌≡◌, ◌≢◌, ◌+◌, ◌*◌, ◌^◌, ◌<◌, ◌≤◌, ℕ, List, [], ◌∷◌, ◌++◌, Err};
@@ -249,8 +249,8 @@ pub fn columns<L: Look>(
     filled.bytes as u64
 }
 
-/// A node's attribute as a cell, if the node is there and has it. The bytes of a text are put to
-/// the front of the places, as many as there are places. It costs one descent of the catalog's
+/// A node's attribute as a cell, if the node is there and has it. The bytes of a text are written
+/// to the front of the places, as many as there are places. It costs one descent of the catalog's
 /// tree, and takes no memory.
 #[inline(always)]
 pub fn get_into<L: Look>(

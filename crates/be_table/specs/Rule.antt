@@ -339,7 +339,7 @@ abbrev pub first_of : List Knowledge → Knowledge
 first_of [] = nobody
 first_of (a ∷ v) = a
 
--- the pass of a seat that has one, and the second where it has two
+-- the pass of a seat that has one, and the second if it has two
 abbrev pub pass_of : View → Knowledge
 pass_of v = first_of v.passes
 

@@ -279,8 +279,8 @@ Compared st m n r =
     (r ≡ (beside (having_seen a log) (having_seen c log), m.1)) × StartsWith log a.seen
     × StartsWith log c.seen × IsPass (having_seen a log) × IsPass (having_seen c log)
 
--- the pass of a seat has seen the longer of what it had seen and the front that its seat has, which
--- contains the other, and the seat has no front any more
+-- the pass of a seat has seen the longer of what it had seen and the front of its seat, which
+-- contains the other; the seat has no front any more
 abbrev pub Learned : Step (Option Ledger) → Me (Option Ledger) View → ℕ → Me (Option Ledger) View
     → Type 0
 Learned st m n r =
@@ -486,7 +486,7 @@ TakeMoves st m n r =
     × (r ≡ (alone (takes_page (with_history a h) p), m.1)))
     × (n ≡ slice_index a.words st.word)
 
--- a word of a page is filled with what is there, and then with x where that is another
+-- a word of a page is filled with what is there, and then with x if that is another
 abbrev pub fill_moves : Knowledge → ℕ → ℕ → ℕ → List Move
 fill_moves a p i x = let found = slice_index a.words (word_place p i) in Fill a.number p i found
     ∷ (if found == x then [] else Fill a.number p i x ∷ [])

@@ -16,14 +16,14 @@
 //! # How a reader pins a version
 //! It loads CURRENT, announces the number that it found, loads CURRENT again, and has pinned what
 //! it found then: three steps, and no wait. A page that a write gave up is retired with the number
-//! of the last version that has it, and is free once a scan has found no announcement at or below
+//! of the last version that has it. It is free once a scan has found no announcement at or below
 //! that number. So the pages of a pinned version are never filled.
 //!
 //! # What a version says
-//! The pages of version n, with the words that they had when it was published, encode from its
-//! version page the volume after the first n entries of the journal, and are exactly the pages that
-//! be_paged reaches from there (`specs/Versions.antt`). So `publish` asks for both, a pinned pass
-//! reads that volume, and a write begins with that of the whole journal.
+//! The pages of version n, with the words that they had when it was published, encode the volume
+//! after the first n entries of the journal. They are exactly the pages that be_paged reaches from
+//! the version page (`specs/Versions.antt`). So `publish` asks for both, a pinned pass reads that
+//! volume, and a write begins with that of the whole journal.
 //!
 //! # What is proved
 //! Between any two steps one rule holds (`specs/Rule.antt`), in four parts: the words and the slot

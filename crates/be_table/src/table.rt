@@ -1,8 +1,8 @@
 //! The table that the passes share, and the steps of readers.
 //!
-//! Word 0 is LOCK: 0 when free, else the holder's number + 1. Word 8 is CURRENT: the version's
+//! Word 0 is LOCK: 0 when free, otherwise the holder's number + 1. Word 8 is CURRENT: the version's
 //! number times 2^32, plus its version page. Word 16 + 8 k is the announcement of pass k: 0 for
-//! none, else the number + 1. Word i of page p is word 528 + 512 p + i.
+//! none, otherwise the number + 1. Word i of page p is word 528 + 512 p + i.
 ghost use Rattle.std.specs.Prelude.{◌≡◌, ℕ, ◌<◌, false, length, map, MatchResult, IsTrue};
 ghost use Rattle.std.specs.Prelude.{slice_index};
 ghost use Rattle.be_core.specs.Machine.{has};
@@ -28,7 +28,7 @@ use be_value::Refusal;
 use std::alloc::Global;
 use std::marker::Model;
 
-/// 0 while no pass holds the lock, else the holder's number + 1.
+/// 0 while no pass holds the lock, otherwise the holder's number + 1.
 pub(crate) const LOCK: usize = 0;
 
 /// The current version: its number times 2^32, plus its version page.
@@ -140,7 +140,7 @@ impl VersionTable {
         self.limits
     }
 
-    /// Sees the journal up to now, and answers its length. One load.
+    /// Sees the journal up to now, and returns its length. One load.
     pub fn look(&self, seat: &mut Seat) -> u64
         requires { IsSeatOf self.now seat.old }
         ensures seat { IsSeatOf self.now seat.new }
@@ -210,8 +210,8 @@ impl VersionTable {
         *seat = Seat::of(base, marks);
     }
 
-    /// Takes the lock, or answers Busy with the pass that this try found holding it, which is
-    /// another one. One compare-exchange.
+    /// Takes the lock. If a pass holds it, the error is Busy with the pass that this try found
+    /// holding it, which is another one. One compare-exchange.
     pub fn lock(&self, seat: Seat) -> Result<Writing<'_>, (Seat, Refusal)>
         requires { IsSeatOf self.now seat }
         ensures { MatchResult result

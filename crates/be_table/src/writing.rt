@@ -40,7 +40,7 @@ use std::marker::{Brand, Model};
 
 /// A retired page is used again only once a scan has freed it. A write that lets the pool run empty
 /// first goes through the memory of every page, where those that were given up last are still near.
-/// A write gives up 6 to 16, all of which use the same few lines of the cache, so those of two or
+/// A write gives up 6 to 16, all of which use the same few lines of the cache. So those of two or
 /// three writes are still in its nearest levels. A scan a write would find no more of them there,
 /// and costs a load for each pass.
 const EARLY: usize = 32;
@@ -157,7 +157,7 @@ impl<'a> Writing<'a> {
         self.ledger.pool.is_in_hand(page)
     }
 
-    /// Writes word i of a page that was taken in this write. One load, and one store where the word
+    /// Writes word i of a page that was taken in this write. One load, and one store if the word
     /// isn't there yet: a page that is used again has many of its words, and a store costs far more
     /// than a load.
     pub fn fill(&mut self, page: u64, i: usize, word: u64)
@@ -332,10 +332,10 @@ impl<'a> Writing<'a> {
             × (place_of self.now.knows.places page ≡ Place.Filled) }
     {}
 
-    /// Enters a write into the journal, with the version of the pages that the write keeps, which
-    /// encodes the volume after the entry and reaches just these pages. Returns the journal's
-    /// length, which is the new version's number. One store, which takes no memory, and work for
-    /// each page that the write took or gave up.
+    /// Enters a write into the journal, with the version of the pages that the write keeps. The
+    /// version encodes the volume after the entry and reaches exactly these pages. Returns the
+    /// journal's length, which is the new version's number. One store, which takes no memory, and
+    /// work for each page that the write took or gave up.
     pub fn publish(&mut self, page: u64, ops: &[Op], dones: &[Done]) -> u64
         requires open { self.old.knows.published ≡ false }
         requires count { (1 ≤ length ops.now) × (length ops.now ≤ 64) }

@@ -1,7 +1,7 @@
 //! Worked examples of the table, by its public calls.
 //!
 //! A test is a room and a text of requests with their replies. `0` and `1` name the pass that makes
-//! a request. `hold` and `between` have the first pass hold the lock while others are answered;
+//! a request. `hold` and `between` have the first pass hold the lock while others make requests;
 //! `turn` makes the next pass the first.
 
 mod calls;

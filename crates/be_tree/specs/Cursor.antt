@@ -1,4 +1,4 @@
--- What a cursor has still to give.
+-- The pairs after a cursor.
 use Rattle.std.specs.Prelude.{ℕ, ◌+◌, ◌<◌, ◌≤◌, List, [], ◌∷◌, ◌++◌, length, drop, slice_index_or}
 use Rattle.std.specs.Prelude.{All}
 use Rattle.be_pages.specs.declared.room.Standing.{Standing}
@@ -18,7 +18,7 @@ abbrev pub pairs_along : (words : ℕ → ℕ → ℕ) → List Place → List P
 pairs_along words [] = []
 pairs_along words (place ∷ path) = pairs_along words path ++ pairs_past words place
 
--- the pairs that a cursor has still to give
+-- the pairs after a cursor, which it has still to return
 abbrev pub remaining : (words : ℕ → ℕ → ℕ) → Cursor → List Pair
 remaining words cursor = pairs_along words cursor.path.items
 

@@ -1,4 +1,4 @@
--- Why a removal below a page gives no items.
+-- Why a removal below a page returns no items.
 use Rattle.std.specs.Prelude.{◌≡◌, ◌≢◌, ℕ, Option, None}
 use Rattle.be_value.specs.declared.refusals.Refusal.{Refusal}
 use Rattle.be_pages.specs.declared.room.Standing.{Standing}

@@ -3,9 +3,9 @@
 //! A cursor keeps the way from the root down to the pair that comes next: for each page on it the
 //! number of the item that comes after those already passed. What it still has to give is the pairs
 //! past the deepest place, then those past the one above it, and so on up to the root. Once a page
-//! is spent, its place is taken off and the walk goes on from the one above. So a step reads one
-//! leaf mostly, and a walk over a whole tree reads each inner page about once, while a look-up for
-//! each pair would go down from the root each time.
+//! is spent, its place is taken off and the walk goes on from the one above. So a step mostly reads
+//! one leaf, and a walk over a whole tree reads each inner page about once. A look-up for each pair
+//! would go down from the root each time.
 //!
 //! No page may have more than 12 items, and each but the root has at least 6. So a tree of fewer
 //! than 2^32 pages has no level above 13, and the way down has at most 14 places.

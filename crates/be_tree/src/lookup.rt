@@ -1,12 +1,12 @@
 //! Look-ups of a key.
 //!
-//! On each level the items of one page are compared in place, one after the other, up to the first
-//! whose key is greater, or in a leaf up to the one that has the key. A page has up to 12 items,
-//! and a processor reads ahead along them, while the steps of a binary search wait for each other.
-//! Mostly the first word after an item's lengths decides. If it is less than the first word of the
-//! key, the item's key is less, however short it is: the bytes after a short key count for nothing,
-//! and the key has zeros there. If it is greater, the item's key may be short, so its length is
-//! read too.
+//! On each level the items of one page are compared in place, one after the other. This ends at the
+//! first item whose key is greater, or in a leaf at the one that has the key. A page has up to 12
+//! items, and a processor reads ahead along them, while the steps of a binary search wait for each
+//! other. Mostly the first word after an item's lengths decides. If it is less than the first word
+//! of the key, the item's key is less, however short it is: the bytes after a short key count for
+//! nothing, and the key has zeros there. If it is greater, the item's key may be short, so its
+//! length is read too.
 ghost use Rattle.std.specs.Prelude.{◌≡◌, [], ◌+◌, ◌-◌, ◌<◌, ◌≤◌, true, false, length, option_map};
 ghost use Rattle.std.specs.Prelude.{is_some, IfNone, IfSome, IfOk, IfErr, None, Some};
 ghost use Rattle.std.specs.Prelude.{IsTrue};

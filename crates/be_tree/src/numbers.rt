@@ -204,7 +204,7 @@ fn seek_past<L: Look>(look: &mut L, root: u64, leaf: FirstLeaf, low: &[u8], curs
     }
 }
 
-/// Adds the numbers of the keys that a cursor has still to give, up to the bound, leaf by leaf.
+/// Adds the numbers of the keys after a cursor, up to the bound, leaf by leaf.
 fn push_rest<L: Look>(
     look: &mut L,
     cursor: &mut Cursor,

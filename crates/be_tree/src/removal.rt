@@ -240,8 +240,8 @@ fn kept_item<L: Look>(
     Slot::At(place as u16, page as u32)
 }
 
-/// Takes a key out below a page of more than six items, writes what is left of it alone, and gives
-/// the branch to it.
+/// Takes a key out below a page of more than six items, writes what is left of it alone, and
+/// returns the branch to it.
 #[cycle(removal)]
 fn remove_alone<R: Room>(
     room: &mut R,

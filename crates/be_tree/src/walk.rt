@@ -1,8 +1,9 @@
 //! The least pair of a tree from a key on.
 //!
-//! A tree is a sorted list of pairs, so the pairs at or after a key are a tail of the list, and its
-//! first pair is the least. One descent finds where that tail begins: at each inner page it takes
-//! the last branch whose key isn't above the key that is sought, and in the leaf the search ends.
+//! A tree is a sorted list of pairs, so the pairs at or after a key are a tail of the list. The
+//! first pair of the tail is the least. One descent finds where that tail begins: at each inner
+//! page it takes the last branch whose key isn't above the key that is sought, and in the leaf the
+//! search ends.
 ghost use Rattle.std.specs.Prelude.{◌≡◌, [], ◌+◌, ◌≤◌, IsTrue, option_map};
 ghost use Rattle.be_pages.specs.Pages.{IsUnchanged, is_readable};
 ghost use Rattle.be_tree.specs.Page.{IsItem, item_at};

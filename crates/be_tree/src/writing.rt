@@ -1,14 +1,14 @@
 //! A node in hand is written.
 //!
 //! # Over its page
-//! A page that was there when the write began keeps its words, so its node is written to a page
+//! A page that was there when the write began keeps its words. So its node is written to a page
 //! that is taken for it, and the old one is given up. A page that the write has taken before, as
 //! for the last change of a list, is written over in place. Those of its items that keep their
-//! places are left alone, and the others are moved within the page. They are moved in the order of
-//! their numbers if all move down, as when one was taken out, and from the last one on if all move
-//! up, as when one was put in. If some move down and others up, the node is written to another
-//! page. Above a page that was written over, and whose least key is the same, each page stays as it
-//! is.
+//! places are left alone, and the others are moved within the page. If all move down, as when one
+//! was taken out, they are moved in the order of their numbers. If all move up, as when one was put
+//! in, they are moved from the last one on. If some move down and others up, the node is written to
+//! another page. Above a page that was written over, and whose least key is the same, each page
+//! stays as it is.
 //!
 //! # Two pages
 //! A node of more than twelve items is written in two pages, of which the first is the old one if
@@ -239,8 +239,8 @@ fn first_of_two(len: usize) -> usize
     }
 }
 
-/// Writes a node in hand, in one page or in two, of which the first is the old one if it can be,
-/// and returns the branches to them. The old page is given up if it isn't among them.
+/// Writes a node in hand to one page or two, and returns the branches to them. The first page is
+/// the old one if it can be. The old page is given up if it isn't among them.
 pub(crate) fn pack<R: Room>(
     room: &mut R,
     old: u64,

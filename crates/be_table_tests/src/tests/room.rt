@@ -36,7 +36,7 @@ impl Model for Room {
         × IsResting r.table r.third };
 }
 
-/// A table with these limits and its seats. Version 0 spells the empty volume.
+/// A table with these limits and its seats. Version 0 encodes the empty volume.
 pub(crate) fn open(alloc: Global, limits: Limits) -> Result<(VersionTable, Vec<Seat>), Refusal>
     ensures { IfOk result (λ r. (r.0.limits ≡ limits) × (length r.1.items ≡ limits.passes)
         × AreNew r.0 0 r.1.items) }
@@ -73,7 +73,7 @@ fn open_room(alloc: Global, pages: u64) -> Result<Room, Refusal> {
     })
 }
 
-/// A room with so many pages, opened again where memory is refused.
+/// A room with so many pages, opened again if memory is refused.
 pub(crate) fn opened(alloc: Global, pages: u64) -> Result<Room, Refusal> {
     match open_room(alloc, pages) {
         Err(Refusal::OutOfMemory) => open_room(alloc, pages),
@@ -110,7 +110,7 @@ fn hold(
     both_texts(alloc, first, last)
 }
 
-/// What a pass is answered before and after another one, which holds the lock, enters a node.
+/// The replies to a pass before and after another one, which holds the lock, enters a node.
 fn write_between(
     table: &VersionTable,
     alloc: Global,

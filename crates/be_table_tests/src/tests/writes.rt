@@ -16,7 +16,7 @@ use be_table::{Seat, VersionTable, Writing};
 use be_value::Refusal;
 use be_volume::{Done, Op};
 
-/// Makes room for so many operations, at the second call where memory is refused at the first.
+/// Makes room for so many operations, by a second call if memory is refused at the first.
 fn make_room(writing: &mut Writing<'_>, count: usize) -> Result<(), Refusal>
     requires open { writing.old.knows.published ≡ false }
     requires count { (1 ≤ count) × (count ≤ 64) }
