@@ -1,4 +1,5 @@
--- The reclamation machine: versions of a set of pages, a writer of pages, and passes that pin.
+-- The reclamation machine: versions of a set of pages, one writer, and passes that pin versions.
+-- The writer takes and retires pages.
 use Rattle.std.specs.Prelude.{◌≡◌, ◌≢◌, ℕ, suc, ◌+◌, ◌<◌, ◌≤◌, min, Bool, true, false, not, ◌&&◌}
 use Rattle.std.specs.Prelude.{◌||◌, ◌==◌, nat_lt, if◌then◌else◌, ◌⊎◌, List, [], ◌∷◌, AllPairs, All}
 use Rattle.std.specs.Prelude.{Option, Some, None, is_some, IsTrue, IsFalse, ⊤}

@@ -54,7 +54,7 @@ fn next_mark<L: Look>(look: &mut L, cursor: &mut Cursor) -> Option<u64>
     None
 }
 
-/// The nodes of up to so many marks, from that of a node on, in a vector.
+/// The nodes of up to `most` marks, from that of a node on, in a vector.
 pub(crate) fn list_nodes<L: Look>(
     alloc: Global,
     look: &mut L,

@@ -153,8 +153,8 @@ pub fn get<L: Look>(look: &mut L, version_page: u64, node: u64, name: &Name) -> 
     value_in(look, catalog, node, name, None)
 }
 
-/// The attributes of a node, by ascending bytes of their names. The errors are NoNode if the
-/// node isn't there, and OutOfMemory only if it is. It walks over the node's pairs in the catalog's
+/// The attributes of a node, by ascending bytes of their names. The errors are NoNode if the node
+/// isn't there, and OutOfMemory only if it is. It walks over the node's pairs in the catalog's
 /// tree.
 pub fn attrs<L: Look>(
     alloc: Global,
@@ -202,7 +202,7 @@ pub fn indices<L: Look>(
     Ok(kinds(alloc, &version.entries)?)
 }
 
-/// Up to so many nodes from a number on, ascending. The only error is OutOfMemory. It costs one
+/// Up to `most` nodes from a number on, ascending. The only error is OutOfMemory. It costs one
 /// descent of the catalog's tree, and a step for each node that it returns and for each of their
 /// attributes.
 pub fn nodes<L: Look>(

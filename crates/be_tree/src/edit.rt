@@ -4,8 +4,8 @@
 //! On the way down a full child whose left neighbour has room is written anew together with it: the
 //! neighbour takes all the items that it can hold. A full child with a full neighbour, or with
 //! none, is split. The first of the two pages takes as many items as leave six for the second. So
-//! keys that rise leave full pages behind them. An insertion writes two pages a level at most, and
-//! three at the root; `writing` says which pages those are.
+//! ascending keys leave full pages. An insertion writes up to two pages a level, and three at the
+//! root; `writing` says which pages those are.
 ghost use Rattle.std.specs.Prelude.{◌≡◌, ℕ, suc, ◌+◌, ◌-◌, ◌^◌, ◌<◌, ◌≤◌, List, [], ◌∷◌, ◌++◌};
 ghost use Rattle.std.specs.Prelude.{length, take, drop, All, IfOk, OnOk, OnErr, IfErr, IsTrue};
 ghost use Rattle.std.specs.Prelude.{◌≢◌, ◌⊎◌, true};
