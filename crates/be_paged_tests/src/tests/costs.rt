@@ -267,9 +267,9 @@ fn expect_rows(alloc: Global, rows: &str) -> Result<(), Fail> {
 /// What each cost would grow by. The get: a second descent of the catalog's tree. A query of one
 /// node: a second descent of its index's tree, or a look at the node. The size 1500 has the least
 /// key of its leaf: its range begins at the end of the leaf before, so it takes that second
-/// descent. A range and a front: a descent for each key, instead of a step along the leaves. The filter makes a descent of the
-/// catalog's tree for each of a hundred nodes: it would grow by a hundred words for each word that
-/// a descent reads more.
+/// descent. A range and a front: a descent for each key, instead of a step along the leaves. The
+/// filter makes a descent of the catalog's tree for each of a hundred nodes: it would grow by a
+/// hundred words for each word that a descent reads more.
 #[test]
 fn read_costs(rt: HostRuntime) -> Result<(), Fail> {
     let rows = r#"get 150 size => 1 found, 44 words read
