@@ -242,7 +242,7 @@ class SavedPass(_local.LocalPass):
     def another(self) -> SavedPass:
         """A pass of the same store for another thread, by any pass and in any thread. `NoPass` if there is none."""
         other = SavedPass(self._saver, self._first)
-        check(self._saver.own._call(calls.bes_another, other._pointer))
+        other._open_by(self._saver.own)
         return other
 
     def flush(self) -> None:
@@ -268,7 +268,7 @@ class Saved(SavedPass):
 
     def __init__(self, saver: _Saver) -> None:
         super().__init__(saver)
-        check(saver.own._call(calls.bes_another, self._pointer))
+        self._open_by(saver.own)
 
     def another(self) -> SavedPass:
         other = super().another()
