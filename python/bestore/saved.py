@@ -32,7 +32,7 @@ from typing import Any, Dict, List, Optional, Sequence, Tuple, Type, Union
 
 from . import local as _local
 from . import shelf as _shelf
-from ._library import calls, check
+from ._library import check
 from ._saved_errors import (
     Differs, DiskFull, Fewer, Foreign, Held, Newer, NoFile, NotSaved, SavedError, SqliteError, Stopped, TooLarge, refused)
 from ._saved_file import File, Row

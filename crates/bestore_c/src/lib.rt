@@ -1,8 +1,8 @@
 //! The store for programs in C: `include/bestore.h` declares what is exported here.
 //!
 //! Each export takes a handle that its caller owns, calls the session in it, and returns a number:
-//! 0, the number of a refusal or of another error, or 64 and 65, which are the handle's own. One has
-//! a `requires`: `bes_join`, which takes a witness of the handle's own store.
+//! 0, the number of a refusal or of another error, or 64 and 65, which are the handle's own. Only
+//! `bes_join` has a `requires`: its witness is one of the pass's store.
 #![tactic(auto)]
 
 ghost use Rattle.std.specs.Prelude.{◌≡◌, ◌⊎◌, ◌+◌, None, Ok, length, map};

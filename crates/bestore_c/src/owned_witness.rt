@@ -1,5 +1,5 @@
-//! What the handle of a witness owns: a box that C holds as a pointer, or nothing. As in `owned`, for
-//! another type.
+//! What the handle of a witness owns: a box that C holds as a pointer, or nothing. As in `owned`,
+//! for another type.
 //!
 //! Its type names no other type, so that it can lie in memory that C passes.
 ghost use Rattle.std.specs.Prelude.{◌≡◌, Option, None, Some, is_some, true};

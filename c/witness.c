@@ -1,5 +1,5 @@
-/* Two threads that tell each other through pipes what they have written: a commit number, and a witness. Who is told joins the witness,
- * and finds that write in its next snapshot; its next write has a later number. A third thread writes meanwhile. */
+/* Two threads that send each other through pipes what they have written: a commit number, and a witness. The receiver joins the
+ * witness, and finds that write in its next snapshot; its next write has a later number. A third thread writes meanwhile. */
 #define _POSIX_C_SOURCE 200112L
 #include "tests.h"
 #include <pthread.h>
@@ -7,10 +7,10 @@
 #include <unistd.h>
 
 /* What goes through a pipe. The memory of the witness goes with it. */
-typedef struct word {
+typedef struct message {
     uint64_t number, node;
     bes_witness *witness;
-} word;
+} message;
 
 typedef struct user {
     bes_pass pass;
@@ -37,40 +37,40 @@ static uint64_t write_node(bes_pass *pass, uint64_t size, uint64_t *node)
 }
 
 /* Writes, and sends the number with a witness of it. Returns the number. */
-static uint64_t tell(user *it, unsigned round)
+static uint64_t send_write(user *it, unsigned round)
 {
-    word said = {0, 0, malloc(sizeof *said.witness)};
+    message sent = {0, 0, malloc(sizeof *sent.witness)};
     const bes_witness none = BES_WITNESS_INIT;
-    CHECK(said.witness != NULL);
-    *said.witness = none;
-    said.number = write_node(&it->pass, round, &said.node);
-    CHECK(bes_witness_of(&it->pass, said.witness) == BES_OK);
-    CHECK(write(it->to, &said, sizeof said) == (ssize_t)sizeof said);
-    return said.number;
+    CHECK(sent.witness != NULL);
+    *sent.witness = none;
+    sent.number = write_node(&it->pass, round, &sent.node);
+    CHECK(bes_witness_of(&it->pass, sent.witness) == BES_OK);
+    CHECK(write(it->to, &sent, sizeof sent) == (ssize_t)sizeof sent);
+    return sent.number;
 }
 
-/* Receives what the other has said, joins its witness, and looks for its write. Returns its number. */
-static uint64_t hear(user *it, unsigned round)
+/* Receives what the other has sent, joins its witness, and looks for its write. Returns the write's number. */
+static uint64_t receive(user *it, unsigned round)
 {
-    word heard;
+    message got;
     bes_attribute size;
     uint64_t seen = 0, number = 0;
     uint8_t none = 0;
-    CHECK(read(it->from, &heard, sizeof heard) == (ssize_t)sizeof heard);
-    CHECK(bes_join(&it->pass, heard.witness, &seen) == BES_OK && seen >= heard.number);
-    CHECK(bes_dismiss(heard.witness) == BES_OK);
-    free(heard.witness);
+    CHECK(read(it->from, &got, sizeof got) == (ssize_t)sizeof got);
+    CHECK(bes_join(&it->pass, got.witness, &seen) == BES_OK && seen >= got.number);
+    CHECK(bes_dismiss(got.witness) == BES_OK);
+    free(got.witness);
     CHECK(bes_pin(&it->pass, &number) == BES_OK && number >= seen);
-    CHECK(bes_read(&it->pass, heard.node, "size", &size, &none, 0) == BES_OK && size.number == round);
+    CHECK(bes_read(&it->pass, got.node, "size", &size, &none, 0) == BES_OK && size.number == round);
     CHECK(bes_unpin(&it->pass) == BES_OK);
-    return heard.number;
+    return got.number;
 }
 
 static void *first(void *arg)
 {
     for (unsigned round = 0; round < rounds; round++) {
-        const uint64_t mine = tell(arg, round);
-        CHECK(hear(arg, round) > mine);
+        const uint64_t mine = send_write(arg, round);
+        CHECK(receive(arg, round) > mine);
     }
     return NULL;
 }
@@ -78,8 +78,8 @@ static void *first(void *arg)
 static void *second(void *arg)
 {
     for (unsigned round = 0; round < rounds; round++) {
-        const uint64_t theirs = hear(arg, round);
-        CHECK(tell(arg, round) > theirs);
+        const uint64_t theirs = receive(arg, round);
+        CHECK(send_write(arg, round) > theirs);
     }
     return NULL;
 }
