@@ -39,7 +39,7 @@ from .versions import Query, Version
 __all__ = ["MOST_VOLUMES", "Shelf", "ShelfVersion", "node_in", "number_of", "open", "volume_of"]
 
 _Result = TypeVar("_Result")
-_Taken = TypeVar("_Taken", bound=Union[Pass, Version])
+_Taken = TypeVar("_Taken", bound=Union[Pass, Version, Witness])
 
 
 class ShelfVersion(Version):
