@@ -258,7 +258,8 @@ class Passes(unittest.TestCase):
                 witness = other.witness()
             self.assertEqual((store.join(witness), store.join(witness)), (1, 1))
             self.assertRaises(bestore.OtherStore, next_store.join, witness)
-            self.assertRaises(bestore.OtherStore, next_store.join, bestore.Witness())
+            with bestore.open_shelf(1, 64, 1, 100) as shelf:
+                self.assertRaises(bestore.OtherStore, next_store.join, shelf.witness())
             self.assertRaises(TypeError, store.join, store)
         self.assertRaises(bestore.Closed, store.witness)
         self.assertRaises(bestore.Closed, store.join, witness)

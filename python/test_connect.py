@@ -160,7 +160,7 @@ class Connecting(WithServer):
     def test_not_through_a_server(self):
         for call, error in [
             (self.store.meet, bestore.Unavailable), (self.store.witness, bestore.Unavailable),
-            (lambda: self.store.join(bestore.Witness()), bestore.Unavailable), (self.store.flush, bestore.NotKept),
+            (lambda: self.store.join(None), bestore.Unavailable), (self.store.flush, bestore.NotKept),
         ]:
             with self.assertRaises(error) as fault:
                 call()

@@ -83,9 +83,13 @@ class StandingBack:
         self.wait(random.randint(1, self._turns))
 
 
-class Witness(Owner):
+class Witness(Owner, ABC):
     """What a pass has seen of its store, for a pass of the same store in another thread: `Pass.witness` makes one, and `Pass.join`
-    joins it. It holds no part of the store. It is closed at the end of a `with`, or when it goes itself."""
+    joins it. It holds no part of the store."""
+
+    @abstractmethod
+    def close(self) -> None:
+        """Closes the witness, if it is open."""
 
 
 class Pass(Owner, ABC):
