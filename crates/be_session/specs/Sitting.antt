@@ -16,6 +16,7 @@ use Rattle.be_table.specs.Steps.{longer, met}
 use Rattle.be_table.specs.Trace.{HasTrace}
 use Rattle.be_table.specs.Works.{AreNew}
 use Rattle.be_table.specs.declared.limits.Limits.{Limits}
+use Rattle.be_table.specs.declared.pass.Commit.{Commit}
 use Rattle.be_table.specs.declared.pass.Knowledge.{Knowledge}
 use Rattle.be_value.specs.declared.refusals.Refusal.{Refusal}
 use Rattle.be_volume.specs.declared.ops.Op.{Op}
@@ -80,6 +81,13 @@ HasMet store a c n =
     × StartsWith (longer a.seen b.seen) b.seen
     × (c ≡ met a (longer a.seen b.seen)) × (n ≡ length (longer a.seen b.seen))
     × HasTrace store.limits (a ∷ b ∷ [])
+
+-- A pass and a witness have then both seen what either had: of two prefixes of one journal the
+-- longer, and n is its length.
+abbrev pub Joins : Knowledge → List Commit → Knowledge → List Commit → ℕ → Type 0
+Joins a told c now n =
+    StartsWith now a.seen × StartsWith now told × (now ≡ longer a.seen told) × (c ≡ met a now)
+    × (n ≡ length now)
 
 -- why a write did nothing, and the state after it: a count that isn't 1 to 64, or the store's own
 -- refusal

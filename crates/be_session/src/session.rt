@@ -10,10 +10,10 @@ ghost use Rattle.be_volume.specs.Reading.{attribute, attributes_at, index_kinds}
 ghost use Rattle.be_journal.specs.Journal.{IsLegal};
 ghost use Rattle.be_paged.specs.Cells.{IsReadInto, TellsColumns, name_in};
 ghost use Rattle.be_paged.specs.Nodes.{nodes_from};
-ghost use Rattle.be_table.specs.Rule.{IsWithin, entries, newcomer};
+ghost use Rattle.be_table.specs.Rule.{IsWithin, entries, newcomer, one_step_on};
 ghost use Rattle.be_table.specs.Seats.{pinned_number};
 ghost use Rattle.be_table.specs.Steps.{unpins, with_history};
-ghost use Rattle.be_table.specs.Works.{AreNew, FoundHeld, IsOpenRefused};
+ghost use Rattle.be_table.specs.Works.{AreNew, FoundHeld, IsOpenRefused, IsWitnessOf};
 ghost use Rattle.be_store.specs.Conditional.{AcceptsAt};
 ghost use Rattle.be_store.specs.History.{Accepts, IsUntold, Learns, LocksAndUnlocks, Pins};
 ghost use Rattle.be_store.specs.History.{entries_from, text_seen};
@@ -23,7 +23,7 @@ ghost use Rattle.be_store.specs.Statuses.{TellsStatus};
 ghost use Rattle.be_session.specs.Explained.{explanation_in};
 ghost use Rattle.be_session.specs.Sitting.{AtPin, HasMet, IsHandedOut, IsPinned, IsUnwritten};
 ghost use Rattle.be_session.specs.Sitting.{IsUnwrittenIf, IsNoQuery, IsOpened, IsUnpinnedAt};
-ghost use Rattle.be_session.specs.Sitting.{IsUnrefreshed, ReadAnswers};
+ghost use Rattle.be_session.specs.Sitting.{IsUnrefreshed, Joins, ReadAnswers};
 ghost use Rattle.be_session.specs.States.{untold, waiting};
 ghost use Rattle.be_session.specs.declared.faults.Fault.TheVariants.{AlreadyPinned, BadCount};
 ghost use Rattle.be_session.specs.declared.faults.Fault.TheVariants.{NoPass, NotPinned, Refused};
@@ -36,7 +36,7 @@ use crate::{Fault, StatePlace};
 use be_store::laws::seen_is_legal;
 use be_store::{
     ArrayVec, Cell, Done, Entry, HeldName, Kind, Limits, Live, Name, Op, Pass, Query, Refusal,
-    Status, Store, Updates, Value, parse,
+    Status, Store, Updates, Value, Witness, parse,
 };
 use std::alloc::{AllocFailed, Global};
 use std::marker::Model;
@@ -242,6 +242,34 @@ impl Session {
         let length = self.shared.store().meet(&mut self.pass, &mut other);
         drop(self.shared.give_back(other));
         Ok(length)
+    }
+
+    /// A witness of all that the pass has seen of the journal. Send it to another thread, by
+    /// whatever channel: a session that joins it there has seen as much. It owns no share of the
+    /// store. One step, and no memory.
+    pub fn witness(&mut self) -> Witness
+        ensures store { (self.new.store ≡ self.old.store) × (self.new.spare ≡ self.old.spare) }
+        ensures knows { self.new.knows ≡ one_step_on self.old.knows }
+        ensures witness { IsWitnessOf self.old.store result
+            × (result.seen ≡ self.old.knows.seen) }
+    {
+        self.shared.store().witness(&mut self.pass)
+    }
+
+    /// The session and the witness have then both seen what either had. Returns the length of that.
+    /// A pin stays, and the witness can be sent on. What the session pins and writes from then on
+    /// comes after what the witness had seen. Three steps, and no memory.
+    ///
+    /// It is the one call of a session that its caller can make wrongly: nothing that is there at
+    /// run time says which store a witness is of.
+    pub fn join(&mut self, witness: &mut Witness) -> u64
+        requires witness { IsWitnessOf self.old.store witness.old }
+        ensures store { (self.new.store ≡ self.old.store) × (self.new.spare ≡ self.old.spare) }
+        ensures witness { IsWitnessOf self.old.store witness.new }
+        ensures joins { Joins self.old.knows witness.old.seen self.new.knows witness.new.seen
+            result }
+    {
+        self.shared.store().join(&mut self.pass, witness)
     }
 
     /// Pins the current version, and returns its number: how many writes it has.

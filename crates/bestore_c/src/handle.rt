@@ -4,6 +4,7 @@ ghost use Rattle.std.specs.Prelude.{◌≡◌, is_some};
 use crate::owned::Owned;
 use crate::owned_place::OwnedPlace;
 use crate::owned_query::OwnedQuery;
+use crate::owned_witness::OwnedWitness;
 use be_session::sent;
 
 /// What C holds for one pass: closed, or open with a session. Zero bytes are a closed one.
@@ -35,11 +36,27 @@ pub struct PlaceHandle {
     ghost full: { live ≡ is_some owned.value },
 }
 
+/// What C holds of a witness: closed, or open with the witness. Zero bytes are a closed one.
+#[repr(C)]
+#[derive(Drop)]
+pub struct WitnessHandle {
+    pub live: bool,
+    pub owned: OwnedWitness,
+    ghost full: { live ≡ is_some owned.value },
+}
+
 /// A law of the handle: it may go to another thread, with what it holds. It does nothing.
 pub fn may_move(pass: Handle) -> Handle
     ensures { result ≡ pass }
 {
     sent(pass)
+}
+
+/// The same of the handle of a witness.
+pub fn witness_may_move(witness: WitnessHandle) -> WitnessHandle
+    ensures { result ≡ witness }
+{
+    sent(witness)
 }
 
 /// What C gets of a value: its type code, its length in bytes, and the number that it is, or 0. A

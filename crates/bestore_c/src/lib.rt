@@ -1,8 +1,8 @@
 //! The store for programs in C: `include/bestore.h` declares what is exported here.
 //!
 //! Each export takes a handle that its caller owns, calls the session in it, and returns a number:
-//! 0, the number of a refusal or of another error, or 64 and 65, which are the handle's own. None
-//! has a `requires`.
+//! 0, the number of a refusal or of another error, or 64 and 65, which are the handle's own. Only
+//! `bes_join` has a `requires`: its witness is one of the pass's store.
 #![tactic(auto)]
 
 ghost use Rattle.std.specs.Prelude.{◌≡◌, ◌⊎◌, ◌+◌, None, Ok, length, map};
@@ -27,6 +27,7 @@ ghost use Rattle.bestore_c.specs.Calls.{HoldsName, ReadsHeld, ShowsChanges, Tell
 ghost use Rattle.bestore_c.specs.Calls.{TellsJournal, TellsNumber, WritesSpelled, WritesSpelledIf};
 ghost use Rattle.bestore_c.specs.States.{TellsState, untold_at};
 ghost use Rattle.bestore_c.specs.Usage.{TellsUsage};
+ghost use Rattle.bestore_c.specs.Witnesses.{AreOfOneStore, JoinsWitness, Vouches};
 
 mod asking;
 mod entries;
@@ -36,6 +37,7 @@ mod loose;
 mod owned;
 mod owned_place;
 mod owned_query;
+mod owned_witness;
 mod places;
 mod reading;
 mod refusing;
@@ -49,11 +51,14 @@ use be_session::{
 };
 use be_store::{ArrayVec, Cell, HeldName, Limits};
 use entries::tell_entry;
-use handle::{Attribute, Counts, Handle, PlaceHandle, PreparedHandle, UpdateCounts, Usage};
+use handle::{
+    Attribute, Counts, Handle, PlaceHandle, PreparedHandle, UpdateCounts, Usage, WitnessHandle,
+};
 use listing::{tell_attributes, tell_indices};
 use owned::Owned;
 use owned_place::OwnedPlace;
 use owned_query::OwnedQuery;
+use owned_witness::OwnedWitness;
 use places::{from_on, put, put_nodes};
 use reading::read;
 use refusing::{refuse, refuse_list};
@@ -196,6 +201,93 @@ pub extern "C" fn bes_meet(pass: &mut Handle, seen: &mut u64) -> u32
         }
         Err(fault) => refuse(fault, seen),
     }
+}
+
+/// Opens the handle with a witness of what the pass has seen.
+#[unsafe(no_mangle)]
+pub extern "C" fn bes_witness_of(
+    alloc: Global,
+    pass: &mut Handle,
+    witness: &mut WitnessHandle,
+) -> u32
+    ensures pass { Calls pass.old.owned.value pass.new.owned.value
+        ((result ≡ 64) × (witness.new.owned.value ≡ witness.old.owned.value))
+        (λ s t. Vouches s t witness.old.owned.value witness.new.owned.value result) }
+{
+    if !pass.live {
+        return CLOSED;
+    }
+    if witness.live {
+        return OPEN;
+    }
+    match Box::new(alloc, pass.owned.lent().witness()) {
+        Ok(made) => {
+            *witness = WitnessHandle {
+                live: true,
+                owned: OwnedWitness::of(made),
+            };
+            DONE
+        }
+        Err(_) => NO_MEMORY,
+    }
+}
+
+/// The pass and the witness have then both seen what either had. Returns the length of that.
+#[unsafe(no_mangle)]
+pub extern "C" fn bes_join(pass: &mut Handle, witness: &mut WitnessHandle, seen: &mut u64) -> u32
+    requires { AreOfOneStore pass.old.owned.value witness.old.owned.value }
+    ensures pass { Calls pass.old.owned.value pass.new.owned.value
+        (IsClosed seen.new result × (witness.new.owned.value ≡ witness.old.owned.value))
+        (λ s t. JoinsWitness s t witness.old.owned.value witness.new.owned.value seen.new result) }
+{
+    *seen = 0;
+    if !pass.live {
+        return CLOSED;
+    }
+    if !witness.live {
+        return CLOSED;
+    }
+    *seen = pass.owned.lent().join(witness.owned.lent());
+    DONE
+}
+
+/// Moves what the handle of a witness holds into one that is closed, and closes it.
+#[unsafe(no_mangle)]
+pub extern "C" fn bes_move_witness(
+    alloc: Global,
+    witness: &mut WitnessHandle,
+    other: &mut WitnessHandle,
+) -> u32
+    ensures { MovesHandle witness.old.owned.value other.old.owned.value witness.new.owned.value
+        other.new.owned.value result }
+{
+    if !witness.live {
+        return CLOSED;
+    }
+    if other.live {
+        return OPEN;
+    }
+    let closed = WitnessHandle {
+        live: false,
+        owned: OwnedWitness::none(alloc),
+    };
+    *other = mem::replace(witness, closed);
+    DONE
+}
+
+/// Closes the handle of a witness.
+#[unsafe(no_mangle)]
+pub extern "C" fn bes_dismiss(alloc: Global, witness: &mut WitnessHandle) -> u32
+    ensures closed { witness.new.owned.value ≡ None }
+    ensures answer { AnswersWhetherOpen witness.old.owned.value result }
+{
+    if !witness.live {
+        return CLOSED;
+    }
+    let dismissed = mem::replace(&mut witness.owned, OwnedWitness::none(alloc)).into_box();
+    witness.live = false;
+    drop(dismissed);
+    DONE
 }
 
 /// Pins the current version, and returns its number.
