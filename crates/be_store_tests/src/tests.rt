@@ -440,10 +440,10 @@ fn two_writers(rt: HostRuntime) -> Result<(), Fail> {
 }
 
 /// A pass that joins a witness on a thread of its own pins what the witness had seen, or more,
-/// while the other pass writes on.
+/// while the other pass writes on. There are pages for each write beside the pin.
 #[test]
 fn handed_to_a_thread(rt: HostRuntime) -> Result<(), Fail> {
-    let mut room = for_two(rt.alloc(), 64, 1000)?;
+    let mut room = for_two(rt.alloc(), 1024, 1000)?;
     let lines = "0 new;new / seen => commit 1 / node 1 / node 2 / seen 1 0";
     check_lines(rt.alloc(), &mut room, lines)?;
     let (number, is_accepted) = room.hand(&rt)?;
