@@ -9,6 +9,7 @@ enum { LONG_TEXT = 4097 };
 static bes_pass closed, pass, single;
 static bes_prepared unprepared, prepared;
 static bes_place not_begun, begun;
+static bes_witness unopened, witness;
 static uint64_t number, count, nodes[4];
 static bes_attribute attribute;
 static bes_counts counts;
@@ -45,6 +46,10 @@ static void of_handles(void)
     RETURNS(BES_CLOSED, bes_move(&closed, &pass));
     RETURNS(BES_CLOSED, bes_move_prepared(&unprepared, &prepared));
     RETURNS(BES_CLOSED, bes_move_place(&not_begun, &begun));
+    RETURNS(BES_CLOSED, bes_move_witness(&unopened, &witness));
+    RETURNS(BES_CLOSED, bes_witness_of(&closed, &witness));
+    RETURNS(BES_CLOSED, bes_join(&closed, &witness, &number));
+    RETURNS(BES_CLOSED, bes_join(&pass, &unopened, &number));
     RETURNS(BES_OPEN, bes_prepare(no_text, 1, &prepared, &count));
     RETURNS(BES_OPEN, bes_prepare(NAME("=="), &prepared, &count));
     RETURNS(BES_OPEN, bes_prepare_items(&no_item, 0, bytes, 0, &prepared, &count));
@@ -117,6 +122,7 @@ static void of_queries(void)
     RETURNS(BES_NOT_PINNED, bes_query_items(&pass, uncovered, 3, (const uint8_t *)"a", 1, nodes, 4, &count));
     RETURNS(BES_CLOSED, bes_query_prepared(&pass, &unprepared, nodes, 4, &count));
     RETURNS(BES_NOT_PINNED, bes_query_prepared(&pass, &prepared, nodes, 4, &count));
+    RETURNS(BES_CLOSED, bes_found(&unprepared, 0, nodes, 4, &count));
     RETURNS(BES_CLOSED, bes_refresh(&pass, &unprepared, &updates));
     RETURNS(BES_NOT_PINNED, bes_refresh(&pass, &prepared, &updates));
 }
@@ -141,19 +147,22 @@ int main(void)
     bes_pass inits[] = {BES_PASS_INIT, BES_PASS_INIT, BES_PASS_INIT};
     bes_prepared unprepared_inits[] = {BES_PREPARED_INIT, BES_PREPARED_INIT};
     bes_place place_inits[] = {BES_PLACE_INIT, BES_PLACE_INIT};
+    bes_witness witness_inits[] = {BES_WITNESS_INIT, BES_WITNESS_INIT};
     closed = inits[0], pass = inits[1], single = inits[2];
     unprepared = unprepared_inits[0], prepared = unprepared_inits[1];
     not_begun = place_inits[0], begun = place_inits[1];
+    unopened = witness_inits[0], witness = witness_inits[1];
     memset(no_text, 0xff, sizeof no_text);
     CHECK(bes_open(64, 1, 10, &pass) == BES_OK && bes_open(8, 1, 1, &single) == BES_OK);
     CHECK(bes_new_node(&pass, &number) == BES_OK && bes_new_node(&single, &number) == BES_OK);
     CHECK(bes_prepare(NAME("a==1"), &prepared, &count) == BES_OK && bes_pin(&pass, &number) == BES_OK);
     CHECK(bes_state(&pass, &begun, &counts, listed, 64, bytes, sizeof bytes) == BES_OK && bes_unpin(&pass) == BES_OK);
+    CHECK(bes_witness_of(&pass, &witness) == BES_OK);
     of_handles();
     of_writes();
     of_queries();
     of_reads();
-    CHECK(bes_release(&prepared) == BES_OK && bes_leave(&begun) == BES_OK);
+    CHECK(bes_release(&prepared) == BES_OK && bes_leave(&begun) == BES_OK && bes_dismiss(&witness) == BES_OK);
     CHECK(bes_close(&pass) == BES_OK && bes_close(&single) == BES_OK);
     return 0;
 }

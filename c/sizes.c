@@ -1,4 +1,4 @@
-/* Each list, text and number that a call takes or writes, at the sizes that tools/try-sizes names: what grows, and then sizes or ranges
+/* Each list, text and number that a call takes or writes, at the sizes that tests/sizes names: what grows, and then sizes or ranges
  * of them, ascending, as in `sizes nodes 1-255 256 511-513`. malloc refuses nothing here, so no call has a reason to return
  * BES_NO_MEMORY. */
 #include "tests.h"
@@ -52,6 +52,9 @@ static void found(bes_pass *pass, const char *query, const bes_item *items, size
     CHECK(told_count == count && are_from_one(nodes, count));
     OK(bes_prepare_text(query, &prepared, &place));
     OK(bes_query_prepared(pass, &prepared, nodes, MOST_NODES, &told_count));
+    CHECK(told_count == count && are_from_one(nodes, count));
+    nodes[0] = 0;
+    OK(bes_found(&prepared, 0, nodes, MOST_NODES, &told_count));
     CHECK(told_count == count && are_from_one(nodes, count));
     for (uint64_t created = count, i = 0; i < 2; created = 0, i++) {
         OK(bes_refresh(pass, &prepared, &updates));
@@ -147,17 +150,26 @@ static void many_nodes(void)
     OK(bes_close(&pass) || bes_close(&empty));
 }
 
-/* Nodes that two picks find, and those at which a look at another attribute leaves one or none. */
+/* Whether a size is at most one beside a power of two, where lists grow. */
+static bool is_by_power(uint64_t size)
+{
+    return ((size - 1) & size) == 0 || (size & (size + 1)) == 0 || (size > 1 && ((size - 2) & (size - 1)) == 0);
+}
+
+/* Nodes that two picks find, and those at which a look at another attribute leaves one or none: beyond the first sizes the last of
+ * these alone, but where lists grow. */
 static void many_candidates(void)
 {
     bes_pass pass = BES_PASS_INIT;
     uint64_t count = 0, number = 0;
     open_numbered(&pass, MOST_NODES);
     AT_EACH_SIZE {
-        snprintf(text, sizeof text, "k<=%d||k>0&&k<=%d", (int)size, (int)size);
-        found(&pass, text, NULL, 0, size);
-        snprintf(text, sizeof text, "k<=%d&&j==1", (int)size);
-        found(&pass, text, NULL, 0, 1);
+        if (size <= 400 || size == MOST_NODES || is_by_power(size)) {
+            snprintf(text, sizeof text, "k<=%d||k>0&&k<=%d", (int)size, (int)size);
+            found(&pass, text, NULL, 0, size);
+            snprintf(text, sizeof text, "k<=%d&&j==1", (int)size);
+            found(&pass, text, NULL, 0, 1);
+        }
         snprintf(text, sizeof text, "k<=%d&&j==2", (int)size);
         OK(bes_pin(&pass, &number) || bes_find(&pass, text, nodes, MOST_NODES, &count) || bes_unpin(&pass));
         CHECK(count == 0);
@@ -269,6 +281,9 @@ static void long_queries(void)
         memcpy(text, "k==", 3);
         text[size] = 0;
         found(&pass, text, NULL, 0, 1);
+        for (size_t i = 4; i < size; i += 2)
+            text[i] = 'x';
+        found(&pass, text, NULL, 0, size <= 6);
         memset(text + 3, 'x', size - 3);
         found(&pass, text, NULL, 0, size == 4);
         memcpy(expected, "\"k\"==\"", 6);
@@ -408,6 +423,7 @@ static void many_passes(void)
 {
     static bes_pass passes[64];
     AT_EACH_SIZE {
+        bes_witness witness = BES_WITNESS_INIT;
         uint64_t node = 0, written = 1, seen = 0;
         OK(bes_open(512, size, 10000, &passes[0]) || bes_new_node(&passes[0], &node));
         for (int round = 0; round < 3; round++) {
@@ -416,6 +432,7 @@ static void many_passes(void)
                 OK(bes_close(&passes[round == 1 ? size - i : i]));
             CHECK(bes_meet(&passes[0], &seen) == (size > 1 ? BES_OK : BES_NO_PASS));
             CHECK(size == 1 || (seen > 0 && seen <= written));
+            OK(bes_witness_of(&passes[0], &witness) || bes_join(&passes[0], &witness, &seen) || bes_dismiss(&witness));
         }
         take_all(passes, size, false, node, &written);
         for (uint64_t i = 0; i < size; i++)
@@ -585,7 +602,7 @@ static void many_entries(void)
     OK(bes_close(&pass));
 }
 
-/* What grows, by the names that tools/growth.txt has. */
+/* What grows, by the names that tests/growth.txt has. */
 static const struct row {
     const char *name;
     void (*run)(void);

@@ -47,6 +47,8 @@ static void closed_prepared(void)
     uint64_t number = 7, count = 7, place = 7, nodes[2] = {7, 7}, more[2] = {7, 7};
     CHECK(bes_release(&prepared) == BES_CLOSED);
     CHECK(bes_changes(&prepared, nodes, 2, more, 2) == BES_CLOSED && nodes[0] == 7 && more[0] == 7);
+    CHECK(bes_found(&prepared, 0, nodes, 2, &count) == BES_CLOSED && count == 0 && nodes[0] == 7);
+    count = 7;
     CHECK(bes_query_prepared(&pass, &prepared, nodes, 2, &count) == BES_CLOSED && count == 0);
     CHECK(bes_open(8, 1, 10, &pass) == BES_OK && bes_pin(&pass, &number) == BES_OK);
     count = 7;
@@ -502,6 +504,26 @@ static void prepare_less(bes_prepared *prepared)
 }
 
 /* Queries that are parsed once, by text and by items, and what comes and goes. */
+/* What a prepared query found: it is read again in parts, and stays at a refresh. */
+static void read_found(bes_pass *pass, bes_prepared *query)
+{
+    bes_prepared uncovered = BES_PREPARED_INIT;
+    bes_updates updates = {7, 7};
+    uint64_t count = 7, place = 7, nodes[4] = {7, 7, 7, 7};
+    CHECK(bes_prepare_text("none==1", &uncovered, &place) == BES_OK);
+    CHECK(bes_found(&uncovered, 0, nodes, 4, &count) == BES_OK && count == 0);
+    CHECK(bes_query_prepared(pass, &uncovered, nodes, 4, &count) == BES_NOT_COVERED);
+    CHECK(bes_found(&uncovered, 0, nodes, 4, &count) == BES_OK && count == 0 && nodes[0] == 7);
+    CHECK(bes_query_prepared(pass, query, nodes, 0, &count) == BES_OK && count == 3 && nodes[0] == 7);
+    CHECK(bes_found(query, 0, nodes, 2, &count) == BES_OK && count == 3 && nodes[0] == 1 && nodes[1] == 2 && nodes[2] == 7);
+    CHECK(bes_found(query, 2, nodes, 4, &count) == BES_OK && count == 3 && nodes[0] == 3 && nodes[1] == 2);
+    CHECK(bes_found(query, 3, nodes, 4, &count) == BES_OK && count == 3 && nodes[0] == 3);
+    CHECK(bes_found(query, UINT64_MAX, nodes, 4, &count) == BES_OK && count == 3 && nodes[0] == 3);
+    CHECK(bes_refresh(pass, query, &updates) == BES_OK && bes_refresh(pass, query, &updates) == BES_OK && updates.created == 0);
+    CHECK(bes_found(query, 1, nodes, 1, &count) == BES_OK && count == 3 && nodes[0] == 2);
+    CHECK(bes_release(&uncovered) == BES_OK);
+}
+
 static void prepared_queries(void)
 {
     bes_pass pass = BES_PASS_INIT;
@@ -527,7 +549,10 @@ static void prepared_queries(void)
     CHECK(bes_changes(&small, came, 2, went, 2) == BES_OK && came[0] == 1 && came[1] == 2 && went[0] == 7);
     CHECK(bes_changes(&small, nodes, 4, went, 0) == BES_OK && nodes[2] == 3);
     CHECK(bes_refresh(&pass, &small, &updates) == BES_OK && updates.created == 0 && updates.removed == 0);
+    read_found(&pass, &small);
     CHECK(bes_unpin(&pass) == BES_OK);
+    CHECK(bes_query_prepared(&pass, &small, nodes, 4, &count) == BES_NOT_PINNED && count == 0);
+    CHECK(bes_found(&small, 0, nodes, 4, &count) == BES_OK && count == 0);
     CHECK(bes_remove_node(&pass, 2) == BES_OK && bes_set_int32(&pass, 3, "size", 3) == BES_OK);
     CHECK(bes_new_node(&pass, &node) == BES_OK && bes_set_int32(&pass, node, "size", -4) == BES_OK);
     CHECK(bes_pin(&pass, &number) == BES_OK);
@@ -610,6 +635,37 @@ static void states(void)
     CHECK(bes_leave(&place) == BES_OK && bes_batch_state(&pass, &place, &batch) == BES_OK && batch.count == 6 && batch.used == 15);
     CHECK(bes_close(&pass) == BES_OK && bes_batch_state(&pass, &place, &batch) == BES_CLOSED && batch.count == 0);
     CHECK(bes_leave(&place) == BES_OK && bes_new_node(&next, &number) == BES_OK && number == 3 && bes_close(&next) == BES_OK);
+}
+
+/* A witness shows one pass what another has seen, and outlives their store. */
+static void joining(void)
+{
+    bes_pass mine = BES_PASS_INIT, theirs = BES_PASS_INIT;
+    bes_witness witness = BES_WITNESS_INIT, later = BES_WITNESS_INIT, moved = BES_WITNESS_INIT;
+    uint64_t number = 7, node = 0, nodes[4];
+    CHECK(bes_witness_of(&mine, &witness) == BES_CLOSED && bes_dismiss(&witness) == BES_CLOSED);
+    CHECK(bes_join(&mine, &witness, &number) == BES_CLOSED && number == 0);
+    CHECK(bes_open(64, 2, 10, &mine) == BES_OK && bes_another(&mine, &theirs) == BES_OK);
+    number = 7;
+    LEAVES(&mine, bes_join(&mine, &witness, &number), BES_CLOSED);
+    CHECK(number == 0 && bes_witness_of(&mine, &witness) == BES_OK);
+    LEAVES(&mine, bes_witness_of(&mine, &witness), BES_OPEN);
+    number = 7;
+    LEAVES(&theirs, bes_join(&theirs, &witness, &number), BES_OK);
+    CHECK(number == 0 && bes_new_node(&mine, &node) == BES_OK && bes_witness_of(&mine, &later) == BES_OK);
+    CHECK(bes_join(&theirs, &later, &number) == BES_OK && number == 1);
+    CHECK(bes_new_node(&theirs, &node) == BES_OK && bes_join(&theirs, &witness, &number) == BES_OK && number == 2);
+    CHECK(bes_pin(&mine, &number) == BES_OK && number == 2 && bes_new_node(&theirs, &node) == BES_OK);
+    CHECK(bes_join(&theirs, &later, &number) == BES_OK && number == 3);
+    CHECK(bes_join(&mine, &later, &number) == BES_OK && number == 3 && bes_pin(&mine, &number) == BES_PINNED);
+    CHECK(bes_nodes(&mine, 0, nodes, 4, &number) == BES_OK && number == 2 && bes_unpin(&mine) == BES_OK);
+    CHECK(bes_join(&mine, &witness, &number) == BES_OK && number == 3);
+    CHECK(bes_pin(&mine, &number) == BES_OK && number == 3 && bes_close(&mine) == BES_OK);
+    number = 7;
+    CHECK(bes_join(&mine, &later, &number) == BES_CLOSED && number == 0 && bes_close(&theirs) == BES_OK);
+    CHECK(bes_move_witness(&later, &witness) == BES_OPEN && bes_dismiss(&witness) == BES_OK);
+    CHECK(bes_move_witness(&later, &moved) == BES_OK && bes_move_witness(&later, &moved) == BES_CLOSED);
+    CHECK(bes_dismiss(&later) == BES_CLOSED && bes_dismiss(&moved) == BES_OK && bes_dismiss(&moved) == BES_CLOSED);
 }
 
 /* What is free, what waits for a pin, and whose that is. */
@@ -757,6 +813,7 @@ int main(void)
     opening();
     giving_back();
     meeting();
+    joining();
     wrong_writes();
     most();
     full_batch();

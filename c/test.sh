@@ -1,6 +1,6 @@
 #!/usr/bin/env bash
 # Builds the tests in C and C++ and runs them, plain and under what finds faults of memory and of threads; then the examples and the
-# tests in Python. What is installed and packed is tried by tools/try-packages. Needs libbestore.a and libbestore.so beside it.
+# tests in Python. What is installed and packed is tried by tests/packages. Needs libbestore.a and libbestore.so beside it.
 # What isn't there is skipped, and said to be.
 set -euo pipefail
 cd "$(dirname "$0")"
@@ -55,16 +55,16 @@ build() { cc -std=c11 "${warn[@]}" -I../include "$@" libbestore.a -lpthread; }
 build_cpp() { c++ -std=c++17 "${warn[@]}" -I../include "$@" libbestore.a -lpthread; }
 
 # The tests, and those of them in which threads run.
-tests=(test columns errors threads helpers texts racing)
+tests=(test columns errors threads witness helpers texts racing)
 tests_cpp=(test helpers racing)
-with_threads=(threads helpers racing)
+with_threads=(threads witness helpers racing)
 
 for test in "${tests[@]}"; do
     build -O2 $test.c -o "$work/$test"
     run "C, $test" "$work/$test"
 done
 build -O2 sizes.c -o "$work/sizes"
-run_if_there "C, sizes" python3 ../tools/try-sizes --c "$work/sizes"
+run_if_there "C, sizes" python3 ../tests/sizes --c "$work/sizes"
 cc -std=c11 "${warn[@]}" -I../include test.c -L. -lbestore -lpthread -o "$work/shared"
 run "C, shared object" env LD_LIBRARY_PATH=. "$work/shared"
 

@@ -68,6 +68,25 @@ class Forks(unittest.TestCase):
             kept[0].new_node()
             self.assertEqual((kept[2].nodes(), kept[0].status().entries), ([], 1))
 
+    def test_witness(self):
+        with bestore.open(64, 2, 100) as store:
+            try:
+                kept = [store.witness()]
+            except bestore.Unavailable:
+                self.skipTest("a pass of a server has no witness")
+
+            def work():
+                for use in (store.witness, lambda: store.join(kept[0])):
+                    with self.assertRaises(bestore.Forked):
+                        use()
+                with kept[0]:
+                    pass
+                kept.clear()
+                gc.collect()
+            self.in_child(work)
+            store.new_node()
+            self.assertEqual(store.join(kept[0]), 1)
+
     def test_lock_of_a_thread_that_is_not_there(self):
         """A thread of the parent is in a call as the child is forked. The child doesn't wait for it."""
         with bestore.open(64, 1, 100) as store:

@@ -228,7 +228,7 @@ class Writes(Indexed):
         entries = [status.entries for status in found]
         self.assertEqual(store.reach(entries, 0), tuple(entries))
         entries[1] += 1
-        with self.assertRaises(bestore.Behind) as caught:
+        with self.assertRaises(bestore.NotReached) as caught:
             store.reach(entries, 0.01)
         self.assertEqual(caught.exception.expected, tuple(entries))
 
@@ -274,6 +274,19 @@ class LocalWrites(InProcess, Writes, unittest.TestCase):
             self.assertRaises(bestore.NoVolume, alone.apply, bestore.Batch().new_node(), volume=1)
             self.assertEqual((alone.volumes, alone.apply(bestore.Batch().new_node(), volume=0)[1]), (1, [1]))
             self.assertEqual((alone.reach(1, 0), alone.statuses()), ((1,), [alone.status()]))
+
+    def test_witness(self):
+        store = self.shelf(2, passes=2)
+        with store.another() as other:
+            for volume in 0, 0, 1:
+                other.apply(bestore.Batch().new_node(), volume=volume)
+            witness = other.witness()
+        with witness:
+            self.assertEqual(store.join(witness), 3)
+            for another in self.shelf(2), self.shelf(1), store.volume(1):
+                self.assertRaises(bestore.OtherStore, another.join, witness)
+            self.assertRaises(bestore.OtherStore, store.join, store.volume(0).witness())
+        self.assertRaises(bestore.Closed, store.join, witness)
 
     def test_fork(self):
         store = self.indexed(2)

@@ -1,18 +1,23 @@
-/* Cases that ask: new texts at each asking, parsed before in blocks. */
+/* Cases that ask: new texts at each asking, prepared before in blocks. */
 #ifndef ASKING_H
 #define ASKING_H
 #include "asked.h"
 
-#define BLOCK 64
+#define BLOCK 1024
 #define FOUND_MOST 32768
 
-/* What a case asks: in each of `rounds` so many texts of a shape, up to BLOCK. Each has `hits` nodes, where that isn't 0. */
+/* What a case asks: in each of `rounds` so many texts of a shape, up to BLOCK. Each has `hits` nodes, where that isn't 0. If they
+ * are asked before, each is asked once before the time is taken, as a query is that is kept. */
 struct asking {
     enum shape shape;
     uint64_t width, hits;
     int texts;
     uint64_t rounds;
+    bool asked_before;
 };
+
+/* Kept queries that have one node. They are so many that what the last one left in caches is gone. */
+#define KEPT_ONES(shape, width) ((struct asking){shape, width, 1, BLOCK, 20, true})
 
 struct block {
     int count;

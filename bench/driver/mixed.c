@@ -9,6 +9,7 @@
 
 #define THREADS 4
 #define BLOCKS 400
+#define TEXTS 64
 
 /* What a thread has done: the nanoseconds of each read and of each write. */
 struct worker {
@@ -44,7 +45,7 @@ static void work_on(struct worker *worker, struct block *block) {
 
 static void *work(void *argument) {
     struct worker *worker = argument;
-    struct asking asking = {ONE_NAME, 1, 1, BLOCK, 1};
+    struct asking asking = {ONE_NAME, 1, 1, TEXTS, 1, false};
     struct block *block = malloc(sizeof *block);
     for (uint64_t i = 0; i < worker->blocks; i++) {
         make_block(block, worker->pass, worker->data, &asking, &worker->random);
@@ -57,7 +58,7 @@ static void *work(void *argument) {
 
 static void start_worker(struct worker *worker, struct pass *pass, const struct data *data, uint64_t random) {
     uint64_t blocks = share(data, BLOCKS);
-    size_t room = blocks * BLOCK * sizeof(double);
+    size_t room = blocks * TEXTS * sizeof(double);
     *worker = (struct worker){pass, data, random, blocks, 0, 0, malloc(room), malloc(room)};
 }
 
@@ -74,7 +75,7 @@ static void say_spread(const char *what, double *times, size_t count) {
 }
 
 static void say_all(struct worker *workers) {
-    size_t room = THREADS * workers[0].blocks * BLOCK * sizeof(double), reads = 0, writes = 0;
+    size_t room = THREADS * workers[0].blocks * TEXTS * sizeof(double), reads = 0, writes = 0;
     double *all_reads = malloc(room), *all_writes = malloc(room);
     for (int i = 0; i < THREADS; i++) {
         for (uint64_t j = 0; j < workers[i].read_count; j++) all_reads[reads++] = workers[i].reads[j];
@@ -97,7 +98,7 @@ void run_mixed(const struct data *data) {
     double start = now();
     for (int i = 0; i < THREADS; i++) pthread_create(&threads[i], NULL, work, &workers[i]);
     for (int i = 0; i < THREADS; i++) pthread_join(threads[i], NULL);
-    say_rate("mixed-rate", THREADS * BLOCK * workers[0].blocks, now() - start);
+    say_rate("mixed-rate", THREADS * TEXTS * workers[0].blocks, now() - start);
     say_all(workers);
     store_close(store);
 }

@@ -8,11 +8,11 @@
 #define SHOWN 50
 
 static void time_patterns(struct pass *pass, const struct data *data, uint64_t *answers) {
-    ask_each(pass, data, "contains", (struct asking){CONTAINS, 0, 0, 5, 10}, answers);
-    ask_each(pass, data, "ends", (struct asking){ENDS, 0, 0, 5, 10}, answers);
-    ask_each(pass, data, "unequal", (struct asking){UNEQUAL, 0, 0, 5, 10}, answers);
-    ask_each(pass, data, "any-three", (struct asking){ANY_THREE, 0, 0, 64, 60}, answers);
-    ask_each(pass, data, "contains-from", (struct asking){CONTAINS_FROM, 0, 0, 5, 10}, answers);
+    ask_each(pass, data, "contains", (struct asking){CONTAINS, 0, 0, 5, 10, false}, answers);
+    ask_each(pass, data, "ends", (struct asking){ENDS, 0, 0, 5, 10, false}, answers);
+    ask_each(pass, data, "unequal", (struct asking){UNEQUAL, 0, 0, 5, 10, false}, answers);
+    ask_each(pass, data, "any-three", (struct asking){ANY_THREE, 0, 0, 64, 60, false}, answers);
+    ask_each(pass, data, "contains-from", (struct asking){CONTAINS_FROM, 0, 0, 5, 10, false}, answers);
 }
 
 /* The attributes of each node that a query finds, summed up. */
@@ -36,9 +36,9 @@ void run_patterns(const struct data *data) {
     import_singly(pass, data);
     pin(pass);
     time_patterns(pass, data, &answers);
-    if (has_attributes) use_each(pass, data, "attributes", (struct asking){SIZE_RANGE, 100, 100, 16, 20}, read_found, &answers);
-    use_each(pass, data, "first-50", (struct asking){ALL_SIZES, 0, 0, 5, 20}, look_at_first, &answers);
-    use_each(pass, data, "any-50", (struct asking){ALL_SIZES, 0, 0, 5, 20}, look_at_any, &none);
+    if (has_attributes) use_each(pass, data, "attributes", (struct asking){SIZE_RANGE, 100, 100, 16, 20, false}, read_found, &answers);
+    use_each(pass, data, "first-50", (struct asking){ALL_SIZES, 0, 0, 5, 20, false}, look_at_first, &answers);
+    use_each(pass, data, "any-50", (struct asking){ALL_SIZES, 0, 0, 5, 20, false}, look_at_any, &none);
     unpin(pass);
     say_answers(answers);
     store_close(store);
@@ -63,9 +63,9 @@ void run_shared(const struct data *data) {
     for (uint64_t i = 0; i < data->nodes; i++) must(make_node(pass, &node));
     for (uint64_t length = 8; length <= 24; length += 8) fill_front(pass, data, length);
     pin(pass);
-    ask_each(pass, data, "shared-8", (struct asking){SHARED, 8, 1, 64, 300}, &answers);
-    ask_each(pass, data, "shared-16", (struct asking){SHARED, 16, 1, 64, 300}, &answers);
-    ask_each(pass, data, "shared-24", (struct asking){SHARED, 24, 1, 64, 300}, &answers);
+    ask_each(pass, data, "shared-8", KEPT_ONES(SHARED, 8), &answers);
+    ask_each(pass, data, "shared-16", KEPT_ONES(SHARED, 16), &answers);
+    ask_each(pass, data, "shared-24", KEPT_ONES(SHARED, 24), &answers);
     unpin(pass);
     say_answers(answers);
     store_close(store);

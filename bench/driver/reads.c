@@ -46,12 +46,12 @@ static void pin_often(struct pass *pass, uint64_t times) {
 
 static void ask_all(struct pass *pass, const struct data *data, uint64_t *answers) {
     uint64_t thousand = data->nodes < 2000 ? 100 : 1000;
-    ask_each(pass, data, "one-text", (struct asking){ONE_NAME, 1, 1, 64, 300}, answers);
-    ask_each(pass, data, "one-number", (struct asking){SIZE_RANGE, 1, 1, 64, 300}, answers);
-    ask_each(pass, data, "range-100", (struct asking){SIZE_RANGE, 100, 100, 64, 60}, answers);
-    ask_each(pass, data, "from-1000", (struct asking){SIZE_FROM, thousand, 0, 16, 50}, answers);
-    ask_each(pass, data, "front-100", (struct asking){NAME_FRONT, 100, 100, 64, 60}, answers);
-    ask_each(pass, data, "filter", (struct asking){FRONT_SIZE, 0, 0, 16, 50}, answers);
+    ask_each(pass, data, "one-text", KEPT_ONES(ONE_NAME, 1), answers);
+    ask_each(pass, data, "one-number", KEPT_ONES(SIZE_RANGE, 1), answers);
+    ask_each(pass, data, "range-100", (struct asking){SIZE_RANGE, 100, 100, 64, 60, false}, answers);
+    ask_each(pass, data, "from-1000", (struct asking){SIZE_FROM, thousand, 0, 16, 50, false}, answers);
+    ask_each(pass, data, "front-100", (struct asking){NAME_FRONT, 100, 100, 64, 60, false}, answers);
+    ask_each(pass, data, "filter", (struct asking){FRONT_SIZE, 0, 0, 16, 50, false}, answers);
 }
 
 void run_reads(const struct data *data) {
@@ -77,7 +77,7 @@ void run_indices(const struct data *data) {
     make_more_indices(pass, 32);
     fill(store, data);
     pin(pass);
-    ask_each(pass, data, "one-text-32", (struct asking){ONE_NAME, 1, 1, 64, 300}, &answers);
+    ask_each(pass, data, "one-text-32", KEPT_ONES(ONE_NAME, 1), &answers);
     unpin(pass);
     say_answers(answers);
     store_close(store);

@@ -13,7 +13,7 @@ from peers import OURS, PEERS, TITLES, Peer
 
 BENCH = os.path.dirname(os.path.dirname(os.path.abspath(__file__)))
 REPOSITORY = os.path.dirname(BENCH)
-LINE = "bench_store tests_may=Threads+Wait: arrayvec be_value be_query be_volume be_state be_core be_table be_store\n"
+LINE = "bench_store tests_may=Threads+Wait: arrayvec be_value be_query be_volume be_volume_state be_core be_table be_store\n"
 
 
 def built_programs(folder: str, given: dict[str, str], names: Iterable[str] = TITLES) -> dict[str, str]:

@@ -1,5 +1,5 @@
 /* What programs that were built with an earlier libbestore.so.0 rely on: its calls, the layout of the structs that they take,
- * and the numbers of its constants. tools/try-abi compiles this with the header and links it with the library. A line may be
+ * and the numbers of its constants. tests/abi compiles this with the header and links it with the library. A line may be
  * added, when the library gets a call or a constant. A line that has to change or go needs a new soname, and so a new file. */
 #include "bestore.h"
 
@@ -170,6 +170,7 @@ CALL(bes_check_name, const uint8_t *, size_t, bes_name *)
 CALL(bes_get_named, bes_pass *, uint64_t, const bes_name *, bes_attribute *, uint8_t *, size_t)
 CALL(bes_columns, bes_pass *, const uint64_t *, size_t, const bes_name *, size_t, bes_cell *, size_t, uint8_t *, size_t,
      uint64_t *)
+CALL(bes_found, bes_prepared *, uint64_t, uint64_t *, size_t, uint64_t *)
 NUMBER(BES_CONFLICT, 76)
 
 SIZE(bes_name, 72)
@@ -182,6 +183,14 @@ FIELD(bes_cell, code, 4, uint32_t)
 FIELD(bes_cell, number, 8, uint64_t)
 FIELD(bes_cell, offset, 16, uint64_t)
 FIELD(bes_cell, length, 24, uint64_t)
+
+SIZE(bes_witness, 16)
+FIELD(bes_witness, live, 0, bool)
+FIELD(bes_witness, at, 8, void *)
+CALL(bes_witness_of, bes_pass *, bes_witness *)
+CALL(bes_join, bes_pass *, bes_witness *, uint64_t *)
+CALL(bes_dismiss, bes_witness *)
+CALL(bes_move_witness, bes_witness *, bes_witness *)
 
 int main(void)
 {

@@ -5,7 +5,7 @@ from __future__ import annotations
 from typing import Callable, Dict, List, Optional, Tuple
 
 from . import _saved_errors
-from .errors import Behind, Error, ErrorNumber, NoVolume, OtherVolume, PartialIndex, Refusal, refusal
+from .errors import NotReached, Error, ErrorNumber, NoVolume, OtherVolume, PartialIndex, Refusal, refusal
 
 
 class ServerError(Error):
@@ -149,7 +149,7 @@ _OF_VOLUMES: Dict[str, Callable[[Dict[str, object]], Error]] = {
     "NoVolume": lambda details: NoVolume(_number(details, "volume"), _number(details, "volumes") or 0),
     "OtherVolume": lambda details: OtherVolume(_number(details, "volume") or 0, _number(details, "operation")),
     "PartialIndex": lambda details: PartialIndex(_number(details, "operation")),
-    "Behind": lambda details: Behind(_numbers(details, "expected"), _numbers(details, "found")),
+    "NotReached": lambda details: NotReached(_numbers(details, "expected"), _numbers(details, "found")),
 }
 
 

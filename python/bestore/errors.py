@@ -138,8 +138,15 @@ class PartialIndex(Error, ValueError):
         return f"an index is made in all volumes, in a batch of its own (operation {self.operation}, counted from 0)"
 
 
-class Behind(Error):
-    """The journals did not get so long in time."""
+class OtherStore(Error):
+    """The witness is of a pass of another store."""
+
+    def __str__(self) -> str:
+        return "the witness is of another store"
+
+
+class NotReached(Error):
+    """The journals were shorter than expected at the end of the time."""
 
     def __init__(self, expected: Sequence[int], found: Sequence[int]) -> None:
         super().__init__(expected, found)

@@ -12,7 +12,7 @@ from itertools import groupby
 from typing import Callable, Iterator, List, NamedTuple, Optional, Sequence, Tuple, TypeVar, Union
 
 from .changes import Change
-from .errors import Behind, Conflict, Nested, NoIndex, NoVolume, PartialIndex, TooManyAttempts
+from .errors import NotReached, Conflict, Nested, NoIndex, NoVolume, PartialIndex, TooManyAttempts
 from .handles import Owner
 from .nodes import volume_of
 from .operations import MOST_OPERATIONS, Batch, Operation
@@ -83,6 +83,15 @@ class StandingBack:
         self.wait(random.randint(1, self._turns))
 
 
+class Witness(Owner, ABC):
+    """What a pass has seen of its store, for a pass of the same store in another thread: `Pass.witness` makes one, and `Pass.join`
+    joins it. It holds no part of the store."""
+
+    @abstractmethod
+    def close(self) -> None:
+        """Closes the witness, if it is open."""
+
+
 class Pass(Owner, ABC):
     """A session: one thread's handle on the store. `open` makes the first one of a store in this process, and `connect` one
     of a server's store; `another` makes the others.
@@ -125,6 +134,17 @@ class Pass(Owner, ABC):
         that is. `NoPass` if none is there, or another thread is at it."""
 
     @abstractmethod
+    def witness(self) -> Witness:
+        """A witness of all entries of the journal that the pass has seen so far, its own among them. Hand it to another thread,
+        whose pass joins it. `NoMemory`."""
+
+    @abstractmethod
+    def join(self, witness: Witness) -> int:
+        """Joins a witness: the pass and the witness have then both seen what either had. So each later version of the pass
+        includes all that the witness's pass had seen, and each later commit number of the pass is greater than those. Returns how
+        many entries of the journal both have seen. `OtherStore` if the witness is of a pass of another store."""
+
+    @abstractmethod
     def pin(self) -> Version:
         """Pins the current version: `with store.pin() as version:` reads it, and gives the pin up at the end.
         `Pinned` if the pass is pinned. Takes constant time."""
@@ -165,7 +185,7 @@ class Pass(Owner, ABC):
 
     def reach(self, numbers: Union[int, Sequence[int]], within: float = 5) -> Tuple[int, ...]:
         """Waits until the journal has at least so many entries, or that of each volume, up to so many seconds. Returns how many
-        they have. Versions that the pass pins then have them. `Behind` if they aren't there in time."""
+        they have. Versions that the pass pins then have them. `NotReached` if they aren't there in time."""
         wanted = _numbers(numbers, self.volumes)
         until = time.monotonic() + within
         while True:
@@ -173,7 +193,7 @@ class Pass(Owner, ABC):
             if all(map(operator.le, wanted, found)):
                 return found
             if time.monotonic() >= until:
-                raise Behind(wanted, found)
+                raise NotReached(wanted, found)
             time.sleep(0.002)
 
     def change(self, function: Callable[[Change], _Result], attempts: int = ATTEMPTS, *, check_kinds: bool = True,

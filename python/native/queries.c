@@ -103,7 +103,8 @@ static uint32_t ask_once(bes_pass *pass, const Asked *asked, Result *it)
 }
 
 /* Takes what the pass has for the nodes that are found, or more: as many as there can be. So no query is asked twice. Memory that
- * nothing was written into costs nothing, and if there isn't so much, a query that finds more than there is is asked again. */
+ * nothing was written into costs nothing. If there isn't so much, a query that finds more than there is is asked again; a prepared
+ * query keeps what it found. */
 static bool take_room(Handle *user, uint64_t most, Result *it)
 {
     size_t wanted = (size_t)(most < MOST_NODES ? most : MOST_NODES);
@@ -160,7 +161,9 @@ static bool ask(Handle *user, uint64_t most, const Asked *asked, bool wants_node
     while (wants_nodes && *answer == BES_OK && it->count > it->room) {
         if (!grow_room(it))
             return false;
-        *answer = ask_once(&user->held.pass, asked, it);
+        *answer = asked->prepared == NULL
+                      ? ask_once(&user->held.pass, asked, it)
+                      : library.found(&asked->prepared->held.prepared, 0, it->nodes, it->room, &it->count);
     }
     return true;
 }

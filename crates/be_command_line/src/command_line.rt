@@ -1,9 +1,10 @@
 //! The command line.
 //!
-//! `bestore run [--journal] [--strict] [--pages N] [--commits N] FILE`, `bestore race [--pages N] [--commits N] SCRIPT...`,
-//! `bestore shell [--journal FILE] [--pages N] [--commits N] [FILE]`, `bestore check FILE` and `bestore dump [--state] FILE`.
-//! `clap` reads the words, writes the help and the version, and tells what is wrong. How many scripts a race takes is for the
-//! program to look at.
+//! `bestore run [--journal] [--strict] [--pages N] [--commits N] FILE`,
+//! `bestore race [--pages N] [--commits N] SCRIPT...`,
+//! `bestore shell [--journal FILE] [--pages N] [--commits N] [FILE]`, `bestore check FILE` and
+//! `bestore dump [--state] FILE`. `clap` reads the words, writes the help and the version, and
+//! reports what is wrong. How many scripts a race takes is for the program to look at.
 ghost use Rattle.std.specs.Prelude.{IfOk, IfSome};
 ghost use Rattle.be_command_line.specs.Task.{AreForOne, IsTask};
 
@@ -13,7 +14,8 @@ use clap::error::ErrorKind;
 use clap::{Arg, ArgAction, ArgMatches, Command, Error, value_parser};
 use std::alloc::{AllocError, Global};
 
-/// The program's version. The library for C says its own in include/bestore.h, and c/test.sh compares the two.
+/// The program's version. The library for C says its own in include/bestore.h, and c/test.sh
+/// compares the two.
 const VERSION: &str = "0.2.0";
 
 /// The argument of all commands but `race`, as help shows it.
@@ -31,7 +33,7 @@ const STATE: &str = "state";
 /// The arguments of `race`.
 const SCRIPT: &str = "SCRIPT";
 
-/// An option that takes a number between these two, and is the default where it isn't given.
+/// An option that takes a number between these two, and is the default if it isn't given.
 fn number_option<'a>(
     alloc: Global,
     name: &'a str,
@@ -87,6 +89,7 @@ fn command<'a>(
         .arg(files)
 }
 
+/// The command `run`: a file, `--journal`, `--strict` and the limits.
 fn run_command<'a>(alloc: Global) -> Result<Command<'a>, AllocError> {
     let file = Arg::new(alloc, FILE)
         .help("The script, a command a line; - is standard input")
@@ -112,6 +115,7 @@ fn run_command<'a>(alloc: Global) -> Result<Command<'a>, AllocError> {
     .arg(strict)
 }
 
+/// The command `race`: the scripts and the limits.
 fn race_command<'a>(alloc: Global) -> Result<Command<'a>, AllocError> {
     let scripts = Arg::new(alloc, SCRIPT)
         .help("The scripts, two to four; - is standard input, once")
@@ -126,6 +130,7 @@ fn race_command<'a>(alloc: Global) -> Result<Command<'a>, AllocError> {
     )
 }
 
+/// The command `shell`: a file and a file for the journal, which may be left out, and the limits.
 fn shell_command<'a>(alloc: Global) -> Result<Command<'a>, AllocError> {
     let file = Arg::new(alloc, FILE)
         .help("Lines that are run first")
@@ -165,6 +170,7 @@ fn check_command<'a>(alloc: Global) -> Result<Command<'a>, AllocError> {
     )
 }
 
+/// The command `dump`: the file of a journal, and `--state`.
 fn dump_command<'a>(alloc: Global) -> Result<Command<'a>, AllocError> {
     let state = flag(
         alloc,
@@ -179,8 +185,8 @@ fn dump_command<'a>(alloc: Global) -> Result<Command<'a>, AllocError> {
     .arg(state)
 }
 
-/// Reads the words of a command line, which begin with the program's name. An error is `clap`'s: a request for help or for
-/// the version, a fault of the command line, or, told by its kind, a want of memory.
+/// Reads the words of a command line, which begin with the program's name. An error is `clap`'s: a
+/// request for help or for the version, a fault of the command line, or out of memory, by its kind.
 pub fn task<'a>(alloc: Global, words: &'a [&'a str]) -> Result<Task, Error>
     ensures { IfOk result IsTask }
 {
@@ -202,7 +208,7 @@ pub fn task<'a>(alloc: Global, words: &'a [&'a str]) -> Result<Task, Error>
     }
 }
 
-/// The limits of a store of one pass, where they are within their ranges, as `clap` has seen to.
+/// The limits of a store of one pass, if they are within their ranges, as `clap` has seen to.
 fn limits_of(matches: &ArgMatches) -> Option<Limits>
     ensures { IfSome result AreForOne }
 {
@@ -245,6 +251,7 @@ fn files_of(alloc: Global, matches: &ArgMatches) -> Result<Vec<String>, AllocErr
     Ok(files)
 }
 
+/// The task of `run`, by its two flags. None if the file is missing or a limit is out of its range.
 fn run_task(alloc: Global, matches: &ArgMatches) -> Result<Option<Task>, AllocError>
     ensures { IfOk result (λ task. IfSome task IsTask) }
 {
@@ -262,6 +269,8 @@ fn run_task(alloc: Global, matches: &ArgMatches) -> Result<Option<Task>, AllocEr
     }
 }
 
+/// The task of `race`, with a pass for each script. None if no script is named or a limit is out of
+/// its range.
 fn race_task(alloc: Global, matches: &ArgMatches) -> Result<Option<Task>, AllocError>
     ensures { IfOk result (λ task. IfSome task IsTask) }
 {
@@ -311,7 +320,8 @@ fn dump_task(alloc: Global, matches: &ArgMatches) -> Result<Option<Task>, AllocE
     }
 }
 
-/// The task of the command, where there is one and its values are within their ranges, as `clap` has seen to.
+/// The task of the command, if there is one and its values are within their ranges, as `clap` has
+/// seen to.
 fn task_of(alloc: Global, matches: &ArgMatches) -> Result<Option<Task>, AllocError>
     ensures { IfOk result (λ task. IfSome task IsTask) }
 {

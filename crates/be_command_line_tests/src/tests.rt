@@ -1,6 +1,6 @@
-//! Command lines, a line `WORDS => TASK` each: the task's command, its pages, passes and commits, and its files in their order;
-//! or the kind of the fault. A command line that is refused memory is read again: so each test passes with any one request
-//! for memory refused.
+//! Command lines, a line `WORDS => TASK` each: the task's command, its pages, passes and commits,
+//! and its files in their order; or the kind of the fault. A command line that is refused memory is
+//! read again: so each test passes with any one request for memory refused.
 use be_command_line::{Task, task};
 use clap::Error;
 use clap::error::ErrorKind;
@@ -52,7 +52,7 @@ fn file_at(task: &Task, place: usize) -> Option<&str> {
     }
 }
 
-/// What is told of a task, with at most eight files.
+/// A task as a text, with at most eight files.
 fn told_task(alloc: Global, task: &Task) -> Result<String, AllocError> {
     let name = name_of(task);
     let (pages, passes, commits) = numbers(task);
@@ -66,7 +66,7 @@ fn told_task(alloc: Global, task: &Task) -> Result<String, AllocError> {
     Ok(text)
 }
 
-/// What is told of a fault; None where memory was wanted.
+/// A fault as a text; None if memory ran out.
 fn told_fault(alloc: Global, fault: &Error) -> Option<String> {
     let kind = fault.kind();
     if matches!(kind, ErrorKind::OutOfMemory) {
@@ -87,7 +87,7 @@ fn words_of(alloc: Global, line: &str) -> Result<Vec<&str>, AllocError> {
     Ok(words)
 }
 
-/// What is told of a command line; None where memory was wanted.
+/// What a command line gives, as a text; None if memory ran out.
 fn told(alloc: Global, line: &str) -> Option<String> {
     let words = words_of(alloc, line).ok()?;
     match task(alloc, &words) {
@@ -96,7 +96,7 @@ fn told(alloc: Global, line: &str) -> Option<String> {
     }
 }
 
-/// Fails unless this is told of each command line.
+/// Fails unless each command line gives the task or the fault that its row has.
 fn check_tasks(alloc: Global, lines: &str) -> Result<(), Fail> {
     for line in lines.lines() {
         let (words, expected) = line.split_once(" => ").unwrap_or((line, ""));
@@ -112,9 +112,9 @@ fn check_tasks(alloc: Global, lines: &str) -> Result<(), Fail> {
     Ok(())
 }
 
-/// With the defaults and without, an option before the files or behind them. `-` is a file's name here, and so are names of
-/// commands. In a race each script has a pass; how many there may be isn't looked at here. What takes a journal's file has no
-/// limits.
+/// With the defaults and without, an option before the files or after them. `-` is a file's name
+/// here, and so are names of commands. In a race each script has a pass; how many there may be
+/// isn't looked at here. What takes a journal's file has no limits.
 #[test]
 fn tasks(rt: HostRuntime) -> Result<(), Fail> {
     let lines = "run f => run 1024 1 1000000 f

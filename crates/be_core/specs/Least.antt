@@ -1,5 +1,6 @@
 -- What the scans of one write find: the least among the current number and the announcements.
-use Rattle.std.specs.Prelude.{◌≡◌, ◌≢◌, ◌⊎◌, ℕ, suc, ◌≤◌, List, [], ◌∷◌, All, Contains, Option, Some, None}
+use Rattle.std.specs.Prelude.{◌≡◌, ◌≢◌, ◌⊎◌, ℕ, suc, ◌≤◌, List, [], ◌∷◌, All, Contains, Option}
+use Rattle.std.specs.Prelude.{Some, None}
 use Rattle.be_core.specs.declared.event.Phase.{Phase}
 use Rattle.be_core.specs.declared.event.Phase.TheVariants.{Idle, Looked, Announced, Pinned}
 use Rattle.be_core.specs.declared.event.Event.TheVariants.{Scan}
@@ -22,19 +23,24 @@ pub record IsLeast (least c : ℕ) (read : List (Option ℕ)) : Type 0 where
 abbrev pub NoScan : List Move → Type 0
 NoScan moves = All (λ m. (k j : ℕ) → m ≢ happens (Scan k j)) moves
 
--- The pass k makes its scans from the j-th to the last, with whatever other moves between them. It reads these announcements
+-- The pass k makes its scans from the j-th to the last, with whatever other moves between them. It
+-- reads these announcements
 abbrev pub ScansFrom : World → ℕ → ℕ → List (Option ℕ) → World → Type 0
 ScansFrom w k j [] w' = (j ≡ w.passes) × (w' ≡ w)
 ScansFrom w k j (a ∷ read) w' =
-    (between : List Move) × (mid : World) × NoScan between × Run w between mid × MayScan mid k j × (a ≡ announced (mid.phases j))
+    (between : List Move) × (mid : World) × NoScan between × Run w between mid × MayScan mid k j
+    × (a ≡ announced (mid.phases j))
     × ScansFrom (after_scan mid j) k (suc j) read w'
 
--- A whole scan that begins in w. No lock is given up within it, since the first scan after a lock is the 0-th
+-- A whole scan that begins in w. No lock is given up within it, since the first scan after a lock
+-- is the 0-th
 abbrev pub WholeScan : World → ℕ → List (Option ℕ) → World → Type 0
 WholeScan w k [] w' = ⊥
-WholeScan w k (a ∷ read) w' = MayScan w k 0 × (a ≡ announced (w.phases 0)) × ScansFrom (after_scan w 0) k 1 read w'
+WholeScan w k (a ∷ read) w' = MayScan w k 0 × (a ≡ announced (w.phases 0))
+    × ScansFrom (after_scan w 0) k 1 read w'
 
--- a whole scan leaves the least among the number that was current when it began and the announcements that it read
+-- a whole scan leaves the least among the number that was current when it began and the
+-- announcements that it read
 abbrev pub FindsLeast : Type 0
 FindsLeast = (w w' : World) (k : ℕ) (read : List (Option ℕ)) → WholeScan w k read w'
     → (h : Holder) × (w'.holder ≡ Some h) × IsLeast h.least w.current read

@@ -1,20 +1,25 @@
--- The reclamation machine: versions of a set of pages, a writer that takes and retires pages, and passes that pin versions.
-use Rattle.std.specs.Prelude.{◌≡◌, ◌≢◌, ℕ, suc, ◌+◌, ◌<◌, ◌≤◌, min, Bool, true, false, not, ◌&&◌, ◌||◌, ◌==◌, nat_lt, if◌then◌else◌, ◌⊎◌, List, [], ◌∷◌, AllPairs, All, Option, Some, None, is_some, IsTrue, IsFalse, ⊤}
+-- The reclamation machine: versions of a set of pages, one writer, and passes that pin versions.
+-- The writer takes and retires pages.
+use Rattle.std.specs.Prelude.{◌≡◌, ◌≢◌, ℕ, suc, ◌+◌, ◌<◌, ◌≤◌, min, Bool, true, false, not, ◌&&◌}
+use Rattle.std.specs.Prelude.{◌||◌, ◌==◌, nat_lt, if◌then◌else◌, ◌⊎◌, List, [], ◌∷◌, AllPairs, All}
+use Rattle.std.specs.Prelude.{Option, Some, None, is_some, IsTrue, IsFalse, ⊤}
 use Rattle.std.specs.List.{list_any}
 use Rattle.be_core.specs.declared.event.Phase.{Phase}
 use Rattle.be_core.specs.declared.event.Phase.TheVariants.{Idle, Looked, Announced, Pinned}
 use Rattle.be_core.specs.declared.event.Event.{Event}
-use Rattle.be_core.specs.declared.event.Event.TheVariants.{Look, Announce, LookAgain, Read, Unpin, Lock, Scan, Fill, Publish, Unlock}
+use Rattle.be_core.specs.declared.event.Event.TheVariants.{Look, Announce, LookAgain, Read, Unpin}
+use Rattle.be_core.specs.declared.event.Event.TheVariants.{Lock, Scan, Fill, Publish, Unlock}
 
--- who holds the lock, how many announcements its scan has read, the least so far, and whether it has published
+-- the holder of the lock, how many announcements its scan has read, the least so far, and whether
+-- it has published
 pub record Holder : Type 0 where
   pub pass : ℕ
   pub scanned : ℕ
   pub least : ℕ
   pub published : Bool
 
--- A state. `reach n` is the set of the pages of version n, and `image n` what all words were when it was published.
--- `retired p` is the number that the page p was retired with
+-- A state. `reach n` is the set of the pages of version n, and `image n` what all words were when
+-- it was published. `retired p` is the number that the page p was retired with
 pub record World : Type 0 where
   pub pages : ℕ
   pub passes : ℕ
@@ -113,7 +118,8 @@ abbrev pub MayLookAgain : World → ℕ → Type 0
 MayLookAgain w k = (k < w.passes) × ((a : ℕ) × (w.phases k ≡ Announced a))
 
 abbrev pub MayRead : World → ℕ → ℕ → ℕ → Type 0
-MayRead w k p i = (k < w.passes) × (p < w.pages) × (i < 512) × ((a : ℕ) × (n : ℕ) × (w.phases k ≡ Pinned a n) × IsTrue (w.reach n p))
+MayRead w k p i = (k < w.passes) × (p < w.pages) × (i < 512)
+    × ((a : ℕ) × (n : ℕ) × (w.phases k ≡ Pinned a n) × IsTrue (w.reach n p))
 
 abbrev pub MayUnpin : World → ℕ → Type 0
 MayUnpin w k = (k < w.passes) × ((a : ℕ) × (n : ℕ) × (w.phases k ≡ Pinned a n))
@@ -128,7 +134,11 @@ abbrev pub MayLock : World → ℕ → Type 0
 MayLock w k = (k < w.passes) × (w.holder ≡ None)
 
 abbrev pub after_lock : World → ℕ → World
-after_lock w k = record w { holder = Some record { pass = k; scanned = 0; least = w.current; published = false }; taken = nowhere }
+after_lock w k = record w {
+  holder = Some
+      record { pass = k; scanned = 0; least = w.current; published = false };
+  taken = nowhere;
+}
 
 -- the least, after a phase was read
 abbrev pub least_with : ℕ → Phase → ℕ
@@ -156,11 +166,17 @@ least_after w h j = least_with (if j == 0 then w.current else h.least) (w.phases
 
 -- one more announcement is read, and it isn't the last
 abbrev pub scanned_on : World → Holder → ℕ → World
-scanned_on w h j = record w { holder = Some record h { scanned = suc j; least = least_after w h j } }
+scanned_on w h j = record w {
+  holder = Some record h
+      { scanned = suc j; least = least_after w h j };
+}
 
 -- the last announcement is read
 abbrev pub scanned_out : World → Holder → ℕ → World
-scanned_out w h j = swept (record w { holder = Some record h { scanned = 0; least = least_after w h j } }) (least_after w h j)
+scanned_out w h j = swept (record w {
+  holder = Some record h
+      { scanned = 0; least = least_after w h j };
+}) (least_after w h j)
 
 abbrev pub scanned_by : World → Option Holder → ℕ → World
 scanned_by w None j = w
@@ -173,7 +189,8 @@ abbrev pub after_scan : World → ℕ → World
 after_scan w j = scanned_by w w.holder j
 
 abbrev pub MayFill : World → ℕ → ℕ → ℕ → Type 0
-MayFill w k p i = (p < w.pages) × (i < 512) × ((h : Holder) × HasOpenWrite w k h) × IsTrue (w.taken p || w.free p)
+MayFill w k p i = (p < w.pages) × (i < 512) × ((h : Holder) × HasOpenWrite w k h)
+    × IsTrue (w.taken p || w.free p)
 
 abbrev pub after_fill : World → ℕ → ℕ → ℕ → World
 after_fill w p i word =
@@ -189,7 +206,8 @@ has given p = list_any (λ q. q == p) given
 
 abbrev pub MayPublish : World → ℕ → ℕ → List ℕ → Type 0
 MayPublish w k v given =
-    (w.current < w.commits) × (v < w.pages) × ((h : Holder) × HasOpenWrite w k h) × IsTrue (w.taken v)
+    (w.current < w.commits) × (v < w.pages) × ((h : Holder) × HasOpenWrite w k h)
+    × IsTrue (w.taken v)
     × AllPairs ◌≢◌ given × All (λ p. IsTrue (w.reach w.current p)) given
 
 abbrev pub with_published : Option Holder → Option Holder
@@ -200,7 +218,8 @@ abbrev pub after_publish : World → List ℕ → World
 after_publish w given =
     record w {
       current = suc w.current;
-      reach = update w.reach (suc w.current) (λ p. (w.reach w.current p && not (has given p)) || w.taken p);
+      reach = update w.reach (suc w.current)
+          (λ p. (w.reach w.current p && not (has given p)) || w.taken p);
       image = update w.image (suc w.current) w.words;
       retired = λ p. if has given p then Some w.current else w.retired p;
       taken = nowhere;
@@ -246,7 +265,7 @@ after_return w p = record w { taken = update w.taken p false; free = update w.fr
 
 -- ## Schedules
 
--- what stands in a schedule: an event, or a page of T that goes back to F
+-- one entry of a schedule: an event, or a page of T that goes back to F
 pub data Move : Type 0 where
   happens : Event → Move
   returns : ℕ → Move
@@ -268,7 +287,8 @@ bit false = 0
 
 -- in how many of the four sets the page is
 abbrev pub set_count : World → ℕ → ℕ
-set_count w p = bit (w.free p) + bit (w.taken p) + bit (is_some (w.retired p)) + bit (w.reach w.current p)
+set_count w p = bit (w.free p) + bit (w.taken p) + bit (is_some (w.retired p))
+    + bit (w.reach w.current p)
 
 -- each page is in exactly one of the four, and nothing else is in any
 abbrev pub Partition : World → Type 0
@@ -290,9 +310,11 @@ InTime c (Looked a) = a ≤ c
 InTime c (Announced a) = a ≤ c
 InTime c (Pinned a n) = (a ≤ n) × (n ≤ c)
 
--- what a pin to the version n keeps of the page p: it is neither free nor taken, nor retired too early, and its words stay
+-- what a pin to the version n keeps of the page p: it is neither free nor taken, nor retired too
+-- early, and its words stay
 abbrev pub KeepsPinned : World → ℕ → ℕ → Type 0
-KeepsPinned w n p = IsFalse (w.free p) × IsFalse (w.taken p) × ((r : ℕ) → w.retired p ≡ Some r → n ≤ r) × ((i : ℕ) → w.words p i ≡ w.image n p i)
+KeepsPinned w n p = IsFalse (w.free p) × IsFalse (w.taken p)
+    × ((r : ℕ) → w.retired p ≡ Some r → n ≤ r) × ((i : ℕ) → w.words p i ≡ w.image n p i)
 
 -- The invariant
 pub record Sound (w : World) : Type 0 where
@@ -302,7 +324,8 @@ pub record Sound (w : World) : Type 0 where
   pub pinned : (k a n p : ℕ) → w.phases k ≡ Pinned a n → IsTrue (w.reach n p) → KeepsPinned w n p
   pub now : (p i : ℕ) → IsTrue (w.reach w.current p) → w.words p i ≡ w.image w.current p i
   pub was_reached : (p r : ℕ) → w.retired p ≡ Some r → (r < w.current) × IsTrue (w.reach r p)
-  -- while the lock is held, a pass that was scanned and is pinned to an older version has announced no less than the least
+  -- while the lock is held, a pass that was scanned and is pinned to an older version has announced
+  -- no less than the least
   pub counted : (h : Holder) → w.holder ≡ Some h → IsFalse h.published
       → (k a n : ℕ) → k < h.scanned → w.phases k ≡ Pinned a n → n < w.current → h.least ≤ a
   pub least_in_time : (h : Holder) → w.holder ≡ Some h → h.least ≤ w.current

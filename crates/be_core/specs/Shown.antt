@@ -1,5 +1,6 @@
--- The state of the machine that a `State` shows, and what a step of it answers.
-use Rattle.std.specs.Prelude.{◌≡◌, ℕ, Bool, true, false, Option, Some, None, slice_get, slice_index, slice_index_or, vec_len, Vec, []}
+-- The state of the machine that a `State` shows, and what a step of it returns.
+use Rattle.std.specs.Prelude.{◌≡◌, ℕ, Bool, true, false, Option, Some, None, slice_get, slice_index}
+use Rattle.std.specs.Prelude.{slice_index_or, vec_len, Vec, []}
 use Rattle.std.specs.declared.alloc.Global.{Global}
 use Rattle.be_core.specs.declared.event.Phase.TheVariants.{Idle}
 use Rattle.be_core.specs.declared.state.Holder.{Holder}
@@ -20,7 +21,12 @@ is_marked None p = false
 is_marked (Some row) p = slice_index_or row.items p false
 
 abbrev pub as_holder : Holder → machine.Holder
-as_holder h = record { pass = h.pass; scanned = h.scanned; least = h.least; published = h.published }
+as_holder h = record {
+  pass = h.pass;
+  scanned = h.scanned;
+  least = h.least;
+  published = h.published;
+}
 
 abbrev pub holder_of : Option Holder → Option machine.Holder
 holder_of None = None
@@ -43,10 +49,13 @@ shown s image =
       phases = λ k. slice_index_or s.phases.items k Idle;
     }
 
--- The answer says whether the event may happen. If so, the new state shows what it makes of the old one, else nothing changed
+-- The result says whether the event may happen. If so, the new state shows what it makes of the old
+-- one; otherwise nothing changed
 abbrev pub MakesStep : State → (World → Type 0) → (World → World) → Bool → State → Type 0
-MakesStep old may next true new = (image : Images) → may (shown old image) × (shown new (next (shown old image)).image ≡ next (shown old image))
-MakesStep old may next false new = (image : Images) → (¬ (may (shown old image))) × (shown new image ≡ shown old image)
+MakesStep old may next true new = (image : Images) → may (shown old image)
+    × (shown new (next (shown old image)).image ≡ next (shown old image))
+MakesStep old may next false new = (image : Images) → (¬ (may (shown old image)))
+    × (shown new image ≡ shown old image)
 
 abbrev pub IsUnchanged : State → State → Type 0
 IsUnchanged old new = (image : Images) → shown new image ≡ shown old image

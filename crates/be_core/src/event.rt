@@ -1,7 +1,8 @@
 //! The steps of the machine, and how far a pass is on its way to a version.
 //!
-//! Look, Announce, LookAgain, Read and Unpin are a reader's; Lock, Scan, Fill, Publish and Unlock the lock's holder's.
-//! Which is allowed when, and what it makes of the state, are `MayX` and `after_X` in `specs/Machine.antt`.
+//! Look, Announce, LookAgain, Read and Unpin are a reader's; Lock, Scan, Fill, Publish and Unlock
+//! the lock's holder's. Which is allowed when, and what it makes of the state, are `MayX` and
+//! `after_X` in `specs/Machine.antt`.
 
 /// What a pass is about to do: nothing, or how far it is on its way to a pinned version.
 #[derive(Clone, Copy, Debug, PartialEq, Eq)]

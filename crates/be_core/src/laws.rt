@@ -1,19 +1,25 @@
-//! The laws of the machine, one for each event: where it is allowed, it keeps the invariant `Sound`.
+//! The laws of the machine, one for each event: if it is allowed, it keeps the invariant `Sound`.
 //!
-//! The functions do nothing; to use a law, call its function and take the fact from its contract. Each speaks of any
-//! state of the machine, so a table of words that shows one, without having it, can use them too.
+//! The functions do nothing; to use a law, call its function and take the fact from its contract.
+//! Each speaks of any state of the machine, so a table of words that shows one, without having it,
+//! can use them too.
 ghost use Rattle.std.specs.Prelude.{◌≡◌, ℕ, suc, ◌<◌, ◌≤◌, ◌||◌, List, Some, IsTrue};
 ghost use Rattle.be_core.specs.declared.event.Phase.TheVariants.{Pinned};
-ghost use Rattle.be_core.specs.Machine.{World, Sound, first_state, Protected, Partition, MayLook, after_look, MayAnnounce, after_announce};
-ghost use Rattle.be_core.specs.Machine.{MayLookAgain, after_look_again, MayRead, MayUnpin, after_unpin, MayLock, after_lock, MayScan};
-ghost use Rattle.be_core.specs.Machine.{after_scan, Holder, HasOpenWrite, scanned_on, scanned_out, least_after, Unreached, MayFill, after_fill};
-ghost use Rattle.be_core.specs.Machine.{MayPublish, after_publish, MayUnlock, after_unlock, after_return};
+ghost use Rattle.be_core.specs.Machine.{World, Sound, first_state, Protected, Partition, MayLook};
+ghost use Rattle.be_core.specs.Machine.{after_look, MayAnnounce, after_announce};
+ghost use Rattle.be_core.specs.Machine.{MayLookAgain, after_look_again, MayRead, MayUnpin};
+ghost use Rattle.be_core.specs.Machine.{after_unpin, MayLock, after_lock, MayScan};
+ghost use Rattle.be_core.specs.Machine.{after_scan, Holder, HasOpenWrite, scanned_on, scanned_out};
+ghost use Rattle.be_core.specs.Machine.{least_after, Unreached, MayFill, after_fill};
+ghost use Rattle.be_core.specs.Machine.{MayPublish, after_publish, MayUnlock, after_unlock};
+ghost use Rattle.be_core.specs.Machine.{after_return};
 ghost use Rattle.be_core.specs.Laws.{FillsNoPinned, ScanLeavesNone};
 ghost use Rattle.be_core.specs.Least.{FindsLeast};
 
 /// The first state, with whatever words, is sound.
 pub fn first()
-    ensures { (pages passes commits : ℕ) (words : ℕ → ℕ → ℕ) → 0 < pages → Sound (first_state pages passes commits words) }
+    ensures { (pages passes commits : ℕ) (words : ℕ → ℕ → ℕ) → 0 < pages
+        → Sound (first_state pages passes commits words) }
 {}
 
 /// What the invariant is for.
@@ -54,17 +60,21 @@ pub fn lock()
     ensures { (w : World) (k : ℕ) → Sound w → MayLock w k → Sound (after_lock w k) }
 {}
 
-/// After a whole scan each page that no version from the least on reaches is free or taken. The least is the smallest
-/// among the number that was current when the scan began and the announcements that it read, whatever else happened
-/// between its steps.
+/// After a whole scan each page that no version from the least on reaches is free or taken. The
+/// least is the smallest among the number that was current when the scan began and the
+/// announcements that it read, whatever else happened between its steps.
 pub fn scan()
     ensures kept { (w : World) (k j : ℕ) → Sound w → MayScan w k j → Sound (after_scan w j) }
     // the two outcomes of a scan by a holder that the caller knows
-    ensures on { (w : World) (k j : ℕ) (h : Holder) → Sound w → HasOpenWrite w k h → j ≡ h.scanned → Sound (scanned_on w h j) }
-    ensures out { (w : World) (k j : ℕ) (h : Holder) → Sound w → HasOpenWrite w k h → j ≡ h.scanned → suc j ≡ w.passes → Sound (scanned_out w h j) }
+    ensures on { (w : World) (k j : ℕ) (h : Holder) → Sound w → HasOpenWrite w k h → j ≡ h.scanned
+        → Sound (scanned_on w h j) }
+    ensures out { (w : World) (k j : ℕ) (h : Holder) → Sound w → HasOpenWrite w k h → j ≡ h.scanned
+        → suc j ≡ w.passes → Sound (scanned_out w h j) }
     // a page that is still retired after a whole scan has a number from the least on
-    ensures gone { (w : World) (j p r : ℕ) (h : Holder) → (scanned_out w h j).retired p ≡ Some r → least_after w h j ≤ r }
-    ensures leaves { (w : World) (k j p : ℕ) (h : Holder) → Sound w → HasOpenWrite w k h → j ≡ h.scanned → suc j ≡ w.passes
+    ensures gone { (w : World) (j p r : ℕ) (h : Holder) → (scanned_out w h j).retired p ≡ Some r
+        → least_after w h j ≤ r }
+    ensures leaves { (w : World) (k j p : ℕ) (h : Holder) → Sound w → HasOpenWrite w k h → j
+        ≡ h.scanned → suc j ≡ w.passes
         → p < w.pages → Unreached w (least_after w h j) w.current p
         → IsTrue ((scanned_out w h j).free p || (scanned_out w h j).taken p) }
     ensures least { FindsLeast }
@@ -73,10 +83,12 @@ pub fn scan()
 
 /// A page that is filled is taken, and no pinned version has it.
 pub fn fill()
-    ensures { (w : World) (k p i word : ℕ) → Sound w → MayFill w k p i → Sound (after_fill w p i word) }
+    ensures { (w : World) (k p i word : ℕ) → Sound w → MayFill w k p i
+        → Sound (after_fill w p i word) }
 {}
 
-/// The pages given up are retired, and not free: passes that are pinned to the old version still read them.
+/// The pages given up are retired, and not free: passes that are pinned to the old version still
+/// read them.
 pub fn publish()
     ensures { (w : World) (k v : ℕ) (given : List ℕ) → Sound w → MayPublish w k v given
         → Sound (after_publish w given) }

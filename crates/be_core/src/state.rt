@@ -1,9 +1,12 @@
-//! A machine that runs: the events of any list are done one by one, and each answers whether it was allowed.
+//! A machine that runs: it does any list of events one by one, and returns whether each was
+//! allowed.
 //!
-//! A `State` shows a state of the machine (`shown`). It doesn't keep what the words were at each publishing, so those
-//! are given to `shown`; each clause holds for all of them.
-ghost use Rattle.std.specs.Prelude.{◌≡◌, ◌≢◌, ℕ, suc, ◌+◌, ◌<◌, ◌≤◌, ◌^◌, vec_len, length, slice_index_or, false, ◌||◌, if◌then◌else◌};
-ghost use Rattle.std.specs.Prelude.{◌&&◌, not, All, AllPairs, IsTrue, IfOk, Vec, Bool, ◌∷◌, [], ◌==◌, slice_index, nat_lt, ◌↔◌};
+//! A `State` shows a state of the machine (`shown`). It doesn't keep what the words were at each
+//! publishing, so those are given to `shown`; each clause holds for all of them.
+ghost use Rattle.std.specs.Prelude.{◌≡◌, ◌≢◌, ℕ, suc, ◌+◌, ◌<◌, ◌≤◌, ◌^◌, vec_len, length};
+ghost use Rattle.std.specs.Prelude.{slice_index_or, false, ◌||◌, if◌then◌else◌};
+ghost use Rattle.std.specs.Prelude.{◌&&◌, not, All, AllPairs, IsTrue, IfOk, Vec, Bool, ◌∷◌, []};
+ghost use Rattle.std.specs.Prelude.{◌==◌, slice_index, nat_lt, ◌↔◌};
 ghost use Rattle.std.specs.declared.alloc.Global.{Global};
 ghost use Rattle.be_core.specs.Machine.{is_below, has};
 
@@ -11,7 +14,8 @@ use crate::event::{Event, Phase};
 use be_value::Refusal;
 use std::alloc::{AllocError, Global};
 
-/// Who holds the lock: its pass, how many announcements its scan has read, the least so far, and whether it has published.
+/// The holder of the lock: its pass, how many announcements its scan has read, the least so far,
+/// and whether it has published.
 #[derive(Clone, Copy)]
 struct Holder {
     pass: u64,
@@ -20,7 +24,8 @@ struct Holder {
     published: bool,
 }
 
-/// The state of the machine: the pages of each version, the words of all pages, and where each page is.
+/// The state of the machine: the pages of each version, the words of all pages, and where each page
+/// is.
 #[derive(Drop)]
 pub struct State {
     alloc: Global,
@@ -45,7 +50,8 @@ pub struct State {
 fn add_all(set: &mut Vec<bool>, other: &Vec<bool>)
     requires { vec_len set.old ≡ vec_len other.now }
     ensures len { vec_len set.new ≡ vec_len set.old }
-    ensures either { (p : ℕ) → slice_index_or set.new.items p false ≡ (slice_index_or set.old.items p false || slice_index_or other.now.items p false) }
+    ensures either { (p : ℕ) → slice_index_or set.new.items p false
+        ≡ (slice_index_or set.old.items p false || slice_index_or other.now.items p false) }
 {
     for p in 0..set.len() {
         set[p] = set[p] || other[p];
@@ -72,7 +78,8 @@ fn first_row(alloc: Global, len: usize) -> Result<Vec<bool>, AllocError>
 
 fn zero_pages(alloc: Global, len: usize) -> Result<Vec<[u64; 512]>, AllocError>
     ensures len { IfOk result (λ words. vec_len words ≡ len) }
-    ensures zero { IfOk result (λ words. (p i : ℕ) → slice_index (slice_index_or words.items p []) i ≡ 0) }
+    ensures zero { IfOk result (λ words. (p i : ℕ) → slice_index (slice_index_or words.items p []) i
+        ≡ 0) }
 {
     let mut words = Vec::new(alloc);
     for _page in 0..len {
@@ -85,7 +92,8 @@ fn zero_pages(alloc: Global, len: usize) -> Result<Vec<[u64; 512]>, AllocError>
 fn first_free(alloc: Global, len: usize) -> Result<Vec<bool>, AllocError>
     requires { 0 < len }
     ensures len { IfOk result (λ free. vec_len free ≡ len) }
-    ensures others { IfOk result (λ free. (p : ℕ) → slice_index_or free.items p false ≡ (nat_lt p len && not (p == 0))) }
+    ensures others { IfOk result (λ free. (p : ℕ) → slice_index_or free.items p false
+        ≡ (nat_lt p len && not (p == 0))) }
 {
     let mut free = vec![in alloc; true; len]?;
     free[0] = false;
@@ -101,7 +109,8 @@ fn none_retired(alloc: Global, len: usize) -> Result<Vec<Option<u64>>, AllocErro
 
 fn all_idle(alloc: Global, len: usize) -> Result<Vec<Phase>, AllocError>
     ensures len { IfOk result (λ phases. vec_len phases ≡ len) }
-    ensures idle { IfOk result (λ phases. (k : ℕ) → slice_index_or phases.items k Phase.Idle ≡ Phase.Idle) }
+    ensures idle { IfOk result (λ phases. (k : ℕ) → slice_index_or phases.items k Phase.Idle
+        ≡ Phase.Idle) }
 {
     Ok(vec![in alloc; Phase::Idle; len]?)
 }
@@ -120,9 +129,11 @@ fn sweep(free: &mut Vec<bool>, retired: &mut Vec<Option<u64>>, least: u64)
     ensures len_free { vec_len free.new ≡ vec_len free.old }
     ensures len_retired { vec_len retired.new ≡ vec_len retired.old }
     ensures freed { (p : ℕ) → slice_index_or free.new.items p false
-        ≡ (slice_index_or free.old.items p false || is_below least (slice_index_or retired.old.items p None)) }
+        ≡ (slice_index_or free.old.items p false
+        || is_below least (slice_index_or retired.old.items p None)) }
     ensures left { (p : ℕ) → slice_index_or retired.new.items p None
-        ≡ (if is_below least (slice_index_or retired.old.items p None) then None else slice_index_or retired.old.items p None) }
+        ≡ (if is_below least (slice_index_or retired.old.items p None) then None
+        else slice_index_or retired.old.items p None) }
 {
     for p in 0..free.len() {
         if let Some(r) = retired[p]
@@ -138,7 +149,8 @@ fn sweep(free: &mut Vec<bool>, retired: &mut Vec<Option<u64>>, least: u64)
 fn remove_all(set: &mut Vec<bool>, given: &[u64])
     requires { All (λ p. p < vec_len set.old) given.now }
     ensures len { vec_len set.new ≡ vec_len set.old }
-    ensures without { (p : ℕ) → slice_index_or set.new.items p false ≡ (slice_index_or set.old.items p false && not (has given.now p)) }
+    ensures without { (p : ℕ) → slice_index_or set.new.items p false
+        ≡ (slice_index_or set.old.items p false && not (has given.now p)) }
 {
     for p in given {
         set[*p as usize] = false;
@@ -172,17 +184,24 @@ fn is_distinct(given: &[u64]) -> bool
 }
 
 impl State {
-    ghost use Rattle.std.specs.Prelude.{IfOk, OnErr, IsOk, IsOkUnless, IsTrue, IsFalse, IfNone, IfSome, IsNone, ◌↔◌, All, ◌&&◌, ◌||◌, not, slice_index, slice_index_or};
-    ghost use Rattle.be_core.specs.Machine.{World, Allowed, after_event, MayLook, after_look, MayAnnounce, after_announce, MayLookAgain};
-    ghost use Rattle.be_core.specs.Machine.{after_look_again, MayUnpin, after_unpin, MayLock, after_lock, MayUnlock, after_unlock, MayFill};
-    ghost use Rattle.be_core.specs.Machine.{after_fill, MayRead, HasOpenWrite, MayScan, after_scan, MayPublish, after_publish, has, first_state};
+    ghost use Rattle.std.specs.Prelude.{IfOk, OnErr, IsOk, IsOkUnless, IsTrue, IsFalse, IfNone};
+    ghost use Rattle.std.specs.Prelude.{IfSome, IsNone, ◌↔◌, All, ◌&&◌, ◌||◌, not, slice_index};
+    ghost use Rattle.std.specs.Prelude.{slice_index_or};
+    ghost use Rattle.be_core.specs.Machine.{World, Allowed, after_event, MayLook, after_look};
+    ghost use Rattle.be_core.specs.Machine.{MayAnnounce, after_announce, MayLookAgain};
+    ghost use Rattle.be_core.specs.Machine.{after_look_again, MayUnpin, after_unpin, MayLock};
+    ghost use Rattle.be_core.specs.Machine.{after_lock, MayUnlock, after_unlock, MayFill};
+    ghost use Rattle.be_core.specs.Machine.{after_fill, MayRead, HasOpenWrite, MayScan, after_scan};
+    ghost use Rattle.be_core.specs.Machine.{MayPublish, after_publish, has, first_state};
     ghost use Rattle.be_core.specs.Machine.{zeros, AreLimits};
     ghost use Rattle.be_core.specs.Machine as machine;
     ghost use Rattle.be_core.specs.Laws.{LeavesNone};
-    ghost use Rattle.be_core.specs.Shown.{shown, MakesStep, ShowsSound, Images, blank, as_holder, IsUnchanged, page_count};
+    ghost use Rattle.be_core.specs.Shown.{shown, MakesStep, ShowsSound, Images, blank, as_holder};
+    ghost use Rattle.be_core.specs.Shown.{IsUnchanged, page_count};
 
-    /// The first state, with every word 0: version 0 has the page 0 alone, and each other page is free. `BadLimits`
-    /// outside 1 to 16,384 pages, 1 to 64 passes and 1 to 4,294,967,295 commits. A page costs 4 KiB.
+    /// The first state, with every word 0: version 0 has the page 0 alone, and each other page is
+    /// free. `BadLimits` outside 1 to 16,384 pages, 1 to 64 passes and 1 to 4,294,967,295 commits.
+    /// A page costs 4 KiB.
     pub fn new(alloc: Global, pages: u64, passes: u64, commits: u64) -> Result<State, Refusal>
         ensures first { IfOk result (λ s. shown s blank ≡ first_state pages passes commits zeros) }
         ensures size { IfOk result (λ s. page_count s ≡ pages) }
@@ -226,7 +245,8 @@ impl State {
 
     /// The phase of the pass with this number, if there is one.
     fn phase(&self, k: u64) -> Option<Phase>
-        ensures phase { IfSome result (λ phase. (k < vec_len self.now.phases) × (slice_index_or self.now.phases.items k Phase.Idle ≡ phase)) }
+        ensures phase { IfSome result (λ phase. (k < vec_len self.now.phases)
+            × (slice_index_or self.now.phases.items k Phase.Idle ≡ phase)) }
         ensures none { IfNone result (vec_len self.now.phases ≤ k) }
     {
         if k >= self.phases.len() as u64 {
@@ -249,7 +269,8 @@ impl State {
     }
 
     fn announce(&mut self, k: u64) -> bool
-        ensures done { MakesStep self.old (λ w. MayAnnounce w k) (λ w. after_announce w k) result self.new }
+        ensures done { MakesStep self.old (λ w. MayAnnounce w k) (λ w. after_announce w k) result
+            self.new }
         ensures size { page_count self.new ≡ page_count self.old }
     {
         match self.phase(k) {
@@ -262,7 +283,8 @@ impl State {
     }
 
     fn look_again(&mut self, k: u64) -> bool
-        ensures done { MakesStep self.old (λ w. MayLookAgain w k) (λ w. after_look_again w k) result self.new }
+        ensures done { MakesStep self.old (λ w. MayLookAgain w k) (λ w. after_look_again w k) result
+            self.new }
         ensures size { page_count self.new ≡ page_count self.old }
     {
         match self.phase(k) {
@@ -275,7 +297,8 @@ impl State {
     }
 
     fn unpin(&mut self, k: u64) -> bool
-        ensures done { MakesStep self.old (λ w. MayUnpin w k) (λ w. after_unpin w k) result self.new }
+        ensures done { MakesStep self.old (λ w. MayUnpin w k) (λ w. after_unpin w k) result
+            self.new }
         ensures size { page_count self.new ≡ page_count self.old }
     {
         match self.phase(k) {
@@ -312,6 +335,8 @@ impl State {
         }
     }
 
+    /// Pass k takes the lock. False, and nothing changes, if there is no such pass or a pass holds
+    /// the lock.
     fn lock(&mut self, k: u64) -> bool
         ensures done { MakesStep self.old (λ w. MayLock w k) (λ w. after_lock w k) result self.new }
         ensures size { page_count self.new ≡ page_count self.old }
@@ -330,7 +355,8 @@ impl State {
     }
 
     fn unlock(&mut self, k: u64) -> bool
-        ensures done { MakesStep self.old (λ w. MayUnlock w k) (λ w. after_unlock w) result self.new }
+        ensures done { MakesStep self.old (λ w. MayUnlock w k) (λ w. after_unlock w) result
+            self.new }
         ensures size { page_count self.new ≡ page_count self.old }
     {
         match self.holder {
@@ -364,7 +390,8 @@ impl State {
     }
 
     fn fill(&mut self, k: u64, page: u64, i: usize, word: u64) -> bool
-        ensures done { MakesStep self.old (λ w. MayFill w k page i) (λ w. after_fill w page i word) result self.new }
+        ensures done { MakesStep self.old (λ w. MayFill w k page i) (λ w. after_fill w page i word)
+            result self.new }
         ensures size { page_count self.new ≡ page_count self.old }
     {
         if !self.may_fill(k, page, i) {
@@ -378,9 +405,10 @@ impl State {
         true
     }
 
-    /// The holder, where the pass k may read the announcement of the pass j.
+    /// The holder, if the pass k may read the announcement of the pass j.
     fn scanner(&self, k: u64, j: u64) -> Option<Holder>
-        ensures some { IfSome result (λ h. (self.now.holder ≡ Some h) × MayScan (shown self.now blank) k j) }
+        ensures some { IfSome result (λ h. (self.now.holder ≡ Some h)
+            × MayScan (shown self.now blank) k j) }
         ensures none { IsNone result → ¬ (MayScan (shown self.now blank) k j) }
     {
         if j >= self.phases.len() as u64 || !self.writes(k) {
@@ -404,8 +432,12 @@ impl State {
         }
     }
 
+    /// The holder k reads pass j's announcement, as the next one of its scan. After the last pass
+    /// it frees each page that is retired with a number below the least that it found. False, and
+    /// nothing changes, if the step isn't allowed.
     fn scan(&mut self, k: u64, j: u64) -> bool
-        ensures done { MakesStep self.old (λ w. MayScan w k j) (λ w. after_scan w j) result self.new }
+        ensures done { MakesStep self.old (λ w. MayScan w k j) (λ w. after_scan w j) result
+            self.new }
         ensures size { page_count self.new ≡ page_count self.old }
     {
         let Some(h) = self.scanner(k, j) else {
@@ -439,14 +471,16 @@ impl State {
     }
 
     fn reaches_all(&self, given: &[u64]) -> bool
-        ensures { IsTrue result ↔ All (λ p. IsTrue ((shown self.now blank).reach self.now.current p)) given.now }
+        ensures { IsTrue result ↔ All (λ p. IsTrue
+            ((shown self.now blank).reach self.now.current p)) given.now }
     {
         given.iter().all(|p| self.reaches(self.current, *p))
     }
 
     fn current_row(&self) -> &Vec<bool>
         ensures len { vec_len result.now ≡ vec_len self.now.words }
-        ensures pages { (p : ℕ) → slice_index_or result.now.items p false ≡ (shown self.now blank).reach self.now.current p }
+        ensures pages { (p : ℕ) → slice_index_or result.now.items p false
+            ≡ (shown self.now blank).reach self.now.current p }
     {
         &self.reach[self.current as usize]
     }
@@ -456,7 +490,8 @@ impl State {
         requires { All (λ p. IsTrue ((shown self.now blank).reach self.now.current p)) given.now }
         ensures len { IfOk result (λ row. vec_len row ≡ vec_len self.now.words) }
         ensures pages { IfOk result (λ row. (p : ℕ) → slice_index_or row.items p false
-            ≡ (((shown self.now blank).reach self.now.current p && not (has given.now p)) || slice_index_or self.now.taken.items p false)) }
+            ≡ (((shown self.now blank).reach self.now.current p && not (has given.now p))
+            || slice_index_or self.now.taken.items p false)) }
     {
         let mut row = empty_set(self.alloc, self.words.len())?;
         add_all(&mut row, self.current_row());
@@ -465,8 +500,12 @@ impl State {
         Ok(row)
     }
 
+    /// The holder k publishes a version: its pages are the current ones without those given, and
+    /// those that k took. False, and nothing changes, if it may not. The only error is OutOfMemory.
     fn publish(&mut self, k: u64, version: u64, given: &[u64]) -> Result<bool, Refusal>
-        ensures done { IfOk result (λ done. MakesStep self.old (λ w. MayPublish w k version given.now) (λ w. after_publish w given.now) done self.new) }
+        ensures done { IfOk result (λ done. MakesStep self.old
+            (λ w. MayPublish w k version given.now) (λ w. after_publish w given.now) done
+            self.new) }
         ensures err { OnErr result (IsUnchanged self.old self.new) }
         ensures memory { IsOkUnless result Refusal.OutOfMemory }
         ensures size { page_count self.new ≡ page_count self.old }
@@ -488,9 +527,10 @@ impl State {
         Ok(true)
     }
 
-    /// Does what the event says, and answers whether it was allowed.
+    /// Does what the event says, and returns whether it was allowed.
     fn happen(&mut self, event: &Event) -> Result<bool, Refusal>
-        ensures done { IfOk result (λ done. MakesStep self.old (λ w. Allowed w event.now) (λ w. after_event w event.now) done self.new) }
+        ensures done { IfOk result (λ done. MakesStep self.old (λ w. Allowed w event.now)
+            (λ w. after_event w event.now) done self.new) }
         ensures err { OnErr result (IsUnchanged self.old self.new) }
         ensures memory { IsOkUnless result Refusal.OutOfMemory }
         ensures size { page_count self.new ≡ page_count self.old }
@@ -508,15 +548,19 @@ impl State {
             Event::Unlock(k) => Ok(self.unlock(*k)),
         }
     }
-    /// Does what the event says, and answers whether it was allowed. It is not where a page, a place in
-    /// one or a pass is out of range. Refused with `OutOfMemory` alone, which only `Publish` may be.
+    /// Does what the event says, and returns whether it was allowed. It isn't allowed if a page, a
+    /// place in one or a pass is out of range. The only error is `OutOfMemory`, which only
+    /// `Publish` may give.
     pub fn step(&mut self, event: &Event) -> Result<bool, Refusal>
-        ensures done { IfOk result (λ done. MakesStep self.old (λ w. Allowed w event.now) (λ w. after_event w event.now) done self.new) }
+        ensures done { IfOk result (λ done. MakesStep self.old (λ w. Allowed w event.now)
+            (λ w. after_event w event.now) done self.new) }
         ensures err { OnErr result (IsUnchanged self.old self.new) }
         ensures memory { IsOkUnless result Refusal.OutOfMemory }
         ensures sound { ShowsSound self.old → ShowsSound self.new }
         // a whole scan leaves no page that no version from the least on reaches
-        ensures leaves_none { ShowsSound self.old → IfOk result (λ done. IsTrue done → LeavesNone (shown self.old blank) event.now (shown self.new blank)) }
+        ensures leaves_none { ShowsSound self.old
+            → IfOk result (λ done. IsTrue done
+            → LeavesNone (shown self.old blank) event.now (shown self.new blank)) }
         ensures size { page_count self.new ≡ page_count self.old }
     {
         self.happen(event)

@@ -6,8 +6,8 @@ use Rattle.std.proofs.lemmas.Grind.{flat_map-append}
 use Rattle.std.proofs.lemmas.List.{length_push}
 use Rattle.std.proofs.lemmas.List.Concat.{flat_map-cons}
 use Rattle.std.proofs.lemmas.List.Elements.{All-head, All-tail, All-push}
-use Rattle.be_encoding.specs.Decoding.{entry_at}
-use Rattle.be_encoding.proofs.Entries.{entry_again}
+use Rattle.be_entry_bytes.specs.Decoding.{entry_at}
+use Rattle.be_entry_bytes.proofs.Entries.{entry_again}
 use Rattle.be_journal.specs.Blocks.{bytes_of, entries_at, IsStored, AreEntries}
 use Rattle.be_journal.specs.declared.entries.Entry.{Entry}
 

@@ -7,3 +7,4 @@ pub mod PlaceLemmas
 pub mod ReaderLemmas
 pub mod SoundLemmas
 pub mod TextLemmas
+pub mod ViewLemmas

@@ -10,7 +10,7 @@ use Rattle.std.proofs.lemmas.List.{take_more, take_all, take-append-drop}
 use Rattle.std.proofs.lemmas.List.Concat.{flat_map-cons, get_or-flat_map}
 use Rattle.std.proofs.lemmas.List.Elements.{All-push, All-set}
 use Rattle.std.proofs.lemmas.Option.{slice_get-get_or}
-use Rattle.be_encoding.specs.Encoding.{most_bytes}
+use Rattle.be_entry_bytes.specs.Encoding.{most_bytes}
 use Rattle.be_journal.specs.Blocks.{Filled, entries_of, has_room, AreFilled}
 use Rattle.be_journal.specs.declared.entries.Entry.{Entry}
 

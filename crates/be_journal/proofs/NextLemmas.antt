@@ -6,7 +6,7 @@ use Rattle.std.specs.declared.option.Option.{Option}
 use Rattle.std.proofs.lemmas.List.Elements.{All-nil}
 use Rattle.be_volume.specs.declared.ops.Done.{Done}
 use Rattle.be_volume.specs.declared.ops.Op.{Op}
-use Rattle.be_encoding.specs.Decoding.{entry_at, found, Found}
+use Rattle.be_entry_bytes.specs.Decoding.{entry_at, found, Found}
 use Rattle.be_journal.specs.Blocks.{bytes_of, entries_at, IsStored, AreEntries}
 use Rattle.be_journal.specs.Journal.{IsEntry}
 use Rattle.be_journal.specs.declared.entries.Entry.{Entry}

@@ -6,7 +6,7 @@ use Rattle.std.proofs.lemmas.Bool.{ltb-true}
 use Rattle.std.proofs.lemmas.List.{length_push, get_or_append_left, get_or_push, get_or_read, drop-append-le, drop_at, take_rest}
 use Rattle.std.proofs.lemmas.List.Concat.{flat_map-cons}
 use Rattle.std.proofs.lemmas.List.Elements.{All-drop}
-use Rattle.be_encoding.proofs.Numbers.{choose}
+use Rattle.be_entry_bytes.proofs.Numbers.{choose}
 use Rattle.be_journal.specs.Blocks.{bytes_of, entries_at, IsStored, AreEntries, with_place, IsPlace, ArePlaces}
 use Rattle.be_journal.specs.declared.entries.Entry.{Entry}
 use Rattle.be_journal.proofs.BlockLemmas.{Holds, holds, one_more, pushed}

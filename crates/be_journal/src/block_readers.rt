@@ -1,10 +1,11 @@
-//! Reading the entries of one block, one after the other.
+//! Reading the entries of one block in their order.
 ghost use Rattle.std.specs.Prelude.{◌≡◌, ◌<◌, ◌∷◌, length, drop, nat_eq, IfOk};
 ghost use Rattle.be_journal.specs.Blocks.{entries_at, AreEntries};
 ghost use Rattle.be_journal.specs.Journal.{IsEntry};
 
+use crate::views::EntryView;
 use crate::{Entry, Items};
-use be_encoding::{read_entry, skip_entry};
+use be_entry_bytes::{read_entry, read_head, skip_entry};
 use std::alloc::{AllocError, Global};
 use std::marker::Model;
 
@@ -33,7 +34,7 @@ impl<'a> Model for BlockReader<'a> {
 }
 
 impl<'a> BlockReader<'a> {
-    /// A reader of so many entries, whose bytes these are.
+    /// A reader of `left` entries, whose bytes these are.
     pub(crate) fn new(bytes: &'a [u8], left: u64) -> BlockReader<'a>
         requires { AreEntries left bytes.now }
         ensures { result ≡ entries_at left bytes.now }
@@ -48,7 +49,7 @@ impl<'a> BlockReader<'a> {
         self.left == 0
     }
 
-    /// Goes past the next entry, of which there is one. It takes no memory.
+    /// Skips the next entry, of which there is one. It takes no memory.
     pub(crate) fn skip(&mut self)
         requires { 0 < length self.old }
         ensures { self.new ≡ drop 1 self.old }
@@ -60,7 +61,18 @@ impl<'a> BlockReader<'a> {
         self.left -= 1;
     }
 
-    /// The next entry, of which there is one. Memory is taken for its two lists.
+    /// A view of the next entry, of which there is one. It takes no memory.
+    pub(crate) fn view(&self, alloc: Global) -> EntryView<'a>
+        requires { 0 < length self.now }
+        ensures { self.now ≡ result ∷ drop 1 self.now }
+    {
+        let Some((by, count, bytes)) = read_head(self.bytes) else {
+            unreachable!()
+        };
+        EntryView::new(alloc, by, count, bytes)
+    }
+
+    /// The next entry, of which there is one. It takes memory for its two lists.
     pub(crate) fn next(&mut self, alloc: Global) -> Result<Entry, AllocError>
         requires { 0 < length self.old }
         ensures next { IfOk result (λ entry. self.old ≡ entry ∷ self.new) }

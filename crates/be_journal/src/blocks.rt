@@ -1,14 +1,16 @@
 //! Blocks of entries in bytes.
 //!
-//! A block has its room from the start, so what lies in it is never moved. An entry lies in one block, whole.
-ghost use Rattle.std.specs.Prelude.{◌≡◌, ◌+◌, ◌≤◌, ◌<◌, ◌^◌, ◌++◌, ◌∷◌, [], true, false, length, get_or, nat_le, vec_len, vec_capacity, IfOk, OnOk, IsSome};
-ghost use Rattle.be_encoding.specs.Encoding.{most_bytes as longest};
+//! A block has its room from the start, so its content is never moved. An entry is in one block,
+//! whole.
+ghost use Rattle.std.specs.Prelude.{◌≡◌, ◌+◌, ◌≤◌, ◌<◌, ◌^◌, ◌++◌, ◌∷◌, [], true, false, length};
+ghost use Rattle.std.specs.Prelude.{get_or, nat_le, vec_len, vec_capacity, IfOk, OnOk, IsSome};
+ghost use Rattle.be_entry_bytes.specs.Encoding.{most_bytes as longest};
 ghost use Rattle.be_journal.specs.Blocks.{entries_of, has_room, with_place, AreFilled, IsSpare};
 ghost use Rattle.be_journal.specs.declared.entries.Entry.{Entry as AnyEntry};
 
-use crate::Entry;
 use crate::block_readers::BlockReader;
-use be_encoding::{most_bytes, write_entry};
+use crate::views::EntryView;
+use be_entry_bytes::{most_bytes, write_entry};
 use be_volume::{Done, Op};
 use std::alloc::{AllocError, Global};
 use std::marker::Model;
@@ -16,22 +18,24 @@ use std::marker::Model;
 /// The bytes of a block: 256 KiB.
 const ROOM: usize = 1 << 18;
 
-/// The places of a block. It has a place for each 16 entries, and an entry has four bytes or more.
+/// The most offsets of a block. It has one for each 16 entries, and an entry has four bytes or
+/// more.
 const PLACES: usize = ROOM / 64;
 
-/// Entries one after the other. A contract sees them, and how many bytes are left.
+/// Entries one after the other. A contract sees them, and how many bytes are free.
 #[derive(Drop)]
 pub(crate) struct Block {
     /// How many entries there are.
     count: u64,
     bytes: Vec<u8>,
-    /// Where the first entry begins, and the 16th after it, and so on.
+    /// The offset of the first entry, of the 16th after it, and so on.
     places: Vec<usize>,
 }
 
 impl Model for Block {
     ghost use Rattle.std.specs.Prelude.{◌-◌, nat_lt, vec_len, vec_capacity, if◌then◌else◌};
-    ghost use Rattle.be_journal.specs.Blocks.{Filled, coded_filled, entries_at, AreEntries, ArePlaces};
+    ghost use Rattle.be_journal.specs.Blocks.{Filled, coded_filled, entries_at, AreEntries};
+    ghost use Rattle.be_journal.specs.Blocks.{ArePlaces};
 
     ghost Value = { Filled };
 
@@ -39,10 +43,12 @@ impl Model for Block {
 
     ghost view = { λ b. record {
       entries = entries_at b.count b.bytes.items;
-      room = if nat_lt (vec_len b.places) (vec_capacity b.places) then vec_capacity b.bytes - vec_len b.bytes else 0;
+      room = if nat_lt (vec_len b.places) (vec_capacity b.places)
+          then vec_capacity b.bytes - vec_len b.bytes else 0;
     } };
 
-    ghost invariant = { λ b. AreEntries b.count b.bytes.items × ArePlaces b.places.items b.count b.bytes.items };
+    ghost invariant = { λ b. AreEntries b.count b.bytes.items
+        × ArePlaces b.places.items b.count b.bytes.items };
 }
 
 impl Block {
@@ -67,7 +73,7 @@ impl Block {
         self.count
     }
 
-    /// Whether there is room for any entry of so many operations.
+    /// Whether there is room for any entry with this many operations.
     pub(crate) fn has_room(&self, count: usize) -> bool
         requires { count ≤ 64 }
         ensures { result ≡ nat_le (longest count) self.now.room }
@@ -83,7 +89,8 @@ impl Block {
         requires each { length dones.now ≡ length ops.now }
         requires room { longest (length ops.now) ≤ self.old.room }
         requires fits { length self.old.entries + 1 < 2 ^ 64 }
-        ensures { self.new.entries ≡ self.old.entries ++ record { by = by; ops = ops.now; dones = dones.now } ∷ [] }
+        ensures { self.new.entries ≡ self.old.entries
+            ++ record { by = by; ops = ops.now; dones = dones.now } ∷ [] }
     {
         keep_place(&mut self.places, self.count, self.bytes.len());
         write_entry(&mut self.bytes, by, ops, dones);
@@ -97,10 +104,10 @@ impl Block {
         BlockReader::new(self.bytes.as_slice(), self.count)
     }
 
-    /// The entry with this number in the block, from 0. Up to 15 others are gone past to find it.
-    pub(crate) fn get(&self, alloc: Global, i: u64) -> Result<Entry, AllocError>
+    /// The entry with this index in the block, from 0. It skips up to 15 others to find it.
+    pub(crate) fn get(&self, alloc: Global, i: u64) -> EntryView<'_>
         requires { i < length self.now.entries }
-        ensures { IfOk result (λ entry. entry ≡ get_or self.now.entries i entry) }
+        ensures { result ≡ get_or self.now.entries i result }
     {
         let before = i / 16;
         let place = self.places[before as usize];
@@ -108,12 +115,11 @@ impl Block {
         for _ in 0..i % 16 {
             reader.skip();
         }
-        let entry = reader.next(alloc)?;
-        Ok(entry)
+        reader.view(alloc)
     }
 }
 
-/// Keeps the place of the next entry, where the places before have 16 entries each.
+/// Keeps the offset of the next entry, if the offsets before have 16 entries each.
 fn keep_place(places: &mut Vec<usize>, count: u64, place: usize)
     requires { vec_len places.old < vec_capacity places.old }
     ensures { places.new.items ≡ with_place places.old.items count place }
@@ -123,11 +129,12 @@ fn keep_place(places: &mut Vec<usize>, count: u64, place: usize)
     }
 }
 
-/// The block that has the entry with this number, from 0, and the entry's number there.
+/// The block that has the entry with this index, from 0, and the entry's index there.
 pub(crate) fn block_of(blocks: &[Block], i: u64) -> (&Block, u64)
     requires { i < length (entries_of blocks.now) }
     ensures within { result.1 < length result.0.now.entries }
-    ensures is { (e : AnyEntry) → get_or result.0.now.entries result.1 e ≡ get_or (entries_of blocks.now) i e }
+    ensures is { (e : AnyEntry) → get_or result.0.now.entries result.1 e
+        ≡ get_or (entries_of blocks.now) i e }
 {
     let mut left = i;
     for block in blocks {
@@ -139,7 +146,7 @@ pub(crate) fn block_of(blocks: &[Block], i: u64) -> (&Block, u64)
     unreachable!()
 }
 
-/// Whether the last of the blocks has room for any entry of so many operations.
+/// Whether the last of the blocks has room for any entry with this many operations.
 fn last_has_room(blocks: &[Block], count: usize) -> bool
     requires { count ≤ 64 }
     ensures { result ≡ has_room count blocks.now }
@@ -150,7 +157,7 @@ fn last_has_room(blocks: &[Block], count: usize) -> bool
     }
 }
 
-/// Sees to it that there is room for any entry of so many operations, in the last of the blocks or in a spare one.
+/// Makes room for any entry with this many operations, in the last of the blocks or in a spare one.
 pub(crate) fn make_spare(
     alloc: Global,
     blocks: &[Block],
@@ -177,14 +184,16 @@ fn push_last(blocks: &mut [Block], by: u64, ops: &[Op], dones: &[Done])
     requires each { length dones.now ≡ length ops.now }
     requires room { has_room (length ops.now) blocks.old ≡ true }
     requires fits { length (entries_of blocks.old) + 1 < 2 ^ 64 }
-    ensures entries { entries_of blocks.new ≡ entries_of blocks.old ++ record { by = by; ops = ops.now; dones = dones.now } ∷ [] }
+    ensures entries { entries_of blocks.new ≡ entries_of blocks.old
+        ++ record { by = by; ops = ops.now; dones = dones.now } ∷ [] }
     ensures filled { AreFilled blocks.old → AreFilled blocks.new }
 {
     let last = blocks.len() - 1;
     blocks[last].push(by, ops, dones);
 }
 
-/// Appends an entry to the last of the blocks, or else to the spare one, which is the last from then on. It takes no memory.
+/// Appends an entry to the last of the blocks if it has room, and otherwise to the spare one, which
+/// is the last from then on. It takes no memory.
 pub(crate) fn append(
     blocks: &mut Vec<Block>,
     spare: &mut Option<Block>,
@@ -200,7 +209,8 @@ pub(crate) fn append(
     requires room { has_room (length ops.now) blocks.old.items ≡ false → IsSome spare.old }
     requires list { vec_len blocks.old < vec_capacity blocks.old }
     requires fits { length (entries_of blocks.old.items) + 1 < 2 ^ 64 }
-    ensures entries { entries_of blocks.new.items ≡ entries_of blocks.old.items ++ record { by = by; ops = ops.now; dones = dones.now } ∷ [] }
+    ensures entries { entries_of blocks.new.items ≡ entries_of blocks.old.items
+        ++ record { by = by; ops = ops.now; dones = dones.now } ∷ [] }
     ensures filled { AreFilled blocks.new.items }
     ensures spare { IsSpare spare.new }
 {

@@ -1,11 +1,12 @@
 //! Texts of entries.
 //!
-//! Names and texts are quoted, with a backslash before `"` and `\`, and LF and CR written `\n` and `\r`; raw bytes are lower case
-//! hexadecimal in quotes.
+//! Names and texts are quoted, with a backslash before `"` and `\`, and LF and CR written `\n` and
+//! `\r`; raw bytes are lower case hexadecimal in quotes.
 ghost use Rattle.std.specs.Char.{encode_utf8};
 ghost use Rattle.std.specs.Fmt.{signed_decimal};
 ghost use Rattle.std.specs.List.{join_by};
-ghost use Rattle.std.specs.Prelude.{◌≡◌, ◌<◌, ◌++◌, ◌^◌, ◌∷◌, [], IfOk, OnOk, codes, decimal, flat_map};
+ghost use Rattle.std.specs.Prelude.{◌≡◌, ◌<◌, ◌++◌, ◌^◌, ◌∷◌, [], IfOk, OnOk, codes, decimal};
+ghost use Rattle.std.specs.Prelude.{flat_map};
 ghost use Rattle.std.specs.String.{string_bytes};
 ghost use Rattle.be_journal.specs.Text as spec;
 
@@ -36,7 +37,8 @@ fn ops_text(alloc: Global, ops: &[Op]) -> Result<String, AllocError>
 }
 
 fn push_ops(alloc: Global, text: &mut String, ops: &[Op]) -> Result<(), AllocError>
-    ensures { OnOk result (string_bytes text.new ≡ string_bytes text.old ++ flat_map (λ y. codes "; " ++ spec.op_text y) ops.now) }
+    ensures { OnOk result (string_bytes text.new ≡ string_bytes text.old
+        ++ flat_map (λ y. codes "; " ++ spec.op_text y) ops.now) }
 {
     for op in ops {
         text.push_str("; ")?;
@@ -46,7 +48,8 @@ fn push_ops(alloc: Global, text: &mut String, ops: &[Op]) -> Result<(), AllocErr
 }
 
 fn dones_text(alloc: Global, dones: &[Done]) -> Result<String, AllocError>
-    ensures { IfOk result (λ text. string_bytes text ≡ join_by spec.done_text (codes "; ") dones.now) }
+    ensures { IfOk result (λ text. string_bytes text
+        ≡ join_by spec.done_text (codes "; ") dones.now) }
 {
     let Some((first, rest)) = dones.split_first() else {
         return Ok(String::new(alloc));
@@ -57,7 +60,8 @@ fn dones_text(alloc: Global, dones: &[Done]) -> Result<String, AllocError>
 }
 
 fn push_dones(alloc: Global, text: &mut String, dones: &[Done]) -> Result<(), AllocError>
-    ensures { OnOk result (string_bytes text.new ≡ string_bytes text.old ++ flat_map (λ y. codes "; " ++ spec.done_text y) dones.now) }
+    ensures { OnOk result (string_bytes text.new ≡ string_bytes text.old
+        ++ flat_map (λ y. codes "; " ++ spec.done_text y) dones.now) }
 {
     for done in dones {
         text.push_str("; ")?;
@@ -95,7 +99,7 @@ pub fn op_text(alloc: Global, op: &Op) -> Result<String, AllocError>
     }
 }
 
-/// The answer of an operation, as replies and journals print it.
+/// The outcome of an operation, as replies and journals print it.
 pub fn done_text(alloc: Global, done: &Done) -> Result<String, AllocError>
     ensures { IfOk result (λ text. string_bytes text ≡ spec.done_text done.now) }
 {

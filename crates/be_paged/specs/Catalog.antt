@@ -6,7 +6,8 @@ use Rattle.std.specs.FinMap as map
 use Rattle.std.specs.declared.option.Option.{Option}
 use Rattle.be_value.specs.Key.{key}
 use Rattle.be_value.specs.declared.values.Value.{Value}
-use Rattle.be_value.specs.declared.values.Value.TheVariants.{Cstr, Long, Llng, Mims, Rawt, Ulng, Ullg}
+use Rattle.be_value.specs.declared.values.Value.TheVariants.{Cstr, Long, Llng, Mims, Rawt, Ulng}
+use Rattle.be_value.specs.declared.values.Value.TheVariants.{Ullg}
 use Rattle.be_volume.specs.Maps.{Nodes}
 use Rattle.be_volume.specs.declared.maps.Index.{Index}
 use Rattle.be_tree.specs.Pair.{Pair}
@@ -28,9 +29,10 @@ payload_of (Ullg n) = 7 ∷ to_be_bytes w64 n
 
 -- the value that a node has at a name
 abbrev pub value_at : Nodes → ℕ → List ℕ → Option Value
-value_at nodes node name = option_and_then (λ attributes. map.get attributes name) (map.get nodes node)
+value_at nodes node name = option_and_then (λ attributes. map.get attributes name)
+    (map.get nodes node)
 
--- the payload that stands at the key of a node and a name: the mark's is empty
+-- the payload at the key of a node and a name: a mark's payload is empty
 abbrev pub stored : Nodes → ℕ → List ℕ → Option (List ℕ)
 stored nodes node [] = option_map (λ _. []) (map.get nodes node)
 stored nodes node (c ∷ name) = option_map payload_of (value_at nodes node (c ∷ name))
@@ -42,9 +44,11 @@ pub record IsCatalogKey (k : List ℕ) : Type 0 where
   pub fits : node < 2 ^ 64
   pub is : k ≡ catalog_key node name
 
--- The pairs are exactly the marks of the nodes and their attributes: at each key stands what the nodes have there, and there are no other keys.
+-- The pairs are exactly the marks of the nodes and their attributes: each key has what the nodes
+-- have there, and there are no other keys.
 pub record IsCatalog (pairs : List Pair) (nodes : Nodes) : Type 0 where
-  pub each : (node : ℕ) (name : List ℕ) → node < 2 ^ 64 → payload_at pairs (catalog_key node name) ≡ stored nodes node name
+  pub each : (node : ℕ) (name : List ℕ) → node < 2 ^ 64 → payload_at pairs (catalog_key node name)
+      ≡ stored nodes node name
   pub only : All (λ pair. IsCatalogKey pair.key) pairs
 
 -- the pair is the key of a node and a value that the index has for it
@@ -57,5 +61,6 @@ pub record IsPairOf (index : Index) (pair : Pair) : Type 0 where
 
 -- The pairs are exactly the keys of the index, with no payload.
 pub record IsIndexOf (pairs : List Pair) (index : Index) : Type 0 where
-  pub each : (node : ℕ) (value : Value) → map.get index.pairs node ≡ Some value → payload_at pairs (key value node) ≡ Some []
+  pub each : (node : ℕ) (value : Value) → map.get index.pairs node ≡ Some value
+      → payload_at pairs (key value node) ≡ Some []
   pub only : All (IsPairOf index) pairs

@@ -1,5 +1,6 @@
--- What is told of nodes at names: a cell for each, and the bytes of texts one after the other.
-use Rattle.std.specs.Prelude.{◌≡◌, ◌≢◌, ◌≤◌, ◌⊎◌, ◌+◌, ◌*◌, ℕ, Bool, List, [], ◌∷◌, ◌++◌, None, Some, Ok, Err, IfSome, length, take, drop, map as each, if◌then◌else◌}
+-- What is written of nodes at names: a cell for each, and the bytes of texts one after the other.
+use Rattle.std.specs.Prelude.{◌≡◌, ◌≢◌, ◌≤◌, ◌⊎◌, ◌+◌, ◌*◌, ℕ, Bool, List, [], ◌∷◌, ◌++◌, None}
+use Rattle.std.specs.Prelude.{Some, Ok, Err, IfSome, length, take, drop, map as each, if◌then◌else◌}
 use Rattle.std.specs.FinMap as map
 use Rattle.std.specs.Int.{cast_unsigned, w64}
 use Rattle.std.specs.Option.{option_map_or}
@@ -17,7 +18,8 @@ use Rattle.be_value.specs.Value.{code_of, kind_of}
 use Rattle.be_value.specs.declared.refusals.Refusal.{Refusal}
 use Rattle.be_value.specs.declared.refusals.Refusal.TheVariants.{NoAttr, NoNode}
 use Rattle.be_value.specs.declared.values.Value.{Value}
-use Rattle.be_value.specs.declared.values.Value.TheVariants.{Cstr, Long, Llng, Mims, Rawt, Ulng, Ullg}
+use Rattle.be_value.specs.declared.values.Value.TheVariants.{Cstr, Long, Llng, Mims, Rawt, Ulng}
+use Rattle.be_value.specs.declared.values.Value.TheVariants.{Ullg}
 use Rattle.be_volume.specs.Maps.{Nodes}
 use Rattle.be_volume.specs.Volume.{State}
 use Rattle.be_paged.specs.Catalog.{IsCatalog, payload_of, value_at}
@@ -40,9 +42,11 @@ why_none there = if there then NoAttr else NoNode
 
 -- the value of the node's attribute, or why there is none
 abbrev pub found_at : Nodes → ℕ → List ℕ → Result Value Refusal
-found_at nodes node name = option_map_or (λ value. Ok value) (value_at nodes node name) (Err (why_none (map.contains_key nodes node)))
+found_at nodes node name = option_map_or (λ value. Ok value) (value_at nodes node name)
+    (Err (why_none (map.contains_key nodes node)))
 
--- the same of each node at each name: the names of the first node, then those of the second, and so on
+-- the same of each node at each name: the names of the first node, then those of the second, and so
+-- on
 abbrev pub found_in : Nodes → List ℕ → List (List ℕ) → List (Result Value Refusal)
 found_in nodes [] names = []
 found_in nodes (node ∷ rest) names = each (found_at nodes node) names ++ found_in nodes rest names
@@ -71,10 +75,23 @@ abbrev pub data_in : Result Value Refusal → List ℕ
 data_in (Ok value) = data_of value
 data_in (Err why) = []
 
--- The cell of what was found, whose bytes begin at an offset. It has the number of the refusal if there is no value.
+-- The cell of what was found, whose bytes begin at an offset. It has the number of the refusal if
+-- there is no value.
 abbrev pub cell_of : ℕ → Result Value Refusal → Cell
-cell_of offset (Ok value) = record { error = 0; code = code_of (kind_of value); number = number_of value; offset = offset; length = length (data_of value) }
-cell_of offset (Err why) = record { error = refusal_number why; code = 0; number = 0; offset = offset; length = 0 }
+cell_of offset (Ok value) = record {
+  error = 0;
+  code = code_of (kind_of value);
+  number = number_of value;
+  offset = offset;
+  length = length (data_of value);
+}
+cell_of offset (Err why) = record {
+  error = refusal_number why;
+  code = 0;
+  number = 0;
+  offset = offset;
+  length = 0;
+}
 
 -- the bytes of all that was found, end to end
 abbrev pub all_data : List (Result Value Refusal) → List ℕ
@@ -86,8 +103,10 @@ abbrev pub cells_from : ℕ → List (Result Value Refusal) → List Cell
 cells_from offset [] = []
 cells_from offset (x ∷ xs) = cell_of offset x ∷ cells_from (offset + length (data_in x)) xs
 
--- What was found is told: so many cells, and so many bytes, and of both as many as there are places.
-pub record AreTold (found : List (Result Value Refusal)) (cell_places cells : List Cell) (byte_places bytes : List ℕ) (filled : Filled) : Type 0 where
+-- The cells and bytes that were found are written: how many of each, and as many of both as there
+-- are places.
+pub record AreTold (found : List (Result Value Refusal)) (cell_places cells : List Cell)
+    (byte_places bytes : List ℕ) (filled : Filled) : Type 0 where
   pub cells_are : cells ≡ over (cells_from 0 found) cell_places
   pub bytes_are : bytes ≡ over (all_data found) byte_places
   pub cell_count : filled.cells ≡ length found
@@ -100,7 +119,8 @@ pub record IsFew (filled : Filled) : Type 0 where
 -- a cursor that is past all pairs, or before those from some key on
 abbrev pub IsAmong : (words : ℕ → ℕ → ℕ) (root : ℕ) → Cursor → Type 0
 IsAmong words root cursor =
-    (remaining words cursor ≡ []) ⊎ ((from : List ℕ) × (after : Bool) × (remaining words cursor ≡ pairs_from (pairs words root) from after))
+    (remaining words cursor ≡ []) ⊎ ((from : List ℕ) × (after : Bool)
+    × (remaining words cursor ≡ pairs_from (pairs words root) from after))
 
 -- the first pair, if there is one, has another key
 abbrev pub StartsElsewhere : List ℕ → List Pair → Type 0
@@ -108,22 +128,27 @@ StartsElsewhere key [] = Unit {0}
 StartsElsewhere key (x ∷ xs) = x.key ≢ key
 
 -- What is known in a row: where the cursor is, and whether the node is there, if that was asked.
-pub record IsInRow (standing : ℕ → Standing) (words : ℕ → ℕ → ℕ) (root node : ℕ) (cursor : Cursor) (known : Option Bool) : Type 0 where
+pub record IsInRow (standing : ℕ → Standing) (words : ℕ → ℕ → ℕ) (root node : ℕ) (cursor : Cursor)
+    (known : Option Bool) : Type 0 where
   pub walks : IsCursor standing words cursor
   pub among : IsAmong words root cursor
-  pub is_known : (nodes : Nodes) → IsCatalog (pairs words root) nodes → AreValid nodes → IfSome known (λ there. there ≡ map.contains_key nodes node)
+  pub is_known : (nodes : Nodes) → IsCatalog (pairs words root) nodes → AreValid nodes
+      → IfSome known (λ there. there ≡ map.contains_key nodes node)
 
--- What a volume has of nodes at names is told: a cell for each node and name, and the bytes of all texts, of both as many as there
--- are places, and how many bytes that are.
-pub record TellsColumns (volume : State) (nodes : List ℕ) (names : List (List ℕ)) (cell_places cells : List Cell) (byte_places bytes : List ℕ) (needed : ℕ) : Type 0 where
+-- The cells of nodes at names in a volume are written, one for each node and name, and the bytes of
+-- all texts: of both as many as there are places, and how many bytes these are.
+pub record TellsColumns (volume : State) (nodes : List ℕ) (names : List (List ℕ))
+    (cell_places cells : List Cell) (byte_places bytes : List ℕ) (needed : ℕ) : Type 0 where
   pub cells_are : cells ≡ over (cells_from 0 (found_in volume.nodes nodes names)) cell_places
   pub bytes_are : bytes ≡ over (all_data (found_in volume.nodes nodes names)) byte_places
   pub needed_is : needed ≡ length (all_data (found_in volume.nodes nodes names))
 
--- What a read of an attribute tells: its cell, and as many of its bytes as there are places; of an attribute that isn't there nothing.
+-- What a read of an attribute writes: its cell, and as many of its bytes as there are places. It
+-- writes nothing of an attribute that isn't there.
 abbrev pub IsReadInto : Option Value → Option Cell → List ℕ → List ℕ → Type 0
 IsReadInto None told places bytes = (told ≡ None) × (bytes ≡ places)
-IsReadInto (Some value) told places bytes = IsValue value × (told ≡ Some (cell_of 0 (Ok value))) × (bytes ≡ over (data_of value) places)
+IsReadInto (Some value) told places bytes = IsValue value × (told ≡ Some (cell_of 0 (Ok value)))
+    × (bytes ≡ over (data_of value) places)
 
 -- the node has an attribute of this name, whose value has this payload
 pub record HasPayload (nodes : Nodes) (node : ℕ) (name payload : List ℕ) : Type 0 where

@@ -1,5 +1,6 @@
 -- What a write does to the contents in hand, and to the version that it began with.
-use Rattle.std.specs.Prelude.{◌≡◌, ◌⊎◌, ℕ, ◌+◌, ◌^◌, ◌<◌, ◌≤◌, List, [], All, Some, IsTrue, IsOk, Ok, Err, true}
+use Rattle.std.specs.Prelude.{◌≡◌, ◌⊎◌, ℕ, ◌+◌, ◌^◌, ◌<◌, ◌≤◌, List, [], All, Some, IsTrue, IsOk}
+use Rattle.std.specs.Prelude.{Ok, Err, true}
 use Rattle.std.specs.FinMap as map
 use Rattle.std.specs.declared.option.Option.{Option}
 use Rattle.std.specs.declared.option.Option.TheVariants as options
@@ -15,7 +16,8 @@ use Rattle.be_tree.specs.Forest.{pages_of}
 use Rattle.be_tree.specs.Key.{put, without}
 use Rattle.be_tree.specs.Pair.{Pair}
 use Rattle.be_value.specs.Key.{IsValue}
-use Rattle.be_volume.specs.Indices.{Indices, paired, unpaired, with_pair, without_node, without_pair}
+use Rattle.be_volume.specs.Indices.{Indices, paired, unpaired, with_pair, without_node}
+use Rattle.be_volume.specs.Indices.{without_pair}
 use Rattle.be_volume.specs.Maps.{attributes_of}
 use Rattle.be_volume.specs.Sound.{IsSound}
 use Rattle.be_volume.specs.Volume.{State, step, steps}
@@ -41,7 +43,11 @@ with_change indices name node (options.Some value) = with_pair indices name node
 
 -- the volume after that: its nodes are as they were
 abbrev pub with_indices : State → List ℕ → ℕ → Option Value → State
-with_indices s name node value = record { next = s.next; nodes = s.nodes; indices = with_change s.indices name node value }
+with_indices s name node value = record {
+  next = s.next;
+  nodes = s.nodes;
+  indices = with_change s.indices name node value;
+}
 
 -- a list of pairs without a key, if there is one to take
 abbrev pub key_taken : Option (List ℕ) → List Pair → List Pair
@@ -66,72 +72,90 @@ pub record Leaves (volume left : State) (node : ℕ) : Type 0 where
   pub nodes : map.remove left.nodes node ≡ map.remove volume.nodes node
   pub indices : without_node left.indices node ≡ without_node volume.indices node
 
--- what is known of an index before its node's pair changes: the pair, if there is one, is of the old value
+-- what is known of an index before its node's pair changes: the pair, if there is one, is of the
+-- old value
 pub record IsReady (index : Index) (kind : Kind) (node : ℕ) (old : Option Value) : Type 0 where
   pub kind_is : index.kind ≡ kind
   pub indexable : IsTrue (is_indexable kind)
   pub fits : (n : ℕ) (value : Value) → map.get index.pairs n ≡ Some value → n < 2 ^ 64
-  pub valid : (n : ℕ) (value : Value) → map.get index.pairs n ≡ Some value → IsValue value × (kind_of value ≡ kind)
+  pub valid : (n : ℕ) (value : Value) → map.get index.pairs n ≡ Some value → IsValue value
+      × (kind_of value ≡ kind)
   pub own : (value : Value) → map.get index.pairs node ≡ Some value → old ≡ Some value
 
 -- the contents in hand have become others, and the pages of their trees those of the others' trees
-pub record Changes {S K : Type 0} (kept_of : S → K) (standing_of : S → ℕ → Standing) (words_of : S → ℕ → ℕ → ℕ)
+pub record Changes {S K : Type 0} (kept_of : S → K) (standing_of : S → ℕ → Standing)
+    (words_of : S → ℕ → ℕ → ℕ)
     (before after : Contents) (old new : S) : Type 0 where
   pub in_hand : IsInHand (standing_of new) (words_of new) after
-  pub swaps : Swaps kept_of standing_of words_of (pages_of (words_of old) (roots before)) (pages_of (words_of new) (roots after)) old new
+  pub swaps : Swaps kept_of standing_of words_of (pages_of (words_of old) (roots before))
+      (pages_of (words_of new) (roots after)) old new
 
--- an accepted operation on contents in hand: they spell what the step makes of the volume
-pub record Steps (words : ℕ → ℕ → ℕ) (after : Contents) (volume : State) (op : Op) (done : Done) : Type 0 where
+-- an accepted operation on contents in hand: they encode what the step makes of the volume
+pub record Steps (words : ℕ → ℕ → ℕ) (after : Contents) (volume : State) (op : Op) (done : Done) :
+    Type 0 where
   pub made : State
   pub stepped : step volume op ≡ Ok (made, done)
   pub spells : Spells words after made
 
 -- the same of a list of them; the volume that is reached is sound
-pub record Reaches (words : ℕ → ℕ → ℕ) (after : Contents) (volume : State) (ops : List Op) (dones : List Done) : Type 0 where
+pub record Reaches (words : ℕ → ℕ → ℕ) (after : Contents) (volume : State) (ops : List Op)
+    (dones : List Done) : Type 0 where
   pub made : State
   pub stepped : steps volume ops ≡ Ok (made, dones)
   pub spells : Spells words after made
   pub sound : IsSound made
 
--- the contents spell a volume that differs from another only in what a node has: so many of its attributes are gone
-pub record IsThinned (words : ℕ → ℕ → ℕ) (c : Contents) (volume : State) (node gone : ℕ) : Type 0 where
-  pub left : State
-  pub spells : Spells words c left
-  pub leaves : Leaves volume left node
-  pub counted : map.len (attributes_of left.nodes node) + gone ≤ 64
+-- the contents encode a volume that differs from another only in what a node has: so many of its
+-- attributes are gone
+pub record IsThinned (words : ℕ → ℕ → ℕ) (c : Contents) (volume : State) (node gone : ℕ) : Type 0
+  where
+    pub left : State
+    pub spells : Spells words c left
+    pub leaves : Leaves volume left node
+    pub counted : map.len (attributes_of left.nodes node) + gone ≤ 64
 
--- the contents spell a volume that differs from another only in what a node has, which is bare: without attributes
+-- the contents encode a volume that differs from another only in what a node has, which is bare:
+-- without attributes
 pub record IsBare (words : ℕ → ℕ → ℕ) (c : Contents) (volume : State) (node : ℕ) : Type 0 where
   pub left : State
   pub spells : Spells words c left
   pub leaves : Leaves volume left node
   pub bare : map.len (attributes_of left.nodes node) ≡ 0
 
--- the operation sets what stands: a Set that leaves the volume as it is, its indices too
+-- the operation sets what is there already: a Set that leaves the volume as it is, its indices too
 abbrev pub SetsWhatStands : State → Op → Type 0
 SetsWhatStands volume New = ⊥
-SetsWhatStands volume (Set node name value) = step volume (Set node name value) ≡ Ok (volume, Nothing)
+SetsWhatStands volume (Set node name value) = step volume (Set node name value)
+    ≡ Ok (volume, Nothing)
 SetsWhatStands volume (MkIndex name kind) = ⊥
 SetsWhatStands volume (Drop node) = ⊥
 SetsWhatStands volume (Unset node name) = ⊥
 SetsWhatStands volume (RmIndex name) = ⊥
 
--- A list of operations on a version: the new version page spells what the steps make of the volume. The pages of the old version have become
--- exactly those of the new one, each of which is old or filled, and the new version page is one that this write has taken. Where all of them set
--- what stands, each index has the root that it had.
-pub record Applies {S K : Type 0} (kept_of : S → K) (standing_of : S → ℕ → Standing) (words_of : S → ℕ → ℕ → ℕ)
-    (page new_page : ℕ) (volume : State) (ops : List Op) (dones : List Done) (old new : S) : Type 0 where
-  pub made : State
-  pub stepped : steps volume ops ≡ Ok (made, dones)
-  pub version : IsVersion (standing_of new) (words_of new) new_page made
-  pub swaps : Swaps kept_of standing_of words_of (reach (words_of old) page) (reach (words_of new) new_page) old new
-  pub taken : standing_of new new_page ≡ Filled
-  pub stays : All (SetsWhatStands volume) ops → (contents_of (words_of new new_page)).entries ≡ (contents_of (words_of old page)).entries
+-- A list of operations on a version: the new version page encodes what the steps make of the
+-- volume. The pages of the old version have become exactly those of the new one, each of which is
+-- old or filled. The new version page is one that this write has taken. If all of them set what is
+-- there already, each index has the root that it had.
+pub record Applies {S K : Type 0} (kept_of : S → K) (standing_of : S → ℕ → Standing)
+    (words_of : S → ℕ → ℕ → ℕ)
+    (page new_page : ℕ) (volume : State) (ops : List Op) (dones : List Done) (old new : S) : Type 0
+  where
+    pub made : State
+    pub stepped : steps volume ops ≡ Ok (made, dones)
+    pub version : IsVersion (standing_of new) (words_of new) new_page made
+    pub swaps : Swaps kept_of standing_of words_of (reach (words_of old) page)
+        (reach (words_of new) new_page) old new
+    pub taken : standing_of new new_page ≡ Filled
+    pub stays : All (SetsWhatStands volume) ops → (contents_of (words_of new new_page)).entries
+        ≡ (contents_of (words_of old page)).entries
 
--- A refused list: the steps refuse it so, and no page was taken, filled or given up; or the steps accept it and no page was left, and what
--- stood when the write began stands once it is undone.
-abbrev pub IsRefusedList : {S K : Type 0} (kept_of : S → K) (standing_of : S → ℕ → Standing) (words_of : S → ℕ → ℕ → ℕ) (full_of : S → ℕ → Type 0)
+-- A refused list: the steps refuse it so, and no page was taken, filled or given up; or the steps
+-- accept it and no page was left, and what was there when the write began is there again once it is
+-- undone.
+abbrev pub IsRefusedList : {S K : Type 0} (kept_of : S → K) (standing_of : S → ℕ → Standing)
+    (words_of : S → ℕ → ℕ → ℕ) (full_of : S → ℕ → Type 0)
     (volume : State) (ops : List Op) (e : Refusal) (old new : S) → Type 0
 IsRefusedList kept_of standing_of words_of full_of volume ops e old new =
     ((steps volume ops ≡ Err e) × IsUnchanged kept_of standing_of words_of old new)
-    ⊎ (IsFullOf (full_of new) e × IsOk (steps volume ops) × KeepsStart kept_of standing_of words_of old new)
+    ⊎ (IsFullOf (full_of new) e × IsOk (steps volume ops)
+    × KeepsStart kept_of standing_of words_of old new)

@@ -1,5 +1,6 @@
 -- The nodes of a volume from a number on, and the nodes that pairs of the catalog mark.
-use Rattle.std.specs.Prelude.{ℕ, Bool, List, [], ◌∷◌, length, take, filter, nat_eq, nat_le, if◌then◌else◌}
+use Rattle.std.specs.Prelude.{ℕ, Bool, List, [], ◌∷◌, length, take, filter, nat_eq, nat_le}
+use Rattle.std.specs.Prelude.{if◌then◌else◌}
 use Rattle.std.specs.Int.{from_be_bytes, w64}
 use Rattle.std.specs.FinMap as map
 use Rattle.be_tree.specs.Pair.{Pair}
@@ -9,7 +10,7 @@ use Rattle.be_volume.specs.Volume.{State}
 abbrev pub nodes_from : State → (from most : ℕ) → List ℕ
 nodes_from s from most = take most (filter (nat_le from) (map.keys s.nodes))
 
--- the key is that of a node's mark: there is no name behind the node
+-- the key is that of a node's mark: there is no name after the node
 abbrev pub is_mark : List ℕ → Bool
 is_mark k = nat_eq (length k) 8
 

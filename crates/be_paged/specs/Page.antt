@@ -1,5 +1,6 @@
 -- A version page: the next node number, the root of the catalog, and the indices with their roots.
-use Rattle.std.specs.Prelude.{◌≡◌, ℕ, ◌+◌, ◌-◌, ◌*◌, ◌^◌, ◌<◌, ◌≤◌, List, ◌∷◌, map, length, slice_index_or}
+use Rattle.std.specs.Prelude.{◌≡◌, ℕ, ◌+◌, ◌-◌, ◌*◌, ◌^◌, ◌<◌, ◌≤◌, List, ◌∷◌, map, length}
+use Rattle.std.specs.Prelude.{slice_index_or}
 use Rattle.std.specs.List.{range_with_len}
 use Rattle.std.specs.declared.cmp.Ordering.TheVariants.{Less, Greater}
 use Rattle.be_value.specs.Coded.{kind_at}
@@ -15,23 +16,32 @@ use Rattle.be_paged.specs.declared.version.Version.{Version}
 abbrev pub kind_numbered : ℕ → Kind
 kind_numbered n = kind_at (n - 1)
 
--- what a version page tells
+-- the contents of a version page
 pub record Contents : Type 0 where
   pub next : ℕ
   pub catalog : ℕ
   pub entries : List Entry
 
--- a version in hand tells the same
+-- a version in hand has the same contents
 abbrev pub contents : Version → Contents
-contents version = record { next = version.next; catalog = version.catalog; entries = version.entries.items }
+contents version = record {
+  next = version.next;
+  catalog = version.catalog;
+  entries = version.entries.items;
+}
 
 -- index i takes the eleven words from here on
 abbrev pub entry_place : ℕ → ℕ
 entry_place i = 4 + 11 * i
 
--- the index that the words from a place on tell: the name's length, its bytes in eight words, the kind's number, the root
+-- the index that the words from a place on tell: the name's length, its bytes in eight words, the
+-- kind's number, the root
 unfoldable pub entry_at : (words : ℕ → ℕ) (at : ℕ) → Entry
-entry_at words at = record { name = bytes_at words (at + 1) (words at); kind = kind_numbered (words (at + 9)); root = words (at + 10) }
+entry_at words at = record {
+  name = bytes_at words (at + 1) (words at);
+  kind = kind_numbered (words (at + 9));
+  root = words (at + 10);
+}
 
 abbrev pub contents_of : (words : ℕ → ℕ) → Contents
 contents_of words = record {
@@ -72,4 +82,5 @@ pub record IsNamedAt (entries : List Entry) (name : List ℕ) (i : ℕ) : Type 0
 pub record IsGapAt (entries : List Entry) (name : List ℕ) (i : ℕ) : Type 0 where
   pub in_range : i ≤ length entries
   pub below : (j : ℕ) (d : Entry) → j < i → name_cmp (slice_index_or entries j d).name name ≡ Less
-  pub above : (d : Entry) → i < length entries → name_cmp (slice_index_or entries i d).name name ≡ Greater
+  pub above : (d : Entry) → i < length entries → name_cmp (slice_index_or entries i d).name name
+      ≡ Greater

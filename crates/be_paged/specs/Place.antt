@@ -1,4 +1,4 @@
--- Where an attribute stands in the catalog's tree, as far as that is known.
+-- The place of an attribute in the catalog's tree, as far as it is known.
 use Rattle.std.specs.Prelude.{◌≡◌, ℕ, List, Some, None, IfSome}
 use Rattle.std.specs.declared.option.Option.{Option}
 use Rattle.std.specs.declared.option.Option.TheVariants as options
@@ -10,20 +10,27 @@ use Rattle.be_paged.specs.Catalog.{catalog_key}
 use Rattle.be_paged.specs.Source.{IsItemAt}
 use Rattle.be_paged.specs.declared.asked.Asked.{Asked}
 
--- an item stands at the place of the page, and its payload is what the tree has at the key
-pub record IsPlaceOf (standing : ℕ → Standing) (words : ℕ → ℕ → ℕ) (root : ℕ) (key : List ℕ) (page at : ℕ) : Type 0 where
+-- an item lies at the place of the page, and its payload is what the tree has at the key
+pub record IsPlaceOf (standing : ℕ → Standing) (words : ℕ → ℕ → ℕ) (root : ℕ) (key : List ℕ)
+    (page at : ℕ) : Type 0 where
   pub item : IsItemAt standing words page at
   pub there : payload_at (pairs words root) key ≡ Some (item_at (words page) at).payload
 
 -- what a look-up of the key found: such a page and place, or that the tree hasn't the key
-abbrev pub IsFoundAt : (standing : ℕ → Standing) (words : ℕ → ℕ → ℕ) (root : ℕ) (key : List ℕ) → Option (ℕ × ℕ) → Type 0
+abbrev pub IsFoundAt : (standing : ℕ → Standing) (words : ℕ → ℕ → ℕ) (root : ℕ) (key : List ℕ)
+    → Option (ℕ × ℕ) → Type 0
 IsFoundAt standing words root key options.None = payload_at (pairs words root) key ≡ None
-IsFoundAt standing words root key (options.Some place) = IsPlaceOf standing words root key place.0 place.1
+IsFoundAt standing words root key (options.Some place) = IsPlaceOf standing words root key place.0
+    place.1
 
 -- what is known of a node's attribute, if it is known, is what a look-up finds
-abbrev pub IsKnownOf : (standing : ℕ → Standing) (words : ℕ → ℕ → ℕ) (root node : ℕ) (name : List ℕ) → Option (Option (ℕ × ℕ)) → Type 0
-IsKnownOf standing words root node name known = IfSome known (IsFoundAt standing words root (catalog_key node name))
+abbrev pub IsKnownOf : (standing : ℕ → Standing) (words : ℕ → ℕ → ℕ) (root node : ℕ) (name : List ℕ)
+    → Option (Option (ℕ × ℕ)) → Type 0
+IsKnownOf standing words root node name known = IfSome known
+    (IsFoundAt standing words root (catalog_key node name))
 
 -- and so is what is remembered of an attribute that was looked for
-abbrev pub IsAsked : (standing : ℕ → Standing) (words : ℕ → ℕ → ℕ) (root : ℕ) → Option Asked → Type 0
-IsAsked standing words root asked = IfSome asked (λ a. IsFoundAt standing words root (catalog_key a.node a.name) a.place)
+abbrev pub IsAsked : (standing : ℕ → Standing) (words : ℕ → ℕ → ℕ) (root : ℕ) → Option Asked
+    → Type 0
+IsAsked standing words root asked = IfSome asked
+    (λ a. IsFoundAt standing words root (catalog_key a.node a.name) a.place)

@@ -12,7 +12,8 @@ use Rattle.be_paged.specs.Catalog.{catalog_key, payload_of, value_at}
 
 -- each attribute has a name and a value of the program
 abbrev pub AreValid : Nodes → Type 0
-AreValid nodes = (node : ℕ) (name : List ℕ) (value : Value) → value_at nodes node name ≡ Some value → IsName name × IsValue value
+AreValid nodes = (node : ℕ) (name : List ℕ) (value : Value) → value_at nodes node name ≡ Some value
+    → IsName name × IsValue value
 
 -- the key begins with the node
 abbrev pub is_of : ℕ → List ℕ → Bool

@@ -1,5 +1,6 @@
 -- What a source over a version has in hand.
-use Rattle.std.specs.Prelude.{◌≡◌, ℕ, ◌+◌, ◌<◌, ◌≤◌, ◌&&◌, Bool, IsTrue, IfSome, IfNone, List, true, is_some, length, slice_index_or}
+use Rattle.std.specs.Prelude.{◌≡◌, ℕ, ◌+◌, ◌<◌, ◌≤◌, ◌&&◌, Bool, IsTrue, IfSome, IfNone, List, true}
+use Rattle.std.specs.Prelude.{is_some, length, slice_index_or}
 use Rattle.std.specs.declared.option.Option.{Option}
 use Rattle.be_pages.specs.declared.room.Standing.{Standing}
 use Rattle.be_pages.specs.Pages.{is_readable}
@@ -19,23 +20,29 @@ use Rattle.be_paged.specs.Page.{contents_of, IsGapAt, IsNamedAt}
 use Rattle.be_paged.specs.Version.{IsVersion}
 use Rattle.be_paged.specs.declared.on_page.FoundIndex.{FoundIndex}
 
--- an item that can be read stands at a place of a page
+-- an item that can be read lies at a place of a page
 pub record IsItemAt (standing : ℕ → Standing) (words : ℕ → ℕ → ℕ) (page at : ℕ) : Type 0 where
   pub readable : IsTrue (is_readable (standing page))
   pub in_page : at + 42 ≤ 512
   pub fits : IsItem (words page) at
 
--- the cursor stands in the tree of the index at a place, behind the key of the item at a place of a page; at a place past the indices it stands nowhere
-pub record StandsBehind (standing : ℕ → Standing) (words : ℕ → ℕ → ℕ) (entries : List Entry) (cursor : Cursor) (place : ℕ) (last_page last_at : ℕ) : Type 0 where
+-- the cursor is in the tree of the index at a place, after the key of the item at a place of a
+-- page; at a place past the indices it is in no tree
+pub record StandsBehind (standing : ℕ → Standing) (words : ℕ → ℕ → ℕ) (entries : List Entry)
+    (cursor : Cursor) (place : ℕ) (last_page last_at : ℕ) : Type 0 where
   pub can_go_on : place < length entries → IsCursor standing words cursor
   pub last : place < length entries → IsItemAt standing words last_page last_at
-  pub rest : (d : Entry) → place < length entries → remaining words cursor ≡ pairs_from (pairs words (slice_index_or entries place d).root) (item_at (words last_page) last_at).key true
+  pub rest : (d : Entry) → place < length entries → remaining words cursor
+      ≡ pairs_from (pairs words (slice_index_or entries place d).root)
+      (item_at (words last_page) last_at).key true
 
 -- the index of a name among the entries, or that there is none
 pub record IsFound (entries : List Entry) (name : List ℕ) (found : Option FoundIndex) : Type 0 where
   pub named : IfSome found (λ index. IsNamedAt entries name index.place)
-  pub kind : IfSome found (λ index. (d : Entry) → index.kind ≡ (slice_index_or entries index.place d).kind)
-  pub root : IfSome found (λ index. (d : Entry) → index.root ≡ (slice_index_or entries index.place d).root)
+  pub kind : IfSome found (λ index. (d : Entry) → index.kind
+      ≡ (slice_index_or entries index.place d).kind)
+  pub root : IfSome found (λ index. (d : Entry) → index.root
+      ≡ (slice_index_or entries index.place d).root)
   pub absent : IfNone found ((i : ℕ) × IsGapAt entries name i)
 
 -- what is remembered of an index is what the entries say
@@ -51,9 +58,11 @@ IsKnown entries known = IfSome known (λ last. IsIndexOf entries last)
 abbrev pub has_pair : List Pair → ℕ → Value → Bool
 has_pair items node v = is_indexable (kind_of v) && is_some (payload_at items (key v node))
 
--- the page spells the volume, what is remembered is of that page, and the cursor stands where it says
-pub record SourceOf (standing : ℕ → Standing) (words : ℕ → ℕ → ℕ) (page : ℕ) (known : Option FoundIndex)
+-- the page encodes the volume, what is remembered is of that page, and the cursor is where it says
+pub record SourceOf (standing : ℕ → Standing) (words : ℕ → ℕ → ℕ) (page : ℕ)
+    (known : Option FoundIndex)
     (cursor : Cursor) (place : ℕ) (last_page last_at : ℕ) (volume : State) : Type 0 where
   pub version : IsVersion standing words page volume
   pub known_is : IsKnown (contents_of (words page)).entries known
-  pub behind : StandsBehind standing words (contents_of (words page)).entries cursor place last_page last_at
+  pub behind : StandsBehind standing words (contents_of (words page)).entries cursor place last_page
+      last_at

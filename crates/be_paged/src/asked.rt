@@ -1,6 +1,7 @@
 //! The attribute that refusals looked for first.
 //!
-//! They are found before the first change. So where the first operation of a list is of that attribute, it needn't look for it again.
+//! They are found before the first change. So if the first operation of a list is of that
+//! attribute, it needn't look for it again.
 ghost use Rattle.std.specs.Prelude.{◌≡◌, ℕ, Some};
 ghost use Rattle.std.specs.Option.{option_or};
 ghost use Rattle.be_pages.specs.declared.room.Standing.{Standing as Stands};
@@ -8,7 +9,8 @@ ghost use Rattle.be_paged.specs.Place.{IsAsked, IsKnownOf};
 
 use be_value::Name;
 
-/// A node's attribute that was looked for, and the page and the place where it stands in the catalog, if the node has it.
+/// A node's attribute that was looked for, and its page and its place in the catalog, if the node
+/// has it.
 #[derive(Drop)]
 pub(crate) struct Asked {
     node: u64,
@@ -23,7 +25,8 @@ pub(crate) fn remember(
     name: &Name,
     place: Option<(u64, usize)>,
 )
-    ensures { asked.new ≡ option_or asked.old (Some (record { node = node; name = name.now; place = place })) }
+    ensures { asked.new ≡ option_or asked.old
+        (Some (record { node = node; name = name.now; place = place })) }
 {
     if asked.is_none() {
         *asked = Some(Asked {
@@ -40,7 +43,9 @@ pub(crate) fn known_of(
     node: u64,
     name: &Name,
 ) -> Option<Option<(u64, usize)>>
-    ensures { (standing : ℕ → Stands) (words : ℕ → ℕ → ℕ) (root : ℕ) → IsAsked standing words root asked.now → IsKnownOf standing words root node name.now result }
+    ensures { (standing : ℕ → Stands) (words : ℕ → ℕ → ℕ) (root : ℕ)
+        → IsAsked standing words root asked.now
+        → IsKnownOf standing words root node name.now result }
 {
     match asked {
         Some(last) if last.node == node && last.name == *name => Some(last.place),

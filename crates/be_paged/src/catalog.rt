@@ -1,5 +1,6 @@
 //! Keys and payloads of the catalog.
-ghost use Rattle.std.specs.Prelude.{◌≡◌, ◌+◌, ◌≤◌, ◌<◌, ◌^◌, ℕ, List, ◌∷◌, length, Ok, Some, IsTrue, IsUtf8};
+ghost use Rattle.std.specs.Prelude.{◌≡◌, ◌+◌, ◌≤◌, ◌<◌, ◌^◌, ℕ, List, ◌∷◌, length, Ok, Some};
+ghost use Rattle.std.specs.Prelude.{IsTrue, IsUtf8};
 ghost use Rattle.std.specs.Int.{to_be_bytes, w32, w64};
 ghost use Rattle.be_pages.specs.Pages.{IsUnchanged, is_readable};
 ghost use Rattle.be_tree.specs.Page.{IsItem, item_at};
@@ -29,15 +30,17 @@ pub(crate) fn catalog_key(node: u64, name: &Name) -> ArrayVec<u8, 72>
     key
 }
 
-/// The value that the payload of the item at a place tells, if it tells one. It is read where it stands: an integer from its one or two words, and a
-/// text is filled once before the value has it. Who asks for a value has it in place, and texts are read by functions of their own: so room for a
-/// text is cleared for texts alone, and a value isn't moved from call to call.
+/// The value that the payload of the item at a place encodes, if it encodes one. It is read in
+/// place: an integer from its one or two words, and a text is filled once before the value has it.
+/// A caller that asks for a value gets it in place, and texts are read by functions of their own.
+/// So room for a text is cleared for texts alone, and a value isn't moved from call to call.
 #[inline(always)]
 pub(crate) fn value_at<L: Look>(look: &mut L, page: u64, at: usize) -> Option<Value>
     requires readable { IsTrue (is_readable (L.standing look.old page)) }
     requires in_page { at + 42 ≤ 512 }
     requires item { IsItem (L.words look.old page) at }
-    ensures value { (v : AnyValue) → IsValue v → (item_at (L.words look.old page) at).payload ≡ payload v → result ≡ Some v }
+    ensures value { (v : AnyValue) → IsValue v → (item_at (L.words look.old page) at).payload
+        ≡ payload v → result ≡ Some v }
     ensures unchanged { IsUnchanged L.kept L.standing L.words look.old look.new }
 {
     let kind = kind_at(look, page, at)?;
@@ -52,13 +55,14 @@ pub(crate) fn value_at<L: Look>(look: &mut L, page: u64, at: usize) -> Option<Va
     }
 }
 
-/// The text behind a payload's first byte, as a value of one kind.
+/// The text after a payload's first byte, as a value of one kind.
 #[inline(never)]
 fn cstr_at<L: Look>(look: &mut L, page: u64, at: usize) -> Option<Value>
     requires readable { IsTrue (is_readable (L.standing look.old page)) }
     requires in_page { at + 42 ≤ 512 }
     requires item { IsItem (L.words look.old page) at }
-    ensures value { (k : ℕ) (t : List ℕ) → text_from t ≡ Ok t → IsUtf8 t → (item_at (L.words look.old page) at).payload ≡ k ∷ t → result ≡ Some (AnyValue.Cstr t) }
+    ensures value { (k : ℕ) (t : List ℕ) → text_from t ≡ Ok t → IsUtf8 t
+        → (item_at (L.words look.old page) at).payload ≡ k ∷ t → result ≡ Some (AnyValue.Cstr t) }
     ensures unchanged { IsUnchanged L.kept L.standing L.words look.old look.new }
 {
     Some(Value::Cstr(text_at(look, page, at)?))
@@ -70,19 +74,22 @@ fn mims_at<L: Look>(look: &mut L, page: u64, at: usize) -> Option<Value>
     requires readable { IsTrue (is_readable (L.standing look.old page)) }
     requires in_page { at + 42 ≤ 512 }
     requires item { IsItem (L.words look.old page) at }
-    ensures value { (k : ℕ) (t : List ℕ) → text_from t ≡ Ok t → IsUtf8 t → (item_at (L.words look.old page) at).payload ≡ k ∷ t → result ≡ Some (AnyValue.Mims t) }
+    ensures value { (k : ℕ) (t : List ℕ) → text_from t ≡ Ok t → IsUtf8 t
+        → (item_at (L.words look.old page) at).payload ≡ k ∷ t → result ≡ Some (AnyValue.Mims t) }
     ensures unchanged { IsUnchanged L.kept L.standing L.words look.old look.new }
 {
     Some(Value::Mims(text_at(look, page, at)?))
 }
 
-/// The bytes behind a payload's first byte as a value.
+/// The bytes after a payload's first byte as a value.
 #[inline(never)]
 fn rawt_at<L: Look>(look: &mut L, page: u64, at: usize) -> Option<Value>
     requires readable { IsTrue (is_readable (L.standing look.old page)) }
     requires in_page { at + 42 ≤ 512 }
     requires item { IsItem (L.words look.old page) at }
-    ensures value { (k : ℕ) (bytes : List ℕ) → length bytes ≤ 255 → (item_at (L.words look.old page) at).payload ≡ k ∷ bytes → result ≡ Some (AnyValue.Rawt bytes) }
+    ensures value { (k : ℕ) (bytes : List ℕ) → length bytes ≤ 255
+        → (item_at (L.words look.old page) at).payload ≡ k ∷ bytes → result
+        ≡ Some (AnyValue.Rawt bytes) }
     ensures unchanged { IsUnchanged L.kept L.standing L.words look.old look.new }
 {
     Some(Value::Rawt(bytes_at(look, page, at)?))
@@ -93,7 +100,8 @@ pub(crate) fn kind_at<L: Look>(look: &mut L, page: u64, at: usize) -> Option<Kin
     requires readable { IsTrue (is_readable (L.standing look.old page)) }
     requires in_page { at + 42 ≤ 512 }
     requires item { IsItem (L.words look.old page) at }
-    ensures kind { (v : AnyValue) → (item_at (L.words look.old page) at).payload ≡ payload v → result ≡ Some (kind_of v) }
+    ensures kind { (v : AnyValue) → (item_at (L.words look.old page) at).payload ≡ payload v
+        → result ≡ Some (kind_of v) }
     ensures unchanged { IsUnchanged L.kept L.standing L.words look.old look.new }
 {
     let len = payload_len_at(look, page, at);
@@ -104,12 +112,13 @@ pub(crate) fn kind_at<L: Look>(look: &mut L, page: u64, at: usize) -> Option<Kin
     Kind::numbered(number)
 }
 
-/// The number behind a payload's first byte, where that has four bytes.
+/// The number after a payload's first byte, if it has four bytes.
 pub(crate) fn number32_at<L: Look>(look: &mut L, page: u64, at: usize) -> Option<u32>
     requires readable { IsTrue (is_readable (L.standing look.old page)) }
     requires in_page { at + 42 ≤ 512 }
     requires item { IsItem (L.words look.old page) at }
-    ensures number { (k n : ℕ) → n < 2 ^ 32 → (item_at (L.words look.old page) at).payload ≡ k ∷ to_be_bytes w32 n → result ≡ Some n }
+    ensures number { (k n : ℕ) → n < 2 ^ 32 → (item_at (L.words look.old page) at).payload ≡ k
+        ∷ to_be_bytes w32 n → result ≡ Some n }
     ensures unchanged { IsUnchanged L.kept L.standing L.words look.old look.new }
 {
     let len = payload_len_at(look, page, at);
@@ -119,12 +128,13 @@ pub(crate) fn number32_at<L: Look>(look: &mut L, page: u64, at: usize) -> Option
     Some(payload_number32_at(look, page, at, 1))
 }
 
-/// The number behind a payload's first byte, where that has eight bytes.
+/// The number after a payload's first byte, if it has eight bytes.
 pub(crate) fn number64_at<L: Look>(look: &mut L, page: u64, at: usize) -> Option<u64>
     requires readable { IsTrue (is_readable (L.standing look.old page)) }
     requires in_page { at + 42 ≤ 512 }
     requires item { IsItem (L.words look.old page) at }
-    ensures number { (k n : ℕ) → n < 2 ^ 64 → (item_at (L.words look.old page) at).payload ≡ k ∷ to_be_bytes w64 n → result ≡ Some n }
+    ensures number { (k n : ℕ) → n < 2 ^ 64 → (item_at (L.words look.old page) at).payload ≡ k
+        ∷ to_be_bytes w64 n → result ≡ Some n }
     ensures unchanged { IsUnchanged L.kept L.standing L.words look.old look.new }
 {
     let len = payload_len_at(look, page, at);
@@ -134,12 +144,13 @@ pub(crate) fn number64_at<L: Look>(look: &mut L, page: u64, at: usize) -> Option
     Some(payload_number_at(look, page, at, 1))
 }
 
-/// The text behind a payload's first byte, if it is one of a value.
+/// The text after a payload's first byte, if it is one of a value.
 fn text_at<L: Look>(look: &mut L, page: u64, at: usize) -> Option<Text>
     requires readable { IsTrue (is_readable (L.standing look.old page)) }
     requires in_page { at + 42 ≤ 512 }
     requires item { IsItem (L.words look.old page) at }
-    ensures text { (k : ℕ) (t : List ℕ) → text_from t ≡ Ok t → IsUtf8 t → (item_at (L.words look.old page) at).payload ≡ k ∷ t → result ≡ Some t }
+    ensures text { (k : ℕ) (t : List ℕ) → text_from t ≡ Ok t → IsUtf8 t
+        → (item_at (L.words look.old page) at).payload ≡ k ∷ t → result ≡ Some t }
     ensures unchanged { IsUnchanged L.kept L.standing L.words look.old look.new }
 {
     let mut payload = ArrayVec::new();
@@ -148,18 +159,20 @@ fn text_at<L: Look>(look: &mut L, page: u64, at: usize) -> Option<Text>
 }
 
 fn text_of(payload: &[u8]) -> Option<Text>
-    ensures { (k : ℕ) (t : List ℕ) → text_from t ≡ Ok t → IsUtf8 t → payload.now ≡ k ∷ t → result ≡ Some t }
+    ensures { (k : ℕ) (t : List ℕ) → text_from t ≡ Ok t → IsUtf8 t → payload.now ≡ k ∷ t → result
+        ≡ Some t }
 {
     let (_, text) = payload.split_first()?;
     Text::new(str::from_utf8(text).ok()?).ok()
 }
 
-/// The bytes behind a payload's first byte, if they are few enough for a value.
+/// The bytes after a payload's first byte, if they are few enough for a value.
 fn bytes_at<L: Look>(look: &mut L, page: u64, at: usize) -> Option<Bytes>
     requires readable { IsTrue (is_readable (L.standing look.old page)) }
     requires in_page { at + 42 ≤ 512 }
     requires item { IsItem (L.words look.old page) at }
-    ensures bytes { (k : ℕ) (bytes : List ℕ) → length bytes ≤ 255 → (item_at (L.words look.old page) at).payload ≡ k ∷ bytes → result ≡ Some bytes }
+    ensures bytes { (k : ℕ) (bytes : List ℕ) → length bytes ≤ 255
+        → (item_at (L.words look.old page) at).payload ≡ k ∷ bytes → result ≡ Some bytes }
     ensures unchanged { IsUnchanged L.kept L.standing L.words look.old look.new }
 {
     let mut payload = ArrayVec::new();
@@ -168,7 +181,8 @@ fn bytes_at<L: Look>(look: &mut L, page: u64, at: usize) -> Option<Bytes>
 }
 
 fn bytes_of(payload: &[u8]) -> Option<Bytes>
-    ensures { (k : ℕ) (bytes : List ℕ) → length bytes ≤ 255 → payload.now ≡ k ∷ bytes → result ≡ Some bytes }
+    ensures { (k : ℕ) (bytes : List ℕ) → length bytes ≤ 255 → payload.now ≡ k ∷ bytes → result
+        ≡ Some bytes }
 {
     let (_, bytes) = payload.split_first()?;
     Bytes::new(bytes).ok()

@@ -1,5 +1,7 @@
-//! Values told where a caller has room for them: a cell for each, and the bytes of texts one after the other.
-ghost use Rattle.std.specs.Prelude.{◌≡◌, ◌+◌, ◌-◌, ◌*◌, ◌^◌, ◌<◌, ◌≤◌, ℕ, ℤ, List, [], ◌∷◌, ◌++◌, Ok, Err, Some, IsTrue, drop, length};
+//! Values written into a caller's room: a cell for each, and the bytes of texts one after the
+//! other.
+ghost use Rattle.std.specs.Prelude.{◌≡◌, ◌+◌, ◌-◌, ◌*◌, ◌^◌, ◌<◌, ◌≤◌, ℕ, ℤ, List, [], ◌∷◌, ◌++◌};
+ghost use Rattle.std.specs.Prelude.{Ok, Err, Some, IsTrue, drop, length};
 ghost use Rattle.std.specs.Int.{cast_unsigned, w32, w64};
 ghost use Rattle.std.specs.Int.RustNames.{FitsSigned};
 ghost use Rattle.std.specs.declared.result.Result.{Result as AnyResult};
@@ -19,8 +21,8 @@ use be_pages::Look;
 use be_tree::{fill_payload, payload_len_at};
 use be_value::{Kind, Name, Refusal};
 
-/// A name as a caller holds it: its length, and its bytes at the front of the others. Nothing else is asked of it: bytes that are no
-/// name are no attribute's.
+/// A name as a caller holds it: its length, and its bytes at the front of the others. Nothing else
+/// is required of it: bytes that are no name are no attribute's.
 #[repr(C)]
 #[derive(Clone, Copy)]
 pub struct HeldName {
@@ -28,8 +30,9 @@ pub struct HeldName {
     pub bytes: [u8; 64],
 }
 
-/// What is told of a node's attribute: 0 and the value's type code, its number, and where its bytes begin and how many they are; or the
-/// number of the refusal. A signed number is in two's complement.
+/// The cell of a node's attribute: error 0 and the value's type code, its number, and where its
+/// bytes begin and how many they are; or the number of the refusal. A signed number is in two's
+/// complement.
 #[repr(C)]
 #[derive(Clone, Copy)]
 pub struct Cell {
@@ -40,7 +43,7 @@ pub struct Cell {
     pub length: u64,
 }
 
-/// How many cells were told, and how many bytes.
+/// How many cells were written, and how many bytes.
 #[derive(Clone, Copy)]
 pub struct Filled {
     pub cells: usize,
@@ -73,9 +76,10 @@ pub(crate) fn held_key(node: u64, name: &HeldName) -> ArrayVec<u8, 72>
     key
 }
 
-/// Puts items at a place behind those that were put, as many as there are places.
+/// Puts items at a place after those that were put, as many as there are places.
 fn put_at<T: Copy>(places: &mut [T], at: usize, items: &[T])
-    ensures { (before all : List T) → length before ≡ at → places.old ≡ over before all → places.new ≡ over (before ++ items.now) all }
+    ensures { (before all : List T) → length before ≡ at → places.old ≡ over before all → places.new
+        ≡ over (before ++ items.now) all }
 {
     if at >= places.len() {
         return;
@@ -99,8 +103,11 @@ pub(crate) fn tell(
     requires cells { filled.old.cells < 2 ^ 32 }
     requires few { IsFew filled.old }
     requires short { length content.now ≤ 512 }
-    ensures told { (x : AnyResult AnyValue AnyRefusal) (found : List (AnyResult AnyValue AnyRefusal)) (cell_places : List AnyCell) (byte_places : List ℕ)
-        → cell ≡ cell_of filled.old.bytes x → content.now ≡ data_in x → AreTold found cell_places cells.old byte_places bytes.old filled.old
+    ensures told { (x : AnyResult AnyValue AnyRefusal)
+        (found : List (AnyResult AnyValue AnyRefusal)) (cell_places : List AnyCell)
+        (byte_places : List ℕ)
+        → cell ≡ cell_of filled.old.bytes x → content.now ≡ data_in x
+        → AreTold found cell_places cells.old byte_places bytes.old filled.old
         → AreTold (found ++ x ∷ []) cell_places cells.new byte_places bytes.new filled.new }
     ensures one { filled.new.cells ≡ filled.old.cells + 1 }
     ensures few { IsFew filled.new }
@@ -128,7 +135,13 @@ pub(crate) fn empty_cell(why: &Refusal, offset: usize) -> Cell
 
 /// The cell of a number.
 fn number_cell(kind: Kind, number: u64, offset: usize) -> Cell
-    ensures { result ≡ record { error = 0; code = code_of kind; number = number; offset = offset; length = 0 } }
+    ensures { result ≡ record {
+      error = 0;
+      code = code_of kind;
+      number = number;
+      offset = offset;
+      length = 0;
+    } }
 {
     Cell {
         error: 0,
@@ -142,7 +155,13 @@ fn number_cell(kind: Kind, number: u64, offset: usize) -> Cell
 /// The cell of a text, of whose payload the first byte is the kind.
 fn data_cell(kind: Kind, payload_len: usize, offset: usize) -> Cell
     requires { 1 ≤ payload_len }
-    ensures { result ≡ record { error = 0; code = code_of kind; number = 0; offset = offset; length = payload_len - 1 } }
+    ensures { result ≡ record {
+      error = 0;
+      code = code_of kind;
+      number = 0;
+      offset = offset;
+      length = payload_len - 1;
+    } }
 {
     Cell {
         error: 0,
@@ -155,17 +174,20 @@ fn data_cell(kind: Kind, payload_len: usize, offset: usize) -> Cell
 
 /// A signed number of four bytes as one of eight.
 fn widened(number: u32) -> u64
-    ensures { (n : ℤ) → FitsSigned w32 n → number ≡ cast_unsigned w32 n → result ≡ cast_unsigned w64 n }
+    ensures { (n : ℤ) → FitsSigned w32 n → number ≡ cast_unsigned w32 n → result
+        ≡ cast_unsigned w64 n }
 {
     (number.cast_signed() as i64).cast_unsigned()
 }
 
-/// The cell of the value at a place of the catalog, whose bytes begin at an offset, if its payload tells a value.
+/// The cell of the value at a place of the catalog, if its payload encodes a value. The value's
+/// bytes begin at this offset.
 fn value_cell<L: Look>(look: &mut L, page: u64, at: usize, offset: usize) -> Option<Cell>
     requires readable { IsTrue (is_readable (L.standing look.old page)) }
     requires in_page { at + 42 ≤ 512 }
     requires item { IsItem (L.words look.old page) at }
-    ensures cell { (v : AnyValue) → IsValue v → (item_at (L.words look.old page) at).payload ≡ payload v → result ≡ Some (cell_of offset (Ok v)) }
+    ensures cell { (v : AnyValue) → IsValue v → (item_at (L.words look.old page) at).payload
+        ≡ payload v → result ≡ Some (cell_of offset (Ok v)) }
     ensures unchanged { IsUnchanged L.kept L.standing L.words look.old look.new }
 {
     let kind = kind_at(look, page, at)?;
@@ -187,7 +209,7 @@ fn value_cell<L: Look>(look: &mut L, page: u64, at: usize, offset: usize) -> Opt
     }
 }
 
-/// The bytes behind the first one.
+/// The bytes after the first one.
 fn after_first(payload: &[u8]) -> &[u8]
     ensures { result.now ≡ drop 1 payload.now }
 {
@@ -212,8 +234,11 @@ fn tell_data<L: Look>(
     requires item { IsItem (L.words look.old page) at }
     requires cells { filled.old.cells < 2 ^ 32 }
     requires few { IsFew filled.old }
-    ensures told { (x : AnyResult AnyValue AnyRefusal) (found : List (AnyResult AnyValue AnyRefusal)) (cell_places : List AnyCell) (byte_places : List ℕ)
-        → cell ≡ cell_of filled.old.bytes x → drop 1 (item_at (L.words look.old page) at).payload ≡ data_in x → AreTold found cell_places cells.old byte_places bytes.old filled.old
+    ensures told { (x : AnyResult AnyValue AnyRefusal)
+        (found : List (AnyResult AnyValue AnyRefusal)) (cell_places : List AnyCell)
+        (byte_places : List ℕ)
+        → cell ≡ cell_of filled.old.bytes x → drop 1 (item_at (L.words look.old page) at).payload
+        ≡ data_in x → AreTold found cell_places cells.old byte_places bytes.old filled.old
         → AreTold (found ++ x ∷ []) cell_places cells.new byte_places bytes.new filled.new }
     ensures one { filled.new.cells ≡ filled.old.cells + 1 }
     ensures few { IsFew filled.new }
@@ -225,7 +250,8 @@ fn tell_data<L: Look>(
     tell(cells, bytes, filled, cell, content);
 }
 
-/// Tells the value of the item at a place of the catalog: a text's bytes go from the page to the caller.
+/// Tells the value of the item at a place of the catalog: a text's bytes go from the page to the
+/// caller.
 pub(crate) fn tell_value<L: Look>(
     look: &mut L,
     page: u64,
@@ -239,8 +265,10 @@ pub(crate) fn tell_value<L: Look>(
     requires item { IsItem (L.words look.old page) at }
     requires cells { filled.old.cells < 2 ^ 32 }
     requires few { IsFew filled.old }
-    ensures told { (v : AnyValue) (found : List (AnyResult AnyValue AnyRefusal)) (cell_places : List AnyCell) (byte_places : List ℕ)
-        → IsValue v → (item_at (L.words look.old page) at).payload ≡ payload v → AreTold found cell_places cells.old byte_places bytes.old filled.old
+    ensures told { (v : AnyValue) (found : List (AnyResult AnyValue AnyRefusal))
+        (cell_places : List AnyCell) (byte_places : List ℕ)
+        → IsValue v → (item_at (L.words look.old page) at).payload ≡ payload v
+        → AreTold found cell_places cells.old byte_places bytes.old filled.old
         → AreTold (found ++ Ok v ∷ []) cell_places cells.new byte_places bytes.new filled.new }
     ensures one { filled.new.cells ≡ filled.old.cells + 1 }
     ensures few { IsFew filled.new }
@@ -264,7 +292,8 @@ pub(crate) fn tell_value<L: Look>(
     tell_data(look, page, at, cell, cells, bytes, filled);
 }
 
-/// The cell of the value at a place of the catalog, if its payload tells one, whose bytes are put to the front of the places.
+/// The cell of the value at a place of the catalog, if its payload encodes one. The value's bytes
+/// are written to the front of the places.
 pub(crate) fn read_into<L: Look>(
     look: &mut L,
     page: u64,
@@ -274,8 +303,10 @@ pub(crate) fn read_into<L: Look>(
     requires readable { IsTrue (is_readable (L.standing look.old page)) }
     requires in_page { at + 42 ≤ 512 }
     requires item { IsItem (L.words look.old page) at }
-    ensures cell { (v : AnyValue) → IsValue v → (item_at (L.words look.old page) at).payload ≡ payload v → result ≡ Some (cell_of 0 (Ok v)) }
-    ensures bytes { (v : AnyValue) → IsValue v → (item_at (L.words look.old page) at).payload ≡ payload v → bytes.new ≡ over (data_of v) bytes.old }
+    ensures cell { (v : AnyValue) → IsValue v → (item_at (L.words look.old page) at).payload
+        ≡ payload v → result ≡ Some (cell_of 0 (Ok v)) }
+    ensures bytes { (v : AnyValue) → IsValue v → (item_at (L.words look.old page) at).payload
+        ≡ payload v → bytes.new ≡ over (data_of v) bytes.old }
     ensures unchanged { IsUnchanged L.kept L.standing L.words look.old look.new }
 {
     let cell = value_cell(look, page, at, 0)?;
@@ -290,7 +321,8 @@ fn put_payload<L: Look>(look: &mut L, page: u64, at: usize, bytes: &mut [u8])
     requires readable { IsTrue (is_readable (L.standing look.old page)) }
     requires in_page { at + 42 ≤ 512 }
     requires item { IsItem (L.words look.old page) at }
-    ensures bytes { bytes.new ≡ over (drop 1 (item_at (L.words look.old page) at).payload) bytes.old }
+    ensures bytes { bytes.new ≡ over (drop 1 (item_at (L.words look.old page) at).payload)
+        bytes.old }
     ensures unchanged { IsUnchanged L.kept L.standing L.words look.old look.new }
 {
     let mut payload = ArrayVec::new();

@@ -1,9 +1,11 @@
 //! Changes of the trees that a version in hand names.
 //!
-//! An attribute and its pair in an index change one after the other. Between the two the contents spell a volume of which an index says other
-//! than the attribute, so what is kept from one change to the next is that the trees stand, apart from what they say.
+//! An attribute and its pair in an index change one after the other. Between the two the contents
+//! encode a volume in which the index and the attribute disagree. So what is kept from one change
+//! to the next is that the trees are well formed, apart from what they say.
 ghost use Rattle.std.specs.Option.{option_copied};
-ghost use Rattle.std.specs.Prelude.{◌≡◌, ℕ, ◌<◌, length, IsTrue, IfOk, IfErr, OnOk, OnErr, IfSome, IfNone, Some, None, option_map, true, is_some, List};
+ghost use Rattle.std.specs.Prelude.{◌≡◌, ℕ, ◌<◌, length, IsTrue, IfOk, IfErr, OnOk, OnErr, IfSome};
+ghost use Rattle.std.specs.Prelude.{IfNone, Some, None, option_map, true, is_some, List};
 ghost use Rattle.be_value.specs.Key.{key, IsValue};
 ghost use Rattle.be_value.specs.Value.{kind_of as kind_in, is_indexable};
 ghost use Rattle.be_value.specs.declared.values.Value.{Value as AnyValue};
@@ -32,8 +34,10 @@ use be_value::{Kind, Name, Refusal, Value, key_of, valid};
 
 /// The key of a pair in an index of this kind, if there is a value and it is of the kind.
 fn key_in(kind: Kind, value: Option<&Value>, node: u64) -> Option<ArrayVec<u8, 264>>
-    ensures some { IfSome result (λ k. (v : AnyValue) × (option_copied value.entry ≡ Some v) × (kind_in v ≡ kind) × IsValue v × (k.items ≡ key v node)) }
-    ensures none { IfNone result ((v : AnyValue) → option_copied value.entry ≡ Some v → kind_in v ≡ kind → IsTrue (is_indexable kind) → ⊥) }
+    ensures some { IfSome result (λ k. (v : AnyValue) × (option_copied value.entry ≡ Some v)
+        × (kind_in v ≡ kind) × IsValue v × (k.items ≡ key v node)) }
+    ensures none { IfNone result ((v : AnyValue) → option_copied value.entry ≡ Some v → kind_in v
+        ≡ kind → IsTrue (is_indexable kind) → ⊥) }
 {
     if !kind.indexable() {
         return None;
@@ -47,7 +51,7 @@ fn key_in(kind: Kind, value: Option<&Value>, node: u64) -> Option<ArrayVec<u8, 2
     }
 }
 
-/// Whether a tree has the key that both of two are. Where they differ it isn't looked for.
+/// Whether a tree has the key that both of two are. If they differ, it isn't looked for.
 fn holds_both<L: Look>(
     look: &mut L,
     root: u64,
@@ -57,7 +61,8 @@ fn holds_both<L: Look>(
     requires tree { IsTree (L.standing look.old) (L.words look.old) root }
     ensures found { result ≡ true → (k : List ℕ) × (option_map (λ k. k.items) key.now ≡ Some k)
         × (is_some (payload_at (pairs (L.words look.old) root) k) ≡ true) }
-    ensures finds { (k : List ℕ) → option_map (λ k. k.items) other.now ≡ Some k → option_map (λ k. k.items) key.now ≡ Some k →
+    ensures finds { (k : List ℕ) → option_map (λ k. k.items) other.now ≡ Some k
+        → option_map (λ k. k.items) key.now ≡ Some k →
         is_some (payload_at (pairs (L.words look.old) root) k) ≡ true → result ≡ true }
     ensures unchanged { IsUnchanged L.kept L.standing L.words look.old look.new }
 {
@@ -83,8 +88,10 @@ fn turn_key<R: Room>(
 ) -> Result<u64, Refusal>
     requires tree { IsTree (R.standing room.old) (R.words room.old) root }
     requires open { IsTrue (R.is_open (R.kept room.old)) }
-    ensures ok { IfOk result (λ new. BecomesTree R.kept R.standing R.words (pages (R.words room.old) root)
-        (key_turned turn (option_map (λ k. k.items) key.now) (pairs (R.words room.old) root)) new room.old room.new) }
+    ensures ok { IfOk result (λ new. BecomesTree R.kept R.standing R.words
+        (pages (R.words room.old) root)
+        (key_turned turn (option_map (λ k. k.items) key.now) (pairs (R.words room.old) root)) new
+        room.old room.new) }
     ensures none { IfOk result (λ new. option_map (λ k. k.items) key.now ≡ None → new ≡ root) }
     ensures err { OnErr result (KeepsStart R.kept R.standing R.words room.old room.new) }
     ensures full { IfErr result (IsFullOf (R.full room.new)) }
@@ -98,9 +105,10 @@ fn turn_key<R: Room>(
     }
 }
 
-/// Changes the node's pair in the tree of an index: that of the old value leaves, and that of the new one enters, each if it
-/// is of the index's kind. A pair that stands already isn't touched, and the root and the room are as they were: it is looked
-/// for only where the old value has it too, since an index has no pair of another value.
+/// Changes the node's pair in the tree of an index: the pair of the old value leaves, and that of
+/// the new one enters, each if it is of the index's kind. If the pair is there already, it isn't
+/// touched, and the root and the room are unchanged. It is looked for only if the old value has it
+/// too, since an index has no pair of another value.
 fn change_root<R: Room>(
     room: &mut R,
     root: u64,
@@ -112,12 +120,17 @@ fn change_root<R: Room>(
     requires tree { IsTree (R.standing room.old) (R.words room.old) root }
     requires open { IsTrue (R.is_open (R.kept room.old)) }
     ensures tree { IfOk result (λ r. IsTree (R.standing room.new) (R.words room.new) r) }
-    ensures swaps { IfOk result (λ r. Swaps R.kept R.standing R.words (pages (R.words room.old) root) (pages (R.words room.new) r) room.old room.new) }
-    ensures keys { IfOk result (λ r. (index : AnyIndex) → IsIndexOf (pairs (R.words room.old) root) index → IsReady index kind node (option_copied old.entry) →
+    ensures swaps { IfOk result (λ r. Swaps R.kept R.standing R.words
+        (pages (R.words room.old) root) (pages (R.words room.new) r) room.old room.new) }
+    ensures keys { IfOk result (λ r. (index : AnyIndex)
+        → IsIndexOf (pairs (R.words room.old) root) index
+        → IsReady index kind node (option_copied old.entry) →
         IsIndexOf (pairs (R.words room.new) r) (repaired index node (option_copied new.entry))) }
-    ensures stays { IfOk result (λ r. (v : AnyValue) → kind_in v ≡ kind → IsTrue (is_indexable kind) →
+    ensures stays { IfOk result (λ r. (v : AnyValue) → kind_in v ≡ kind → IsTrue (is_indexable kind)
+        →
         option_copied old.entry ≡ Some v → option_copied new.entry ≡ Some v →
-        is_some (payload_at (pairs (R.words room.old) root) (key v node)) ≡ true → (r ≡ root) × IsUnchanged R.kept R.standing R.words room.old room.new) }
+        is_some (payload_at (pairs (R.words room.old) root) (key v node)) ≡ true → (r ≡ root)
+        × IsUnchanged R.kept R.standing R.words room.old room.new) }
     ensures apart { IfOk result (λ r. (v : AnyValue) → (kind_in v ≡ kind → ⊥) →
         option_copied old.entry ≡ Some v → option_copied new.entry ≡ Some v → r ≡ root) }
     ensures err { OnErr result (KeepsStart R.kept R.standing R.words room.old room.new) }
@@ -145,13 +158,20 @@ fn change_at<R: Room>(
     requires in_hand { IsInHand (R.standing room.old) (R.words room.old) (contents version.old) }
     requires in_range { at < length version.old.entries.items }
     requires open { IsTrue (R.is_open (R.kept room.old)) }
-    ensures changes { OnOk result (Changes R.kept R.standing R.words (contents version.old) (contents version.new) room.old room.new) }
-    ensures spells { OnOk result ((volume : State) (name : List ℕ) → IsNamedAt version.old.entries.items name at →
-        Spells (R.words room.old) (contents version.old) volume → IsSound volume → option_copied old.entry ≡ attribute volume node name →
-        Spells (R.words room.new) (contents version.new) (with_indices volume name node (option_copied new.entry))) }
-    ensures stays { OnOk result ((volume : State) (name : List ℕ) → IsNamedAt version.old.entries.items name at →
-        Spells (R.words room.old) (contents version.old) volume → IsSound volume → option_copied old.entry ≡ attribute volume node name → (v : AnyValue) →
-        option_copied old.entry ≡ Some v → option_copied new.entry ≡ Some v → with_pair volume.indices name node v ≡ volume.indices →
+    ensures changes { OnOk result (Changes R.kept R.standing R.words (contents version.old)
+        (contents version.new) room.old room.new) }
+    ensures spells { OnOk result ((volume : State) (name : List ℕ)
+        → IsNamedAt version.old.entries.items name at →
+        Spells (R.words room.old) (contents version.old) volume → IsSound volume
+        → option_copied old.entry ≡ attribute volume node name →
+        Spells (R.words room.new) (contents version.new)
+        (with_indices volume name node (option_copied new.entry))) }
+    ensures stays { OnOk result ((volume : State) (name : List ℕ)
+        → IsNamedAt version.old.entries.items name at →
+        Spells (R.words room.old) (contents version.old) volume → IsSound volume
+        → option_copied old.entry ≡ attribute volume node name → (v : AnyValue) →
+        option_copied old.entry ≡ Some v → option_copied new.entry ≡ Some v
+        → with_pair volume.indices name node v ≡ volume.indices →
         version.new.entries.items ≡ version.old.entries.items) }
     ensures catalog { OnOk result (version.new.catalog ≡ version.old.catalog) }
     ensures next { OnOk result (version.new.next ≡ version.old.next) }
@@ -164,8 +184,8 @@ fn change_at<R: Room>(
     Ok(())
 }
 
-/// Changes the node's pair in the index of a name, if there is one. The value that the node has is read only then, and
-/// looked for only where nothing is known of it.
+/// Changes the node's pair in the index of a name, if there is one. The value that the node has is
+/// read only then, and looked for only if nothing is known of it.
 pub(crate) fn change_entry<R: Room>(
     room: &mut R,
     version: &mut Version,
@@ -175,13 +195,20 @@ pub(crate) fn change_entry<R: Room>(
     new: Option<&Value>,
 ) -> Result<(), Refusal>
     requires in_hand { IsInHand (R.standing room.old) (R.words room.old) (contents version.old) }
-    requires known { IsKnownOf (R.standing room.old) (R.words room.old) version.old.catalog node name.now known }
+    requires known { IsKnownOf (R.standing room.old) (R.words room.old) version.old.catalog node
+        name.now known }
     requires open { IsTrue (R.is_open (R.kept room.old)) }
-    ensures changes { OnOk result (Changes R.kept R.standing R.words (contents version.old) (contents version.new) room.old room.new) }
-    ensures spells { OnOk result ((volume : State) → Spells (R.words room.old) (contents version.old) volume → IsSound volume →
-        Spells (R.words room.new) (contents version.new) (with_indices volume name.now node (option_copied new.entry))) }
-    ensures stays { OnOk result ((volume : State) → Spells (R.words room.old) (contents version.old) volume → IsSound volume → (v : AnyValue) →
-        attribute volume node name.now ≡ Some v → option_copied new.entry ≡ Some v → with_pair volume.indices name.now node v ≡ volume.indices →
+    ensures changes { OnOk result (Changes R.kept R.standing R.words (contents version.old)
+        (contents version.new) room.old room.new) }
+    ensures spells { OnOk result ((volume : State)
+        → Spells (R.words room.old) (contents version.old) volume → IsSound volume →
+        Spells (R.words room.new) (contents version.new)
+        (with_indices volume name.now node (option_copied new.entry))) }
+    ensures stays { OnOk result ((volume : State)
+        → Spells (R.words room.old) (contents version.old) volume → IsSound volume → (v : AnyValue)
+        →
+        attribute volume node name.now ≡ Some v → option_copied new.entry ≡ Some v
+        → with_pair volume.indices name.now node v ≡ volume.indices →
         version.new.entries.items ≡ version.old.entries.items) }
     ensures catalog { OnOk result (version.new.catalog ≡ version.old.catalog) }
     ensures next { OnOk result (version.new.next ≡ version.old.next) }

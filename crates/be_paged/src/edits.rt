@@ -1,8 +1,9 @@
 //! Operations on a version in hand.
 //!
-//! Refusals are found before, so each operation only does its work and fails for want of pages alone. What it leaves then is not said: the write
-//! is undone.
-ghost use Rattle.std.specs.Prelude.{◌≡◌, [], ◌+◌, ◌≤◌, ◌<◌, ◌^◌, All, length, IsTrue, IfOk, IfErr, OnOk, OnErr, IsOk};
+//! Refusals are found before, so each operation only does its work, and the one error is that no
+//! page is free. The contracts don't say what it leaves after that: the write is undone.
+ghost use Rattle.std.specs.Prelude.{◌≡◌, [], ◌+◌, ◌≤◌, ◌<◌, ◌^◌, All, length, IsTrue, IfOk, IfErr};
+ghost use Rattle.std.specs.Prelude.{OnOk, OnErr, IsOk};
 ghost use Rattle.be_pages.specs.Pages.{KeepsStart};
 ghost use Rattle.be_pages.specs.Refusal.{IsFullOf};
 ghost use Rattle.be_volume.specs.Sound.{IsSound};
@@ -31,8 +32,10 @@ fn add_node<R: Room>(room: &mut R, version: &mut Version) -> Result<Done, Refusa
     requires in_hand { IsInHand (R.standing room.old) (R.words room.old) (contents version.old) }
     requires next { version.old.next + 1 < 2 ^ 64 }
     requires open { IsTrue (R.is_open (R.kept room.old)) }
-    ensures changes { OnOk result (Changes R.kept R.standing R.words (contents version.old) (contents version.new) room.old room.new) }
-    ensures steps { IfOk result (λ done. (volume : State) → Spells (R.words room.old) (contents version.old) volume → IsSound volume →
+    ensures changes { OnOk result (Changes R.kept R.standing R.words (contents version.old)
+        (contents version.new) room.old room.new) }
+    ensures steps { IfOk result (λ done. (volume : State)
+        → Spells (R.words room.old) (contents version.old) volume → IsSound volume →
         Steps (R.words room.new) (contents version.new) volume ops.New done) }
     ensures next { OnOk result (version.new.next ≡ version.old.next + 1) }
     ensures err { OnErr result (KeepsStart R.kept R.standing R.words room.old room.new) }
@@ -54,13 +57,20 @@ fn set_value<R: Room>(
     known: Option<Option<(u64, usize)>>,
 ) -> Result<Done, Refusal>
     requires in_hand { IsInHand (R.standing room.old) (R.words room.old) (contents version.old) }
-    requires known { IsKnownOf (R.standing room.old) (R.words room.old) version.old.catalog node name.now known }
+    requires known { IsKnownOf (R.standing room.old) (R.words room.old) version.old.catalog node
+        name.now known }
     requires open { IsTrue (R.is_open (R.kept room.old)) }
-    ensures changes { OnOk result (Changes R.kept R.standing R.words (contents version.old) (contents version.new) room.old room.new) }
-    ensures steps { IfOk result (λ done. (volume : State) → Spells (R.words room.old) (contents version.old) volume → IsSound volume →
-        IsOk (step volume (ops.Set node name.now value.now)) → Steps (R.words room.new) (contents version.new) volume (ops.Set node name.now value.now) done) }
-    ensures stays { IfOk result (λ done. (volume : State) → Spells (R.words room.old) (contents version.old) volume → IsSound volume →
-        SetsWhatStands volume (ops.Set node name.now value.now) → version.new.entries.items ≡ version.old.entries.items) }
+    ensures changes { OnOk result (Changes R.kept R.standing R.words (contents version.old)
+        (contents version.new) room.old room.new) }
+    ensures steps { IfOk result (λ done. (volume : State)
+        → Spells (R.words room.old) (contents version.old) volume → IsSound volume →
+        IsOk (step volume (ops.Set node name.now value.now))
+        → Steps (R.words room.new) (contents version.new) volume (ops.Set node name.now value.now)
+        done) }
+    ensures stays { IfOk result (λ done. (volume : State)
+        → Spells (R.words room.old) (contents version.old) volume → IsSound volume →
+        SetsWhatStands volume (ops.Set node name.now value.now) → version.new.entries.items
+        ≡ version.old.entries.items) }
     ensures next { OnOk result (version.new.next ≡ version.old.next) }
     ensures err { OnErr result (KeepsStart R.kept R.standing R.words room.old room.new) }
     ensures full { IfErr result (IsFullOf (R.full room.new)) }
@@ -80,11 +90,15 @@ fn unset_value<R: Room>(
     known: Option<Option<(u64, usize)>>,
 ) -> Result<Done, Refusal>
     requires in_hand { IsInHand (R.standing room.old) (R.words room.old) (contents version.old) }
-    requires known { IsKnownOf (R.standing room.old) (R.words room.old) version.old.catalog node name.now known }
+    requires known { IsKnownOf (R.standing room.old) (R.words room.old) version.old.catalog node
+        name.now known }
     requires open { IsTrue (R.is_open (R.kept room.old)) }
-    ensures changes { OnOk result (Changes R.kept R.standing R.words (contents version.old) (contents version.new) room.old room.new) }
-    ensures steps { IfOk result (λ done. (volume : State) → Spells (R.words room.old) (contents version.old) volume → IsSound volume →
-        IsOk (step volume (ops.Unset node name.now)) → Steps (R.words room.new) (contents version.new) volume (ops.Unset node name.now) done) }
+    ensures changes { OnOk result (Changes R.kept R.standing R.words (contents version.old)
+        (contents version.new) room.old room.new) }
+    ensures steps { IfOk result (λ done. (volume : State)
+        → Spells (R.words room.old) (contents version.old) volume → IsSound volume →
+        IsOk (step volume (ops.Unset node name.now))
+        → Steps (R.words room.new) (contents version.new) volume (ops.Unset node name.now) done) }
     ensures next { OnOk result (version.new.next ≡ version.old.next) }
     ensures err { OnErr result (KeepsStart R.kept R.standing R.words room.old room.new) }
     ensures full { IfErr result (IsFullOf (R.full room.new)) }
@@ -99,9 +113,12 @@ fn unset_value<R: Room>(
 fn make_index<R: Room>(room: &mut R, version: &mut Version, name: &Name, kind: Kind) -> Done
     requires in_hand { IsInHand (R.standing room.old) (R.words room.old) (contents version.old) }
     ensures room { room.new ≡ room.old }
-    ensures changes { Changes R.kept R.standing R.words (contents version.old) (contents version.new) room.old room.old }
+    ensures changes { Changes R.kept R.standing R.words (contents version.old)
+        (contents version.new) room.old room.old }
     ensures steps { (volume : State) → Spells (R.words room.old) (contents version.old) volume →
-        IsOk (step volume (ops.MkIndex name.now kind)) → Steps (R.words room.old) (contents version.new) volume (ops.MkIndex name.now kind) result }
+        IsOk (step volume (ops.MkIndex name.now kind))
+        → Steps (R.words room.old) (contents version.new) volume (ops.MkIndex name.now kind)
+        result }
     ensures next { version.new.next ≡ version.old.next }
 {
     if let Err(at) = search(&version.entries, name) {
@@ -116,9 +133,11 @@ fn make_index<R: Room>(room: &mut R, version: &mut Version, name: &Name, kind: K
 fn remove_index<R: Room>(room: &mut R, version: &mut Version, name: &Name) -> Done
     requires in_hand { IsInHand (R.standing room.old) (R.words room.old) (contents version.old) }
     requires open { IsTrue (R.is_open (R.kept room.old)) }
-    ensures changes { Changes R.kept R.standing R.words (contents version.old) (contents version.new) room.old room.new }
+    ensures changes { Changes R.kept R.standing R.words (contents version.old)
+        (contents version.new) room.old room.new }
     ensures steps { (volume : State) → Spells (R.words room.old) (contents version.old) volume →
-        IsOk (step volume (ops.RmIndex name.now)) → Steps (R.words room.new) (contents version.new) volume (ops.RmIndex name.now) result }
+        IsOk (step volume (ops.RmIndex name.now))
+        → Steps (R.words room.new) (contents version.new) volume (ops.RmIndex name.now) result }
     ensures next { version.new.next ≡ version.old.next }
 {
     if let Ok(at) = search(&version.entries, name) {
@@ -128,13 +147,17 @@ fn remove_index<R: Room>(room: &mut R, version: &mut Version, name: &Name) -> Do
     Done::Unit
 }
 
-/// Takes all attributes of a node away, each with its pair. Of an attribute the name is read, and its value only where the name has an index.
+/// Takes all attributes of a node away, each with its pair. Of an attribute the name is read, and
+/// its value only if the name has an index.
 fn unset_all<R: Room>(room: &mut R, version: &mut Version, node: u64) -> Result<(), Refusal>
     requires in_hand { IsInHand (R.standing room.old) (R.words room.old) (contents version.old) }
     requires open { IsTrue (R.is_open (R.kept room.old)) }
-    ensures changes { OnOk result (Changes R.kept R.standing R.words (contents version.old) (contents version.new) room.old room.new) }
-    ensures bare { OnOk result ((volume : State) → Spells (R.words room.old) (contents version.old) volume → IsSound volume →
-        volume.next + 1 < 2 ^ 64 → IsOk (step volume (ops.Drop node)) → IsBare (R.words room.new) (contents version.new) volume node) }
+    ensures changes { OnOk result (Changes R.kept R.standing R.words (contents version.old)
+        (contents version.new) room.old room.new) }
+    ensures bare { OnOk result ((volume : State)
+        → Spells (R.words room.old) (contents version.old) volume → IsSound volume →
+        volume.next + 1 < 2 ^ 64 → IsOk (step volume (ops.Drop node))
+        → IsBare (R.words room.new) (contents version.new) volume node) }
     ensures next { OnOk result (version.new.next ≡ version.old.next) }
     ensures err { OnErr result (KeepsStart R.kept R.standing R.words room.old room.new) }
     ensures full { IfErr result (IsFullOf (R.full room.new)) }
@@ -152,9 +175,12 @@ fn unset_all<R: Room>(room: &mut R, version: &mut Version, node: u64) -> Result<
 fn drop_node<R: Room>(room: &mut R, version: &mut Version, node: u64) -> Result<Done, Refusal>
     requires in_hand { IsInHand (R.standing room.old) (R.words room.old) (contents version.old) }
     requires open { IsTrue (R.is_open (R.kept room.old)) }
-    ensures changes { OnOk result (Changes R.kept R.standing R.words (contents version.old) (contents version.new) room.old room.new) }
-    ensures steps { IfOk result (λ done. (volume : State) → Spells (R.words room.old) (contents version.old) volume → IsSound volume →
-        volume.next + 1 < 2 ^ 64 → IsOk (step volume (ops.Drop node)) → Steps (R.words room.new) (contents version.new) volume (ops.Drop node) done) }
+    ensures changes { OnOk result (Changes R.kept R.standing R.words (contents version.old)
+        (contents version.new) room.old room.new) }
+    ensures steps { IfOk result (λ done. (volume : State)
+        → Spells (R.words room.old) (contents version.old) volume → IsSound volume →
+        volume.next + 1 < 2 ^ 64 → IsOk (step volume (ops.Drop node))
+        → Steps (R.words room.new) (contents version.new) volume (ops.Drop node) done) }
     ensures next { OnOk result (version.new.next ≡ version.old.next) }
     ensures err { OnErr result (KeepsStart R.kept R.standing R.words room.old room.new) }
     ensures full { IfErr result (IsFullOf (R.full room.new)) }
@@ -172,13 +198,18 @@ fn edit<R: Room>(
     asked: &Option<Asked>,
 ) -> Result<Done, Refusal>
     requires in_hand { IsInHand (R.standing room.old) (R.words room.old) (contents version.old) }
-    requires asked { IsAsked (R.standing room.old) (R.words room.old) version.old.catalog asked.now }
+    requires asked { IsAsked (R.standing room.old) (R.words room.old) version.old.catalog
+        asked.now }
     requires next { version.old.next + 1 < 2 ^ 64 }
     requires open { IsTrue (R.is_open (R.kept room.old)) }
-    ensures changes { OnOk result (Changes R.kept R.standing R.words (contents version.old) (contents version.new) room.old room.new) }
-    ensures steps { IfOk result (λ done. (volume : State) → Spells (R.words room.old) (contents version.old) volume → IsSound volume →
-        volume.next + 1 < 2 ^ 64 → IsOk (step volume op.now) → Steps (R.words room.new) (contents version.new) volume op.now done) }
-    ensures stays { IfOk result (λ done. (volume : State) → Spells (R.words room.old) (contents version.old) volume → IsSound volume →
+    ensures changes { OnOk result (Changes R.kept R.standing R.words (contents version.old)
+        (contents version.new) room.old room.new) }
+    ensures steps { IfOk result (λ done. (volume : State)
+        → Spells (R.words room.old) (contents version.old) volume → IsSound volume →
+        volume.next + 1 < 2 ^ 64 → IsOk (step volume op.now)
+        → Steps (R.words room.new) (contents version.new) volume op.now done) }
+    ensures stays { IfOk result (λ done. (volume : State)
+        → Spells (R.words room.old) (contents version.old) volume → IsSound volume →
         SetsWhatStands volume op.now → version.new.entries.items ≡ version.old.entries.items) }
     ensures next { OnOk result (version.new.next ≤ version.old.next + 1) }
     ensures err { OnErr result (KeepsStart R.kept R.standing R.words room.old room.new) }
@@ -200,8 +231,10 @@ fn edit<R: Room>(
     }
 }
 
-/// A list of operations that are accepted, one after the other, whose answers enter an empty list. It is filled where it stands, since a list that is
-/// given by value costs its whole capacity. What is remembered of an attribute serves the first operation, since the trees have changed after it.
+/// Does a list of operations that are accepted, one after the other. Their outcomes enter an empty
+/// list, which is filled in place, since a list that is passed by value costs its whole capacity.
+/// What is remembered of an attribute serves the first operation, since the trees have changed
+/// after it.
 pub(crate) fn edit_all<R: Room>(
     room: &mut R,
     version: &mut Version,
@@ -215,11 +248,16 @@ pub(crate) fn edit_all<R: Room>(
     requires asked { IsAsked (R.standing room.old) (R.words room.old) version.old.catalog asked }
     requires fits { version.old.next + 64 < 2 ^ 64 }
     requires open { IsTrue (R.is_open (R.kept room.old)) }
-    ensures changes { OnOk result (Changes R.kept R.standing R.words (contents version.old) (contents version.new) room.old room.new) }
-    ensures steps { OnOk result ((volume : State) → Spells (R.words room.old) (contents version.old) volume → IsSound volume →
-        IsOk (steps volume ops.now) → Reaches (R.words room.new) (contents version.new) volume ops.now dones.new.items) }
-    ensures stays { OnOk result ((volume : State) → Spells (R.words room.old) (contents version.old) volume → IsSound volume →
-        All (SetsWhatStands volume) ops.now → version.new.entries.items ≡ version.old.entries.items) }
+    ensures changes { OnOk result (Changes R.kept R.standing R.words (contents version.old)
+        (contents version.new) room.old room.new) }
+    ensures steps { OnOk result ((volume : State)
+        → Spells (R.words room.old) (contents version.old) volume → IsSound volume →
+        IsOk (steps volume ops.now) → Reaches (R.words room.new) (contents version.new) volume
+        ops.now dones.new.items) }
+    ensures stays { OnOk result ((volume : State)
+        → Spells (R.words room.old) (contents version.old) volume → IsSound volume →
+        All (SetsWhatStands volume) ops.now → version.new.entries.items
+        ≡ version.old.entries.items) }
     ensures err { OnErr result (KeepsStart R.kept R.standing R.words room.old room.new) }
     ensures full { IfErr result (IsFullOf (R.full room.new)) }
 {

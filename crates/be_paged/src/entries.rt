@@ -11,7 +11,8 @@ use be_value::{Kind, Name};
 use std::alloc::{AllocError, Global};
 use std::cmp::Ordering;
 
-/// Where the index of a name stands among the entries; an error tells where it would be inserted.
+/// The place of the index of a name among the entries; the error is the place where it would be
+/// inserted.
 pub(crate) fn search(entries: &[Entry], name: &Name) -> Result<usize, usize>
     ensures found { IfOk result (IsNamedAt entries.now name.now) }
     ensures absent { IfErr result (IsGapAt entries.now name.now) }
@@ -39,7 +40,8 @@ pub(crate) fn index_at(entries: &[Entry], at: usize) -> (Kind, u64)
 /// Gives the index at a place another root.
 pub(crate) fn set_root(entries: &mut ArrayVec<Entry, 32>, at: usize, root: u64)
     requires { at < length entries.old.items }
-    ensures { (d : AnyEntry) → entries.new.items ≡ with_root entries.old.items at (slice_index_or entries.old.items at d) root }
+    ensures { (d : AnyEntry) → entries.new.items
+        ≡ with_root entries.old.items at (slice_index_or entries.old.items at d) root }
 {
     entries[at].set_root(root);
 }

@@ -1,7 +1,8 @@
 //! The facts of a version in hand on which refusals rest.
 //!
-//! A list of operations asks for the same node again and again, so a reader remembers what it found of the node last. It remembers too the
-//! first attribute that it looked for, so that who changes this one next needn't look for it again.
+//! A list of operations asks for the same node again and again, so a reader remembers what it found
+//! of the node last. It remembers too the first attribute that it looked for, so that a caller that
+//! changes this one next needn't look for it again.
 ghost use Rattle.std.specs.Prelude.{◌≡◌, true};
 ghost use Rattle.std.specs.FinMap as map;
 ghost use Rattle.be_pages.specs.Pages.{IsUnchanged};
@@ -21,8 +22,8 @@ use be_pages::Look;
 use be_value::Name;
 use be_volume::Facts;
 
-/// A reader of these facts, with the node that it counted last and how many attributes that has, if it is there, and the first attribute that it
-/// looked for.
+/// A reader of these facts. It keeps the node that it counted last, with how many attributes that
+/// has, if it is there, and the first attribute that it looked for.
 #[derive(Drop)]
 pub(crate) struct PageFacts<'a, L: Look> {
     pub(crate) look: &'a mut L,
@@ -31,10 +32,12 @@ pub(crate) struct PageFacts<'a, L: Look> {
     pub(crate) asked: &'a mut Option<Asked>,
 }
 
-/// How many attributes a node has, if it is there, by a look. A node that has no number yet isn't looked for.
+/// How many attributes a node has, if it is there, by a look. A node that has no number yet isn't
+/// looked for.
 fn count_anew<L: Look>(look: &mut L, version: &Version, node: u64) -> Option<usize>
     requires tree { IsTree (L.standing look.old) (L.words look.old) version.now.catalog }
-    ensures count { (volume : State) → AnswersFor (L.standing look.old) (L.words look.old) (contents version.now) volume → result ≡ count_in volume.nodes node }
+    ensures count { (volume : State) → AnswersFor (L.standing look.old) (L.words look.old)
+        (contents version.now) volume → result ≡ count_in volume.nodes node }
     ensures unchanged { IsUnchanged L.kept L.standing L.words look.old look.new }
 {
     if node >= version.next {
@@ -43,7 +46,8 @@ fn count_anew<L: Look>(look: &mut L, version: &Version, node: u64) -> Option<usi
     attribute_count(look, version.catalog, node)
 }
 
-/// The same, as it is remembered of the node that was counted last, or else by a look, and remembered.
+/// The same. If the node was counted last, the count is the remembered one; otherwise it is looked
+/// up, and remembered.
 fn count_of<L: Look>(
     look: &mut L,
     version: &Version,
@@ -51,9 +55,12 @@ fn count_of<L: Look>(
     node: u64,
 ) -> Option<usize>
     requires tree { IsTree (L.standing look.old) (L.words look.old) version.now.catalog }
-    ensures count { (volume : State) → AnswersFor (L.standing look.old) (L.words look.old) (contents version.now) volume → IsCounted counted.old volume →
+    ensures count { (volume : State) → AnswersFor (L.standing look.old) (L.words look.old)
+        (contents version.now) volume → IsCounted counted.old volume →
         result ≡ count_in volume.nodes node }
-    ensures counted { (volume : State) → AnswersFor (L.standing look.old) (L.words look.old) (contents version.now) volume → IsCounted counted.old volume →
+    ensures counted { (volume : State)
+        → AnswersFor (L.standing look.old) (L.words look.old) (contents version.now) volume
+        → IsCounted counted.old volume →
         IsCounted counted.new volume }
     ensures unchanged { IsUnchanged L.kept L.standing L.words look.old look.new }
 {
@@ -67,9 +74,11 @@ fn count_of<L: Look>(
     count
 }
 
-/// Whether it is known without a look that a node has no attribute: it has no number yet, or none was counted.
+/// Whether it is known without a look that a node has no attribute: it has no number yet, or none
+/// was counted.
 fn is_bare(version: &Version, counted: Option<(u64, Option<usize>)>, node: u64) -> bool
-    ensures { result ≡ true → (volume : State) → IsSound volume → version.now.next ≡ volume.next → IsCounted counted volume →
+    ensures { result ≡ true → (volume : State) → IsSound volume → version.now.next ≡ volume.next
+        → IsCounted counted volume →
         map.len (attributes_of volume.nodes node) ≡ 0 }
 {
     if node >= version.next {
@@ -90,9 +99,19 @@ impl<L: Look> Facts for PageFacts<'_, L> {
 
     ghost Kept = { (GName × GName) × (L.Kept × ((ℕ → Stands) × ((ℕ → ℕ → ℕ) × ℕ))) };
 
-    ghost kept = { λ f. ((f.look.ghost_name, f.asked.ghost_name), (L.kept f.look.now, (L.standing f.look.now, (L.words f.look.now, f.version.now.catalog)))) };
+    ghost kept = { λ f. (
+      (f.look.ghost_name, f.asked.ghost_name),
+      (
+        L.kept f.look.now,
+        (
+          L.standing f.look.now,
+          (L.words f.look.now, f.version.now.catalog),
+        ),
+      ),
+    ) };
 
-    ghost answers_for = { λ f volume. FactsOf (L.standing f.look.now) (L.words f.look.now) (contents f.version.now) f.counted f.asked.now volume };
+    ghost answers_for = { λ f volume. FactsOf (L.standing f.look.now) (L.words f.look.now)
+        (contents f.version.now) f.counted f.asked.now volume };
 
     fn next(&mut self) -> u64 {
         self.version.next

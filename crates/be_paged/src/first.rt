@@ -7,10 +7,13 @@ ghost use Rattle.be_paged.specs.Version.{IsVersion};
 
 use be_pages::PAGE_WORDS;
 
-/// The words of a version page that spells the empty volume, wherever it stands. It reaches no other page.
+/// The words of a version page that encodes the empty volume, on whichever page. It reaches no
+/// other page.
 pub fn first_page() -> [u64; PAGE_WORDS]
-    ensures { (standing : ℕ → Standing) (words : ℕ → ℕ → ℕ) (page : ℕ) → IsTrue (is_kept (standing page)) →
-        ((i : ℕ) → i < 512 → words page i ≡ slice_index result i) → IsVersion standing words page empty }
+    ensures { (standing : ℕ → Standing) (words : ℕ → ℕ → ℕ) (page : ℕ)
+        → IsTrue (is_kept (standing page)) →
+        ((i : ℕ) → i < 512 → words page i ≡ slice_index result i)
+        → IsVersion standing words page empty }
 {
     let mut words = [0; PAGE_WORDS];
     words[0] = 255;

@@ -1,9 +1,11 @@
-//! Indices where they stand on a version page.
+//! Indices in place on a version page.
 //!
-//! Who asks for one or two indices by name needs no version in hand, which has room for all 32 of them. Names are compared where they stand, and
-//! mostly their first words differ already. They ascend, so of 32 indices a search looks at six at most. Mostly the same name is asked for again, so
-//! the index that was found last is kept, and its name compared first.
-ghost use Rattle.std.specs.Prelude.{◌≡◌, ◌+◌, ◌<◌, ◌≤◌, IsTrue, length, map, slice_index, slice_index_or, true};
+//! A caller that asks for one or two indices by name needs no version in hand, which has room for
+//! all 32 of them. Names are compared in place, and mostly their first words differ already. They
+//! ascend, so a search among 32 indices looks at no more than six. Mostly the same name is asked
+//! for again, so the index that was found last is kept, and its name is compared first.
+ghost use Rattle.std.specs.Prelude.{◌≡◌, ◌+◌, ◌<◌, ◌≤◌, IsTrue, length, map, slice_index};
+ghost use Rattle.std.specs.Prelude.{slice_index_or, true};
 ghost use Rattle.std.specs.Int.{to_be_bytes, w64};
 ghost use Rattle.std.specs.List.{range_with_len};
 ghost use Rattle.be_volume.specs.Maps.{name_cmp};
@@ -28,7 +30,8 @@ pub(crate) struct FoundIndex {
     pub(crate) root: u64,
 }
 
-/// The index of a name on a version page, if there is one. The index that was found last is looked at first.
+/// The index of a name on a version page, if there is one. The index that was found last is looked
+/// at first.
 #[inline(always)]
 pub(crate) fn known_index<L: Look>(
     look: &mut L,
@@ -36,7 +39,8 @@ pub(crate) fn known_index<L: Look>(
     name: &Name,
     known: &mut Option<FoundIndex>,
 ) -> Option<FoundIndex>
-    requires version { (volume : State) × IsVersion (L.standing look.old) (L.words look.old) page volume }
+    requires version { (volume : State)
+        × IsVersion (L.standing look.old) (L.words look.old) page volume }
     requires known { IsKnown (contents_of (L.words look.old page)).entries known.old }
     ensures found { IsFound (contents_of (L.words look.new page)).entries name.now result }
     ensures known { IsKnown (contents_of (L.words look.new page)).entries known.new }
@@ -53,7 +57,8 @@ pub(crate) fn known_index<L: Look>(
 
 /// The index at a place of a version page, if there is one.
 pub(crate) fn index_there<L: Look>(look: &mut L, page: u64, place: usize) -> Option<FoundIndex>
-    requires version { (volume : State) × IsVersion (L.standing look.old) (L.words look.old) page volume }
+    requires version { (volume : State)
+        × IsVersion (L.standing look.old) (L.words look.old) page volume }
     ensures known { IsKnown (contents_of (L.words look.new page)).entries result }
     ensures unchanged { IsUnchanged L.kept L.standing L.words look.old look.new }
 {
@@ -72,7 +77,8 @@ fn find_to_know<L: Look>(
     name: &Name,
     known: &mut Option<FoundIndex>,
 ) -> Option<FoundIndex>
-    requires version { (volume : State) × IsVersion (L.standing look.old) (L.words look.old) page volume }
+    requires version { (volume : State)
+        × IsVersion (L.standing look.old) (L.words look.old) page volume }
     ensures found { IsFound (contents_of (L.words look.new page)).entries name.now result }
     ensures known { IsKnown (contents_of (L.words look.new page)).entries known.new }
     ensures unchanged { IsUnchanged L.kept L.standing L.words look.old look.new }
@@ -84,9 +90,11 @@ fn find_to_know<L: Look>(
 
 /// Whether the index at a number of a version page has this name.
 fn is_named<L: Look>(look: &mut L, page: u64, i: usize, name: &Name) -> bool
-    requires version { (volume : State) × IsVersion (L.standing look.old) (L.words look.old) page volume }
+    requires version { (volume : State)
+        × IsVersion (L.standing look.old) (L.words look.old) page volume }
     requires in_range { i < length (contents_of (L.words look.old page)).entries }
-    ensures named { result ≡ true → IsNamedAt (contents_of (L.words look.old page)).entries name.now i }
+    ensures named { result ≡ true → IsNamedAt (contents_of (L.words look.old page)).entries name.now
+        i }
     ensures unchanged { IsUnchanged L.kept L.standing L.words look.old look.new }
 {
     let text = name.as_str().as_bytes();
@@ -97,9 +105,11 @@ fn is_named<L: Look>(look: &mut L, page: u64, i: usize, name: &Name) -> bool
     }
 }
 
-/// The index of a name on a version page, if there is one. Of most indices on the way it reads one word.
+/// The index of a name on a version page, if there is one. Of most indices on the way it reads one
+/// word.
 pub(crate) fn find_index<L: Look>(look: &mut L, page: u64, name: &Name) -> Option<FoundIndex>
-    requires version { (volume : State) × IsVersion (L.standing look.old) (L.words look.old) page volume }
+    requires version { (volume : State)
+        × IsVersion (L.standing look.old) (L.words look.old) page volume }
     ensures found { IsFound (contents_of (L.words look.new page)).entries name.now result }
     ensures unchanged { IsUnchanged L.kept L.standing L.words look.old look.new }
 {
@@ -126,14 +136,16 @@ fn middle(low: usize, high: usize) -> usize
     low + (high - low) / 2
 }
 
-/// How the name of the index at a place of a page compares with a name whose first word is at hand. The words behind a name are zeros, so the first
-/// word that differs decides, and else the lengths.
+/// How the name of the index at a place of a page compares with a name whose first word is at hand.
+/// The words after a name are zeros, so the first word that differs decides; if none differs, the
+/// lengths do.
 fn compare_at<L: Look>(look: &mut L, page: u64, at: usize, name: &[u8], first: u64) -> Ordering
     requires readable { IsTrue (is_readable (L.standing look.old page)) }
     requires in_page { at + 11 ≤ 512 }
     requires entry { IsEntry (L.words look.old page) at }
     requires short { length name.now ≤ 63 }
-    requires first { to_be_bytes w64 first ≡ map (λ k. slice_index name.now k) (range_with_len 0 8) }
+    requires first { to_be_bytes w64 first
+        ≡ map (λ k. slice_index name.now k) (range_with_len 0 8) }
     ensures order { result ≡ name_cmp (entry_at (L.words look.old page) at).name name.now }
     ensures unchanged { IsUnchanged L.kept L.standing L.words look.old look.new }
 {
@@ -158,8 +170,10 @@ fn index_at<L: Look>(look: &mut L, page: u64, i: usize) -> FoundIndex
     requires page { IsVersionPage (L.words look.old page) }
     requires in_range { i < L.words look.old page 1 }
     ensures place { result.place ≡ i }
-    ensures kind { (d : AnyEntry) → result.kind ≡ (slice_index_or (contents_of (L.words look.old page)).entries i d).kind }
-    ensures root { (d : AnyEntry) → result.root ≡ (slice_index_or (contents_of (L.words look.old page)).entries i d).root }
+    ensures kind { (d : AnyEntry) → result.kind
+        ≡ (slice_index_or (contents_of (L.words look.old page)).entries i d).kind }
+    ensures root { (d : AnyEntry) → result.root
+        ≡ (slice_index_or (contents_of (L.words look.old page)).entries i d).root }
     ensures unchanged { IsUnchanged L.kept L.standing L.words look.old look.new }
 {
     let kind = kind_numbered(look.word(page, 13 + 11 * i));

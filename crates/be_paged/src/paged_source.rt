@@ -1,9 +1,10 @@
 //! A version as a source of queries.
 //!
-//! A walk over an index asks for one key after the other. So the source keeps a cursor of the tree that it walked last, and
-//! the place of the item whose key it gave last: where the next key is asked from that very key, it goes on from there and
-//! makes no descent. The nodes of a range are read leaf by leaf, and no key is unpacked. A query asks for the same index again and again, so the
-//! source keeps what it found last.
+//! A walk over an index asks for one key after the other. So the source keeps a cursor of the tree
+//! that it walked last, and the place of the item whose key it gave last: where the next key is
+//! asked from that very key, it goes on from there and makes no descent. The nodes of a range are
+//! read leaf by leaf, and no key is unpacked. A query asks for the same index again and again, so
+//! the source keeps what it found last.
 ghost use Rattle.std.specs.Prelude.{◌≡◌, ◌<◌, ℕ, true, length, slice_index_or};
 ghost use Rattle.be_pages.specs.Pages.{IsUnchanged};
 ghost use Rattle.be_tree.specs.Cursor.{IsCursor, remaining};
@@ -40,10 +41,13 @@ pub struct PagedSource<L> {
 
 /// The version of a page as a source. It reads nothing yet, and keeps the look until `into_look`.
 pub fn source<L: Look>(look: L, version_page: u64) -> PagedSource<L>
-    requires version { (volume : State) × IsVersion (L.standing look) (L.words look) version_page volume }
-    ensures answers { (volume : State) → IsVersion (L.standing look) (L.words look) version_page volume
+    requires version { (volume : State)
+        × IsVersion (L.standing look) (L.words look) version_page volume }
+    ensures answers { (volume : State)
+        → IsVersion (L.standing look) (L.words look) version_page volume
         → ⟦<PagedSource<L> as Source>⟧.answers_for result volume }
-    ensures look { ⟦<PagedSource<L> as Source>⟧.kept result ≡ (L.kept look, (L.standing look, L.words look)) }
+    ensures look { ⟦<PagedSource<L> as Source>⟧.kept result
+        ≡ (L.kept look, (L.standing look, L.words look)) }
 {
     PagedSource {
         look,
@@ -58,21 +62,28 @@ pub fn source<L: Look>(look: L, version_page: u64) -> PagedSource<L>
 impl<L: Look> PagedSource<L> {
     /// The look back, with the facts that it had.
     pub fn into_look(self) -> L
-        ensures look { (L.kept result, (L.standing result, L.words result)) ≡ ⟦<PagedSource<L> as Source>⟧.kept self }
+        ensures look { (L.kept result, (L.standing result, L.words result))
+            ≡ ⟦<PagedSource<L> as Source>⟧.kept self }
     {
         self.look
     }
 
-    /// Brings the cursor before the least key of an index at `from` or after it, or strictly after it. Where it stands behind that very key
-    /// nothing moves.
+    /// Brings the cursor before the least key of an index at `from` or after it, or strictly after
+    /// it. If it is just after that very key, nothing moves.
     fn walk_to(&mut self, index: FoundIndex, from: &[u8], after: bool)
-        requires in_range { index.place < length (contents_of (L.words self.old.look self.old.page)).entries }
-        requires root { (d : AnyEntry) → index.root ≡ (slice_index_or (contents_of (L.words self.old.look self.old.page)).entries index.place d).root }
+        requires in_range { index.place < length
+            (contents_of (L.words self.old.look self.old.page)).entries }
+        requires root { (d : AnyEntry) → index.root
+            ≡ (slice_index_or (contents_of (L.words self.old.look self.old.page)).entries
+            index.place d).root }
         requires tree { IsTree (L.standing self.old.look) (L.words self.old.look) index.root }
         requires behind { StandsBehind (L.standing self.old.look) (L.words self.old.look)
-            (contents_of (L.words self.old.look self.old.page)).entries self.old.cursor self.old.place self.old.last.0 self.old.last.1 }
-        ensures cursor { IsCursor (L.standing self.new.look) (L.words self.new.look) self.new.cursor }
-        ensures rest { remaining (L.words self.new.look) self.new.cursor ≡ pairs_from (pairs (L.words self.new.look) index.root) from.now after }
+            (contents_of (L.words self.old.look self.old.page)).entries self.old.cursor
+            self.old.place self.old.last.0 self.old.last.1 }
+        ensures cursor { IsCursor (L.standing self.new.look) (L.words self.new.look)
+            self.new.cursor }
+        ensures rest { remaining (L.words self.new.look) self.new.cursor
+            ≡ pairs_from (pairs (L.words self.new.look) index.root) from.now after }
         ensures page { self.new.page ≡ self.old.page }
         ensures known { self.new.known ≡ self.old.known }
         ensures unchanged { IsUnchanged L.kept L.standing L.words self.old.look self.new.look }
@@ -96,7 +107,8 @@ impl<L: Look> Source for PagedSource<L> {
 
     ghost kept = { λ s. (L.kept s.look, (L.standing s.look, L.words s.look)) };
 
-    ghost answers_for = { λ s volume. SourceOf (L.standing s.look) (L.words s.look) s.page s.known s.cursor s.place s.last.0 s.last.1 volume };
+    ghost answers_for = { λ s volume. SourceOf (L.standing s.look) (L.words s.look) s.page s.known
+        s.cursor s.place s.last.0 s.last.1 volume };
 
     ghost sound = { λ s volume is. is.version.sound };
 
@@ -134,7 +146,7 @@ impl<L: Look> Source for PagedSource<L> {
         }
     }
 
-    // It stands by itself, so that who asks for values alone has room for one.
+    // It is a function of its own, so that a caller that asks for values alone has room for one.
     #[inline(never)]
     fn value(&mut self, node: u64, name: &Name) -> Option<Value> {
         get(&mut self.look, self.page, node, name)

@@ -1,12 +1,12 @@
-//! A version, read whole: what be_state makes a volume again of.
+//! A version, read whole: what be_volume_state makes a volume again of.
 //!
-//! It keeps nothing of what it read. Whether an index has a node is asked of the index's tree by the key of the node's
-//! attribute, since a pair of an index is always its node's attribute.
+//! It keeps nothing of what it read. To find whether an index has a node, it looks for the key of
+//! the node's attribute in the index's tree. A pair of an index is always its node's attribute.
 ghost use Rattle.std.specs.Prelude.{◌≡◌, IfOk, None, true};
 ghost use Rattle.std.specs.FinMap as map;
 ghost use Rattle.std.specs.Option.{option_map};
 ghost use Rattle.be_pages.specs.Pages.{IsUnchanged};
-ghost use Rattle.be_state.specs.Rebuilding.{is_held};
+ghost use Rattle.be_volume_state.specs.Rebuilding.{is_held};
 ghost use Rattle.be_value.specs.declared.refusals.Refusal.TheVariants.{NoNode};
 ghost use Rattle.be_volume.specs.Keys.{IsKey};
 ghost use Rattle.be_volume.specs.Reading.{index_kinds};
@@ -16,9 +16,9 @@ ghost use Rattle.be_paged.specs.Version.{IsVersion};
 use crate::on_page::find_index;
 use crate::reading::{attrs, get, indices, next};
 use be_pages::Look;
-use be_state::Whole;
 use be_tree::has_key;
 use be_value::{Kind, Name, Refusal, Value, key_of};
+use be_volume_state::Whole;
 use std::alloc::{AllocError, Global};
 
 /// A reader of one whole version, by its page, and its look.
@@ -29,12 +29,16 @@ pub struct PagedWhole<L> {
     page: u64,
 }
 
-/// The version of a page, to be read whole. It reads nothing yet, and keeps the look until `into_look`.
+/// The version of a page, to be read whole. It reads nothing yet, and keeps the look until
+/// `into_look`.
 pub fn whole<L: Look>(alloc: Global, look: L, version_page: u64) -> PagedWhole<L>
-    requires version { (volume : State) × IsVersion (L.standing look) (L.words look) version_page volume }
-    ensures answers { (volume : State) → IsVersion (L.standing look) (L.words look) version_page volume
+    requires version { (volume : State)
+        × IsVersion (L.standing look) (L.words look) version_page volume }
+    ensures answers { (volume : State)
+        → IsVersion (L.standing look) (L.words look) version_page volume
         → ⟦<PagedWhole<L> as Whole>⟧.answers_for result volume }
-    ensures look { ⟦<PagedWhole<L> as Whole>⟧.kept result ≡ (L.kept look, (L.standing look, L.words look)) }
+    ensures look { ⟦<PagedWhole<L> as Whole>⟧.kept result
+        ≡ (L.kept look, (L.standing look, L.words look)) }
 {
     PagedWhole {
         alloc,
@@ -46,7 +50,8 @@ pub fn whole<L: Look>(alloc: Global, look: L, version_page: u64) -> PagedWhole<L
 impl<L: Look> PagedWhole<L> {
     /// The look back, with the facts that it had.
     pub fn into_look(self) -> L
-        ensures look { (L.kept result, (L.standing result, L.words result)) ≡ ⟦<PagedWhole<L> as Whole>⟧.kept self }
+        ensures look { (L.kept result, (L.standing result, L.words result))
+            ≡ ⟦<PagedWhole<L> as Whole>⟧.kept self }
     {
         self.look
     }
@@ -61,7 +66,8 @@ impl<L: Look> Whole for PagedWhole<L> {
 
     ghost kept = { λ w. (L.kept w.look, (L.standing w.look, L.words w.look)) };
 
-    ghost answers_for = { λ w volume. IsVersion (L.standing w.look) (L.words w.look) w.page volume };
+    ghost answers_for = { λ w volume. IsVersion (L.standing w.look) (L.words w.look) w.page
+        volume };
 
     fn next(&mut self) -> u64 {
         next(&mut self.look, self.page)
@@ -80,16 +86,19 @@ impl<L: Look> Whole for PagedWhole<L> {
     }
 }
 
-/// The attributes of a node, by ascending bytes of their names, and none where the node isn't there.
+/// The attributes of a node, by ascending bytes of their names, and None if the node isn't there.
 fn attrs_of<L: Look>(
     alloc: Global,
     look: &mut L,
     version_page: u64,
     node: u64,
 ) -> Result<Option<Vec<(Name, Value)>>, AllocError>
-    requires version { (volume : State) × IsVersion (L.standing look.old) (L.words look.old) version_page volume }
-    ensures attrs { (volume : State) → IsVersion (L.standing look.old) (L.words look.old) version_page volume →
-        IfOk result (λ list. option_map (λ l. l.items) list ≡ option_map map.entries (map.get volume.nodes node)) }
+    requires version { (volume : State)
+        × IsVersion (L.standing look.old) (L.words look.old) version_page volume }
+    ensures attrs { (volume : State) → IsVersion (L.standing look.old) (L.words look.old)
+        version_page volume →
+        IfOk result (λ list. option_map (λ l. l.items) list
+        ≡ option_map map.entries (map.get volume.nodes node)) }
     ensures unchanged { IsUnchanged L.kept L.standing L.words look.old look.new }
 {
     match attrs(alloc, look, version_page, node) {
@@ -98,7 +107,7 @@ fn attrs_of<L: Look>(
     }
 }
 
-/// None where there is no node; every other refusal is a want of memory.
+/// None if there is no node; every other refusal is OutOfMemory.
 fn none_for(refusal: Refusal) -> Result<Option<Vec<(Name, Value)>>, AllocError>
     ensures { IfOk result (λ list. (option_map (λ l. l.items) list ≡ None) × (refusal ≡ NoNode)) }
 {
@@ -114,8 +123,10 @@ fn kinds_of<L: Look>(
     look: &mut L,
     version_page: u64,
 ) -> Result<Vec<(Name, Kind)>, AllocError>
-    requires version { (volume : State) × IsVersion (L.standing look.old) (L.words look.old) version_page volume }
-    ensures indices { (volume : State) → IsVersion (L.standing look.old) (L.words look.old) version_page volume →
+    requires version { (volume : State)
+        × IsVersion (L.standing look.old) (L.words look.old) version_page volume }
+    ensures indices { (volume : State)
+        → IsVersion (L.standing look.old) (L.words look.old) version_page volume →
         IfOk result (λ list. list.items ≡ index_kinds volume) }
     ensures unchanged { IsUnchanged L.kept L.standing L.words look.old look.new }
 {
@@ -127,10 +138,13 @@ fn kinds_of<L: Look>(
 
 /// Whether the index of a name has a key; false without an index.
 fn has_pair<L: Look>(look: &mut L, version_page: u64, name: &Name, key: &[u8]) -> bool
-    requires version { (volume : State) × IsVersion (L.standing look.old) (L.words look.old) version_page volume }
-    ensures found { (volume : State) → IsVersion (L.standing look.old) (L.words look.old) version_page volume →
+    requires version { (volume : State)
+        × IsVersion (L.standing look.old) (L.words look.old) version_page volume }
+    ensures found { (volume : State) → IsVersion (L.standing look.old) (L.words look.old)
+        version_page volume →
         result ≡ true → IsKey volume name.now key.now }
-    ensures finds { (volume : State) → IsVersion (L.standing look.old) (L.words look.old) version_page volume →
+    ensures finds { (volume : State) → IsVersion (L.standing look.old) (L.words look.old)
+        version_page volume →
         IsKey volume name.now key.now → result ≡ true }
     ensures unchanged { IsUnchanged L.kept L.standing L.words look.old look.new }
 {
@@ -142,8 +156,10 @@ fn has_pair<L: Look>(look: &mut L, version_page: u64, name: &Name, key: &[u8]) -
 
 /// Whether the index of a name has a node: it has the key of the node's attribute.
 fn index_has<L: Look>(look: &mut L, version_page: u64, node: u64, name: &Name) -> bool
-    requires version { (volume : State) × IsVersion (L.standing look.old) (L.words look.old) version_page volume }
-    ensures held { (volume : State) → IsVersion (L.standing look.old) (L.words look.old) version_page volume →
+    requires version { (volume : State)
+        × IsVersion (L.standing look.old) (L.words look.old) version_page volume }
+    ensures held { (volume : State) → IsVersion (L.standing look.old) (L.words look.old)
+        version_page volume →
         result ≡ is_held volume node name.now }
     ensures unchanged { IsUnchanged L.kept L.standing L.words look.old look.new }
 {

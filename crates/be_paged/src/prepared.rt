@@ -1,7 +1,8 @@
 //! Prepared queries on a version.
 //!
-//! The index of a prepared query mostly stands where it stood at the last asking, so its name is compared there first. Its range is at hand, and the
-//! nodes of its keys are the answer: no plan is made, and no source.
+//! The index of a prepared query is mostly where it was at the last call, so its name is compared
+//! there first. Its range is at hand, and the nodes of its keys are the answer: no plan is made,
+//! and no source.
 ghost use Rattle.std.specs.Prelude.{◌≡◌, ◌<◌, List, ℕ, true, Ok, Some, IfOk, IfErr, IfSome, OnOk};
 ghost use Rattle.std.specs.Option.{option_copied};
 ghost use Rattle.std.specs.List.Sorted.{IsStrictlyIncreasing};
@@ -21,15 +22,16 @@ use be_tree::numbers_within;
 use be_value::Refusal;
 use std::alloc::Global;
 
-/// The index of the name that all comparisons of the query are on, if there is such a name and it has an index. The range of the query is then that
-/// for the index's kind.
+/// The index of the name that all comparisons of the query are on, if there is such a name and it
+/// has an index. The range of the query is then that for the index's kind.
 #[inline(always)]
 fn meet_index<L: Look>(
     look: &mut L,
     version_page: u64,
     prepared: &mut PreparedQuery,
 ) -> Option<FoundIndex>
-    requires version { (volume : State) × IsVersion (L.standing look.old) (L.words look.old) version_page volume }
+    requires version { (volume : State)
+        × IsVersion (L.standing look.old) (L.words look.old) version_page volume }
     ensures found { IfSome result (λ index. (name : List ℕ) → AreAllOn prepared.old name →
         IsFound (contents_of (L.words look.new version_page)).entries name (Some index)) }
     ensures same { prepared.new ≡ prepared.old }
@@ -54,22 +56,29 @@ fn nodes_of<L: Look>(
     keys: KeyRange<'_>,
     found: &mut Vec<u64>,
 ) -> Result<(), Refusal>
-    requires version { (volume : State) × IsVersion (L.standing look.old) (L.words look.old) version_page volume }
-    requires index { IsFound (contents_of (L.words look.old version_page)).entries keys.name.now (Some index) }
+    requires version { (volume : State)
+        × IsVersion (L.standing look.old) (L.words look.old) version_page volume }
+    requires index { IsFound (contents_of (L.words look.old version_page)).entries keys.name.now
+        (Some index) }
     ensures memory { IfErr result (λ e. e ≡ OutOfMemory) }
-    ensures only { (volume : State) → IsVersion (L.standing look.old) (L.words look.old) version_page volume →
-        HasOnly volume keys.entry.name.now keys.entry.low.now (option_copied keys.entry.high) found.old.items found.new.items }
-    ensures has { OnOk result ((volume : State) → IsVersion (L.standing look.old) (L.words look.old) version_page volume →
-        HasNodes volume keys.entry.name.now keys.entry.low.now (option_copied keys.entry.high) found.new.items) }
+    ensures only { (volume : State) → IsVersion (L.standing look.old) (L.words look.old)
+        version_page volume →
+        HasOnly volume keys.entry.name.now keys.entry.low.now (option_copied keys.entry.high)
+        found.old.items found.new.items }
+    ensures has { OnOk result ((volume : State)
+        → IsVersion (L.standing look.old) (L.words look.old) version_page volume →
+        HasNodes volume keys.entry.name.now keys.entry.low.now (option_copied keys.entry.high)
+        found.new.items) }
     ensures unchanged { IsUnchanged L.kept L.standing L.words look.old look.new }
 {
     numbers_within(look, index.root, keys.low, keys.high, found)?;
     Ok(())
 }
 
-/// Puts the nodes of which a prepared query is true into a list, ascending, in place of what it had, if a range of one index decides the query. If
-/// not, false, and the query is to be asked by a plan. It compares the index's name where the index stood last, and makes one descent. After
-/// false or `OutOfMemory` the list has any numbers.
+/// If a range of one index decides a prepared query, this writes the nodes of which it is true into
+/// a list, ascending, in place of what the list had. Otherwise it returns false, and the caller
+/// runs the query by a plan. It compares the index's name where the index was last, and makes one
+/// descent. After false or `OutOfMemory` the list has any numbers.
 #[inline(always)]
 pub fn answer_decided<L: Look>(
     alloc: Global,
@@ -78,10 +87,13 @@ pub fn answer_decided<L: Look>(
     prepared: &mut PreparedQuery,
     found: &mut Vec<u64>,
 ) -> Result<bool, Refusal>
-    requires version { (volume : State) × IsVersion (L.standing look.old) (L.words look.old) version_page volume }
+    requires version { (volume : State)
+        × IsVersion (L.standing look.old) (L.words look.old) version_page volume }
     ensures answer { IfOk result (λ decided. decided ≡ true → (volume : State) →
-        IsVersion (L.standing look.old) (L.words look.old) version_page volume → scan volume prepared.old ≡ Ok found.new.items) }
-    ensures rising { IfOk result (λ decided. decided ≡ true → IsStrictlyIncreasing found.new.items) }
+        IsVersion (L.standing look.old) (L.words look.old) version_page volume
+        → scan volume prepared.old ≡ Ok found.new.items) }
+    ensures rising { IfOk result (λ decided. decided ≡ true
+        → IsStrictlyIncreasing found.new.items) }
     ensures memory { IfErr result (λ e. e ≡ OutOfMemory) }
     ensures same { prepared.new ≡ prepared.old }
     ensures unchanged { IsUnchanged L.kept L.standing L.words look.old look.new }

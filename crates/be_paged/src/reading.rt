@@ -34,7 +34,8 @@ use be_tree::{find_place, has_key};
 use be_value::{Kind, Name, Refusal, Value};
 use std::alloc::Global;
 
-/// Where a node's attribute stands in the catalog's tree, if the node has it: its page, and its place there. It costs one descent.
+/// The page and the place of a node's attribute in the catalog's tree, if the node has it. It costs
+/// one descent.
 pub(crate) fn attribute_place<L: Look>(
     look: &mut L,
     catalog: u64,
@@ -42,14 +43,16 @@ pub(crate) fn attribute_place<L: Look>(
     name: &Name,
 ) -> Option<(u64, usize)>
     requires tree { IsTree (L.standing look.old) (L.words look.old) catalog }
-    ensures there { (nodes : AllNodes) → IsCatalog (pairs (L.words look.old) catalog) nodes → is_some result ≡ map.contains_key (attributes_of nodes node) name.now }
-    ensures found { IsFoundAt (L.standing look.new) (L.words look.new) catalog (key_in_catalog node name.now) result }
+    ensures there { (nodes : AllNodes) → IsCatalog (pairs (L.words look.old) catalog) nodes
+        → is_some result ≡ map.contains_key (attributes_of nodes node) name.now }
+    ensures found { IsFoundAt (L.standing look.new) (L.words look.new) catalog
+        (key_in_catalog node name.now) result }
     ensures unchanged { IsUnchanged L.kept L.standing L.words look.old look.new }
 {
     find_place(look, catalog, &catalog_key(node, name))
 }
 
-/// Where the item of a key stands, which is known or looked for.
+/// The place of the item of a key, which is known or looked up.
 #[inline(always)]
 fn place_of<L: Look>(
     look: &mut L,
@@ -58,7 +61,8 @@ fn place_of<L: Look>(
     known: Option<Option<(u64, usize)>>,
 ) -> Option<(u64, usize)>
     requires tree { IsTree (L.standing look.old) (L.words look.old) catalog }
-    requires known { IfSome known (IsFoundAt (L.standing look.old) (L.words look.old) catalog key.now) }
+    requires known { IfSome known (IsFoundAt (L.standing look.old) (L.words look.old) catalog
+        key.now) }
     ensures found { IsFoundAt (L.standing look.new) (L.words look.new) catalog key.now result }
     ensures unchanged { IsUnchanged L.kept L.standing L.words look.old look.new }
 {
@@ -68,7 +72,8 @@ fn place_of<L: Look>(
     }
 }
 
-/// A node's value at a name, from the catalog's tree. Where it is known whether and where the attribute stands, it makes no descent.
+/// A node's value at a name, from the catalog's tree. If the caller knows whether the attribute is
+/// there, and its place, it makes no descent.
 #[inline(always)]
 pub(crate) fn value_in<L: Look>(
     look: &mut L,
@@ -78,8 +83,10 @@ pub(crate) fn value_in<L: Look>(
     known: Option<Option<(u64, usize)>>,
 ) -> Option<Value>
     requires tree { IsTree (L.standing look.old) (L.words look.old) catalog }
-    requires known { IsKnownOf (L.standing look.old) (L.words look.old) catalog node name.now known }
-    ensures value { (nodes : AllNodes) → IsCatalog (pairs (L.words look.old) catalog) nodes → AreValid nodes → result ≡ value_at nodes node name.now }
+    requires known { IsKnownOf (L.standing look.old) (L.words look.old) catalog node name.now
+        known }
+    ensures value { (nodes : AllNodes) → IsCatalog (pairs (L.words look.old) catalog) nodes
+        → AreValid nodes → result ≡ value_at nodes node name.now }
     ensures unchanged { IsUnchanged L.kept L.standing L.words look.old look.new }
 {
     let key = catalog_key(node, name);
@@ -87,8 +94,9 @@ pub(crate) fn value_in<L: Look>(
     value_at(look, page, at)
 }
 
-/// Whether a comparison is true of what it sees of a node: of the node's value at its name, where no index has that name or its index has the value.
-/// The value is compared where it stands, and the index that was found last is looked at first.
+/// Whether a comparison is true of what it sees of a node: of the node's value at its name, if no
+/// index has that name or its index has the value. The value is compared in place, and the index
+/// that was found last is looked at first.
 pub(crate) fn holds_in<L: Look>(
     look: &mut L,
     version_page: u64,
@@ -96,10 +104,13 @@ pub(crate) fn holds_in<L: Look>(
     comparison: &Comparison,
     known: &mut Option<FoundIndex>,
 ) -> bool
-    requires version { (volume : State) × IsVersion (L.standing look.old) (L.words look.old) version_page volume }
+    requires version { (volume : State)
+        × IsVersion (L.standing look.old) (L.words look.old) version_page volume }
     requires known { IsKnown (contents_of (L.words look.old version_page)).entries known.old }
-    ensures answer { (volume : State) → IsVersion (L.standing look.old) (L.words look.old) version_page volume →
-        result ≡ sat volume (Leaf comparison.now.name comparison.now.op (literal comparison.now.literal)) node }
+    ensures answer { (volume : State) → IsVersion (L.standing look.old) (L.words look.old)
+        version_page volume →
+        result ≡ sat volume (Leaf comparison.now.name comparison.now.op
+        (literal comparison.now.literal)) node }
     ensures known { IsKnown (contents_of (L.words look.new version_page)).entries known.new }
     ensures unchanged { IsUnchanged L.kept L.standing L.words look.old look.new }
 {
@@ -119,36 +130,45 @@ pub(crate) fn holds_in<L: Look>(
 
 /// The number that the next node gets. It costs one load.
 pub fn next<L: Look>(look: &mut L, version_page: u64) -> u64
-    requires version { (volume : State) × IsVersion (L.standing look.old) (L.words look.old) version_page volume }
-    ensures next { (volume : State) → IsVersion (L.standing look.old) (L.words look.old) version_page volume → result ≡ volume.next }
+    requires version { (volume : State)
+        × IsVersion (L.standing look.old) (L.words look.old) version_page volume }
+    ensures next { (volume : State) → IsVersion (L.standing look.old) (L.words look.old)
+        version_page volume → result ≡ volume.next }
     ensures unchanged { IsUnchanged L.kept L.standing L.words look.old look.new }
 {
     look.word(version_page, 2)
 }
 
-/// The value of an attribute, if the node is there and has it. It costs one descent of the catalog's tree, and takes no memory.
+/// The value of an attribute, if the node is there and has it. It costs one descent of the
+/// catalog's tree, and takes no memory.
 #[inline(always)]
 pub fn get<L: Look>(look: &mut L, version_page: u64, node: u64, name: &Name) -> Option<Value>
-    requires version { (volume : State) × IsVersion (L.standing look.old) (L.words look.old) version_page volume }
-    ensures value { (volume : State) → IsVersion (L.standing look.old) (L.words look.old) version_page volume → result ≡ attribute volume node name.now }
+    requires version { (volume : State)
+        × IsVersion (L.standing look.old) (L.words look.old) version_page volume }
+    ensures value { (volume : State) → IsVersion (L.standing look.old) (L.words look.old)
+        version_page volume → result ≡ attribute volume node name.now }
     ensures unchanged { IsUnchanged L.kept L.standing L.words look.old look.new }
 {
     let catalog = look.word(version_page, 3);
     value_in(look, catalog, node, name, None)
 }
 
-/// The attributes of a node, by ascending bytes of their names. It is refused with NoNode where the node isn't
-/// there, and with OutOfMemory only where it is. It walks over the node's pairs in the catalog's tree.
+/// The attributes of a node, by ascending bytes of their names. The errors are NoNode if the node
+/// isn't there, and OutOfMemory only if it is. It walks over the node's pairs in the catalog's
+/// tree.
 pub fn attrs<L: Look>(
     alloc: Global,
     look: &mut L,
     version_page: u64,
     node: u64,
 ) -> Result<Vec<(Name, Value)>, Refusal>
-    requires version { (volume : State) × IsVersion (L.standing look.old) (L.words look.old) version_page volume }
-    ensures answer { (volume : State) → IsVersion (L.standing look.old) (L.words look.old) version_page volume →
+    requires version { (volume : State)
+        × IsVersion (L.standing look.old) (L.words look.old) version_page volume }
+    ensures answer { (volume : State) → IsVersion (L.standing look.old) (L.words look.old)
+        version_page volume →
         Answers (λ list. list.items) result (attributes_at volume node) }
-    ensures wanted { (volume : State) → IsVersion (L.standing look.old) (L.words look.old) version_page volume →
+    ensures wanted { (volume : State) → IsVersion (L.standing look.old) (L.words look.old)
+        version_page volume →
         IfErr result (λ e. e ≡ OutOfMemory → IsOk (attributes_at volume node)) }
     ensures unchanged { IsUnchanged L.kept L.standing L.words look.old look.new }
 {
@@ -159,15 +179,17 @@ pub fn attrs<L: Look>(
     Ok(list_attributes(alloc, look, catalog, node)?)
 }
 
-/// The names and kinds of the indices, by ascending bytes of the names; refused with OutOfMemory alone. It reads the version
-/// page and no other.
+/// The names and kinds of the indices, by ascending bytes of the names; refused with OutOfMemory
+/// alone. It reads the version page and no other.
 pub fn indices<L: Look>(
     alloc: Global,
     look: &mut L,
     version_page: u64,
 ) -> Result<Vec<(Name, Kind)>, Refusal>
-    requires version { (volume : State) × IsVersion (L.standing look.old) (L.words look.old) version_page volume }
-    ensures answer { (volume : State) → IsVersion (L.standing look.old) (L.words look.old) version_page volume →
+    requires version { (volume : State)
+        × IsVersion (L.standing look.old) (L.words look.old) version_page volume }
+    ensures answer { (volume : State) → IsVersion (L.standing look.old) (L.words look.old)
+        version_page volume →
         Answers (λ list. list.items) result (Ok (index_kinds volume)) }
     ensures unchanged { IsUnchanged L.kept L.standing L.words look.old look.new }
 {
@@ -180,8 +202,9 @@ pub fn indices<L: Look>(
     Ok(kinds(alloc, &version.entries)?)
 }
 
-/// The nodes from a number on, ascending, and so many of them at most; refused with OutOfMemory alone. It costs one descent
-/// of the catalog's tree, and a step for each node that it gives and for each of their attributes.
+/// Up to `most` nodes from a number on, ascending. The only error is OutOfMemory. It costs one
+/// descent of the catalog's tree, and a step for each node that it returns and for each of their
+/// attributes.
 pub fn nodes<L: Look>(
     alloc: Global,
     look: &mut L,
@@ -189,8 +212,10 @@ pub fn nodes<L: Look>(
     from: u64,
     most: usize,
 ) -> Result<Vec<u64>, Refusal>
-    requires version { (volume : State) × IsVersion (L.standing look.old) (L.words look.old) version_page volume }
-    ensures answer { (volume : State) → IsVersion (L.standing look.old) (L.words look.old) version_page volume →
+    requires version { (volume : State)
+        × IsVersion (L.standing look.old) (L.words look.old) version_page volume }
+    ensures answer { (volume : State) → IsVersion (L.standing look.old) (L.words look.old)
+        version_page volume →
         Answers (λ list. list.items) result (Ok (nodes_from volume from most)) }
     ensures unchanged { IsUnchanged L.kept L.standing L.words look.old look.new }
 {

@@ -1,9 +1,11 @@
 //! Many attributes in one call: the values of nodes at names.
 //!
-//! A row is what one node has at the names. One descent leads to the first of its attributes, and a cursor steps to the next
-//! name's as long as the names stand side by side, by ascending bytes. For any other name there is a descent. A node that has none
-//! of the names is looked for itself.
-ghost use Rattle.std.specs.Prelude.{◌≡◌, ◌≢◌, ◌+◌, ◌*◌, ◌^◌, ◌<◌, ◌≤◌, ℕ, List, [], ◌∷◌, ◌++◌, Err, None, Some, IfSome, IfNone, drop, length, map as each, slice_get};
+//! A row is what one node has at the names. One descent leads to the first of its attributes. A
+//! cursor steps to the next name's as long as the names lie side by side, by ascending bytes. Any
+//! other name costs a descent. If a node has none of the names, the node itself is looked up.
+ghost use Rattle.std.specs.Prelude.{◌≡◌, ◌≢◌, ◌+◌, ◌*◌, ◌^◌, ◌<◌, ◌≤◌, ℕ, List, [], ◌∷◌, ◌++◌, Err};
+ghost use Rattle.std.specs.Prelude.{None, Some, IfSome, IfNone, drop, length, map as each};
+ghost use Rattle.std.specs.Prelude.{slice_get};
 ghost use Rattle.std.specs.FinMap as map;
 ghost use Rattle.std.specs.declared.result.Result.{Result as AnyResult};
 ghost use Rattle.be_pages.specs.Pages.{IsUnchanged};
@@ -16,7 +18,9 @@ ghost use Rattle.be_volume.specs.Maps.{Nodes as AllNodes};
 ghost use Rattle.be_volume.specs.Reading.{attribute};
 ghost use Rattle.be_volume.specs.Volume.{State};
 ghost use Rattle.be_paged.specs.Catalog.{IsCatalog, value_at};
-ghost use Rattle.be_paged.specs.Cells.{AreTold, HasPayload, IsAmong, IsFew, IsInRow, IsReadInto, StartsElsewhere, TellsColumns, cell_of, found_at, name_in, why_none};
+ghost use Rattle.be_paged.specs.Cells.{AreTold, HasPayload, IsAmong, IsFew, IsInRow, IsReadInto};
+ghost use Rattle.be_paged.specs.Cells.{StartsElsewhere, TellsColumns, cell_of, found_at, name_in};
+ghost use Rattle.be_paged.specs.Cells.{why_none};
 ghost use Rattle.be_paged.specs.Place.{IsFoundAt};
 ghost use Rattle.be_paged.specs.Reading.{AreValid};
 ghost use Rattle.be_paged.specs.Source.{IsItemAt};
@@ -31,12 +35,16 @@ use be_value::Refusal;
 /// A step of the cursor, and the place of the item that it passed, if that has the key.
 fn step_to<L: Look>(look: &mut L, cursor: &mut Cursor, key: &[u8]) -> Option<(u64, usize)>
     requires cursor { IsCursor (L.standing look.old) (L.words look.old) cursor.old }
-    ensures item { IfSome result (λ at. IsItemAt (L.standing look.old) (L.words look.old) at.0 at.1) }
-    ensures found { IfSome result (λ at. slice_get (remaining (L.words look.old) cursor.old) 0 ≡ Some (item_at (L.words look.old at.0) at.1)) }
+    ensures item { IfSome result (λ at. IsItemAt (L.standing look.old) (L.words look.old) at.0
+        at.1) }
+    ensures found { IfSome result (λ at. slice_get (remaining (L.words look.old) cursor.old) 0
+        ≡ Some (item_at (L.words look.old at.0) at.1)) }
     ensures same { IfSome result (λ at. (item_at (L.words look.old at.0) at.1).key ≡ key.now) }
-    ensures none { IfNone result (StartsElsewhere key.now (remaining (L.words look.old) cursor.old)) }
+    ensures none { IfNone result (StartsElsewhere key.now
+        (remaining (L.words look.old) cursor.old)) }
     ensures cursor { IsCursor (L.standing look.old) (L.words look.old) cursor.new }
-    ensures rest { remaining (L.words look.old) cursor.new ≡ drop 1 (remaining (L.words look.old) cursor.old) }
+    ensures rest { remaining (L.words look.old) cursor.new
+        ≡ drop 1 (remaining (L.words look.old) cursor.old) }
     ensures unchanged { IsUnchanged L.kept L.standing L.words look.old look.new }
 {
     let (page, at) = cursor.step(look)?;
@@ -46,8 +54,8 @@ fn step_to<L: Look>(look: &mut L, cursor: &mut Cursor, key: &[u8]) -> Option<(u6
     Some((page, at))
 }
 
-/// Where the attribute with a key stands in the catalog's tree, if it is there: at the cursor, or where a descent leads. The
-/// cursor is past it then.
+/// The place of the attribute with a key in the catalog's tree, if it is there: at the cursor, or
+/// where a descent leads. The cursor is past it then.
 fn next_place<L: Look>(
     look: &mut L,
     catalog: u64,
@@ -69,7 +77,7 @@ fn next_place<L: Look>(
     step_to(look, cursor, key)
 }
 
-/// Where the value of a node's attribute stands, if the node has it, as `next_place` finds it.
+/// The place of the value of a node's attribute, if the node has it, as `next_place` finds it.
 fn value_place<L: Look>(
     look: &mut L,
     catalog: u64,
@@ -80,10 +88,14 @@ fn value_place<L: Look>(
     requires tree { IsTree (L.standing look.old) (L.words look.old) catalog }
     requires cursor { IsCursor (L.standing look.old) (L.words look.old) cursor.old }
     requires among { IsAmong (L.words look.old) catalog cursor.old }
-    ensures item { IfSome result (λ at. IsItemAt (L.standing look.new) (L.words look.new) at.0 at.1) }
-    ensures some { (nodes : AllNodes) → IsCatalog (pairs (L.words look.old) catalog) nodes → AreValid nodes
-        → IfSome result (λ at. HasPayload nodes node (name_in name.now) (item_at (L.words look.new at.0) at.1).payload) }
-    ensures none { (nodes : AllNodes) → IsCatalog (pairs (L.words look.old) catalog) nodes → AreValid nodes
+    ensures item { IfSome result (λ at. IsItemAt (L.standing look.new) (L.words look.new) at.0
+        at.1) }
+    ensures some { (nodes : AllNodes) → IsCatalog (pairs (L.words look.old) catalog) nodes
+        → AreValid nodes
+        → IfSome result (λ at. HasPayload nodes node (name_in name.now)
+        (item_at (L.words look.new at.0) at.1).payload) }
+    ensures none { (nodes : AllNodes) → IsCatalog (pairs (L.words look.old) catalog) nodes
+        → AreValid nodes
         → IfNone result (value_at nodes node (name_in name.now) ≡ None) }
     ensures cursor { IsCursor (L.standing look.new) (L.words look.new) cursor.new }
     ensures among { IsAmong (L.words look.new) catalog cursor.new }
@@ -99,9 +111,12 @@ fn value_place<L: Look>(
 /// Whether the node is there. It is looked for once in a row.
 fn is_there<L: Look>(look: &mut L, catalog: u64, node: u64, known: &mut Option<bool>) -> bool
     requires tree { IsTree (L.standing look.old) (L.words look.old) catalog }
-    requires known { (nodes : AllNodes) → IsCatalog (pairs (L.words look.old) catalog) nodes → AreValid nodes → IfSome known.old (λ there. there ≡ map.contains_key nodes node) }
-    ensures there { (nodes : AllNodes) → IsCatalog (pairs (L.words look.old) catalog) nodes → AreValid nodes → result ≡ map.contains_key nodes node }
-    ensures known { (nodes : AllNodes) → IsCatalog (pairs (L.words look.old) catalog) nodes → AreValid nodes → IfSome known.new (λ there. there ≡ map.contains_key nodes node) }
+    requires known { (nodes : AllNodes) → IsCatalog (pairs (L.words look.old) catalog) nodes
+        → AreValid nodes → IfSome known.old (λ there. there ≡ map.contains_key nodes node) }
+    ensures there { (nodes : AllNodes) → IsCatalog (pairs (L.words look.old) catalog) nodes
+        → AreValid nodes → result ≡ map.contains_key nodes node }
+    ensures known { (nodes : AllNodes) → IsCatalog (pairs (L.words look.old) catalog) nodes
+        → AreValid nodes → IfSome known.new (λ there. there ≡ map.contains_key nodes node) }
     ensures unchanged { IsUnchanged L.kept L.standing L.words look.old look.new }
 {
     if let Some(there) = *known {
@@ -136,14 +151,19 @@ fn tell_attribute<L: Look>(
     filled: &mut Filled,
 )
     requires tree { IsTree (L.standing look.old) (L.words look.old) catalog }
-    requires row { IsInRow (L.standing look.old) (L.words look.old) catalog node cursor.old known.old }
+    requires row { IsInRow (L.standing look.old) (L.words look.old) catalog node cursor.old
+        known.old }
     requires cells { filled.old.cells < 2 ^ 32 }
     requires few { IsFew filled.old }
-    ensures told { (nodes : AllNodes) → IsCatalog (pairs (L.words look.old) catalog) nodes → AreValid nodes
-        → (found : List (AnyResult AnyValue AnyRefusal)) (cell_places : List AnyCell) (byte_places : List ℕ)
+    ensures told { (nodes : AllNodes) → IsCatalog (pairs (L.words look.old) catalog) nodes
+        → AreValid nodes
+        → (found : List (AnyResult AnyValue AnyRefusal)) (cell_places : List AnyCell)
+        (byte_places : List ℕ)
         → AreTold found cell_places cells.old byte_places bytes.old filled.old
-        → AreTold (found ++ found_at nodes node (name_in name.now) ∷ []) cell_places cells.new byte_places bytes.new filled.new }
-    ensures row { IsInRow (L.standing look.new) (L.words look.new) catalog node cursor.new known.new }
+        → AreTold (found ++ found_at nodes node (name_in name.now) ∷ []) cell_places cells.new
+        byte_places bytes.new filled.new }
+    ensures row { IsInRow (L.standing look.new) (L.words look.new) catalog node cursor.new
+        known.new }
     ensures one { filled.new.cells ≡ filled.old.cells + 1 }
     ensures few { IsFew filled.new }
     ensures unchanged { IsUnchanged L.kept L.standing L.words look.old look.new }
@@ -170,10 +190,13 @@ fn tell_row<L: Look>(
     requires tree { IsTree (L.standing look.old) (L.words look.old) catalog }
     requires cells { filled.old.cells + length names.now ≤ 2 ^ 32 }
     requires few { IsFew filled.old }
-    ensures told { (nodes : AllNodes) → IsCatalog (pairs (L.words look.old) catalog) nodes → AreValid nodes
-        → (found : List (AnyResult AnyValue AnyRefusal)) (cell_places : List AnyCell) (byte_places : List ℕ)
+    ensures told { (nodes : AllNodes) → IsCatalog (pairs (L.words look.old) catalog) nodes
+        → AreValid nodes
+        → (found : List (AnyResult AnyValue AnyRefusal)) (cell_places : List AnyCell)
+        (byte_places : List ℕ)
         → AreTold found cell_places cells.old byte_places bytes.old filled.old
-        → AreTold (found ++ each (found_at nodes node) (each name_in names.now)) cell_places cells.new byte_places bytes.new filled.new }
+        → AreTold (found ++ each (found_at nodes node) (each name_in names.now)) cell_places
+        cells.new byte_places bytes.new filled.new }
     ensures count { filled.new.cells ≡ filled.old.cells + length names.now }
     ensures few { IsFew filled.new }
     ensures unchanged { IsUnchanged L.kept L.standing L.words look.old look.new }
@@ -195,11 +218,12 @@ fn tell_row<L: Look>(
     }
 }
 
-/// Tells what each node has at each name: the cells of the first node, then those of the second, and so on, and the bytes of all
-/// texts end to end, of both as many as there are places. Returns how many bytes that are.
+/// Tells what each node has at each name: the cells of the first node, then those of the second,
+/// and so on, and the bytes of all texts end to end, of both as many as there are places. Returns
+/// how many bytes that are.
 ///
-/// It takes no memory. A node costs one descent if its attributes of these names stand side by side; a name that it hasn't costs
-/// one more, and so does a node that has none of them.
+/// It takes no memory. A node costs one descent if its attributes of these names lie side by side.
+/// A name that it hasn't costs one more, and so does a node that has none of them.
 pub fn columns<L: Look>(
     look: &mut L,
     version_page: u64,
@@ -208,10 +232,13 @@ pub fn columns<L: Look>(
     cells: &mut [Cell],
     bytes: &mut [u8],
 ) -> u64
-    requires version { (volume : State) × IsVersion (L.standing look.old) (L.words look.old) version_page volume }
+    requires version { (volume : State)
+        × IsVersion (L.standing look.old) (L.words look.old) version_page volume }
     requires few { length nodes.now * length names.now ≤ 2 ^ 32 }
-    ensures told { (volume : State) → IsVersion (L.standing look.old) (L.words look.old) version_page volume →
-        TellsColumns volume nodes.now (each name_in names.now) cells.old cells.new bytes.old bytes.new result }
+    ensures told { (volume : State) → IsVersion (L.standing look.old) (L.words look.old)
+        version_page volume →
+        TellsColumns volume nodes.now (each name_in names.now) cells.old cells.new bytes.old
+        bytes.new result }
     ensures unchanged { IsUnchanged L.kept L.standing L.words look.old look.new }
 {
     let catalog = look.word(version_page, 3);
@@ -222,8 +249,9 @@ pub fn columns<L: Look>(
     filled.bytes as u64
 }
 
-/// A node's attribute as a cell, if the node is there and has it. The bytes of a text are put to the front of the places, as many
-/// as there are places. It costs one descent of the catalog's tree, and takes no memory.
+/// A node's attribute as a cell, if the node is there and has it. The bytes of a text are written
+/// to the front of the places, as many as there are places. It costs one descent of the catalog's
+/// tree, and takes no memory.
 #[inline(always)]
 pub fn get_into<L: Look>(
     look: &mut L,
@@ -232,8 +260,10 @@ pub fn get_into<L: Look>(
     name: &HeldName,
     bytes: &mut [u8],
 ) -> Option<Cell>
-    requires version { (volume : State) × IsVersion (L.standing look.old) (L.words look.old) version_page volume }
-    ensures value { (volume : State) → IsVersion (L.standing look.old) (L.words look.old) version_page volume →
+    requires version { (volume : State)
+        × IsVersion (L.standing look.old) (L.words look.old) version_page volume }
+    ensures value { (volume : State) → IsVersion (L.standing look.old) (L.words look.old)
+        version_page volume →
         IsReadInto (attribute volume node (name_in name.now)) result bytes.old bytes.new }
     ensures unchanged { IsUnchanged L.kept L.standing L.words look.old look.new }
 {
@@ -242,7 +272,7 @@ pub fn get_into<L: Look>(
     read_into(look, page, at, bytes)
 }
 
-/// Where the value of a node's attribute stands, if the node has it. One descent.
+/// The place of the value of a node's attribute, if the node has it. One descent.
 #[inline(always)]
 fn found_value<L: Look>(
     look: &mut L,
@@ -251,10 +281,14 @@ fn found_value<L: Look>(
     name: &HeldName,
 ) -> Option<(u64, usize)>
     requires tree { IsTree (L.standing look.old) (L.words look.old) catalog }
-    ensures item { IfSome result (λ at. IsItemAt (L.standing look.new) (L.words look.new) at.0 at.1) }
-    ensures some { (nodes : AllNodes) → IsCatalog (pairs (L.words look.old) catalog) nodes → AreValid nodes
-        → IfSome result (λ at. HasPayload nodes node (name_in name.now) (item_at (L.words look.new at.0) at.1).payload) }
-    ensures none { (nodes : AllNodes) → IsCatalog (pairs (L.words look.old) catalog) nodes → AreValid nodes
+    ensures item { IfSome result (λ at. IsItemAt (L.standing look.new) (L.words look.new) at.0
+        at.1) }
+    ensures some { (nodes : AllNodes) → IsCatalog (pairs (L.words look.old) catalog) nodes
+        → AreValid nodes
+        → IfSome result (λ at. HasPayload nodes node (name_in name.now)
+        (item_at (L.words look.new at.0) at.1).payload) }
+    ensures none { (nodes : AllNodes) → IsCatalog (pairs (L.words look.old) catalog) nodes
+        → AreValid nodes
         → IfNone result (value_at nodes node (name_in name.now) ≡ None) }
     ensures unchanged { IsUnchanged L.kept L.standing L.words look.old look.new }
 {

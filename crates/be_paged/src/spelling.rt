@@ -1,9 +1,11 @@
-//! How a version page is spelled.
+//! How a version page is encoded.
 ghost use Rattle.std.specs.Prelude.{◌≡◌, ℕ, ◌+◌, ◌*◌, ◌<◌};
 ghost use Rattle.be_paged.specs.Page.{contents_of, IsVersionPage};
 
-/// A law: what a version page tells, its next number, its roots and its indices, fixes each word that it uses. It does nothing.
+/// A law: the contents of a version page, its next number, its roots and its indices, fix each word
+/// that it uses. It does nothing.
 pub fn one_spelling()
-    ensures { (words others : ℕ → ℕ) → IsVersionPage words → IsVersionPage others → contents_of words ≡ contents_of others →
+    ensures { (words others : ℕ → ℕ) → IsVersionPage words → IsVersionPage others
+        → contents_of words ≡ contents_of others →
         (i : ℕ) → i < 4 + 11 * words 1 → words i ≡ others i }
 {}

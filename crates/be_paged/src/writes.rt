@@ -1,5 +1,6 @@
 //! Writes: a list of operations on a version.
-ghost use Rattle.std.specs.Prelude.{◌≡◌, ◌+◌, ◌≤◌, ◌<◌, ◌^◌, [], ◌∷◌, length, All, IsTrue, IfOk, IfErr, OnErr};
+ghost use Rattle.std.specs.Prelude.{◌≡◌, ◌+◌, ◌≤◌, ◌<◌, ◌^◌, [], ◌∷◌, length, All, IsTrue, IfOk};
+ghost use Rattle.std.specs.Prelude.{IfErr, OnErr};
 ghost use Rattle.std.specs.Result.{result_err};
 ghost use Rattle.be_pages.specs.Pages.{is_kept, IsUnchanged, KeepsStart, Swaps};
 ghost use Rattle.be_pages.specs.Refusal.{IsFullOf};
@@ -21,8 +22,9 @@ use be_pages::{Look, Room};
 use be_value::Refusal;
 use be_volume::{Done, Op, first_refusal};
 
-/// The refusal, from NoNode to NotIndexable, that the list meets, if it meets one. It is found from the list and the old
-/// version, and nothing changes. `asked` gets the attribute that was looked for first, unless it has one.
+/// The refusal, from NoNode to NotIndexable, that the list meets, if it meets one. It is found from
+/// the list and the old version, and nothing changes. `asked` gets the attribute that was looked
+/// for first, unless it has one.
 fn refusal<L: Look>(
     look: &mut L,
     version: &Version,
@@ -30,8 +32,10 @@ fn refusal<L: Look>(
     asked: &mut Option<Asked>,
 ) -> Option<Refusal>
     ghost volume: { State }
-    requires answers { AnswersFor (L.standing look.old) (L.words look.old) (contents version.now) volume }
-    requires asked { IsAsked (L.standing look.old) (L.words look.old) version.now.catalog asked.old }
+    requires answers { AnswersFor (L.standing look.old) (L.words look.old) (contents version.now)
+        volume }
+    requires asked { IsAsked (L.standing look.old) (L.words look.old) version.now.catalog
+        asked.old }
     requires fits { volume.next + length ops.now < 2 ^ 64 }
     ensures answer { result ≡ result_err (steps volume ops.now) }
     ensures asked { IsAsked (L.standing look.new) (L.words look.new) version.now.catalog asked.new }
@@ -50,10 +54,12 @@ fn refusal<L: Look>(
 fn write_version<R: Room>(room: &mut R, version: &Version) -> Result<u64, Refusal>
     requires named { All (λ e. IsName e.name) version.now.entries.items }
     requires open { IsTrue (R.is_open (R.kept room.old)) }
-    ensures contents { IfOk result (λ page. contents_of (R.words room.new page) ≡ contents version.now) }
+    ensures contents { IfOk result (λ page. contents_of (R.words room.new page)
+        ≡ contents version.now) }
     ensures page { IfOk result (λ page. IsVersionPage (R.words room.new page)) }
     ensures taken { IfOk result (λ page. R.standing room.new page ≡ Filled) }
-    ensures swaps { IfOk result (λ page. Swaps R.kept R.standing R.words [] (page ∷ []) room.old room.new) }
+    ensures swaps { IfOk result (λ page. Swaps R.kept R.standing R.words [] (page ∷ []) room.old
+        room.new) }
     ensures err { OnErr result (KeepsStart R.kept R.standing R.words room.old room.new) }
     ensures full { IfErr result (IsFullOf (R.full room.new)) }
 {
@@ -67,10 +73,12 @@ fn replace_version<R: Room>(room: &mut R, old_page: u64, version: &Version) -> R
     requires in_use { IsTrue (is_kept (R.standing room.old old_page)) }
     requires named { All (λ e. IsName e.name) version.now.entries.items }
     requires open { IsTrue (R.is_open (R.kept room.old)) }
-    ensures contents { IfOk result (λ page. contents_of (R.words room.new page) ≡ contents version.now) }
+    ensures contents { IfOk result (λ page. contents_of (R.words room.new page)
+        ≡ contents version.now) }
     ensures page { IfOk result (λ page. IsVersionPage (R.words room.new page)) }
     ensures taken { IfOk result (λ page. R.standing room.new page ≡ Filled) }
-    ensures swaps { IfOk result (λ page. Swaps R.kept R.standing R.words (old_page ∷ []) (page ∷ []) room.old room.new) }
+    ensures swaps { IfOk result (λ page. Swaps R.kept R.standing R.words (old_page ∷ []) (page ∷ [])
+        room.old room.new) }
     ensures err { OnErr result (KeepsStart R.kept R.standing R.words room.old room.new) }
     ensures full { IfErr result (IsFullOf (R.full room.new)) }
 {
@@ -79,13 +87,14 @@ fn replace_version<R: Room>(room: &mut R, old_page: u64, version: &Version) -> R
     Ok(page)
 }
 
-/// Applies 1 to 64 operations to the version of a page, all or none, and gives the new version page; an answer for each operation enters an empty
-/// list. The new page is one that this write has taken, also where nothing changed. The list is filled where it stands, since one that is given by
+/// Applies 1 to 64 operations to the version of a page, all or none, and returns the new version
+/// page; an outcome for each operation enters an empty list. The new page is one that this write
+/// has taken, even if nothing changed. The list is filled in place, since one that is passed by
 /// value costs its whole capacity.
 ///
-/// The list is refused with NoNode to NotIndexable as the plain volume refuses it, before a page is taken, and the room is
-/// as it was; or with Full where no page is left, and what stood when the write began stands once it is undone. It takes no
-/// memory.
+/// The errors are those of the plain volume, NoNode to NotIndexable: they come before a page is
+/// taken, and the room is unchanged. If no page is left, the error is Full, and what was there when
+/// the write began is there again once it is undone. It takes no memory.
 pub fn apply_into<R: Room>(
     room: &mut R,
     version_page: u64,
@@ -98,8 +107,10 @@ pub fn apply_into<R: Room>(
     requires fits { volume.next + 64 < 2 ^ 64 }
     requires open { IsTrue (R.is_open (R.kept room.old)) }
     requires empty { dones.old.items ≡ [] }
-    ensures ok { IfOk result (λ page. Applies R.kept R.standing R.words version_page page volume ops.now dones.new.items room.old room.new) }
-    ensures err { IfErr result (λ e. IsRefusedList R.kept R.standing R.words R.full volume ops.now e room.old room.new) }
+    ensures ok { IfOk result (λ page. Applies R.kept R.standing R.words version_page page volume
+        ops.now dones.new.items room.old room.new) }
+    ensures err { IfErr result (λ e. IsRefusedList R.kept R.standing R.words R.full volume ops.now e
+        room.old room.new) }
 {
     let mut version = Version {
         next: 0,
@@ -116,7 +127,7 @@ pub fn apply_into<R: Room>(
     Ok(page)
 }
 
-/// The same, with the answers in a list of their own.
+/// The same, with the outcomes in a list of their own.
 pub fn apply<R: Room>(
     room: &mut R,
     version_page: u64,
@@ -127,8 +138,10 @@ pub fn apply<R: Room>(
     requires count { (1 ≤ length ops.now) × (length ops.now ≤ 64) }
     requires fits { volume.next + 64 < 2 ^ 64 }
     requires open { IsTrue (R.is_open (R.kept room.old)) }
-    ensures ok { IfOk result (λ r. Applies R.kept R.standing R.words version_page r.0 volume ops.now r.1.items room.old room.new) }
-    ensures err { IfErr result (λ e. IsRefusedList R.kept R.standing R.words R.full volume ops.now e room.old room.new) }
+    ensures ok { IfOk result (λ r. Applies R.kept R.standing R.words version_page r.0 volume ops.now
+        r.1.items room.old room.new) }
+    ensures err { IfErr result (λ e. IsRefusedList R.kept R.standing R.words R.full volume ops.now e
+        room.old room.new) }
 {
     let mut dones = ArrayVec::new();
     match apply_into(room, version_page, ops, &mut dones) {

@@ -1,8 +1,8 @@
-//! The same requests to both forms of a volume: lines `REQUEST => REPLY` in the words of scripts, with ` / ` between several
-//! requests and between the lines of replies.
+//! The same requests to both forms of a volume: lines `REQUEST => REPLY` in the words of scripts,
+//! with ` / ` between several requests and between the lines of replies.
 //!
-//! A list of several operations has `;` between them. `pick PLACE TEXT` is a query by one pick, and `free` the number of free
-//! pages, which the room alone answers.
+//! A list of several operations has `;` between them. `pick PLACE TEXT` is a query by one pick, and
+//! `free` the number of free pages, which the room alone answers.
 
 mod asking;
 mod both;
@@ -19,8 +19,8 @@ mod writing;
 use crate::tests::asking::read_query;
 use crate::tests::both::Both;
 use crate::tests::lines::{answer_text, nodes_text, refused, request_of, written_text};
-use be_language::{Reply, Request};
-use be_testing::{EXAMPLES, LISTS, TWO_INDICES, behind, list_of};
+use be_script_language::{Reply, Request};
+use be_test_tools::{EXAMPLES, LISTS, TWO_INDICES, behind, list_of};
 use be_value::{Name, Refusal, word_of};
 use be_volume::Op;
 use std::alloc::Global;
@@ -44,7 +44,7 @@ fn query(
     Ok((both, nodes_text(alloc, answer)?))
 }
 
-/// The same from the pick whose place stands before the query.
+/// The same from the pick whose place comes before the query.
 fn picked(alloc: Global, both: Both, text: &str) -> Result<(Both, String), Fail> {
     let (place, text) = text.split_once(" ").unwrap_or(("0", text));
     let place = word_of(place.as_bytes()).unwrap_or(99) as usize;
@@ -132,7 +132,7 @@ fn run_line(alloc: Global, both: Both, line: &str) -> Result<Both, Fail> {
     Err(Fail::new(line))
 }
 
-/// Does the requests, and gives what stands then.
+/// Does the requests, and returns both forms after them.
 pub(crate) fn run_lines(alloc: Global, both: Both, lines: &str) -> Result<Both, Fail> {
     let mut both = both;
     for line in lines.lines() {
@@ -141,7 +141,8 @@ pub(crate) fn run_lines(alloc: Global, both: Both, lines: &str) -> Result<Both, 
     Ok(both)
 }
 
-/// Fails unless both forms give these replies, the one in a room of 64 pages. Gives what stands then.
+/// Fails unless both forms give these replies, the one in a room of 64 pages. Returns both forms
+/// after them.
 fn runs(alloc: Global, lines: &str) -> Result<Both, Fail> {
     let both = Both::new(alloc, 64)?;
     run_lines(alloc, both, lines)
@@ -173,7 +174,7 @@ fn batches(rt: HostRuntime) -> Result<(), Fail> {
     Ok(())
 }
 
-/// An index takes no page before it has a pair, and gives up all that it has.
+/// An index takes no page before it has a pair, and frees all pages that it has.
 #[test]
 fn paged_pool(rt: HostRuntime) -> Result<(), Fail> {
     let lines = "free / new / free => 63 / node 1 / 62
@@ -183,7 +184,7 @@ rmindex k / free / drop 1 / free => ok / 62 / ok / 63";
     Ok(())
 }
 
-/// Makes nodes, one list after the other, until one is refused. Gives how many there are.
+/// Makes nodes, one list after the other, until one is refused. Returns how many there are.
 fn make_nodes(both: Both, most: u64) -> Result<(Both, u64), Fail> {
     let mut both = both;
     for i in 0..most {
@@ -196,7 +197,8 @@ fn make_nodes(both: Both, most: u64) -> Result<(Both, u64), Fail> {
     Ok((both, most))
 }
 
-/// A room of eight pages takes at least 13 nodes and at most 36. Then it is full, which the version page outlives.
+/// A room of eight pages takes at least 13 nodes and at most 36. Then it is full, which the version
+/// page outlives.
 #[test]
 fn smallest_pool(rt: HostRuntime) -> Result<(), Fail> {
     let (both, made) = make_nodes(Both::new(rt.alloc(), 8)?, 37)?;

@@ -187,3 +187,8 @@ count_map (x ∷ xs) none =
 pub count_free : (P : List Place) → ((q : ℕ) → is_retired (place_of P q) ≡ false) → count_by is_free P ≡ count_by stands_free (standings P)
 count_free P none = sym (count_map P none)
     ∙ ap (count_by stands_free) (fill_by_all (standing_in P) (map standing_of P) (length P) stands.Free (length-map P standing_of) (λ k lt. get_or-map standing_of P k Free stands.Free lt))
+
+-- what a call of `take` uses, and of `fill`
+pub ruleset taking = (stands_set, unretired_set, busy_place)
+
+pub ruleset filling = (stands_set, unretired_set, in_hand, inside)

@@ -1,7 +1,9 @@
 -- The places of pages, and what becomes of them.
-use Rattle.std.specs.Prelude.{◌≡◌, ℕ, ◌<◌, ◌≤◌, List, Bool, true, false, length, slice_index, slice_index_or, if◌then◌else◌, nat_lt}
+use Rattle.std.specs.Prelude.{◌≡◌, ℕ, ◌<◌, ◌≤◌, List, Bool, true, false, length, slice_index}
+use Rattle.std.specs.Prelude.{slice_index_or, if◌then◌else◌, nat_lt}
 use Rattle.be_pages.specs.declared.page_pool.Place.{Place}
-use Rattle.be_pages.specs.declared.page_pool.Place.TheVariants.{Free, Reserved, Filled, Current, GivenUp, Retired}
+use Rattle.be_pages.specs.declared.page_pool.Place.TheVariants.{Free, Reserved, Filled, Current}
+use Rattle.be_pages.specs.declared.page_pool.Place.TheVariants.{GivenUp, Retired}
 use Rattle.be_pages.specs.declared.page_pool.Ending.{Ending}
 use Rattle.be_pages.specs.declared.page_pool.Ending.TheVariants.{Published, Kept, Undone}
 
@@ -52,7 +54,7 @@ is_held_page Current = true
 is_held_page GivenUp = false
 is_held_page (Retired n) = false
 
--- the number that a page is retired with, else 0
+-- the number that a page is retired with, otherwise 0
 abbrev pub retired_number : Place → ℕ
 retired_number Free = 0
 retired_number Reserved = 0
@@ -122,4 +124,5 @@ IsNewest Undone number_of = Unit {0}
 
 -- the numbers of the pages of a queue do not fall
 abbrev pub IsOldestFirst : (ℕ → ℕ) → List ℕ → Type 0
-IsOldestFirst number_of queue = (i j : ℕ) → i ≤ j → j < length queue → number_of (slice_index queue i) ≤ number_of (slice_index queue j)
+IsOldestFirst number_of queue = (i j : ℕ) → i ≤ j → j < length queue
+    → number_of (slice_index queue i) ≤ number_of (slice_index queue j)

@@ -1,4 +1,4 @@
--- Which refusal a call gives.
+-- Which refusal a call returns.
 use Rattle.std.specs.Prelude.{◌≡◌, ℕ, ◌≤◌, ◌<◌, ◌⊎◌}
 use Rattle.be_value.specs.declared.refusals.Refusal.{Refusal}
 use Rattle.be_value.specs.declared.refusals.Refusal.TheVariants.{OutOfMemory, Full, BadLimits}
@@ -9,4 +9,5 @@ IsFullOf tells refusal = (least : ℕ) × (refusal ≡ Full least) × tells leas
 
 -- for a number of pages: a limit out of its range exactly, or no memory
 abbrev pub IsLimitOrMemory : ℕ → Refusal → Type 0
-IsLimitOrMemory pages refusal = (refusal ≡ BadLimits × ((pages < 8) ⊎ (16384 < pages))) ⊎ (refusal ≡ OutOfMemory × (8 ≤ pages) × (pages ≤ 16384))
+IsLimitOrMemory pages refusal = (refusal ≡ BadLimits × ((pages < 8) ⊎ (16384 < pages)))
+    ⊎ (refusal ≡ OutOfMemory × (8 ≤ pages) × (pages ≤ 16384))

@@ -1,5 +1,6 @@
--- A room in memory, by where its pages stand and by their words.
-use Rattle.std.specs.Prelude.{◌≡◌, ◌≢◌, ℕ, ◌+◌, ◌*◌, ◌<◌, ◌≤◌, ◌^◌, List, length, map, slice_index, slice_index_or, if◌then◌else◌, nat_lt}
+-- A room in memory, described by the states of its pages and by their words.
+use Rattle.std.specs.Prelude.{◌≡◌, ◌≢◌, ℕ, ◌+◌, ◌*◌, ◌<◌, ◌≤◌, ◌^◌, List, length, map, slice_index}
+use Rattle.std.specs.Prelude.{slice_index_or, if◌then◌else◌, nat_lt}
 use Rattle.std.specs.List.{range_with_len}
 use Rattle.std.proofs.Common.{inl, inr, arith}
 use Rattle.std.proofs.lemmas.Bool.{cases_lt}
@@ -8,9 +9,10 @@ use Rattle.std.proofs.Common.{ap}
 use Rattle.be_pages.specs.declared.room.Standing.{Standing as Stands}
 use Rattle.be_pages.specs.declared.room.Standing.TheVariants as stands
 use Rattle.be_pages.specs.declared.page_pool.Place.{Place}
-use Rattle.be_pages.specs.declared.page_pool.Place.TheVariants.{Free, Reserved, Filled, Current, GivenUp, Retired}
+use Rattle.be_pages.specs.declared.page_pool.Place.TheVariants.{Free, Reserved, Filled, Current}
+use Rattle.be_pages.specs.declared.page_pool.Place.TheVariants.{GivenUp, Retired}
 
--- where a page stands in the open write
+-- the state of a page with this place in the open write
 abbrev pub standing_of : Place → Stands
 standing_of Free = stands.Free
 standing_of Reserved = stands.Taken
@@ -19,11 +21,11 @@ standing_of Current = stands.Old
 standing_of GivenUp = stands.GivenUp
 standing_of (Retired n) = stands.Free
 
--- where page q stands; past the pool there is no page
+-- the state of page q; past the pool there is no page
 abbrev pub standing_in : List Place → ℕ → Stands
 standing_in places q = standing_of (slice_index_or places q Free)
 
--- where the pages of the pool stand, in order
+-- the states of the pool's pages, in order
 abbrev pub standings : List Place → List Stands
 standings places = map (standing_in places) (range_with_len 0 (length places))
 
@@ -36,7 +38,8 @@ abbrev pub NoneFree : List Place → Type 0
 NoneFree places = (q : ℕ) → q < length places → standing_in places q ≢ stands.Free
 
 -- a page of the pool has a small number
-pub small_in : (places : List Place) (q : ℕ) → length places ≤ 16384 → (standing_in places q ≡ stands.Free → ⊥) → q < 2 ^ 32
+pub small_in : (places : List Place) (q : ℕ) → length places ≤ 16384
+    → (standing_in places q ≡ stands.Free → ⊥) → q < 2 ^ 32
 small_in places q few some = elim (cases_lt q (length places)) [
   | inl lt ↦ omega (arith, lt, few)
   | inr past ↦ absurd (some (ap standing_of (get_or_past places q Free past)))

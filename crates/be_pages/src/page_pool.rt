@@ -1,23 +1,28 @@
 //! Where each page of a pool is, and the lists that make each change cost what it changes.
 //!
 //! # Places
-//! A page is free, taken by the open write, of the current version, given up by the open write, or retired: given up
-//! by an earlier write, while a reader of an older version may still look at it. A retired page has the number of the
-//! last version that it is of.
+//! A page is free, taken by the open write, of the current version, given up by the open write, or
+//! retired: given up by an earlier write, while a reader of an older version may still look at it.
+//! A retired page has the number of the last version that it is of.
 //!
 //! # Lists
-//! Three lists stand beside the places. The free pages lie on a stack: the page that was freed last is taken first,
-//! since its words are still near. The pages that the open write took or gave up lie on another, so the write ends by
-//! walking these alone. The retired pages stand in a queue, oldest first, so a sweep stops at the first one that has
-//! to wait. Each list has room for every page from the start: no call but `new` takes memory.
-ghost use Rattle.std.specs.Prelude.{◌≡◌, ◌≢◌, ℕ, ◌+◌, ◌<◌, ◌≤◌, List, Bool, true, false, length, vec_len, map, count_by, slice_set};
+//! The pool keeps three lists beside the places. The free pages lie on a stack: the page that was
+//! freed last is taken first, since its words are still near. The pages that the open write took or
+//! gave up lie on another, so the write ends by walking these alone. The retired pages lie in a
+//! queue, oldest first, so a sweep stops at the first one that has to wait. Each list has room for
+//! every page from the start: no call but `new` takes memory.
+ghost use Rattle.std.specs.Prelude.{◌≡◌, ◌≢◌, ℕ, ◌+◌, ◌<◌, ◌≤◌, List, Bool, true, false, length};
+ghost use Rattle.std.specs.Prelude.{vec_len, map, count_by, slice_set};
 ghost use Rattle.std.specs.Prelude.{slice_index, slice_index_or, IsTrue, IfOk, IfSome, IfNone};
 ghost use Rattle.std.specs.VecDeque.{deque_len, deque_capacity};
 ghost use Rattle.be_pages.specs.Pages.{times};
 ghost use Rattle.be_pages.specs.PageSet.{has_page, one_if};
-ghost use Rattle.be_pages.specs.Place.{given_place, is_free, is_held_page, is_idle, is_in_hand, is_retired, kept_place, retired_at};
-ghost use Rattle.be_pages.specs.Place.{place_after, place_of, published_place, swept_place, undone_place, IsNewest, IsOldestFirst};
-ghost use Rattle.be_pages.specs.declared.page_pool.Place.TheVariants.{Free, Reserved, Filled, Current, GivenUp, Retired};
+ghost use Rattle.be_pages.specs.Place.{given_place, is_free, is_held_page, is_idle, is_in_hand};
+ghost use Rattle.be_pages.specs.Place.{is_retired, kept_place, retired_at};
+ghost use Rattle.be_pages.specs.Place.{place_after, place_of, published_place, swept_place};
+ghost use Rattle.be_pages.specs.Place.{undone_place, IsNewest, IsOldestFirst};
+ghost use Rattle.be_pages.specs.declared.page_pool.Place.TheVariants.{Free, Reserved, Filled};
+ghost use Rattle.be_pages.specs.declared.page_pool.Place.TheVariants.{Current, GivenUp, Retired};
 ghost use Rattle.be_pages.specs.declared.page_pool.Ending.TheVariants.{Published, Kept, Undone};
 
 use crate::page_set::PageSet;
@@ -64,20 +69,25 @@ pub struct PagePool {
     ghost retired_room: { vec_len places ≤ deque_capacity retired },
     ghost retired_count: { length retired.items ≡ count_by is_retired places.items },
     ghost frees: { (q : ℕ) → has_page free.has.items q ≡ is_free (place_of places.items q) },
-    ghost touches: { (q : ℕ) → is_idle (place_of places.items q) ≡ false → has_page touched.has.items q ≡ true },
-    ghost retires: { (q : ℕ) → times q retired.items ≡ one_if (is_retired (place_of places.items q)) },
+    ghost touches: { (q : ℕ) → is_idle (place_of places.items q) ≡ false
+        → has_page touched.has.items q ≡ true },
+    ghost retires: { (q : ℕ) → times q retired.items
+        ≡ one_if (is_retired (place_of places.items q)) },
     ghost oldest_first: { IsOldestFirst (retired_at places.items) retired.items },
 }
 
 impl PagePool {
     ghost use Rattle.be_pages.specs.PagePool.{places};
 
-    /// A pool of pages, of which those below `used` are of the current version, and the others free.
+    /// A pool of pages, of which those below `used` are of the current version, and the others
+    /// free.
     pub fn new(alloc: Global, pages: usize, used: usize) -> Result<PagePool, AllocError>
         requires { used ≤ pages }
         ensures pages { IfOk result (λ pool. length (places pool) ≡ pages) }
-        ensures used { IfOk result (λ pool. (q : ℕ) → q < used → place_of (places pool) q ≡ Current) }
-        ensures free { IfOk result (λ pool. (q : ℕ) → used ≤ q → q < pages → place_of (places pool) q ≡ Free) }
+        ensures used { IfOk result (λ pool. (q : ℕ) → q < used → place_of (places pool) q
+            ≡ Current) }
+        ensures free { IfOk result (λ pool. (q : ℕ) → used ≤ q → q < pages
+            → place_of (places pool) q ≡ Free) }
     {
         let places = new_places(alloc, pages, used)?;
         let free = PageSet::from(alloc, used, pages)?;
@@ -116,9 +126,12 @@ impl PagePool {
 
     /// Takes the free page that was freed last.
     pub fn take(&mut self) -> Option<u64>
-        ensures free { IfSome result (λ page. (page < length (places self.old)) × (place_of (places self.old) page ≡ Free)) }
-        ensures some { IfSome result (λ page. places self.new ≡ slice_set (places self.old) page Reserved) }
-        ensures none { IfNone result ((q : ℕ) → q < length (places self.old) → place_of (places self.old) q ≢ Free) }
+        ensures free { IfSome result (λ page. (page < length (places self.old))
+            × (place_of (places self.old) page ≡ Free)) }
+        ensures some { IfSome result (λ page. places self.new
+            ≡ slice_set (places self.old) page Reserved) }
+        ensures none { IfNone result ((q : ℕ) → q < length (places self.old)
+            → place_of (places self.old) q ≢ Free) }
         ensures same { IfNone result (places self.new ≡ places self.old) }
     {
         let page = self.free.pop()?;
@@ -127,7 +140,8 @@ impl PagePool {
         Some(page)
     }
 
-    /// Marks a page that was taken as one with a word filled. Most calls find it marked, and then write nothing.
+    /// Marks a page that was taken as one with a word filled. Most calls find it marked, and then
+    /// write nothing.
     pub fn fill(&mut self, page: u64)
         requires { IsTrue (is_in_hand (place_of (places self.old) page)) }
         ensures { places self.new ≡ slice_set (places self.old) page Filled }
@@ -142,7 +156,8 @@ impl PagePool {
     pub fn give_up(&mut self, page: u64)
         requires inside { page < length (places self.old) }
         requires held { IsTrue (is_held_page (place_of (places self.old) page)) }
-        ensures { places self.new ≡ slice_set (places self.old) page (given_place (place_of (places self.old) page)) }
+        ensures { places self.new ≡ slice_set (places self.old) page
+            (given_place (place_of (places self.old) page)) }
     {
         let at = page as usize;
         match self.places[at] {
@@ -157,8 +172,9 @@ impl PagePool {
         }
     }
 
-    /// The write is published: what it filled is of the current version, and what it gave up is retired with this
-    /// number, which no retired page's number may pass. A page that was taken and not filled is free.
+    /// The write is published: what it filled is of the current version, and what it gave up is
+    /// retired with this number, which no retired page's number may pass. A page that was taken and
+    /// not filled is free.
     pub fn publish(&mut self, number: u64)
         requires newest { (q : ℕ) → retired_at (places self.old) q ≤ number }
         ensures { places self.new ≡ map (published_place number) (places self.old) }
@@ -219,10 +235,13 @@ impl PagePool {
 
     /// The oldest retired page, if its number is below `least`.
     fn expired(&self, least: u64) -> Option<u64>
-        ensures first { IfSome result (λ page. (0 < length self.now.retired.items) × (page ≡ slice_index self.now.retired.items 0)) }
-        ensures retired { IfSome result (λ page. (is_retired (place_of (places self.now) page) ≡ true)
+        ensures first { IfSome result (λ page. (0 < length self.now.retired.items)
+            × (page ≡ slice_index self.now.retired.items 0)) }
+        ensures retired { IfSome result (λ page.
+            (is_retired (place_of (places self.now) page) ≡ true)
             × (swept_place least (place_of (places self.now) page) ≡ Free)) }
-        ensures none { IfNone result ((q : ℕ) → swept_place least (place_of (places self.now) q) ≡ place_of (places self.now) q) }
+        ensures none { IfNone result ((q : ℕ) → swept_place least (place_of (places self.now) q)
+            ≡ place_of (places self.now) q) }
     {
         let page = *self.retired.front()?;
         if self.number(page) < least {
@@ -301,7 +320,8 @@ fn new_places(alloc: Global, pages: usize, used: usize) -> Result<Vec<Place>, Al
     requires { used ≤ pages }
     ensures pages { IfOk result (λ places. vec_len places ≡ pages) }
     ensures used { IfOk result (λ places. (q : ℕ) → q < used → place_of places.items q ≡ Current) }
-    ensures free { IfOk result (λ places. (q : ℕ) → used ≤ q → q < pages → place_of places.items q ≡ Free) }
+    ensures free { IfOk result (λ places. (q : ℕ) → used ≤ q → q < pages → place_of places.items q
+        ≡ Free) }
 {
     let mut places = vec![in alloc; Place::Free; pages]?;
     for page in 0..used {

@@ -1,5 +1,6 @@
 //! A set of pages, of which the last that came in is the first to go out.
-ghost use Rattle.std.specs.Prelude.{◌≡◌, ◌≢◌, ℕ, ◌<◌, ◌≤◌, ◌==◌, if◌then◌else◌, Bool, true, false, length, vec_len, take, count_by, IfOk, IfSome, IfNone};
+ghost use Rattle.std.specs.Prelude.{◌≡◌, ◌≢◌, ℕ, ◌<◌, ◌≤◌, ◌==◌, if◌then◌else◌, Bool, true, false};
+ghost use Rattle.std.specs.Prelude.{length, vec_len, take, count_by, IfOk, IfSome, IfNone};
 ghost use Rattle.be_pages.specs.Pages.{times};
 ghost use Rattle.be_pages.specs.PageSet.{has_page, is_true, one_if};
 
@@ -32,7 +33,8 @@ impl PageSet {
     /// The pages from one on that are below `pages`. The lowest is the first to go out.
     pub(crate) fn from(alloc: Global, first: usize, pages: usize) -> Result<PageSet, AllocError>
         requires { first ≤ pages }
-        ensures in_set { IfOk result (λ s. (q : ℕ) → first ≤ q → q < pages → has_page s.has.items q ≡ true) }
+        ensures in_set { IfOk result (λ s. (q : ℕ) → first ≤ q → q < pages → has_page s.has.items q
+            ≡ true) }
         ensures out { IfOk result (λ s. (q : ℕ) → q < first → has_page s.has.items q ≡ false) }
         ensures pages { IfOk result (λ s. length s.has.items ≡ pages) }
     {
@@ -46,7 +48,8 @@ impl PageSet {
     /// Adds a page, which may be there.
     pub(crate) fn insert(&mut self, page: u64)
         requires { page < length self.old.has.items }
-        ensures has { (q : ℕ) → has_page self.new.has.items q ≡ (if q == page then true else has_page self.old.has.items q) }
+        ensures has { (q : ℕ) → has_page self.new.has.items q
+            ≡ (if q == page then true else has_page self.old.has.items q) }
         ensures pages { length self.new.has.items ≡ length self.old.has.items }
     {
         let at = page as usize;
@@ -61,7 +64,8 @@ impl PageSet {
     /// Takes the last page that came in.
     pub(crate) fn pop(&mut self) -> Option<u64>
         ensures some { IfSome result (λ page. has_page self.old.has.items page ≡ true) }
-        ensures has { IfSome result (λ page. (q : ℕ) → has_page self.new.has.items q ≡ (if q == page then false else has_page self.old.has.items q)) }
+        ensures has { IfSome result (λ page. (q : ℕ) → has_page self.new.has.items q
+            ≡ (if q == page then false else has_page self.old.has.items q)) }
         ensures none { IfNone result ((q : ℕ) → has_page self.old.has.items q ≡ false) }
         ensures still_none { IfNone result (self.new.has.items ≡ self.old.has.items) }
         ensures fewer { IfSome result (λ page. self.new.len < self.old.len) }

@@ -1,10 +1,11 @@
 //! The two traits over pages.
 //!
-//! # Standings
-//! Where a page stands in a write is one function of the page, so the sets of pages that can be read, taken or given up
-//! cannot disagree. Ghost members tell it, with the words of each page and the facts that no call changes; none of them
-//! says who holds the words.
-ghost use Rattle.std.specs.Prelude.{◌≡◌, ℕ, ◌<◌, ◌^◌, ◌==◌, ◌≢◌, if◌then◌else◌, IsTrue, Bool, IfOk, IfErr, OnErr};
+//! # The states of pages
+//! A page's state in a write (`Standing`) is one function of the page, so the sets of pages that
+//! can be read, taken or given up cannot disagree. Ghost members give this function, the words of
+//! each page and the facts that no call changes; none of them says who holds the words.
+ghost use Rattle.std.specs.Prelude.{◌≡◌, ℕ, ◌<◌, ◌^◌, ◌==◌, ◌≢◌, if◌then◌else◌, IsTrue, Bool, IfOk};
+ghost use Rattle.std.specs.Prelude.{IfErr, OnErr};
 ghost use Rattle.be_pages.specs.declared.room.Standing.{Standing as Stands};
 ghost use Rattle.be_pages.specs.declared.room.Standing.TheVariants.{Free, Taken, Filled};
 ghost use Rattle.be_pages.specs.Pages.{is_readable, is_taken, is_held, after_give_up, StandsAt};
@@ -15,7 +16,7 @@ use be_value::Refusal;
 /// How many words a page has.
 pub const PAGE_WORDS: usize = 512;
 
-/// Where a page stands in a write.
+/// The state of a page in a write.
 #[derive(Clone, Copy, Debug, PartialEq, Eq)]
 pub enum Standing {
     /// Neither readable nor taken.
@@ -40,7 +41,7 @@ pub trait Look {
     /// Whether a reader with these facts may be written: its write is open.
     ghost is_open: { Kept → Bool };
 
-    /// Where each page stands.
+    /// The state of each page.
     ghost standing: { Self → ℕ → Stands };
 
     /// The word of a page at a place.
@@ -55,17 +56,18 @@ pub trait Look {
         ensures standing { standing self.new ≡ standing self.old }
         ensures words { words self.new ≡ words self.old };
 
-    // A page that stands somewhere has a small number: a root is one more than its page, and a new level fits too.
+    // A page that isn't free has a small number: a root is one more than its page, and a new level
+    // fits too.
     ghost pages_small: { (reader : Self) (q : ℕ) → standing reader q ≢ Free → q < 2 ^ 32 };
 }
 
 /// A reader that takes, fills and gives up pages, for one write.
 pub trait Room: Look {
-    /// What a room that has just refused a page tells of the refusal's number.
+    /// What a room that has just refused a page says about the refusal's number.
     ghost full: { Self → ℕ → Type 0 };
 
-    /// Whether a page that can be read is one that this write has taken: such a page may be filled again where it is. It
-    /// takes no look at the page's words.
+    /// Whether a page that can be read is one that this write has taken: such a page may be filled
+    /// again where it is. It takes no look at the page's words.
     fn is_taken(&self, page: u64) -> bool
         requires readable { IsTrue (is_readable (Self.standing self.now page)) }
         ensures { result ≡ is_taken (Self.standing self.now page) };
@@ -73,8 +75,10 @@ pub trait Room: Look {
     /// Takes a free page. Its words have no meaning until they are filled.
     fn take(&mut self) -> Result<u64, Refusal>
         requires open { IsTrue (Self.is_open (Self.kept self.old)) }
-        ensures page { IfOk result (λ page. (page < 2 ^ 32) × (Self.standing self.old page ≡ Free)) }
-        ensures ok { IfOk result (λ page. StandsAt (Self.standing self.old) (Self.standing self.new) page Taken) }
+        ensures page { IfOk result (λ page. (page < 2 ^ 32)
+            × (Self.standing self.old page ≡ Free)) }
+        ensures ok { IfOk result (λ page. StandsAt (Self.standing self.old) (Self.standing self.new)
+            page Taken) }
         ensures err { OnErr result (Self.standing self.new ≡ Self.standing self.old) }
         ensures full { IfErr result (IsFullOf (full self.new)) }
         ensures words { Self.words self.new ≡ Self.words self.old }
@@ -86,15 +90,18 @@ pub trait Room: Look {
         requires taken { IsTrue (is_taken (Self.standing self.old page)) }
         requires in_page { i < 512 }
         ensures standing { StandsAt (Self.standing self.old) (Self.standing self.new) page Filled }
-        ensures place { (j : ℕ) → Self.words self.new page j ≡ (if j == i then word else Self.words self.old page j) }
+        ensures place { (j : ℕ) → Self.words self.new page j
+            ≡ (if j == i then word else Self.words self.old page j) }
         ensures others { (q : ℕ) → q ≢ page → Self.words self.new q ≡ Self.words self.old q }
         ensures kept { Self.kept self.new ≡ Self.kept self.old };
 
-    /// Gives a page up. One that was taken in this write is free at once; any other keeps its words until the write is kept.
+    /// Gives a page up. One that was taken in this write is free at once; any other keeps its words
+    /// until the write is kept.
     fn give_up(&mut self, page: u64)
         requires open { IsTrue (Self.is_open (Self.kept self.old)) }
         requires held { IsTrue (is_held (Self.standing self.old page)) }
-        ensures standing { StandsAt (Self.standing self.old) (Self.standing self.new) page (after_give_up (Self.standing self.old page)) }
+        ensures standing { StandsAt (Self.standing self.old) (Self.standing self.new) page
+            (after_give_up (Self.standing self.old page)) }
         ensures words { Self.words self.new ≡ Self.words self.old }
         ensures kept { Self.kept self.new ≡ Self.kept self.old };
 }

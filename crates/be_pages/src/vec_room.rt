@@ -1,6 +1,7 @@
-//! A room in memory: a pool's places, and the words of its pages one page after another. It stands for a table in
-//! tests, and where one thread alone reads and writes.
-ghost use Rattle.std.specs.Prelude.{◌≡◌, ◌≢◌, ℕ, ◌<◌, ◌≤◌, ◌*◌, false, length, vec_len, count_by, slice_index, IfOk, IfErr, OnErr, ◌^◌};
+//! A room in memory: a pool's places, and the words of its pages one page after another. Tests use
+//! it in place of a table, and so does code in which one thread alone reads and writes.
+ghost use Rattle.std.specs.Prelude.{◌≡◌, ◌≢◌, ℕ, ◌<◌, ◌≤◌, ◌*◌, false, length, vec_len, count_by};
+ghost use Rattle.std.specs.Prelude.{slice_index, IfOk, IfErr, OnErr, ◌^◌};
 ghost use Rattle.be_pages.specs.declared.room.Standing.TheVariants.{Free, Taken};
 ghost use Rattle.be_pages.specs.Pages.{StandsAt, after_keep, after_undo, is_takable};
 ghost use Rattle.be_pages.specs.PagePool.{places};
@@ -56,7 +57,7 @@ impl Room for VecRoom {
         self.pool.is_in_hand(page)
     }
 
-    #[tactic(auto, using(crate::proofs::Rooms::stands_set, crate::proofs::Rooms::unretired_set, crate::proofs::Rooms::busy_place))]
+    #[tactic(auto, using(crate::proofs::Rooms::taking))]
     fn take(&mut self) -> Result<u64, Refusal> {
         match self.pool.take() {
             Some(page) => Ok(page),
@@ -64,7 +65,7 @@ impl Room for VecRoom {
         }
     }
 
-    #[tactic(auto, using(crate::proofs::Rooms::stands_set, crate::proofs::Rooms::unretired_set, crate::proofs::Rooms::in_hand, crate::proofs::Rooms::inside))]
+    #[tactic(auto, using(crate::proofs::Rooms::filling))]
     fn fill(&mut self, page: u64, i: usize, word: u64) {
         self.words[page as usize * PAGE_WORDS + i] = word;
         self.pool.fill(page);
@@ -76,10 +77,11 @@ impl Room for VecRoom {
 }
 
 impl VecRoom {
-    /// A room whose pages are all free. `BadLimits` for a number of pages out of its range, else `OutOfMemory` where a
-    /// growth was refused.
+    /// A room whose pages are all free. `BadLimits` for a number of pages out of its range,
+    /// otherwise `OutOfMemory` if a growth was refused.
     pub fn new(alloc: Global, pages: u64) -> Result<VecRoom, Refusal>
-        ensures ok { IfOk result (λ r. (8 ≤ pages) × (pages ≤ 16384) × (⟦<VecRoom as Look>⟧.kept r ≡ pages)) }
+        ensures ok { IfOk result (λ r. (8 ≤ pages) × (pages ≤ 16384)
+            × (⟦<VecRoom as Look>⟧.kept r ≡ pages)) }
         ensures free { IfOk result (λ r. (q : ℕ) → ⟦<VecRoom as Look>⟧.standing r q ≡ Free) }
         ensures err { IfErr result (IsLimitOrMemory pages) }
     {
@@ -99,18 +101,21 @@ impl VecRoom {
         Ok(VecRoom { words, pool })
     }
 
-    /// The write is kept: pages that it gave up are free, and pages that it took stay. Costs what the write touched.
+    /// The write is kept: pages that it gave up are free, and pages that it took stay. Costs what
+    /// the write touched.
     pub fn keep(&mut self)
-        ensures standing { (q : ℕ) → ⟦<VecRoom as Look>⟧.standing self.new q ≡ after_keep (⟦<VecRoom as Look>⟧.standing self.old q) }
+        ensures standing { (q : ℕ) → ⟦<VecRoom as Look>⟧.standing self.new q
+            ≡ after_keep (⟦<VecRoom as Look>⟧.standing self.old q) }
         ensures words { ⟦<VecRoom as Look>⟧.words self.new ≡ ⟦<VecRoom as Look>⟧.words self.old }
         ensures kept { ⟦<VecRoom as Look>⟧.kept self.new ≡ ⟦<VecRoom as Look>⟧.kept self.old }
     {
         self.pool.keep();
     }
 
-    /// The write is undone: pages that it took are free, and pages that it gave up stand.
+    /// The write is undone: pages that it took are free, and pages that it gave up are old again.
     pub fn undo(&mut self)
-        ensures standing { (q : ℕ) → ⟦<VecRoom as Look>⟧.standing self.new q ≡ after_undo (⟦<VecRoom as Look>⟧.standing self.old q) }
+        ensures standing { (q : ℕ) → ⟦<VecRoom as Look>⟧.standing self.new q
+            ≡ after_undo (⟦<VecRoom as Look>⟧.standing self.old q) }
         ensures words { ⟦<VecRoom as Look>⟧.words self.new ≡ ⟦<VecRoom as Look>⟧.words self.old }
         ensures kept { ⟦<VecRoom as Look>⟧.kept self.new ≡ ⟦<VecRoom as Look>⟧.kept self.old }
     {

@@ -1,5 +1,6 @@
 -- The canonical text of a pattern, and what of it is literal. Texts are lists of characters here.
-use Rattle.std.specs.Prelude.{ℕ, Bool, true, false, List, [], ◌∷◌, ◌++◌, map, codes, ◌&&◌, ◌||◌, ◌==◌, if◌then◌else◌}
+use Rattle.std.specs.Prelude.{ℕ, Bool, true, false, List, [], ◌∷◌, ◌++◌, map, codes, ◌&&◌, ◌||◌}
+use Rattle.std.specs.Prelude.{◌==◌, if◌then◌else◌}
 use Rattle.std.specs.List.{flat_map, list_all}
 use Rattle.be_pattern.specs.Parse.{are_members}
 use Rattle.be_pattern.specs.Match.{Part, Run, One, Among, Only}
@@ -31,15 +32,15 @@ literal_prefix (One ∷ ps) = []
 literal_prefix (Among negated ms ∷ ps) = []
 literal_prefix (Only c ∷ ps) = c ∷ literal_prefix ps
 
--- a character with its backslash, if it wants one
+-- a character, with its backslash if it needs one
 abbrev pub marked : Bool → ℕ → List ℕ
 marked backslash c = if backslash then 92 ∷ c ∷ [] else c ∷ []
 
--- `"`, `\`, `*`, `?` and `[` want one among the tokens
+-- `"`, `\`, `*`, `?` and `[` need one among the tokens
 abbrev pub is_special : ℕ → Bool
 is_special c = (c == 34) || (c == 92) || (c == 42) || (c == 63) || (c == 91)
 
--- `"`, `\`, `[`, `]`, `^` and `-` want one in a set
+-- `"`, `\`, `[`, `]`, `^` and `-` need one in a set
 abbrev pub is_special_in_set : ℕ → Bool
 is_special_in_set c = (c == 34) || (c == 92) || (c == 91) || (c == 93) || (c == 94) || (c == 45)
 
@@ -66,11 +67,11 @@ part_text (Only c) = literal_char c
 abbrev pub canonical : List Part → List ℕ
 canonical = flat_map part_text
 
--- `*`, where it stands
+-- `*`, if the flag is set
 abbrev pub run_if : Bool → List Part
 run_if stands = if stands then Run ∷ [] else []
 
--- a literal text, with `*` before it and behind it where they stand
+-- a literal text, with `*` before it and after it if the flags are set
 abbrev pub around : Bool → List ℕ → Bool → List Part
 around before cs behind = run_if before ++ (map Only cs ++ run_if behind)
 

@@ -1,5 +1,7 @@
--- What the code has read of a pattern's text, as the definitions see it. It serves the proofs alone: `Parse` says what a text means.
-use Rattle.std.specs.Prelude.{ℕ, ◌+◌, ◌-◌, zero, suc, Bool, true, false, Option, Some, None, List, [], ◌∷◌, length, drop, ◌&&◌, not, if◌then◌else◌}
+-- What the code has read of a pattern's text, as the definitions see it. It serves the proofs
+-- alone: `Parse` says what a text means.
+use Rattle.std.specs.Prelude.{ℕ, ◌+◌, ◌-◌, zero, suc, Bool, true, false, Option, Some, None, List}
+use Rattle.std.specs.Prelude.{[], ◌∷◌, length, drop, ◌&&◌, not, if◌then◌else◌}
 use Rattle.std.specs.List.{list_any, before_first}
 use Rattle.std.specs.Str.{chars}
 use Rattle.be_pattern.specs.declared.parsing.Letter as code
@@ -9,19 +11,19 @@ use Rattle.be_pattern.specs.Parse.{Letter, letters, ending_backslash, is_bare, m
 abbrev pub letter_of : ℕ → code.Letter → Letter
 letter_of at l = record { at = at; escaped = l.escaped; char = l.char }
 
--- the letters of the end of a text of so many bytes
+-- the letters of the end of a text of that many bytes
 abbrev pub letters_in : ℕ → List ℕ → List Letter
 letters_in total rest = letters false (total - length rest) (chars rest)
 
 abbrev pub ending_in : ℕ → List ℕ → Option ℕ
 ending_in total rest = ending_backslash false (total - length rest) (chars rest)
 
--- where so many last bytes begin, if there are any
+-- the place where that many last bytes begin, if there are any
 abbrev pub ending_of : ℕ → ℕ → Option ℕ
 ending_of total zero = None
 ending_of total (suc n) = Some (total - suc n)
 
--- the last character of a range, and the letters behind it, where a `-` and that character stand first
+-- the last character of a range, and the letters after it, if a `-` and that character come first
 abbrev pub dashed : List Letter → Option (ℕ × List Letter)
 dashed [] = None
 dashed (d ∷ []) = None
@@ -31,11 +33,11 @@ abbrev pub end_or : ℕ × List Letter → Option (ℕ × List Letter) → ℕ �
 end_or single None = single
 end_or single (Some p) = p
 
--- the last character of a member that begins with this one, and the letters behind it
+-- the last character of a member that begins with this one, and the letters after it
 abbrev pub member_end : ℕ → List Letter → ℕ × List Letter
 member_end c ls = end_or (c, ls) (dashed ls)
 
--- the members up to the first plain `]`, and the letters behind that
+-- the members up to the first plain `]`, and the letters after that
 abbrev pub members_behind : List Letter → Option (List (ℕ × ℕ) × List Letter)
 members_behind ls =
     let body = before_first (is_bare 93) ls in
@@ -49,12 +51,13 @@ abbrev pub with_members : Bool → Option (List (ℕ × ℕ) × List Letter) →
 with_members negated None = None
 with_members negated (Some p) = with_rest p.1 (set_with negated p.0)
 
--- the set behind a `[`, and the letters behind it
+-- the set after a `[`, and the letters after it
 abbrev pub set_behind : List Letter → Option (Part × List Letter)
 set_behind [] = None
-set_behind (l ∷ ls) = if is_bare 94 l then with_members true (members_behind ls) else with_members false (members_behind (l ∷ ls))
+set_behind (l ∷ ls) = if is_bare 94 l then with_members true (members_behind ls)
+    else with_members false (members_behind (l ∷ ls))
 
--- the token that begins with a letter, and the letters behind it
+-- the token that begins with a letter, and the letters after it
 abbrev pub token_at : Letter → List Letter → Option (Part × List Letter)
 token_at l ls =
     if is_bare 42 l then Some (Run, ls)

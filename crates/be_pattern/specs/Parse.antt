@@ -1,5 +1,7 @@
 -- What a pattern's text means. Places are in bytes, characters are their numbers.
-use Rattle.std.specs.Prelude.{◌≡◌, ◌⊎◌, ℕ, ◌+◌, ◌≤◌, zero, suc, Bool, true, false, Option, Some, None, Result, Ok, Err, List, [], ◌∷◌, length, ◌&&◌, not, ◌==◌, nat_lt, if◌then◌else◌}
+use Rattle.std.specs.Prelude.{◌≡◌, ◌⊎◌, ℕ, ◌+◌, ◌≤◌, zero, suc, Bool, true, false, Option, Some}
+use Rattle.std.specs.Prelude.{None, Result, Ok, Err, List, [], ◌∷◌, length, ◌&&◌, not, ◌==◌, nat_lt}
+use Rattle.std.specs.Prelude.{if◌then◌else◌}
 use Rattle.std.specs.List.{list_any, before_first}
 use Rattle.std.specs.Char.{len_utf8}
 use Rattle.be_value.specs.declared.refusals.Refusal.{Refusal}
@@ -12,18 +14,21 @@ pub record Letter : Type 0 where
   pub escaped : Bool
   pub char : ℕ
 
--- the letters of the text from a place on, where a backslash stands before it or not
+-- the letters of the text from a place on; the flag says whether a backslash there precedes them
 abbrev pub letters : Bool → ℕ → List ℕ → List Letter
 letters escaped at [] = []
-letters true at (c ∷ cs) = record { at = at; escaped = true; char = c } ∷ letters false (at + 1 + len_utf8 c) cs
-letters false at (c ∷ cs) = if c == 92 then letters true at cs else record { at = at; escaped = false; char = c } ∷ letters false (at + len_utf8 c) cs
+letters true at (c ∷ cs) = record { at = at; escaped = true; char = c }
+    ∷ letters false (at + 1 + len_utf8 c) cs
+letters false at (c ∷ cs) = if c == 92 then letters true at cs
+    else record { at = at; escaped = false; char = c } ∷ letters false (at + len_utf8 c) cs
 
--- where a backslash stands with nothing behind it
+-- the place of a backslash with nothing after it
 abbrev pub ending_backslash : Bool → ℕ → List ℕ → Option ℕ
 ending_backslash true at [] = Some at
 ending_backslash false at [] = None
 ending_backslash true at (c ∷ cs) = ending_backslash false (at + 1 + len_utf8 c) cs
-ending_backslash false at (c ∷ cs) = if c == 92 then ending_backslash true at cs else ending_backslash false (at + len_utf8 c) cs
+ending_backslash false at (c ∷ cs) = if c == 92 then ending_backslash true at cs
+    else ending_backslash false (at + len_utf8 c) cs
 
 -- the letter is this character, with no backslash
 abbrev pub is_bare : ℕ → Letter → Bool
@@ -34,7 +39,8 @@ abbrev pub members : List Letter → List (ℕ × ℕ)
 members [] = []
 members (c ∷ []) = (c.char, c.char) ∷ []
 members (c ∷ d ∷ []) = (c.char, c.char) ∷ (d.char, d.char) ∷ []
-members (c ∷ d ∷ e ∷ ls) = if is_bare 45 d then (c.char, e.char) ∷ members ls else (c.char, c.char) ∷ members (d ∷ e ∷ ls)
+members (c ∷ d ∷ e ∷ ls) = if is_bare 45 d then (c.char, e.char) ∷ members ls else (c.char, c.char)
+    ∷ members (d ∷ e ∷ ls)
 
 -- some range ends before it begins
 abbrev pub falls : List (ℕ × ℕ) → Bool
@@ -51,13 +57,14 @@ set_with negated ms = if are_members ms then Some (Among negated ms) else None
 -- the set whose letters between the brackets these are
 abbrev pub set_of : List Letter → Option Part
 set_of [] = None
-set_of (l ∷ ls) = if is_bare 94 l then set_with true (members ls) else set_with false (members (l ∷ ls))
+set_of (l ∷ ls) = if is_bare 94 l then set_with true (members ls)
+    else set_with false (members (l ∷ ls))
 
 abbrev pub with_length : ℕ → Option Part → Option (Part × ℕ)
 with_length n None = None
 with_length n (Some p) = Some (p, n)
 
--- the set behind a `[`, and how many letters it takes with its `]`
+-- the set after a `[`, and how many letters it takes with its `]`
 abbrev pub set_at : List Letter → Option (Part × ℕ)
 set_at ls =
     let body = before_first (is_bare 93) ls in
@@ -67,20 +74,24 @@ abbrev pub and_then : Part → Result (List Part) ℕ → Result (List Part) ℕ
 and_then p (Ok ps) = Ok (p ∷ ps)
 and_then p (Err at) = Err at
 
--- The tokens of the letters behind the first ones, which were taken already; or where the first faulty set begins.
+-- The tokens of the letters after the first ones, which were taken already; or where the first
+-- faulty set begins.
 abbrev pub parts_behind : ℕ → List Letter → Result (List Part) ℕ
 parts_behind taken [] = Ok []
 parts_behind (suc taken) (l ∷ ls) = parts_behind taken ls
 parts_behind zero (l ∷ ls) =
     if is_bare 42 l then and_then Run (parts_behind 0 ls)
     else (if is_bare 63 l then and_then One (parts_behind 0 ls)
-    else (if is_bare 91 l then (elim (set_at ls) [ None ↦ Err l.at | Some s ↦ and_then s.0 (parts_behind s.1 ls) ])
+    else (if is_bare 91 l then (elim (set_at ls)
+    [ None ↦ Err l.at | Some s ↦ and_then s.0 (parts_behind s.1 ls) ])
     else and_then (Only l.char) (parts_behind 0 ls)))
 
 -- The tokens of a pattern's text, or the place of its fault.
 abbrev pub pattern : List ℕ → Result (List Part) ℕ
-pattern cs = elim (ending_backslash false 0 cs) [ Some at ↦ Err at | None ↦ parts_behind 0 (letters false 0 cs) ]
+pattern cs = elim (ending_backslash false 0 cs)
+    [ Some at ↦ Err at | None ↦ parts_behind 0 (letters false 0 cs) ]
 
--- the refusal of a text of so many bytes: want of memory, or the place of its fault
+-- the refusal of a text of that many bytes: out of memory, or the place of its fault
 abbrev pub IsFault : Result (List Part) ℕ → ℕ → Refusal → Type 0
-IsFault read len e = (e ≡ OutOfMemory) ⊎ ((at : ℕ) × (e ≡ BadPattern at) × (read ≡ Err at) × (at ≤ len))
+IsFault read len e = (e ≡ OutOfMemory)
+    ⊎ ((at : ℕ) × (e ≡ BadPattern at) × (read ≡ Err at) × (at ≤ len))

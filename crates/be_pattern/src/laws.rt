@@ -5,10 +5,11 @@ ghost use Rattle.be_pattern.specs.Canonical.{are_formed, canonical, has_only, no
 ghost use Rattle.be_pattern.specs.Match.{Part};
 ghost use Rattle.be_pattern.specs.Parse.{pattern};
 
-/// The canonical text of a pattern spells the same pattern.
+/// The canonical text of a pattern encodes the same pattern.
 pub fn canonical()
-    ensures back { (cs : List ℕ) (ps : List Part) → pattern cs ≡ Ok ps → pattern (canonical ps) ≡ Ok ps }
-    // The tokens that a text spells have no empty set and no range that falls,
+    ensures back { (cs : List ℕ) (ps : List Part) → pattern cs ≡ Ok ps → pattern (canonical ps)
+        ≡ Ok ps }
+    // The tokens that a text encodes have no empty set and no range that falls,
     ensures formed { (cs : List ℕ) (ps : List Part) → pattern cs ≡ Ok ps → are_formed ps ≡ true }
     // and all such tokens are those of their canonical text.
     ensures read { (ps : List Part) → are_formed ps ≡ true → pattern (canonical ps) ≡ Ok ps }
@@ -16,9 +17,11 @@ pub fn canonical()
 
 /// Which characters patterns and their canonical texts have, by any test of them.
 pub fn characters()
-    // The tokens that a text spells name no character that the text lacks.
-    ensures named { (test : ℕ → Bool) (cs : List ℕ) (ps : List Part) → pattern cs ≡ Ok ps → list_all test cs ≡ true → list_all (has_only test) ps ≡ true }
+    // The tokens that a text encodes name no character that the text lacks.
+    ensures named { (test : ℕ → Bool) (cs : List ℕ) (ps : List Part) → pattern cs ≡ Ok ps
+        → list_all test cs ≡ true → list_all (has_only test) ps ≡ true }
     // The canonical text has the characters that its tokens name, and those of the notation.
-    ensures printed { (test : ℕ → Bool) (ps : List Part) → list_all test notation ≡ true → list_all (has_only test) ps ≡ true
+    ensures printed { (test : ℕ → Bool) (ps : List Part) → list_all test notation ≡ true
+        → list_all (has_only test) ps ≡ true
         → list_all test (canonical ps) ≡ true }
 {}

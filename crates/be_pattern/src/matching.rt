@@ -1,8 +1,10 @@
 //! Matching with one place to go back to.
-ghost use Rattle.std.specs.Prelude.{false, ◌≡◌, ◌∷◌, ◌++◌, ◌<◌, [], length, encode_utf8, IfNone, IfSome};
+ghost use Rattle.std.specs.Prelude.{false, ◌≡◌, ◌∷◌, ◌++◌, ◌<◌, [], length, encode_utf8, IfNone};
+ghost use Rattle.std.specs.Prelude.{IfSome};
 ghost use Rattle.std.specs.List.{list_any};
 ghost use Rattle.std.specs.Str.{chars};
-ghost use Rattle.be_pattern.specs.Match.{Run, TakesOne, admits, begins_with_run, is_within, matches, part_of, parts_of};
+ghost use Rattle.be_pattern.specs.Match.{Run, TakesOne, admits, begins_with_run, is_within};
+ghost use Rattle.be_pattern.specs.Match.{matches, part_of, parts_of};
 
 use crate::token::Token;
 
@@ -43,7 +45,7 @@ fn takes(token: &Token, c: char) -> bool
     }
 }
 
-/// The tokens after a `*` that stands first.
+/// The tokens after a `*` that comes first.
 fn split_run(tokens: &[Token]) -> Option<&[Token]>
     ensures found { IfSome result (λ after. parts_of tokens.now ≡ Run ∷ parts_of after.now) }
     ensures none { IfNone result (begins_with_run (parts_of tokens.now) ≡ false) }
@@ -57,9 +59,11 @@ fn split_run(tokens: &[Token]) -> Option<&[Token]>
 
 /// The tokens and the text after the first of each, if the one takes the other.
 fn take_one<'a>(tokens: &'a [Token], text: &'a str) -> Option<(&'a [Token], &'a str)>
-    ensures taken { IfSome result (λ p. TakesOne (parts_of tokens.now) (chars text.now) (parts_of p.0.now) (chars p.1.now)) }
+    ensures taken { IfSome result (λ p. TakesOne (parts_of tokens.now) (chars text.now)
+        (parts_of p.0.now) (chars p.1.now)) }
     ensures none { IfNone result (begins_with_run (parts_of tokens.now) ≡ false →
-        (parts_of tokens.now ≡ [] → chars text.now ≡ [] → ⊥) → matches (parts_of tokens.now) (chars text.now) ≡ false) }
+        (parts_of tokens.now ≡ [] → chars text.now ≡ [] → ⊥)
+        → matches (parts_of tokens.now) (chars text.now) ≡ false) }
     ensures fewer { IfSome result (λ p. length p.0.now < length tokens.now) }
     ensures shorter { IfSome result (λ p. length p.1.now < length text.now) }
 {

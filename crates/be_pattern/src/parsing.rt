@@ -1,11 +1,15 @@
-//! Reading a pattern's text, letter by letter: a letter is a character, with a backslash before it or without.
-ghost use Rattle.std.specs.Prelude.{◌≡◌, ◌<◌, ◌≤◌, ◌-◌, ◌∷◌, ℕ, [], map, true, false, length, Ok, Some, None, IfOk, IfErr, IfSome, IfNone, MatchOption};
+//! Reading a pattern's text, letter by letter: a letter is a character, with a backslash before it
+//! or without.
+ghost use Rattle.std.specs.Prelude.{◌≡◌, ◌<◌, ◌≤◌, ◌-◌, ◌∷◌, ℕ, [], map, true, false, length, Ok};
+ghost use Rattle.std.specs.Prelude.{Some, None, IfOk, IfErr, IfSome, IfNone, MatchOption};
 ghost use Rattle.std.specs.List.{list_any};
 ghost use Rattle.std.specs.Str.{chars};
 ghost use Rattle.be_pattern.specs.Canonical.{is_special};
 ghost use Rattle.be_pattern.specs.Match.{Only, part_of, parts_of};
 ghost use Rattle.be_pattern.specs.Parse.{pattern, IsFault, is_bare, falls, are_members};
-ghost use Rattle.be_pattern.specs.Letters.{letters_in, ending_in, ending_of, letter_of, dashed, member_end, with_members, members_behind, set_behind, token_at};
+ghost use Rattle.be_pattern.specs.Letters.{letters_in, ending_in, ending_of, letter_of, dashed};
+ghost use Rattle.be_pattern.specs.Letters.{member_end, with_members, members_behind, set_behind};
+ghost use Rattle.be_pattern.specs.Letters.{token_at};
 
 use crate::matching::split_first_char;
 use crate::token::Token;
@@ -31,13 +35,17 @@ impl Letter {
     }
 }
 
-/// The first letter and the text after it. There is none at the end, and none of an ending backslash.
+/// The first letter and the text after it. There is none at the end, and none of an ending
+/// backslash.
 fn split_letter(text: &str) -> Option<(Letter, &str)>
     ensures some { IfSome result (λ p. (total : ℕ) → length text.now ≤ total
-        → letters_in total text.now ≡ letter_of (total - length text.now) p.0 ∷ letters_in total p.1.now) }
-    ensures ending { IfSome result (λ p. (total : ℕ) → length text.now ≤ total → ending_in total text.now ≡ ending_in total p.1.now) }
+        → letters_in total text.now ≡ letter_of (total - length text.now) p.0
+        ∷ letters_in total p.1.now) }
+    ensures ending { IfSome result (λ p. (total : ℕ) → length text.now ≤ total
+        → ending_in total text.now ≡ ending_in total p.1.now) }
     ensures none { IfNone result ((total : ℕ) → letters_in total text.now ≡ []) }
-    ensures end { IfNone result ((total : ℕ) → ending_in total text.now ≡ ending_of total (length text.now)) }
+    ensures end { IfNone result ((total : ℕ) → ending_in total text.now
+        ≡ ending_of total (length text.now)) }
     ensures shorter { IfSome result (λ p. length p.1.now < length text.now) }
 {
     let Some((char, rest)) = split_first_char(text) else {
@@ -64,10 +72,11 @@ fn split_letter(text: &str) -> Option<(Letter, &str)>
     ))
 }
 
-/// The text behind the last letter: empty, or an ending backslash.
+/// The text after the last letter: empty, or an ending backslash.
 fn behind_letters(text: &str) -> &str
     ensures within { length result.now ≤ length text.now }
-    ensures ending { (total : ℕ) → length text.now ≤ total → ending_in total text.now ≡ ending_of total (length result.now) }
+    ensures ending { (total : ℕ) → length text.now ≤ total → ending_in total text.now
+        ≡ ending_of total (length result.now) }
 {
     let mut rest = text;
     'behind: while let Some((_, after)) = split_letter(rest) {
@@ -76,7 +85,8 @@ fn behind_letters(text: &str) -> &str
     rest
 }
 
-/// Whether one of the bytes is a character that means more than itself without a backslash, or a `"`.
+/// Whether one of the bytes is a character that means more than itself without a backslash, or a
+/// `"`.
 fn has_special(bytes: &[u8]) -> bool
     ensures { result ≡ list_any is_special bytes.now }
 {
@@ -116,7 +126,7 @@ pub(crate) fn parse(alloc: Global, text: &str) -> Result<Vec<Token>, Refusal>
     Ok(tokens)
 }
 
-/// The token that begins with a letter, and the text behind it, or nothing where it is a faulty set.
+/// The token that begins with a letter, and the text after it, or nothing if it is a faulty set.
 fn read_token(
     alloc: Global,
     letter: Letter,
@@ -124,7 +134,8 @@ fn read_token(
 ) -> Result<Option<(Token, &str)>, AllocError>
     ensures token { IfOk result (λ o. (at : ℕ) (total : ℕ) → length text.now ≤ total → MatchOption o
         (token_at (letter_of at letter) (letters_in total text.now) ≡ None)
-        (λ p. token_at (letter_of at letter) (letters_in total text.now) ≡ Some (part_of p.0, letters_in total p.1.now))) }
+        (λ p. token_at (letter_of at letter) (letters_in total text.now)
+        ≡ Some (part_of p.0, letters_in total p.1.now))) }
     ensures within { IfOk result (λ o. IfSome o (λ p. length p.1.now ≤ length text.now)) }
 {
     if letter.is_plain('*') {
@@ -140,12 +151,14 @@ fn read_token(
     Ok(Some((Token::Literal(char), text)))
 }
 
-/// The text behind a `^` that stands first.
+/// The text after a `^` that comes first.
 fn split_caret(text: &str) -> Option<&str>
     ensures some { IfSome result (λ after. (total : ℕ) → length text.now ≤ total
-        → set_behind (letters_in total text.now) ≡ with_members true (members_behind (letters_in total after.now))) }
+        → set_behind (letters_in total text.now)
+        ≡ with_members true (members_behind (letters_in total after.now))) }
     ensures none { IfNone result ((total : ℕ) → length text.now ≤ total
-        → set_behind (letters_in total text.now) ≡ with_members false (members_behind (letters_in total text.now))) }
+        → set_behind (letters_in total text.now)
+        ≡ with_members false (members_behind (letters_in total text.now))) }
     ensures shorter { IfSome result (λ after. length after.now ≤ length text.now) }
 {
     let Some((letter, after)) = split_letter(text) else {
@@ -158,11 +171,12 @@ fn split_caret(text: &str) -> Option<&str>
     }
 }
 
-/// The set behind a `[`, and the text behind its `]`, or nothing where it is faulty.
+/// The set after a `[`, and the text after its `]`, or nothing if it is faulty.
 fn read_set(alloc: Global, text: &str) -> Result<Option<(Token, &str)>, AllocError>
     ensures set { IfOk result (λ o. (total : ℕ) → length text.now ≤ total → MatchOption o
         (set_behind (letters_in total text.now) ≡ None)
-        (λ p. set_behind (letters_in total text.now) ≡ Some (part_of p.0, letters_in total p.1.now))) }
+        (λ p. set_behind (letters_in total text.now)
+        ≡ Some (part_of p.0, letters_in total p.1.now))) }
     ensures within { IfOk result (λ o. IfSome o (λ p. length p.1.now ≤ length text.now)) }
 {
     match split_caret(text) {
@@ -171,7 +185,8 @@ fn read_set(alloc: Global, text: &str) -> Result<Option<(Token, &str)>, AllocErr
     }
 }
 
-/// The set whose members stand at the front of a text, and the text behind its `]`, or nothing where it is faulty.
+/// The set whose members begin at the front of a text, and the text after its `]`, or nothing if it
+/// is faulty.
 fn read_members(
     alloc: Global,
     negated: bool,
@@ -179,7 +194,8 @@ fn read_members(
 ) -> Result<Option<(Token, &str)>, AllocError>
     ensures set { IfOk result (λ o. (total : ℕ) → length text.now ≤ total → MatchOption o
         (with_members negated (members_behind (letters_in total text.now)) ≡ None)
-        (λ p. with_members negated (members_behind (letters_in total text.now)) ≡ Some (part_of p.0, letters_in total p.1.now))) }
+        (λ p. with_members negated (members_behind (letters_in total text.now))
+        ≡ Some (part_of p.0, letters_in total p.1.now))) }
     ensures within { IfOk result (λ o. IfSome o (λ p. length p.1.now ≤ length text.now)) }
 {
     let mut members = Vec::new(alloc);
@@ -199,10 +215,12 @@ fn read_members(
     Ok(None)
 }
 
-/// The last character of a range that goes on at the front of a text, and the text behind it.
+/// The last character of a range that goes on at the front of a text, and the text after it.
 fn split_range(text: &str) -> Option<(char, &str)>
-    ensures none { IfNone result ((total : ℕ) → length text.now ≤ total → dashed (letters_in total text.now) ≡ None) }
-    ensures some { IfSome result (λ p. (total : ℕ) → length text.now ≤ total → dashed (letters_in total text.now) ≡ Some (p.0, letters_in total p.1.now)) }
+    ensures none { IfNone result ((total : ℕ) → length text.now ≤ total
+        → dashed (letters_in total text.now) ≡ None) }
+    ensures some { IfSome result (λ p. (total : ℕ) → length text.now ≤ total
+        → dashed (letters_in total text.now) ≡ Some (p.0, letters_in total p.1.now)) }
     ensures within { IfSome result (λ p. length p.1.now ≤ length text.now) }
 {
     let Some((dash, after)) = split_letter(text) else {
@@ -221,9 +239,10 @@ fn split_range(text: &str) -> Option<(char, &str)>
     Some((last, behind))
 }
 
-/// The last character of a member that begins with this one, and the text behind the member.
+/// The last character of a member that begins with this one, and the text after the member.
 fn range_end(first: char, text: &str) -> (char, &str)
-    ensures end { (total : ℕ) → length text.now ≤ total → member_end first (letters_in total text.now) ≡ (result.0, letters_in total result.1.now) }
+    ensures end { (total : ℕ) → length text.now ≤ total
+        → member_end first (letters_in total text.now) ≡ (result.0, letters_in total result.1.now) }
     ensures within { length result.1.now ≤ length text.now }
 {
     match split_range(text) {

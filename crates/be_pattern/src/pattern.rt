@@ -1,8 +1,10 @@
 //! A pattern, and what its callers see of it.
-ghost use Rattle.std.specs.Prelude.{◌≡◌, ◌++◌, ℕ, List, [], true, map, length, Ok, Err, IfOk, IfErr, string_bytes, encode_utf8_all};
+ghost use Rattle.std.specs.Prelude.{◌≡◌, ◌++◌, ℕ, List, [], true, map, length, Ok, Err, IfOk};
+ghost use Rattle.std.specs.Prelude.{IfErr, string_bytes, encode_utf8_all};
 ghost use Rattle.std.specs.Str.{chars};
 ghost use Rattle.be_value.specs.declared.refusals.Refusal.TheVariants.{OutOfMemory};
-ghost use Rattle.be_pattern.specs.Canonical.{around, run_if, canonical, is_plain, is_prefix, literal_prefix};
+ghost use Rattle.be_pattern.specs.Canonical.{around, run_if, canonical, is_plain, is_prefix};
+ghost use Rattle.be_pattern.specs.Canonical.{literal_prefix};
 ghost use Rattle.be_pattern.specs.Match.{Only, kept_parts, matches, parts_of};
 ghost use Rattle.be_pattern.specs.Parse.{pattern, IsFault};
 
@@ -13,10 +15,11 @@ use be_value::Refusal;
 use std::alloc::{AllocError, Global};
 use std::marker::Model;
 
-/// A pattern over characters. A contract sees its tokens, without where they lie in memory.
+/// A pattern over characters. A contract sees its tokens, without their place in memory.
 #[derive(Debug, Drop)]
 pub struct Pattern {
-    /// The tokens. A text that is seen to be literal has none: its characters, which are its prefix, stand for them.
+    /// The tokens. A text that is seen to be literal has none: its characters, which are its
+    /// prefix, stand for them.
     tokens: Option<Vec<Token>>,
     /// The literal characters before the first wildcard.
     prefix: String,
@@ -28,7 +31,8 @@ pub struct Pattern {
 
 impl Model for Pattern {
     ghost use Rattle.std.specs.Prelude.{◌≡◌, List, string_bytes, encode_utf8_all};
-    ghost use Rattle.be_pattern.specs.Canonical.{is_plain as no_wildcard, is_prefix as only_front, literal_prefix};
+    ghost use Rattle.be_pattern.specs.Canonical.{is_plain as no_wildcard, is_prefix as only_front};
+    ghost use Rattle.be_pattern.specs.Canonical.{literal_prefix};
     ghost use Rattle.std.specs.Str.{chars};
     ghost use Rattle.be_pattern.specs.Match.{Part, kept_parts};
 
@@ -42,13 +46,14 @@ impl Model for Pattern {
 }
 
 impl Pattern {
-    /// Reads a pattern. The place of a fault is in bytes: of the `[` of the first faulty set (one without its `]` or
-    /// without members, or with a range that falls), or of a backslash with nothing behind it, which is looked for
-    /// first. It asks for memory a few times for each token at most.
+    /// Reads a pattern. The place of a fault is in bytes: of the `[` of the first faulty set (one
+    /// without its `]` or without members, or with a range that falls), or of a backslash with
+    /// nothing after it, which is looked for first. It allocates memory at most a few times for
+    /// each token.
     pub fn parse(alloc: Global, text: &str) -> Result<Pattern, Refusal>
-        // The tokens are those that the text spells.
+        // The tokens are those that the text encodes.
         ensures ok { IfOk result (λ p. pattern (chars text.now) ≡ Ok p) }
-        // A bad pattern is told by the place of its fault, unless memory runs out.
+        // A bad pattern is refused with the place of its fault, unless memory runs out.
         ensures err { IfErr result (IsFault (pattern (chars text.now)) (length text.now)) }
     {
         if parsing::is_literal(text) {
@@ -57,7 +62,8 @@ impl Pattern {
         Ok(pattern_of(alloc, parsing::parse(alloc, text)?)?)
     }
 
-    /// The pattern of a text whose characters are all literal, with a `*` before it and behind it where asked for.
+    /// The pattern of a text whose characters are all literal, with a `*` before it and after it if
+    /// the arguments say so.
     pub fn around(alloc: Global, before: bool, text: &str, behind: bool) -> Result<Pattern, Refusal>
         ensures ok { IfOk result (λ p. p ≡ around before (chars text.now) behind) }
         ensures err { IfErr result (λ e. e ≡ OutOfMemory) }
@@ -68,8 +74,8 @@ impl Pattern {
         Ok(pattern_of(alloc, tokens)?)
     }
 
-    /// Whether the pattern matches the whole text. It takes no memory, and mostly one step a character: at worst the
-    /// text's characters times the tokens behind the last `*`.
+    /// Whether the pattern matches the whole text. It takes no memory, and mostly one step a
+    /// character: at worst the text's characters times the tokens after the last `*`.
     pub fn matches(&self, text: &str) -> bool
         ensures { result ≡ matches self.now (chars text.now) }
     {
@@ -86,25 +92,29 @@ impl Pattern {
         self.is_plain
     }
 
-    /// Whether there is no wildcard, or one `*` that comes last, so that a text is matched or not by how it begins.
+    /// Whether there is no wildcard, or one `*` that comes last, so that a text is matched or not
+    /// by how it begins.
     pub fn is_prefix(&self) -> bool
         ensures told { result ≡ is_prefix self.now }
-        // It matches its prefix, and with the `*` also the prefix with anything behind it.
-        ensures decides { result ≡ true → (behind : List ℕ) → (is_plain self.now ≡ true → behind ≡ []) →
+        // It matches its prefix, and with the `*` also the prefix followed by anything.
+        ensures decides { result ≡ true → (behind : List ℕ)
+            → (is_plain self.now ≡ true → behind ≡ []) →
             matches self.now (literal_prefix self.now ++ behind) ≡ true }
     {
         self.is_prefix
     }
 
-    /// The literal characters before the first wildcard, with which every text that it matches begins.
+    /// The literal characters before the first wildcard, with which every text that it matches
+    /// begins.
     pub fn prefix(&self) -> &str
         ensures { result.now ≡ encode_utf8_all (literal_prefix self.now) }
     {
         &self.prefix
     }
 
-    /// The canonical text, which spells the same tokens (`laws::canonical`): members of sets stand in the order
-    /// written, and a backslash stands only before a character that would mean something else without it, and `"`.
+    /// The canonical text, which encodes the same tokens (`laws::canonical`): members of sets come
+    /// in the order written, and a backslash comes only before a character that would mean
+    /// something else without it, and `"`.
     pub fn canonical(&self, alloc: Global) -> Result<String, Refusal>
         ensures ok { IfOk result (λ s. string_bytes s ≡ encode_utf8_all (canonical self.now)) }
         ensures err { IfErr result (λ e. e ≡ OutOfMemory) }
@@ -147,7 +157,7 @@ fn pattern_of(alloc: Global, tokens: Vec<Token>) -> Result<Pattern, AllocError>
     })
 }
 
-/// The tokens with a `*` more, where it stands.
+/// The tokens, with a `*` added if the flag says so.
 fn push_run(mut tokens: Vec<Token>, stands: bool) -> Result<Vec<Token>, AllocError>
     ensures { IfOk result (λ v. parts_of v.items ≡ parts_of tokens.items ++ run_if stands) }
 {
@@ -158,9 +168,10 @@ fn push_run(mut tokens: Vec<Token>, stands: bool) -> Result<Vec<Token>, AllocErr
     Ok(tokens)
 }
 
-/// The tokens with the characters of a text behind them.
+/// The tokens followed by the characters of a text.
 fn push_literals(mut tokens: Vec<Token>, text: &str) -> Result<Vec<Token>, AllocError>
-    ensures { IfOk result (λ v. parts_of v.items ≡ parts_of tokens.items ++ map Only (chars text.now)) }
+    ensures { IfOk result (λ v. parts_of v.items ≡ parts_of tokens.items
+        ++ map Only (chars text.now)) }
 {
     let mut rest = text;
     'characters: while let Some((c, after)) = split_first_char(rest) {

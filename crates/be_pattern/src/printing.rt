@@ -1,8 +1,10 @@
 //! A pattern's canonical text, and its literal front.
-ghost use Rattle.std.specs.Prelude.{◌≡◌, ◌++◌, ◌∷◌, ◌<◌, false, [], length, IfOk, IfNone, IfSome, string_bytes, encode_utf8_all};
+ghost use Rattle.std.specs.Prelude.{◌≡◌, ◌++◌, ◌∷◌, ◌<◌, false, [], length, IfOk, IfNone, IfSome};
+ghost use Rattle.std.specs.Prelude.{string_bytes, encode_utf8_all};
 ghost use Rattle.std.specs.List.{flat_map};
 ghost use Rattle.be_pattern.specs.Match.{Only, part_of, parts_of};
-ghost use Rattle.be_pattern.specs.Canonical.{canonical, is_literal, is_plain, is_prefix, is_special, is_special_in_set, marked, member};
+ghost use Rattle.be_pattern.specs.Canonical.{canonical, is_literal, is_plain, is_prefix};
+ghost use Rattle.be_pattern.specs.Canonical.{is_special, is_special_in_set, marked, member};
 ghost use Rattle.be_pattern.specs.Canonical.{member_char, class_opening, part_text, literal_prefix};
 
 use crate::token::Token;
@@ -37,7 +39,7 @@ pub(crate) fn is_plain(tokens: &[Token]) -> bool
     true
 }
 
-/// Whether a token that isn't literal is a `*` with nothing behind it.
+/// Whether a token that isn't literal is a `*` with nothing after it.
 fn is_last_run(token: &Token, after: &[Token]) -> bool
     requires { is_literal (part_of token.now) ≡ false }
     ensures { result ≡ is_prefix (part_of token.now ∷ parts_of after.now) }
@@ -62,7 +64,7 @@ pub(crate) fn is_prefix(tokens: &[Token]) -> bool
     true
 }
 
-/// The first token's character and the tokens behind it, if that token is literal.
+/// The first token's character and the tokens after it, if that token is literal.
 fn split_literal(tokens: &[Token]) -> Option<(char, &[Token])>
     ensures some { IfSome result (λ p. parts_of tokens.now ≡ Only p.0 ∷ parts_of p.1.now) }
     ensures none { IfNone result (literal_prefix (parts_of tokens.now) ≡ []) }
@@ -76,7 +78,8 @@ fn split_literal(tokens: &[Token]) -> Option<(char, &[Token])>
 
 /// The literal characters before the first wildcard.
 pub(crate) fn prefix(alloc: Global, tokens: &[Token]) -> Result<String, AllocError>
-    ensures { IfOk result (λ s. string_bytes s ≡ encode_utf8_all (literal_prefix (parts_of tokens.now))) }
+    ensures { IfOk result (λ s. string_bytes s
+        ≡ encode_utf8_all (literal_prefix (parts_of tokens.now))) }
 {
     let mut text = String::new(alloc);
     let mut rest = tokens;
@@ -89,7 +92,8 @@ pub(crate) fn prefix(alloc: Global, tokens: &[Token]) -> Result<String, AllocErr
 
 /// The canonical text.
 pub(crate) fn canonical(alloc: Global, tokens: &[Token]) -> Result<String, AllocError>
-    ensures { IfOk result (λ s. string_bytes s ≡ encode_utf8_all (canonical (parts_of tokens.now))) }
+    ensures { IfOk result (λ s. string_bytes s
+        ≡ encode_utf8_all (canonical (parts_of tokens.now))) }
 {
     let mut text = String::new(alloc);
     let mut rest = tokens;
@@ -102,7 +106,8 @@ pub(crate) fn canonical(alloc: Global, tokens: &[Token]) -> Result<String, Alloc
 
 /// Appends the text of a token.
 fn push_token(text: &mut String, token: &Token) -> Result<(), AllocError>
-    ensures { IfOk result (λ _. string_bytes text.new ≡ string_bytes text.old ++ encode_utf8_all (part_text (part_of token.now))) }
+    ensures { IfOk result (λ _. string_bytes text.new ≡ string_bytes text.old
+        ++ encode_utf8_all (part_text (part_of token.now))) }
 {
     match token {
         Token::AnyRun => text.push('*'),
@@ -126,9 +131,10 @@ fn is_special_in_set(c: char) -> bool
     c == '"' || c == '\\' || c == '[' || c == ']' || c == '^' || c == '-'
 }
 
-/// Appends a character, behind a backslash where it wants one.
+/// Appends a character, after a backslash if the flag says so.
 fn push_marked(text: &mut String, c: char, backslash: bool) -> Result<(), AllocError>
-    ensures { IfOk result (λ _. string_bytes text.new ≡ string_bytes text.old ++ encode_utf8_all (marked backslash c)) }
+    ensures { IfOk result (λ _. string_bytes text.new ≡ string_bytes text.old
+        ++ encode_utf8_all (marked backslash c)) }
 {
     if !backslash {
         return text.push(c);
@@ -140,7 +146,8 @@ fn push_marked(text: &mut String, c: char, backslash: bool) -> Result<(), AllocE
 /// Appends a set.
 fn push_set(text: &mut String, negated: bool, members: &[(char, char)]) -> Result<(), AllocError>
     ensures { IfOk result (λ _. string_bytes text.new
-        ≡ string_bytes text.old ++ encode_utf8_all (class_opening negated ++ (flat_map member members.now ++ 93 ∷ []))) }
+        ≡ string_bytes text.old ++ encode_utf8_all
+        (class_opening negated ++ (flat_map member members.now ++ 93 ∷ []))) }
 {
     push_opening(text, negated)?;
     let mut rest = members;
@@ -154,7 +161,8 @@ fn push_set(text: &mut String, negated: bool, members: &[(char, char)]) -> Resul
 
 /// Appends what a set begins with.
 fn push_opening(text: &mut String, negated: bool) -> Result<(), AllocError>
-    ensures { IfOk result (λ _. string_bytes text.new ≡ string_bytes text.old ++ encode_utf8_all (class_opening negated)) }
+    ensures { IfOk result (λ _. string_bytes text.new ≡ string_bytes text.old
+        ++ encode_utf8_all (class_opening negated)) }
 {
     if negated {
         return text.push_str("[^");
@@ -164,7 +172,8 @@ fn push_opening(text: &mut String, negated: bool) -> Result<(), AllocError>
 
 /// Appends a member of a set.
 fn push_member(text: &mut String, range: (char, char)) -> Result<(), AllocError>
-    ensures { IfOk result (λ _. string_bytes text.new ≡ string_bytes text.old ++ encode_utf8_all (member range)) }
+    ensures { IfOk result (λ _. string_bytes text.new ≡ string_bytes text.old
+        ++ encode_utf8_all (member range)) }
 {
     let (first, last) = range;
     push_marked(text, first, is_special_in_set(first))?;

@@ -18,4 +18,5 @@ pub mod Seen
 pub mod Sides
 pub mod Spines
 pub mod Standing
+pub mod Tested
 pub mod Ways

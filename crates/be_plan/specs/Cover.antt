@@ -1,5 +1,7 @@
--- Which comparisons a query may be answered from, and which ones are chosen. A pick is the place of a comparison, counted from 0 from left to right.
-use Rattle.std.specs.Prelude.{ℕ, ◌+◌, Bool, true, false, ◌&&◌, ◌||◌, List, [], ◌∷◌, ◌++◌, nat_eq, nat_lt, Some, None, if◌then◌else◌, slice_get}
+-- Which comparisons a query may be answered from, and which ones are chosen. A pick is the place of
+-- a comparison, counted from 0 from left to right.
+use Rattle.std.specs.Prelude.{ℕ, ◌+◌, Bool, true, false, ◌&&◌, ◌||◌, List, [], ◌∷◌, ◌++◌, nat_eq}
+use Rattle.std.specs.Prelude.{nat_lt, Some, None, if◌then◌else◌, slice_get}
 use Rattle.std.specs.Option.{option_map_or}
 use Rattle.std.specs.List.{list_any, list_all}
 use Rattle.std.specs.declared.option.Option.{Option}
@@ -20,7 +22,7 @@ use Rattle.be_query.specs.Grammar.{Literal}
 use Rattle.be_query.specs.Grammar.{Wild, Exact}
 use Rattle.be_plan.specs.declared.plans.Cover.{Cover}
 
--- a comparison, without where it lies in memory
+-- a comparison, without its place in memory
 pub record Comparison : Type 0 where
   pub name : List ℕ
   pub op : Cmp
@@ -36,7 +38,8 @@ leaves (Leaf name op literal) = record { name = name; op = op; literal = literal
 leaves (And a b) = leaves a ++ leaves b
 leaves (Or a b) = leaves a ++ leaves b
 
--- The picks cover the part of the query whose first comparison has the place `at`: a picked comparison covers itself, an "and" is covered where one side is, and an "or" where both are.
+-- The picks cover the part of the query whose first comparison has the place `at`: a picked
+-- comparison covers itself, an "and" is covered if one side is, and an "or" if both are.
 abbrev pub covers_part : List ℕ → ℕ → Formula → Bool
 covers_part picks at (Leaf name op literal) = list_any (nat_eq at) picks
 covers_part picks at (And a b) = covers_part picks at a || covers_part picks (at + comparisons a) b
@@ -72,7 +75,7 @@ score_of Le literal = 3
 score_of Gt literal = 3
 score_of Ge literal = 3
 
--- the one with the smaller score, the left one at a tie; one alone where the other side is not covered
+-- the one with the smaller score, the left one at a tie; one alone if the other side is not covered
 abbrev pub cheaper : Option Cover → Option Cover → Option Cover
 cheaper None b = b
 cheaper (Some a) None = Some a
@@ -82,13 +85,16 @@ cheaper (Some a) (Some b) = if nat_lt b.score a.score then Some b else Some a
 abbrev pub both_covers : Option Cover → Option Cover → Option Cover
 both_covers None b = None
 both_covers (Some a) None = None
-both_covers (Some a) (Some b) = Some (record { picks = a.picks ++ b.picks; score = a.score + b.score })
+both_covers (Some a) (Some b) = Some
+    (record { picks = a.picks ++ b.picks; score = a.score + b.score })
 
 -- the choice for the part whose first comparison has the place `at`, if it is covered
 abbrev pub choice : (List ℕ → Bool) → ℕ → Formula → Option Cover
-choice indexed at (Leaf name op literal) = if indexed name then Some (record { picks = at ∷ []; score = score_of op literal }) else None
+choice indexed at (Leaf name op literal) = if indexed name
+    then Some (record { picks = at ∷ []; score = score_of op literal }) else None
 choice indexed at (And a b) = cheaper (choice indexed at a) (choice indexed (at + comparisons a) b)
-choice indexed at (Or a b) = both_covers (choice indexed at a) (choice indexed (at + comparisons a) b)
+choice indexed at (Or a b) = both_covers (choice indexed at a)
+    (choice indexed (at + comparisons a) b)
 
 abbrev pub or_not_covered : Option Cover → Result Cover Refusal
 or_not_covered None = Err NotCovered

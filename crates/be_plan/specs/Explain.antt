@@ -14,7 +14,8 @@ are_places f picks = list_all (λ pick. nat_lt pick (comparisons f)) picks
 
 -- the canonical text of the comparison at a place
 abbrev pub text_at : Formula → ℕ → List ℕ
-text_at f place = option_map_or (λ c. leaf_text c.name c.op c.literal) (slice_get (leaves f) place) []
+text_at f place = option_map_or (λ c. leaf_text c.name c.op c.literal) (slice_get (leaves f) place)
+    []
 
 -- the texts of the picked comparisons, with ` || ` between two
 abbrev pub picked_text : Formula → List ℕ → List ℕ

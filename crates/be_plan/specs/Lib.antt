@@ -6,4 +6,5 @@ pub mod Picked
 pub mod Prepared
 pub mod Sources
 pub mod Spine
+pub mod Texts
 pub mod Walk

@@ -1,5 +1,6 @@
 -- Which values and keys a walk over an index has to pass.
-use Rattle.std.specs.Prelude.{◌≡◌, ◌<◌, ◌≤◌, ◌+◌, ◌-◌, ◌^◌, ℕ, ℤ, pos, ◌≤ℤ◌, Bool, true, false, List, [], ◌∷◌, ◌++◌, Some, None, IsTrue, if◌then◌else◌}
+use Rattle.std.specs.Prelude.{◌≡◌, ◌<◌, ◌≤◌, ◌+◌, ◌-◌, ◌^◌, ℕ, ℤ, pos, ◌≤ℤ◌, Bool, true, false}
+use Rattle.std.specs.Prelude.{List, [], ◌∷◌, ◌++◌, Some, None, IsTrue, if◌then◌else◌}
 use Rattle.std.specs.Option.{option_map_or}
 use Rattle.std.specs.Ordering.{is_lt, is_gt}
 use Rattle.std.specs.declared.option.Option.{Option}
@@ -7,7 +8,8 @@ use Rattle.be_value.specs.Key.{key, IsValue}
 use Rattle.be_value.specs.Value.{kind_of, is_indexable, value_cmp}
 use Rattle.be_value.specs.declared.values.Kind.{Kind}
 use Rattle.be_value.specs.declared.values.Value.{Value}
-use Rattle.be_value.specs.declared.values.Value.TheVariants.{Cstr, Long, Llng, Mims, Rawt, Ulng, Ullg}
+use Rattle.be_value.specs.declared.values.Value.TheVariants.{Cstr, Long, Llng, Mims, Rawt, Ulng}
+use Rattle.be_value.specs.declared.values.Value.TheVariants.{Ullg}
 use Rattle.be_query.specs.Grammar.{Formula, Leaf, And, Or, comparisons}
 use Rattle.be_query.specs.declared.tree.Cmp.{Cmp}
 use Rattle.be_query.specs.Grammar.{Literal}
@@ -16,13 +18,17 @@ use Rattle.be_volume.specs.Query.{holds, is_true_of, sat, sees}
 use Rattle.be_volume.specs.Volume.{State}
 use Rattle.be_plan.specs.declared.ranges.Range.{Range}
 
--- The value is one that a node may have at the name where the part, whose first comparison has the place `at`, is true of it by way of the pick: the comparisons on this name that are then true are true of the value.
+-- The value is one that a node may have at the name if the part, whose first comparison has the
+-- place `at`, is true of it by way of the pick: the comparisons on this name that are then true are
+-- true of the value.
 abbrev pub Allows : ℕ → ℕ → Formula → List ℕ → Value → Type 0
 Allows pick at (Leaf own op literal) name value = own ≡ name → holds op value literal ≡ true
-Allows pick at (And a b) name value = Allows pick at a name value × Allows pick (at + comparisons a) b name value
+Allows pick at (And a b) name value = Allows pick at a name value
+    × Allows pick (at + comparisons a) b name value
 Allows pick at (Or a b) name value =
     (at ≤ pick → pick < at + comparisons a → Allows pick at a name value)
-    × (at + comparisons a ≤ pick → pick < at + comparisons a + comparisons b → Allows pick (at + comparisons a) b name value)
+    × (at + comparisons a ≤ pick → pick < at + comparisons a + comparisons b
+    → Allows pick (at + comparisons a) b name value)
 
 -- k is above the bound, if there is one
 abbrev pub is_above : Option (List ℕ) → List ℕ → Bool
@@ -54,20 +60,25 @@ pub record IsPair (kind : Kind) (value : Value) (node : ℕ) : Type 0 where
 
 -- no key is left out whose value the comparison is true of
 abbrev pub KeepsTrue : Kind → Cmp → Literal → Range → Range → Type 0
-KeepsTrue kind op literal old new = (v : Value) (n : ℕ) → IsPair kind v n → holds op v literal ≡ true → IsIn old (key v n) → IsIn new (key v n)
+KeepsTrue kind op literal old new = (v : Value) (n : ℕ) → IsPair kind v n → holds op v literal
+    ≡ true → IsIn old (key v n) → IsIn new (key v n)
 
 -- the comparison is true of the values of all keys of the range
 abbrev pub AllTrue : Kind → Cmp → Literal → Range → Type 0
-AllTrue kind op literal range = (v : Value) (n : ℕ) → IsPair kind v n → IsIn range (key v n) → holds op v literal ≡ true
+AllTrue kind op literal range = (v : Value) (n : ℕ) → IsPair kind v n → IsIn range (key v n)
+    → holds op v literal ≡ true
 
--- The value stands for the literal at the values of an index of this kind: a comparison with the literal is true of one of them where the operator is true of the two values.
+-- The value takes the place of the literal at the values of an index of this kind: a comparison
+-- with the literal is true of one of them exactly if the operator is true of the two values.
 pub record StandsFor (literal : Literal) (kind : Kind) (bound : Value) : Type 0 where
   pub is_value : IsValue bound
   pub kind_is : kind_of bound ≡ kind
   pub indexable : IsTrue (is_indexable kind)
-  pub compares : (op : Cmp) (value : Value) → kind_of value ≡ kind → holds op value literal ≡ is_true_of op (value_cmp value bound)
+  pub compares : (op : Cmp) (value : Value) → kind_of value ≡ kind → holds op value literal
+      ≡ is_true_of op (value_cmp value bound)
 
--- A front stands before each key of the value. Behind it stands `first` with the least node, and with the greatest node what `after` has before its zero byte.
+-- Each key of the value begins with the front. After the front comes `first` with the least node.
+-- With the greatest node comes what `after` has before its zero byte.
 pub record HasEnds (bound : Value) (front first after : List ℕ) : Type 0 where
   pub below : List ℕ
   pub last : List ℕ
@@ -86,16 +97,19 @@ IsBetween least greatest (Cstr text) = ⊥
 IsBetween least greatest (Mims text) = ⊥
 IsBetween least greatest (Rawt bytes) = ⊥
 
--- what is left to ask is true of the node; where nothing is left, it is
+-- what is left to ask is true of the node; if nothing is left, it is
 abbrev pub rest_true : State → Option Formula → ℕ → Bool
 rest_true s rest node = option_map_or (λ f. sat s f node) rest true
 
--- Of nodes that have keys from `low` to `high` in the index of that name the formula is true where what is left to ask is, whatever the volume.
+-- Of nodes that have keys from `low` to `high` in the index of that name the formula is true
+-- exactly if what is left to ask is, whatever the volume.
 abbrev pub LeavesRest : Formula → List ℕ → Kind → List ℕ → Option (List ℕ) → Option Formula → Type 0
 LeavesRest f name kind low high rest =
-    (s : State) (value : Value) (node : ℕ) → IsPair kind value node → Within low high (key value node) → sees s node name ≡ Some value → sat s f node ≡ rest_true s rest node
+    (s : State) (value : Value) (node : ℕ) → IsPair kind value node
+    → Within low high (key value node) → sees s node name ≡ Some value → sat s f node
+    ≡ rest_true s rest node
 
--- what is above the byte behind a pattern's literal characters
+-- a limit above each byte that may follow a pattern's literal characters
 abbrev pub limit : Bool → ℕ
 limit true = 1
 limit false = 255

@@ -8,12 +8,15 @@ use Rattle.be_query.specs.Grammar.{Formula}
 use Rattle.be_plan.specs.Narrow.{Allows, IsPair, LeavesRest, Within}
 use Rattle.be_plan.specs.Walk.{AreAllOn}
 
--- The keys from `low` to `high` decide comparisons on one name, where its index has this kind: of the nodes of these keys the formula is true, and all keys with values that it allows are among them.
-pub record Decides (f : Formula) (kind : Kind) (low : List ℕ) (high : Option (List ℕ)) : Type 0 where
-  pub leaves : (name : List ℕ) → AreAllOn f name → LeavesRest f name kind low high None
-  pub keeps : (name : List ℕ) → AreAllOn f name → (value : Value) (node : ℕ) → IsPair kind value node → Allows 0 0 f name value → Within low high (key value node)
+-- The keys from `low` to `high` decide comparisons on one name, if its index has this kind: of the
+-- nodes of these keys the formula is true, and all keys with values that it allows are among them.
+pub record Decides (f : Formula) (kind : Kind) (low : List ℕ) (high : Option (List ℕ)) : Type 0
+  where
+    pub leaves : (name : List ℕ) → AreAllOn f name → LeavesRest f name kind low high None
+    pub keeps : (name : List ℕ) → AreAllOn f name → (value : Value) (node : ℕ)
+        → IsPair kind value node → Allows 0 0 f name value → Within low high (key value node)
 
--- the same, where there is a range
+-- the same, if there is a range
 abbrev pub DecidesIf : Option Kind → Formula → List ℕ → Option (List ℕ) → Type 0
 DecidesIf None f low high = Unit
 DecidesIf (Some kind) f low high = Decides f kind low high

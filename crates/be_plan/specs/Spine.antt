@@ -1,4 +1,4 @@
--- The parts of a query that stand under "or" alone.
+-- The parts of a query that are under "or" alone.
 use Rattle.std.specs.Prelude.{◌≡◌, ◌<◌, ◌≤◌, ◌+◌, ℕ, Bool, true, false, List, slice_get}
 use Rattle.be_value.specs.declared.values.Value.{Value}
 use Rattle.be_query.specs.Grammar.{Formula, Leaf, And, Or, comparisons}
@@ -13,10 +13,14 @@ is_or (Leaf name op literal) = false
 is_or (And a b) = false
 is_or (Or a b) = true
 
--- The part, whose first comparison has the place `from`, stands under "or" alone: the whole is true where it is, and what the whole allows by way of a pick in the part, the part allows. So of a whole that is no "or" it is the whole itself.
+-- The part, whose first comparison has the place `from`, is under "or" alone: if it is true, so is
+-- the whole, and what the whole allows by way of a pick in the part, the part allows. So if the
+-- whole is no "or", the part is the whole itself.
 pub record IsUnderOr (whole : Formula) (from : ℕ) (part : Formula) : Type 0 where
-  pub places : (i : ℕ) → i < comparisons part → slice_get (leaves whole) (from + i) ≡ slice_get (leaves part) i
-  pub allows : (pick : ℕ) (name : List ℕ) (v : Value) → from ≤ pick → pick < from + comparisons part → Allows pick 0 whole name v → Allows pick from part name v
+  pub places : (i : ℕ) → i < comparisons part → slice_get (leaves whole) (from + i)
+      ≡ slice_get (leaves part) i
+  pub allows : (pick : ℕ) (name : List ℕ) (v : Value) → from ≤ pick → pick < from + comparisons part
+      → Allows pick 0 whole name v → Allows pick from part name v
   pub tells : (s : State) (node : ℕ) → sat s part node ≡ true → sat s whole node ≡ true
   pub alone : is_or whole ≡ false → part ≡ whole
 

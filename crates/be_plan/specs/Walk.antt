@@ -20,7 +20,7 @@ asks_name (Leaf own op literal) name = pointwise nat_eq own name
 asks_name (And a b) name = asks_name a name || asks_name b name
 asks_name (Or a b) name = asks_name a name || asks_name b name
 
--- each comparison of the formula is on this name, and none stands under "or"
+-- each comparison of the formula is on this name, and none is under "or"
 abbrev pub AreAllOn : Formula → List ℕ → Type 0
 AreAllOn (Leaf own op literal) name = own ≡ name
 AreAllOn (And a b) name = AreAllOn a name × AreAllOn b name
@@ -32,7 +32,8 @@ Keeps before after = (n : ℕ) → Contains before n → Contains after n
 
 -- each node whose key lies from `low` to `high`, and that is wanted, is there
 abbrev pub HasWanted : State → (ℕ → Type 0) → List ℕ → List ℕ → Option (List ℕ) → List ℕ → Type 0
-HasWanted s Wanted name low high found = (k : List ℕ) (h : IsKey s name k) → Within low high k → Wanted h.node → Contains found h.node
+HasWanted s Wanted name low high found = (k : List ℕ) (h : IsKey s name k) → Within low high k
+    → Wanted h.node → Contains found h.node
 
 -- each node of which the formula is true and whose key lies from `low` to `high` is there
 abbrev pub HasWithin : State → Formula → List ℕ → List ℕ → Option (List ℕ) → List ℕ → Type 0
@@ -40,33 +41,41 @@ HasWithin s f = HasWanted s (λ n. sat s f n ≡ true)
 
 -- each node whose key lies from `low` to `high` is there
 abbrev pub HasNodes : State → List ℕ → List ℕ → Option (List ℕ) → List ℕ → Type 0
-HasNodes s name low high found = (k : List ℕ) (h : IsKey s name k) → Within low high k → Contains found h.node
+HasNodes s name low high found = (k : List ℕ) (h : IsKey s name k) → Within low high k
+    → Contains found h.node
 
 -- the node has a key from `low` to `high`
-pub record IsNodeWithin (s : State) (name low : List ℕ) (high : Option (List ℕ)) (node : ℕ) : Type 0 where
-  pub key : List ℕ
-  pub is_key : IsKey s name key
-  pub within : Within low high key
-  pub node_is : is_key.node ≡ node
+pub record IsNodeWithin (s : State) (name low : List ℕ) (high : Option (List ℕ)) (node : ℕ) : Type 0
+  where
+    pub key : List ℕ
+    pub is_key : IsKey s name key
+    pub within : Within low high key
+    pub node_is : is_key.node ≡ node
 
 -- each of the nodes has a key from `low` to `high`, or was there before
 abbrev pub HasOnly : State → List ℕ → List ℕ → Option (List ℕ) → List ℕ → List ℕ → Type 0
-HasOnly s name low high before after = (n : ℕ) → Contains after n → Contains before n ⊎ IsNodeWithin s name low high n
+HasOnly s name low high before after = (n : ℕ) → Contains after n → Contains before n
+    ⊎ IsNodeWithin s name low high n
 
--- the same of the keys that are not ahead of the walk, which stands at `from`
-abbrev pub HasPassed : State → (ℕ → Type 0) → List ℕ → List ℕ → Option (List ℕ) → List ℕ → Bool → List ℕ → Type 0
+-- the same of the keys that are not ahead of the walk, whose place is `from`
+abbrev pub HasPassed : State → (ℕ → Type 0) → List ℕ → List ℕ → Option (List ℕ) → List ℕ → Bool
+    → List ℕ → Type 0
 HasPassed s Wanted name low high from after found =
-    (k : List ℕ) (h : IsKey s name k) → Within low high k → is_at_or_after from after k ≡ false → Wanted h.node → Contains found h.node
+    (k : List ℕ) (h : IsKey s name k) → Within low high k → is_at_or_after from after k ≡ false
+    → Wanted h.node → Contains found h.node
 
--- The next key of the walk is this one, or there is none, and it has passed those before: of these the nodes that are wanted are there.
-pub record HasCome (s : State) (Wanted : ℕ → Type 0) (name low : List ℕ) (high next : Option (List ℕ)) (found : List ℕ) : Type 0 where
+-- The next key of the walk is this one, or there is none, and it has passed those before: of these
+-- the nodes that are wanted are there.
+pub record HasCome (s : State) (Wanted : ℕ → Type 0) (name low : List ℕ)
+    (high next : Option (List ℕ)) (found : List ℕ) : Type 0 where
   pub from : List ℕ
   pub after : Bool
   pub is_next : IsNextKey s name from after next
   pub start : is_lt (name_cmp from low) ≡ false
   pub passed : HasPassed s Wanted name low high from after found
 
--- The node is reached by way of the pick: the picked comparison sees a value, and the value is one that the query allows by that way.
+-- The node is reached by way of the pick: the picked comparison sees a value, and the value is one
+-- that the query allows by that way.
 pub record Reaches (s : State) (f : Formula) (pick : ℕ) (node : ℕ) : Type 0 where
   pub picked : Comparison
   pub there : slice_get (leaves f) pick ≡ Some picked
@@ -76,4 +85,5 @@ pub record Reaches (s : State) (f : Formula) (pick : ℕ) (node : ℕ) : Type 0 
 
 -- each node that is reached by way of the pick, and of which the formula is true, is there
 abbrev pub HasReached : State → Formula → ℕ → List ℕ → Type 0
-HasReached s f pick found = (node : ℕ) → Reaches s f pick node → sat s f node ≡ true → Contains found node
+HasReached s f pick found = (node : ℕ) → Reaches s f pick node → sat s f node ≡ true
+    → Contains found node

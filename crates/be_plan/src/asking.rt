@@ -1,8 +1,9 @@
 //! The answer to a query, from what a source's own indices choose.
 //!
-//! The sides of an `||` are answered one after the other, each by itself. So a comparison that stands under `||` alone, as most do, has nothing to
-//! choose from, and neither have comparisons of one name under `&&`, as the two ends of a range: their index is asked for once, and no cover is
-//! made. Of any other side under `&&` the choice is made as for a query of its own.
+//! The sides of an `||` are computed one after the other, each by itself. So a comparison that is
+//! under `||` alone, as most are, has nothing to choose from. Neither have comparisons of one name
+//! under `&&`, as the two ends of a range: their index is asked for once, and no cover is made. Of
+//! any other side under `&&` the choice is made as for a query of its own.
 ghost use Rattle.std.specs.Prelude.{◌≡◌, ◌⊎◌, ◌≤◌, ℕ, true, false, OnOk, IfOk, IfErr, IfSome};
 ghost use Rattle.std.specs.List.{Contains};
 ghost use Rattle.std.specs.Option.{option_copied};
@@ -26,7 +27,7 @@ use be_query::{Query, Tree};
 use be_value::{Name, Refusal};
 use std::alloc::Global;
 
-/// Whether each comparison is on this name, and none stands under `||`.
+/// Whether each comparison is on this name, and none is under `||`.
 fn are_all_on(tree: &Tree, name: &Name) -> bool
     ensures { result ≡ true → AreAllOn (formula tree.now) name.now }
 {
@@ -37,7 +38,7 @@ fn are_all_on(tree: &Tree, name: &Name) -> bool
     }
 }
 
-/// The name that each comparison is on, if it is one, and none stands under `||`.
+/// The name that each comparison is on, if it is one, and none is under `||`.
 pub(crate) fn only_name(tree: &Tree) -> Option<&Name>
     ensures { IfSome (option_copied result) (λ name. AreAllOn (formula tree.now) name) }
 {
@@ -70,10 +71,13 @@ fn collect_named<S: Source>(
     ensures stays { S.kept source.new ≡ S.kept source.old }
     ensures answers { S.answers_for source.new volume }
     ensures keeps { Keeps found.old.items found.new.items }
-    ensures only { (n : ℕ) → Contains found.new.items n → Contains found.old.items n ⊎ (sat volume (formula tree.now) n ≡ true) }
-    ensures has { OnOk result ((n : ℕ) → sat volume (formula tree.now) n ≡ true → Contains found.new.items n) }
+    ensures only { (n : ℕ) → Contains found.new.items n → Contains found.old.items n
+        ⊎ (sat volume (formula tree.now) n ≡ true) }
+    ensures has { OnOk result ((n : ℕ) → sat volume (formula tree.now) n ≡ true
+        → Contains found.new.items n) }
     ensures covered { OnOk result (covered volume (formula tree.now) ≡ true) }
-    ensures refused { IfErr result (λ e. (e ≡ OutOfMemory) ⊎ ((e ≡ NotCovered) × (covered volume (formula tree.now) ≡ false))) }
+    ensures refused { IfErr result (λ e. (e ≡ OutOfMemory)
+        ⊎ ((e ≡ NotCovered) × (covered volume (formula tree.now) ≡ false))) }
 {
     let Some(kind) = source.kind_of(name) else {
         return Err(Refusal::NotCovered);
@@ -83,8 +87,8 @@ fn collect_named<S: Source>(
     walk(alloc, source, tree, name, kind, range, rest, found)
 }
 
-/// Adds the nodes of which a side is true, from the comparisons that the source's indices choose for it. It stands by itself, so that
-/// comparisons of one name need no room for a cover.
+/// Adds the nodes of which a side is true, from the comparisons that the source's indices choose
+/// for it. It is a function of its own, so that comparisons of one name need no room for a cover.
 #[inline(never)]
 fn collect_chosen<S: Source>(
     alloc: Global,
@@ -99,10 +103,13 @@ fn collect_chosen<S: Source>(
     ensures stays { S.kept source.new ≡ S.kept source.old }
     ensures answers { S.answers_for source.new volume }
     ensures keeps { Keeps found.old.items found.new.items }
-    ensures only { (n : ℕ) → Contains found.new.items n → Contains found.old.items n ⊎ (sat volume (formula tree.now) n ≡ true) }
-    ensures has { OnOk result ((n : ℕ) → sat volume (formula tree.now) n ≡ true → Contains found.new.items n) }
+    ensures only { (n : ℕ) → Contains found.new.items n → Contains found.old.items n
+        ⊎ (sat volume (formula tree.now) n ≡ true) }
+    ensures has { OnOk result ((n : ℕ) → sat volume (formula tree.now) n ≡ true
+        → Contains found.new.items n) }
     ensures covered { OnOk result (covered volume (formula tree.now) ≡ true) }
-    ensures refused { IfErr result (λ e. (e ≡ OutOfMemory) ⊎ ((e ≡ NotCovered) × (covered volume (formula tree.now) ≡ false))) }
+    ensures refused { IfErr result (λ e. (e ≡ OutOfMemory)
+        ⊎ ((e ≡ NotCovered) × (covered volume (formula tree.now) ≡ false))) }
 {
     let Some(cover) = choose_by_source(alloc, tree, source)? else {
         return Err(Refusal::NotCovered);
@@ -124,10 +131,13 @@ fn collect_side<S: Source>(
     ensures stays { S.kept source.new ≡ S.kept source.old }
     ensures answers { S.answers_for source.new volume }
     ensures keeps { Keeps found.old.items found.new.items }
-    ensures only { (n : ℕ) → Contains found.new.items n → Contains found.old.items n ⊎ (sat volume (formula tree.now) n ≡ true) }
-    ensures has { OnOk result ((n : ℕ) → sat volume (formula tree.now) n ≡ true → Contains found.new.items n) }
+    ensures only { (n : ℕ) → Contains found.new.items n → Contains found.old.items n
+        ⊎ (sat volume (formula tree.now) n ≡ true) }
+    ensures has { OnOk result ((n : ℕ) → sat volume (formula tree.now) n ≡ true
+        → Contains found.new.items n) }
     ensures covered { OnOk result (covered volume (formula tree.now) ≡ true) }
-    ensures refused { IfErr result (λ e. (e ≡ OutOfMemory) ⊎ ((e ≡ NotCovered) × (covered volume (formula tree.now) ≡ false))) }
+    ensures refused { IfErr result (λ e. (e ≡ OutOfMemory)
+        ⊎ ((e ≡ NotCovered) × (covered volume (formula tree.now) ≡ false))) }
 {
     match only_name(tree) {
         Some(name) => collect_named(alloc, source, range, tree, name, found),
@@ -135,7 +145,8 @@ fn collect_side<S: Source>(
     }
 }
 
-/// Adds the nodes of which the tree is true, side by side. A query of many parts under `||` leans to the left, so its last side comes first.
+/// Adds the nodes of which the tree is true, side by side. A query of many parts under `||` leans
+/// to the left, so its last side comes first.
 fn collect<S: Source>(
     alloc: Global,
     source: &mut S,
@@ -148,10 +159,13 @@ fn collect<S: Source>(
     requires few { comparisons (formula tree.now) ≤ 256 }
     ensures stays { S.kept source.new ≡ S.kept source.old }
     ensures answers { S.answers_for source.new volume }
-    ensures only { (n : ℕ) → Contains found.new.items n → Contains found.old.items n ⊎ (sat volume (formula tree.now) n ≡ true) }
-    ensures has { OnOk result ((n : ℕ) → sat volume (formula tree.now) n ≡ true → Contains found.new.items n) }
+    ensures only { (n : ℕ) → Contains found.new.items n → Contains found.old.items n
+        ⊎ (sat volume (formula tree.now) n ≡ true) }
+    ensures has { OnOk result ((n : ℕ) → sat volume (formula tree.now) n ≡ true
+        → Contains found.new.items n) }
     ensures covered { OnOk result (covered volume (formula tree.now) ≡ true) }
-    ensures refused { IfErr result (λ e. (e ≡ OutOfMemory) ⊎ ((e ≡ NotCovered) × (covered volume (formula tree.now) ≡ false))) }
+    ensures refused { IfErr result (λ e. (e ≡ OutOfMemory)
+        ⊎ ((e ≡ NotCovered) × (covered volume (formula tree.now) ≡ false))) }
 {
     let mut rest = tree;
     'sides: while let Tree::Or(a, b) = rest {
@@ -161,10 +175,12 @@ fn collect<S: Source>(
     collect_side(alloc, source, range, rest, found)
 }
 
-/// Puts the nodes of which the query is true into a list, ascending, in place of what it had. They come from comparisons that the source's own
-/// indices choose; `explain` of the cover that `choose_from` gives tells which. A query that rests on no index is refused by `NotCovered`. It asks
-/// for the index of each comparison once, or once for all of one name under `&&`, and of others under `&&` a second time for each pick. A list with
-/// room for the nodes takes no memory. After an error the source still answers for the volume, and the list has any numbers.
+/// Puts the nodes of which the query is true into a list, ascending, in place of what it had. They
+/// come from comparisons that the source's own indices choose; `explain` of the cover that
+/// `choose_from` gives shows which. A query that rests on no index is refused by `NotCovered`. The
+/// function asks for the index of each comparison once, or once for all of one name under `&&`, and
+/// of others under `&&` a second time for each pick. A list with room for the nodes takes no
+/// memory. After an error the source is still that of the volume, and the list has any numbers.
 pub fn answer_into<S: Source>(
     alloc: Global,
     query: &Query,

@@ -1,9 +1,11 @@
 //! The choice of comparisons.
 //!
-//! Each comparison on an indexed name has a score by its operator, from 1 for an exact match to 5 for `!=`, which passes nearly the whole index.
-//! An `||` needs both its sides, so their scores are added; an `&&` is answered from the cheaper one, as the Be File System drives an `&&`
+//! Each comparison on an indexed name has a score by its operator, from 1 for an exact match to 5
+//! for `!=`, which passes nearly the whole index. An `||` needs both its sides, so their scores are
+//! added; an `&&` is answered from the cheaper one, as the Be File System drives an `&&`
 //! (Giampaolo, "Practical File System Design", on queries).
-ghost use Rattle.std.specs.Prelude.{◌≡◌, ◌≤◌, ◌<◌, ◌+◌, ◌*◌, ◌∷◌, ◌++◌, [], IfOk, IfErr, IfSome, ◌⊎◌, true, false, Some, None, if◌then◌else◌};
+ghost use Rattle.std.specs.Prelude.{◌≡◌, ◌≤◌, ◌<◌, ◌+◌, ◌*◌, ◌∷◌, ◌++◌, [], IfOk, IfErr, IfSome};
+ghost use Rattle.std.specs.Prelude.{◌⊎◌, true, false, Some, None, if◌then◌else◌};
 ghost use Rattle.be_value.specs.Refusal.{Answers};
 ghost use Rattle.be_value.specs.declared.refusals.Refusal.TheVariants.{OutOfMemory, NotCovered};
 ghost use Rattle.be_query.specs.Grammar.{comparisons};
@@ -18,9 +20,10 @@ use be_query::{Cmp, Comparison, Literal, Query, Tree};
 use be_value::Refusal;
 use std::alloc::{AllocError, Global};
 
-/// The comparisons to answer the query from. Of an `&&` it takes the covered side with the lower score, the left one at a tie. A query that
-/// rests on no index is refused by `NotCovered`. The source is asked for the names of the query alone, once for each comparison, so the number
-/// of the volume's indices doesn't matter.
+/// The comparisons to answer the query from. Of an `&&` it takes the covered side with the lower
+/// score, the left one at a tie. A query that rests on no index is refused by `NotCovered`. The
+/// source is asked for the names of the query alone, once for each comparison, so the number of the
+/// volume's indices doesn't matter.
 pub fn choose_from<S: Source>(
     alloc: Global,
     query: &Query,
@@ -29,11 +32,13 @@ pub fn choose_from<S: Source>(
     ghost volume: { State }
     requires { S.answers_for source.old volume }
     ensures choice { Answers (λ cover. cover) result (chosen (has_index volume) query.now) }
-    // What is chosen covers the query, so each pick is a place; and nothing is exactly where it rests on no index.
+    // The choice covers the query, so each pick is a place. There is no choice exactly if the query
+    // rests on no index.
     ensures covers { IfOk result (λ cover. covers (has_index volume) cover.picks query.now ≡ true) }
     ensures rests { IfOk result (λ _. covered volume query.now ≡ true) }
     ensures places { IfOk result (λ cover. are_places query.now cover.picks ≡ true) }
-    ensures refused { IfErr result (λ e. (e ≡ OutOfMemory) ⊎ ((e ≡ NotCovered) × (covered volume query.now ≡ false))) }
+    ensures refused { IfErr result (λ e. (e ≡ OutOfMemory)
+        ⊎ ((e ≡ NotCovered) × (covered volume query.now ≡ false))) }
     ensures stays { S.kept source.new ≡ S.kept source.old }
     ensures answers { S.answers_for source.new volume }
 {
@@ -71,14 +76,15 @@ pub(crate) fn count(tree: &Tree) -> usize
     }
 }
 
-/// What is chosen for a part of a query, and the place behind its last comparison.
+/// What is chosen for a part of a query, and the place after its last comparison.
 #[derive(Drop)]
 pub(crate) struct PartChoice {
     pub(crate) cover: Option<Cover>,
     pub(crate) end: usize,
 }
 
-/// The choice for a part of a query whose first comparison has the place `at`. The source is asked once for each comparison.
+/// The choice for a part of a query whose first comparison has the place `at`. The source is asked
+/// once for each comparison.
 fn choose_part<S: Source>(
     alloc: Global,
     tree: &Tree,
@@ -87,11 +93,14 @@ fn choose_part<S: Source>(
 ) -> Result<PartChoice, AllocError>
     requires volume { (volume : State) × S.answers_for source.old volume }
     requires few { at + comparisons (formula tree.now) ≤ 256 }
-    ensures choice { (volume : State) → S.answers_for source.old volume → IfOk result (λ c. c.cover ≡ choice (has_index volume) at (formula tree.now)) }
+    ensures choice { (volume : State) → S.answers_for source.old volume
+        → IfOk result (λ c. c.cover ≡ choice (has_index volume) at (formula tree.now)) }
     ensures end { IfOk result (λ c. c.end ≡ at + comparisons (formula tree.now)) }
-    ensures small { IfOk result (λ c. IfSome c.cover (λ cover. cover.score ≤ 5 * comparisons (formula tree.now))) }
+    ensures small { IfOk result (λ c. IfSome c.cover
+        (λ cover. cover.score ≤ 5 * comparisons (formula tree.now))) }
     ensures stays { S.kept source.new ≡ S.kept source.old }
-    ensures answers { (volume : State) → S.answers_for source.old volume → S.answers_for source.new volume }
+    ensures answers { (volume : State) → S.answers_for source.old volume
+        → S.answers_for source.new volume }
     ensures still { (volume : State) × S.answers_for source.new volume }
 {
     match tree {
@@ -125,7 +134,10 @@ fn choose_part<S: Source>(
 pub(crate) fn choose_leaf(comparison: &Comparison, at: usize, indexed: bool) -> PartChoice
     requires { at < 256 }
     ensures cover { result.cover ≡ if indexed
-        then Some (record { picks = at ∷ []; score = score_of comparison.now.op (literal comparison.now.literal) })
+        then Some (record {
+          picks = at ∷ [];
+          score = score_of comparison.now.op (literal comparison.now.literal);
+        })
         else None }
     ensures small { IfSome result.cover (λ cover. cover.score ≤ 5) }
     ensures end { result.end ≡ at + 1 }
@@ -162,7 +174,11 @@ pub(crate) fn cheaper(left: Option<Cover>, right: Option<Cover>) -> Option<Cover
 /// The picks of both.
 pub(crate) fn join(alloc: Global, left: Cover, right: Cover) -> Result<Cover, AllocError>
     requires { left.score + right.score ≤ 1280 }
-    ensures { IfOk result (λ c. c ≡ record { picks = left.picks ++ right.picks; score = left.score + right.score }) }
+    ensures { IfOk result (λ c. c ≡ record {
+      picks = left.picks ++ right.picks;
+      score = left.score
+          + right.score;
+    }) }
 {
     let mut places = left.picks.into_vec(alloc)?;
     places.extend_from_slice(right.picks.as_slice())?;

@@ -1,6 +1,7 @@
 //! Whether picks cover a query.
 //!
-//! `run` takes any picks that cover. Those of `choose_from` do; picks from elsewhere are tested here.
+//! `run` takes any picks that cover. Those of `choose_from` do; picks from elsewhere are tested
+//! here.
 ghost use Rattle.std.specs.Prelude.{◌≡◌, ◌≤◌, ◌+◌};
 ghost use Rattle.std.specs.List.{list_all};
 ghost use Rattle.be_query.specs.Grammar.{comparisons};
@@ -58,8 +59,9 @@ fn covers_part(picks: &[usize], at: usize, tree: &Tree) -> bool
     }
 }
 
-/// Whether the picks cover the query on the source's volume: each is the place of a comparison on an indexed name, and of each `&&` one side
-/// is covered, of each `||` both. So a cover of any origin can be tested before `run`. It asks for one kind a pick.
+/// Whether the picks cover the query on the source's volume: each is the place of a comparison on
+/// an indexed name, and of each `&&` one side is covered, of each `||` both. So a cover of any
+/// origin can be tested before `run`. It asks for one kind a pick.
 pub fn covers<S: Source>(cover: &Cover, query: &Query, source: &mut S) -> bool
     ghost volume: { State }
     requires { S.answers_for source.old volume }

@@ -1,6 +1,7 @@
 //! The truth of a query at a node, asked of a source.
 //!
-//! The source tells of each comparison whether it is true of what it sees: on an indexed name of what the index holds, and else of the attribute.
+//! The source says of each comparison whether it is true of what it sees: on an indexed name of
+//! what the index holds, otherwise of the attribute.
 ghost use Rattle.std.specs.Prelude.{◌≡◌, Some};
 ghost use Rattle.be_query.specs.View.{formula};
 ghost use Rattle.be_volume.specs.Query.{sees, sat};
@@ -12,8 +13,8 @@ use be_query::Tree;
 use be_value::{Name, Value};
 use be_volume::holds;
 
-/// Whether the tree is true of the node, where a comparison on `name` sees this value of it. Only for comparisons on other names the source
-/// is asked.
+/// Whether the tree is true of the node, if a comparison on `name` sees this value of it. The
+/// source is asked only for comparisons on other names.
 pub(crate) fn satisfies<S: Source>(
     source: &mut S,
     tree: &Tree,
@@ -22,10 +23,12 @@ pub(crate) fn satisfies<S: Source>(
     node: u64,
 ) -> bool
     requires { (volume : State) × S.answers_for source.old volume }
-    ensures answer { (volume : State) → S.answers_for source.old volume → sees volume node name.now ≡ Some value.now →
+    ensures answer { (volume : State) → S.answers_for source.old volume → sees volume node name.now
+        ≡ Some value.now →
         result ≡ sat volume (formula tree.now) node }
     ensures stays { S.kept source.new ≡ S.kept source.old }
-    ensures answers { (volume : State) → S.answers_for source.old volume → S.answers_for source.new volume }
+    ensures answers { (volume : State) → S.answers_for source.old volume
+        → S.answers_for source.new volume }
     ensures still { (volume : State) × S.answers_for source.new volume }
 {
     match tree {
@@ -45,12 +48,14 @@ pub(crate) fn satisfies<S: Source>(
     }
 }
 
-/// Whether the tree is true of the node, where the source is asked for each comparison.
+/// Whether the tree is true of the node. The source is asked for each comparison.
 pub(crate) fn is_true<S: Source>(source: &mut S, tree: &Tree, node: u64) -> bool
     requires { (volume : State) × S.answers_for source.old volume }
-    ensures answer { (volume : State) → S.answers_for source.old volume → result ≡ sat volume (formula tree.now) node }
+    ensures answer { (volume : State) → S.answers_for source.old volume → result
+        ≡ sat volume (formula tree.now) node }
     ensures stays { S.kept source.new ≡ S.kept source.old }
-    ensures answers { (volume : State) → S.answers_for source.old volume → S.answers_for source.new volume }
+    ensures answers { (volume : State) → S.answers_for source.old volume
+        → S.answers_for source.new volume }
     ensures still { (volume : State) × S.answers_for source.new volume }
 {
     match tree {

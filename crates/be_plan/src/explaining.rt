@@ -27,7 +27,8 @@ fn print_at(alloc: Global, tree: &Tree, place: usize) -> Result<String, Refusal>
 /// The texts of the picked comparisons, with ` || ` between two.
 fn print_picks(alloc: Global, tree: &Tree, picks: &[usize]) -> Result<String, Refusal>
     requires { comparisons (formula tree.now) ≤ 256 }
-    ensures text { IfOk result (λ text. string_bytes text ≡ picked_text (formula tree.now) picks.now) }
+    ensures text { IfOk result (λ text. string_bytes text
+        ≡ picked_text (formula tree.now) picks.now) }
     ensures memory { IfErr result (λ e. e ≡ OutOfMemory) }
 {
     let Some((first, others)) = picks.split_first() else {
@@ -41,7 +42,8 @@ fn print_picks(alloc: Global, tree: &Tree, picks: &[usize]) -> Result<String, Re
     Ok(text)
 }
 
-/// The picked comparisons in canonical form and in the order of the picks, joined by ` || `, and the score, such as `"a"=="1" score 1`.
+/// The picked comparisons in canonical form and in the order of the picks, joined by ` || `, and
+/// the score, such as `"a"=="1" score 1`.
 pub fn explain(alloc: Global, query: &Query, cover: &Cover) -> Result<String, Refusal>
     requires { are_places (query.now) cover.now.picks ≡ true }
     ensures text { IfOk result (λ text. string_bytes text ≡ explanation (query.now) cover.now) }

@@ -1,12 +1,14 @@
 //! Plans: which comparisons a query is answered from, and its answer by walks over their indices.
 //!
-//! A query on a large volume must not look at every node. It is answered from a few of its comparisons, the picks: the index of each is
-//! walked over the keys that can matter, and of each node found there the whole query is asked. Picks cover a query where no answer can
-//! escape these walks; of an `&&` one side is enough, of an `||` both are needed. The answer depends on no plan: any picks that cover give
-//! the ascending list of all nodes of which the query is true.
+//! A query on a large volume must not look at every node. It is computed from a few of its
+//! comparisons, the picks: the index of each is walked over the keys that can matter, and of each
+//! node found there the whole query is asked. Picks cover a query if no answer can escape these
+//! walks; of an `&&` one side is enough, of an `||` both are needed. The answer depends on no plan:
+//! any picks that cover give the ascending list of all nodes of which the query is true.
 //!
-//! `choose_from` picks, and `choose` from a list of indices. `run` walks, `explain` says what was picked, and `answer` does all of a query,
-//! as does `answer_into` for a caller's list. `Source` is what is walked: a plain volume, or a reader of pages.
+//! `choose_from` picks, and `choose` from a list of indices. `run` walks, `explain` says what was
+//! picked, and `answer` does all of a query, as does `answer_into` for a caller's list. `Source` is
+//! what is walked: a plain volume, or a reader of pages.
 #![tactic(auto)]
 
 mod asking;
@@ -24,6 +26,7 @@ mod running;
 mod sorting;
 mod source;
 mod spine;
+mod texts;
 mod walks;
 
 pub use asking::{answer, answer_into};

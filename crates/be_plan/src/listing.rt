@@ -14,16 +14,20 @@ use be_query::{Query, Tree};
 use be_value::{Kind, Name, Refusal};
 use std::alloc::{AllocError, Global};
 
-/// The comparisons to answer the query from, if a volume has these indices: the rule is that of `choose_from`, and no volume is needed.
-/// A query that rests on none of them is refused by `NotCovered`; `OutOfMemory` is the only other refusal. One pass over the tree, and a
-/// look through the list for each comparison.
+/// The comparisons to answer the query from, if a volume has these indices: the rule is that of
+/// `choose_from`, and no volume is needed. A query that rests on none of them is refused by
+/// `NotCovered`; `OutOfMemory` is the only other refusal. One pass over the tree, and a look
+/// through the list for each comparison.
 pub fn choose(alloc: Global, query: &Query, indices: &[(Name, Kind)]) -> Result<Cover, Refusal>
     ensures choice { Answers (λ cover. cover) result (chosen (is_listed indices.now) query.now) }
-    // What is chosen covers the query, so each pick is a place; and nothing is exactly where it rests on no index.
-    ensures covers { IfOk result (λ cover. covers (is_listed indices.now) cover.picks query.now ≡ true) }
+    // The choice covers the query, so each pick is a place. There is no choice exactly if the query
+    // rests on no index.
+    ensures covers { IfOk result (λ cover. covers (is_listed indices.now) cover.picks query.now
+        ≡ true) }
     ensures rests { IfOk result (λ _. rests (is_listed indices.now) query.now ≡ true) }
     ensures places { IfOk result (λ cover. are_places query.now cover.picks ≡ true) }
-    ensures refused { IfErr result (λ e. (e ≡ OutOfMemory) ⊎ ((e ≡ NotCovered) × (rests (is_listed indices.now) query.now ≡ false))) }
+    ensures refused { IfErr result (λ e. (e ≡ OutOfMemory)
+        ⊎ ((e ≡ NotCovered) × (rests (is_listed indices.now) query.now ≡ false))) }
 {
     match choose_by_list(alloc, query.tree(), indices)? {
         Some(cover) => Ok(cover),
@@ -38,7 +42,8 @@ fn choose_by_list(
     indices: &[(Name, Kind)],
 ) -> Result<Option<Cover>, AllocError>
     requires { comparisons (formula tree.now) ≤ 256 }
-    ensures choice { IfOk result (λ cover. cover ≡ choice (is_listed indices.now) 0 (formula tree.now)) }
+    ensures choice { IfOk result (λ cover. cover
+        ≡ choice (is_listed indices.now) 0 (formula tree.now)) }
 {
     let PartChoice { cover, end: _ } = choose_part(alloc, tree, 0, indices)?;
     Ok(cover)
@@ -52,9 +57,11 @@ fn choose_part(
     indices: &[(Name, Kind)],
 ) -> Result<PartChoice, AllocError>
     requires { at + comparisons (formula tree.now) ≤ 256 }
-    ensures choice { IfOk result (λ c. c.cover ≡ choice (is_listed indices.now) at (formula tree.now)) }
+    ensures choice { IfOk result (λ c. c.cover
+        ≡ choice (is_listed indices.now) at (formula tree.now)) }
     ensures end { IfOk result (λ c. c.end ≡ at + comparisons (formula tree.now)) }
-    ensures small { IfOk result (λ c. IfSome c.cover (λ cover. cover.score ≤ 5 * comparisons (formula tree.now))) }
+    ensures small { IfOk result (λ c. IfSome c.cover
+        (λ cover. cover.score ≤ 5 * comparisons (formula tree.now))) }
 {
     match tree {
         Tree::Leaf(comparison) => {

@@ -1,16 +1,21 @@
 //! The keys that a walk over an index has to pass.
 //!
-//! A walk for a pick begins with all keys of the index and leaves out what can't be an answer by way of this pick: each comparison on the picked
-//! name that stands beside it under `&&` gives a bound, and a pattern gives its literal prefix. A comparison on the other side of an `||`
-//! gives none, since it need not be true. A number outside the index's kind leaves out all keys or none, by the side on which it lies, and a
-//! literal that spells no number leaves out all. Of a text longer than any value's, the bytes that a value may have tell.
+//! A walk for a pick begins with all keys of the index and leaves out what can't be an answer by
+//! way of this pick: each comparison on the picked name that is beside it under `&&` gives a bound,
+//! and a pattern gives its literal prefix. A comparison on the other side of an `||` gives none,
+//! since it need not be true. A number outside the index's kind leaves out all keys or none, by the
+//! side on which it lies, and a literal that is no number leaves out all. Of a text longer than any
+//! value's, the bytes that a value may have decide.
 //!
-//! Bounds are bytes, both included: a value's key with the least node number or the greatest, or the bytes next to it where it is left out. So
-//! no key in a range of numbers is idle. The key is never made: its front is the literal's own bytes or the number's, its end one of four.
+//! Bounds are bytes, both included: a value's key with the least node number or the greatest, or
+//! the bytes next to it if the value is left out. So no key in a range of numbers is idle. The key
+//! is never made: its front is the literal's own bytes or the number's, its end one of four.
 //!
-//! What narrows a range tells whether that leaves no value of which the comparison, or the whole query, is false. Then the node of each key is
-//! an answer, and nothing is asked of it. A pattern is decided where it says no more than how a text begins.
-ghost use Rattle.std.specs.Prelude.{◌≡◌, ◌<◌, ◌≤◌, ◌+◌, ◌^◌, ℕ, ℤ, ◌≤ℤ◌, true, false, List, [], ◌∷◌, ◌++◌, ◌&&◌};
+//! The functions that narrow a range return whether that leaves no value of which the comparison,
+//! or the whole query, is false. Then the node of each key is an answer, and nothing is asked of
+//! it. A pattern is decided by the range if it only says how a text begins.
+ghost use Rattle.std.specs.Prelude.{◌≡◌, ◌<◌, ◌≤◌, ◌+◌, ◌^◌, ℕ, ℤ, ◌≤ℤ◌, true, false, List, []};
+ghost use Rattle.std.specs.Prelude.{◌∷◌, ◌++◌, ◌&&◌};
 ghost use Rattle.std.specs.Prelude.{Some, None, IfSome, IfOk, IfErr, IsUtf8, length};
 ghost use Rattle.std.specs.Option.{option_copied, option_map};
 ghost use Rattle.std.specs.Str.{chars};
@@ -26,7 +31,8 @@ ghost use Rattle.be_volume.specs.Maps.{name_cmp};
 ghost use Rattle.be_volume.specs.Query.{holds, holds_of_number, is_true_of, literal_number, sat};
 ghost use Rattle.be_volume.specs.Volume.{State};
 ghost use Rattle.be_plan.specs.Walk.{AreAllOn};
-ghost use Rattle.be_plan.specs.Narrow.{AllTrue, KeepsTrue, IsIn, IsBetween, IsPair, StandsFor, HasEnds, Allows, LeavesRest, high_of, limit, rest_true};
+ghost use Rattle.be_plan.specs.Narrow.{AllTrue, KeepsTrue, IsIn, IsBetween, IsPair, StandsFor};
+ghost use Rattle.be_plan.specs.Narrow.{HasEnds, Allows, LeavesRest, high_of, limit, rest_true};
 
 use crate::ranges::Range;
 use be_pattern::Pattern;
@@ -34,19 +40,19 @@ use be_query::{Cmp, Comparison, Literal, Tree};
 use be_value::{Kind, Name, counted32, counted64};
 use be_volume::literal_number;
 
-/// What stands in a text's key behind the text, with the least node.
+/// The bytes after the text in a text's key, with the least node.
 const TEXT_FIRST: [u8; 9] = [0; 9];
 
-/// The same with the greatest node, and a zero byte behind that: the bytes next above the key.
+/// The same with the greatest node, and a zero byte after that: the bytes next above the key.
 const TEXT_AFTER: [u8; 10] = [0, 255, 255, 255, 255, 255, 255, 255, 255, 0];
 
-/// What stands in a number's key behind the number, with the least node.
+/// The bytes after the number in a number's key, with the least node.
 const NUMBER_FIRST: [u8; 8] = [0; 8];
 
-/// The same with the greatest node, and a zero byte behind that.
+/// The same with the greatest node, and a zero byte after that.
 const NUMBER_AFTER: [u8; 9] = [255, 255, 255, 255, 255, 255, 255, 255, 0];
 
-/// The end without its last byte. Where that is zero, no bytes lie between the two.
+/// The end without its last byte. If that byte is zero, no bytes lie between the two.
 fn without_last(end: &[u8]) -> &[u8]
     ensures { (bytes : List ℕ) → end.now ≡ bytes ++ 0 ∷ [] → result.now ≡ bytes }
 {
@@ -56,9 +62,10 @@ fn without_last(end: &[u8]) -> &[u8]
     }
 }
 
-/// Leaves out keys of values at which the comparison is false, by a value that stands for its literal. The keys of this value begin with the
-/// front; behind it stands `first` with the least node, and `after`, but for its zero byte, with the greatest. Whether the comparison is true
-/// of all values that are left.
+/// Leaves out keys of values at which the comparison is false, by a value that takes the place of
+/// its literal. The keys of this value begin with the front. After it comes `first` with the least
+/// node, and `after`, but for its zero byte, with the greatest. Returns whether the comparison is
+/// true of all values that are left.
 fn narrow_by(
     range: &mut Range,
     comparison: &Comparison,
@@ -71,8 +78,10 @@ fn narrow_by(
     requires stands { StandsFor (literal comparison.now.literal) kind bound }
     requires ends { HasEnds bound front.now first.now after.now }
     ensures within { (k : List ℕ) → IsIn range.new k → IsIn range.old k }
-    ensures keeps { KeepsTrue kind comparison.now.op (literal comparison.now.literal) range.old range.new }
-    ensures decides { result ≡ true → AllTrue kind comparison.now.op (literal comparison.now.literal) range.new }
+    ensures keeps { KeepsTrue kind comparison.now.op (literal comparison.now.literal) range.old
+        range.new }
+    ensures decides { result ≡ true → AllTrue kind comparison.now.op
+        (literal comparison.now.literal) range.new }
 {
     match comparison.op {
         Cmp::Eq => range.raise_to(front, first) && range.lower_to(front, without_last(after)),
@@ -90,13 +99,16 @@ fn narrow_by_integer(range: &mut Range, comparison: &Comparison, kind: Kind, byt
     requires stands { StandsFor (literal comparison.now.literal) kind bound }
     requires bytes { bytes.now ≡ value_key bound }
     ensures within { (k : List ℕ) → IsIn range.new k → IsIn range.old k }
-    ensures keeps { KeepsTrue kind comparison.now.op (literal comparison.now.literal) range.old range.new }
-    ensures decides { result ≡ true → AllTrue kind comparison.now.op (literal comparison.now.literal) range.new }
+    ensures keeps { KeepsTrue kind comparison.now.op (literal comparison.now.literal) range.old
+        range.new }
+    ensures decides { result ≡ true → AllTrue kind comparison.now.op
+        (literal comparison.now.literal) range.new }
 {
     narrow_by(range, comparison, kind, bytes, &NUMBER_FIRST, &NUMBER_AFTER)
 }
 
-/// The same by the number that the literal spells, if a value of the kind is this number; else the range stays.
+/// The same by the number that the literal encodes, if a value of the kind is this number;
+/// otherwise the range stays.
 fn narrow_by_number(
     range: &mut Range,
     comparison: &Comparison,
@@ -105,8 +117,10 @@ fn narrow_by_number(
 ) -> Option<bool>
     requires { literal_number (literal comparison.now.literal) ≡ Some number }
     ensures within { (k : List ℕ) → IsIn range.new k → IsIn range.old k }
-    ensures keeps { KeepsTrue kind comparison.now.op (literal comparison.now.literal) range.old range.new }
-    ensures decides { IfSome result (λ all. all ≡ true → (v : AnyValue) (n : ℕ) → IsPair kind v n → IsIn range.new (key_bytes v n) →
+    ensures keeps { KeepsTrue kind comparison.now.op (literal comparison.now.literal) range.old
+        range.new }
+    ensures decides { IfSome result (λ all. all ≡ true → (v : AnyValue) (n : ℕ) → IsPair kind v n
+        → IsIn range.new (key_bytes v n) →
         holds comparison.now.op v (literal comparison.now.literal) ≡ true) }
 {
     match kind {
@@ -132,7 +146,8 @@ fn narrow_by_number(
 
 /// The least and the greatest number of an integer kind.
 fn numbers_of(kind: Kind) -> Option<(i128, i128)>
-    ensures { IfSome result (λ ends. (v : AnyValue) → IsValue v → kind_of v ≡ kind → IsBetween ends.0 ends.1 v) }
+    ensures { IfSome result (λ ends. (v : AnyValue) → IsValue v → kind_of v ≡ kind
+        → IsBetween ends.0 ends.1 v) }
 {
     match kind {
         Kind::Long => Some((i128::from(i32::MIN), i128::from(i32::MAX))),
@@ -143,9 +158,11 @@ fn numbers_of(kind: Kind) -> Option<(i128, i128)>
     }
 }
 
-/// Whether the operator with this number is false of all numbers from the least to the greatest, as it is with no number.
+/// Whether the operator with this number is false of all numbers from the least to the greatest, as
+/// it is with no number.
 fn is_false_between(op: Cmp, number: Option<i128>, least: i128, greatest: i128) -> bool
-    ensures { result ≡ true → (n : ℤ) → least ≤ℤ n → n ≤ℤ greatest → holds_of_number op n number ≡ false }
+    ensures { result ≡ true → (n : ℤ) → least ≤ℤ n → n ≤ℤ greatest → holds_of_number op n number
+        ≡ false }
 {
     let Some(number) = number else {
         return true;
@@ -158,10 +175,12 @@ fn is_false_between(op: Cmp, number: Option<i128>, least: i128, greatest: i128) 
     }
 }
 
-/// Whether the comparison is false of all values of an integer kind, as its literal spells no number or one on the wrong side of them all.
+/// Whether the comparison is false of all values of an integer kind, because its literal encodes no
+/// number or one on the wrong side of them all.
 fn is_false_of_all(comparison: &Comparison, kind: Kind, number: Option<i128>) -> bool
     requires { number ≡ literal_number (literal comparison.now.literal) }
-    ensures { result ≡ true → (v : AnyValue) → IsValue v → kind_of v ≡ kind → holds comparison.now.op v (literal comparison.now.literal) ≡ false }
+    ensures { result ≡ true → (v : AnyValue) → IsValue v → kind_of v ≡ kind
+        → holds comparison.now.op v (literal comparison.now.literal) ≡ false }
 {
     let Some((least, greatest)) = numbers_of(kind) else {
         return false;
@@ -169,12 +188,14 @@ fn is_false_of_all(comparison: &Comparison, kind: Kind, number: Option<i128>) ->
     is_false_between(comparison.op, number, least, greatest)
 }
 
-/// Leaves out keys of integers at which the comparison is false. Whether it is true of all that are left; a literal that is no value of the
-/// kind decides nothing.
+/// Leaves out keys of integers at which the comparison is false. Whether it is true of all that are
+/// left; a literal that is no value of the kind decides nothing.
 fn narrow_integers(range: &mut Range, comparison: &Comparison, kind: Kind) -> bool
     ensures within { (k : List ℕ) → IsIn range.new k → IsIn range.old k }
-    ensures keeps { KeepsTrue kind comparison.now.op (literal comparison.now.literal) range.old range.new }
-    ensures decides { result ≡ true → AllTrue kind comparison.now.op (literal comparison.now.literal) range.new }
+    ensures keeps { KeepsTrue kind comparison.now.op (literal comparison.now.literal) range.old
+        range.new }
+    ensures decides { result ≡ true → AllTrue kind comparison.now.op
+        (literal comparison.now.literal) range.new }
 {
     let number = literal_number(&comparison.literal);
     if let Some(number) = number {
@@ -188,22 +209,27 @@ fn narrow_integers(range: &mut Range, comparison: &Comparison, kind: Kind) -> bo
     false
 }
 
-/// What is above each byte that may stand behind the pattern's literal characters in a key: a zero byte where it has no
-/// wildcard, else also the first byte of a character.
+/// A limit above each byte that may follow the pattern's literal characters in a key. Without a
+/// wildcard that is a zero byte; with one it may also be the first byte of a character.
 fn limit_of(pattern: &Pattern) -> u8
     ensures { result ≡ limit (is_plain pattern.now) }
 {
     if pattern.is_plain() { 1 } else { 255 }
 }
 
-/// Leaves out keys of texts that don't begin with the pattern's literal characters: all keys, where those are more than a value may have.
-/// Whether it matches all texts that are left. Literal characters with a zero byte would reach into the node's number, and decide nothing.
+/// Leaves out keys of texts that don't begin with the pattern's literal characters: all keys, if
+/// those are more than a value may have. Returns whether the pattern matches all texts that are
+/// left. Literal characters with a zero byte would reach into the node's number, and decide
+/// nothing.
 fn narrow_by_pattern(range: &mut Range, pattern: &Pattern) -> bool
     ensures within { (k : List ℕ) → IsIn range.new k → IsIn range.old k }
-    ensures keeps { (text : List ℕ) (n : ℕ) → IsUtf8 text → length text ≤ 255 → matches pattern.now (chars text) ≡ true →
-        IsIn range.old (key_bytes (AnyValue.Cstr text) n) → IsIn range.new (key_bytes (AnyValue.Cstr text) n) }
+    ensures keeps { (text : List ℕ) (n : ℕ) → IsUtf8 text → length text ≤ 255
+        → matches pattern.now (chars text) ≡ true →
+        IsIn range.old (key_bytes (AnyValue.Cstr text) n)
+        → IsIn range.new (key_bytes (AnyValue.Cstr text) n) }
     ensures decides { result ≡ true → (text : List ℕ) (n : ℕ) → IsUtf8 text → has_nul text ≡ false →
-        IsIn range.new (key_bytes (AnyValue.Cstr text) n) → matches pattern.now (chars text) ≡ true }
+        IsIn range.new (key_bytes (AnyValue.Cstr text) n) → matches pattern.now (chars text)
+        ≡ true }
 {
     let front = pattern.prefix().as_bytes();
     if front.len() > 255 {
@@ -219,13 +245,15 @@ fn narrow_by_pattern(range: &mut Range, pattern: &Pattern) -> bool
     pattern.is_prefix() && !front.contains(&0)
 }
 
-/// Leaves out keys of texts at which the operator with a text longer than any value's is false. Its first 255 bytes tell, unless a zero byte is
-/// among them.
+/// Leaves out keys of texts at which the operator with a text longer than any value's is false. Its
+/// first 255 bytes tell, unless a zero byte is among them.
 fn narrow_by_long(range: &mut Range, op: Cmp, words: &[u8])
     requires { 255 < length words.now }
     ensures within { (k : List ℕ) → IsIn range.new k → IsIn range.old k }
-    ensures keeps { (text : List ℕ) (n : ℕ) → length text ≤ 255 → is_true_of op (name_cmp text words.now) ≡ true →
-        IsIn range.old (key_bytes (AnyValue.Cstr text) n) → IsIn range.new (key_bytes (AnyValue.Cstr text) n) }
+    ensures keeps { (text : List ℕ) (n : ℕ) → length text ≤ 255
+        → is_true_of op (name_cmp text words.now) ≡ true →
+        IsIn range.old (key_bytes (AnyValue.Cstr text) n)
+        → IsIn range.new (key_bytes (AnyValue.Cstr text) n) }
 {
     let front = &words[..255];
     match op {
@@ -241,13 +269,15 @@ fn narrow_by_long(range: &mut Range, op: Cmp, words: &[u8])
     }
 }
 
-/// Leaves out keys of texts at which the comparison with this text is false. Whether it is true of all that are left; a text that no value may
-/// be decides nothing.
+/// Leaves out keys of texts at which the comparison with this text is false. Whether it is true of
+/// all that are left; a text that no value may be decides nothing.
 fn narrow_by_text(range: &mut Range, comparison: &Comparison, words: &str) -> bool
     requires { literal comparison.now.literal ≡ Exact words.now }
     ensures within { (k : List ℕ) → IsIn range.new k → IsIn range.old k }
-    ensures keeps { KeepsTrue Kind.Cstr comparison.now.op (literal comparison.now.literal) range.old range.new }
-    ensures decides { result ≡ true → AllTrue Kind.Cstr comparison.now.op (literal comparison.now.literal) range.new }
+    ensures keeps { KeepsTrue Kind.Cstr comparison.now.op (literal comparison.now.literal) range.old
+        range.new }
+    ensures decides { result ≡ true → AllTrue Kind.Cstr comparison.now.op
+        (literal comparison.now.literal) range.new }
 {
     let bytes = words.as_bytes();
     if bytes.len() > 255 {
@@ -267,11 +297,14 @@ fn narrow_by_text(range: &mut Range, comparison: &Comparison, words: &str) -> bo
     )
 }
 
-/// Leaves out keys of texts at which the comparison is false. Whether it is true of all that are left.
+/// Leaves out keys of texts at which the comparison is false. Whether it is true of all that are
+/// left.
 fn narrow_texts(range: &mut Range, comparison: &Comparison) -> bool
     ensures within { (k : List ℕ) → IsIn range.new k → IsIn range.old k }
-    ensures keeps { KeepsTrue Kind.Cstr comparison.now.op (literal comparison.now.literal) range.old range.new }
-    ensures decides { result ≡ true → AllTrue Kind.Cstr comparison.now.op (literal comparison.now.literal) range.new }
+    ensures keeps { KeepsTrue Kind.Cstr comparison.now.op (literal comparison.now.literal) range.old
+        range.new }
+    ensures decides { result ≡ true → AllTrue Kind.Cstr comparison.now.op
+        (literal comparison.now.literal) range.new }
 {
     match (comparison.op, &comparison.literal) {
         (Cmp::Eq, Literal::Pattern(pattern)) => narrow_by_pattern(range, pattern),
@@ -280,11 +313,14 @@ fn narrow_texts(range: &mut Range, comparison: &Comparison) -> bool
     }
 }
 
-/// Leaves out keys of values at which the comparison is false. Whether it is true of all that are left.
+/// Leaves out keys of values at which the comparison is false. Whether it is true of all that are
+/// left.
 fn narrow(range: &mut Range, comparison: &Comparison, kind: Kind) -> bool
     ensures within { (k : List ℕ) → IsIn range.new k → IsIn range.old k }
-    ensures keeps { KeepsTrue kind comparison.now.op (literal comparison.now.literal) range.old range.new }
-    ensures decides { result ≡ true → AllTrue kind comparison.now.op (literal comparison.now.literal) range.new }
+    ensures keeps { KeepsTrue kind comparison.now.op (literal comparison.now.literal) range.old
+        range.new }
+    ensures decides { result ≡ true → AllTrue kind comparison.now.op
+        (literal comparison.now.literal) range.new }
 {
     match kind {
         Kind::Cstr => narrow_texts(range, comparison),
@@ -295,16 +331,18 @@ fn narrow(range: &mut Range, comparison: &Comparison, kind: Kind) -> bool
     }
 }
 
-/// What is left to ask of an `&&`, where this is left of its sides.
+/// What is left to ask of an `&&`, if this is left of its sides.
 fn rest_of_both<'a>(
     tree: &'a Tree,
     left: Option<&'a Tree>,
     right: Option<&'a Tree>,
 ) -> Option<&'a Tree>
     ensures { (s : State) (node : ℕ) →
-        sat s (formula tree.now) node ≡ (rest_true s (option_map formula (option_copied left.entry)) node
+        sat s (formula tree.now) node ≡ (rest_true s (option_map formula (option_copied left.entry))
+        node
         && rest_true s (option_map formula (option_copied right.entry)) node) →
-        sat s (formula tree.now) node ≡ rest_true s (option_map formula (option_copied result)) node }
+        sat s (formula tree.now) node ≡ rest_true s (option_map formula (option_copied result))
+        node }
 {
     match (left, right) {
         (None, right) => right,
@@ -313,10 +351,14 @@ fn rest_of_both<'a>(
     }
 }
 
-/// What is left to ask of an `||`, where this is left of one side: nothing, where nothing is.
+/// What is left to ask of an `||`, if this is left of one side: nothing, if nothing is left of
+/// that.
 pub(crate) fn rest_of_or<'a>(tree: &'a Tree, rest: Option<&'a Tree>) -> Option<&'a Tree>
-    ensures { (s : State) (node : ℕ) → (option_map formula (option_copied rest.entry) ≡ None → sat s (formula tree.now) node ≡ true) →
-        sat s (formula tree.now) node ≡ rest_true s (option_map formula (option_copied result)) node }
+    ensures { (s : State) (node : ℕ) →
+        (option_map formula (option_copied rest.entry) ≡ None → sat s (formula tree.now) node
+        ≡ true) →
+        sat s (formula tree.now) node ≡ rest_true s (option_map formula (option_copied result))
+        node }
 {
     match rest {
         Some(_) => Some(tree),
@@ -324,8 +366,9 @@ pub(crate) fn rest_of_or<'a>(tree: &'a Tree, rest: Option<&'a Tree>) -> Option<&
     }
 }
 
-/// Leaves out keys of values that a node can't have at this name where the part is true of it. An `||` leaves out none, since neither of its
-/// sides need be true. What is left to ask of the nodes of the other keys, none where the range decides the part.
+/// Leaves out keys of values that a node can't have at this name if the part is true of it. An `||`
+/// leaves out none, since neither of its sides need be true. Returns what is left to ask of the
+/// nodes of the other keys, none if the range decides the part.
 pub(crate) fn narrow_beside<'a>(
     range: &mut Range,
     tree: &'a Tree,
@@ -333,9 +376,11 @@ pub(crate) fn narrow_beside<'a>(
     kind: Kind,
 ) -> Option<&'a Tree>
     ensures within { (k : List ℕ) → IsIn range.new k → IsIn range.old k }
-    ensures keeps { (pick at : ℕ) (v : AnyValue) (n : ℕ) → IsPair kind v n → Allows pick at (formula tree.now) name.now v →
+    ensures keeps { (pick at : ℕ) (v : AnyValue) (n : ℕ) → IsPair kind v n
+        → Allows pick at (formula tree.now) name.now v →
         IsIn range.old (key_bytes v n) → IsIn range.new (key_bytes v n) }
-    ensures leaves { LeavesRest (formula tree.now) name.now kind range.new.low.items (high_of range.new) (option_map formula (option_copied result)) }
+    ensures leaves { LeavesRest (formula tree.now) name.now kind range.new.low.items
+        (high_of range.new) (option_map formula (option_copied result)) }
 {
     match tree {
         Tree::Leaf(comparison) => {
@@ -351,13 +396,17 @@ pub(crate) fn narrow_beside<'a>(
     }
 }
 
-/// The same where each comparison is on the index's own name, whatever that is: so no name is compared.
+/// The same if each comparison is on the index's own name, whatever that is: so no name is
+/// compared.
 pub(crate) fn narrow_alone<'a>(range: &mut Range, tree: &'a Tree, kind: Kind) -> Option<&'a Tree>
     ensures within { (k : List ℕ) → IsIn range.new k → IsIn range.old k }
-    ensures keeps { (name : List ℕ) → AreAllOn (formula tree.now) name → (pick at : ℕ) (v : AnyValue) (n : ℕ) → IsPair kind v n →
-        Allows pick at (formula tree.now) name v → IsIn range.old (key_bytes v n) → IsIn range.new (key_bytes v n) }
+    ensures keeps { (name : List ℕ) → AreAllOn (formula tree.now) name
+        → (pick at : ℕ) (v : AnyValue) (n : ℕ) → IsPair kind v n →
+        Allows pick at (formula tree.now) name v → IsIn range.old (key_bytes v n)
+        → IsIn range.new (key_bytes v n) }
     ensures leaves { (name : List ℕ) → AreAllOn (formula tree.now) name →
-        LeavesRest (formula tree.now) name kind range.new.low.items (high_of range.new) (option_map formula (option_copied result)) }
+        LeavesRest (formula tree.now) name kind range.new.low.items (high_of range.new)
+        (option_map formula (option_copied result)) }
 {
     match tree {
         Tree::Leaf(comparison) => {
@@ -373,9 +422,10 @@ pub(crate) fn narrow_alone<'a>(range: &mut Range, tree: &'a Tree, kind: Kind) ->
     }
 }
 
-/// Leaves out keys of values that a node can't have at this name where the part, whose first comparison has the place `at`, is true of it by
-/// way of the pick. What is left to ask of the nodes of the other keys; an `||` is decided by the side of the pick. Where the part ends before
-/// the pick, the range stays, and the answer is the place behind the part.
+/// Leaves out keys of values that a node can't have at this name if the part is true of it by way
+/// of the pick. The part's first comparison has the place `at`. Returns what is left to ask of the
+/// nodes of the other keys; an `||` is decided by the side of the pick. If the part ends before the
+/// pick, the range stays, and the function returns the place after the part.
 pub(crate) fn narrow_all<'a>(
     range: &mut Range,
     tree: &'a Tree,
@@ -387,12 +437,15 @@ pub(crate) fn narrow_all<'a>(
     requires few { at + comparisons (formula tree.now) ≤ 256 }
     requires from { at ≤ pick }
     ensures within { (k : List ℕ) → IsIn range.new k → IsIn range.old k }
-    ensures keeps { (v : AnyValue) (n : ℕ) → IsPair kind v n → Allows pick at (formula tree.now) name.now v →
+    ensures keeps { (v : AnyValue) (n : ℕ) → IsPair kind v n
+        → Allows pick at (formula tree.now) name.now v →
         IsIn range.old (key_bytes v n) → IsIn range.new (key_bytes v n) }
-    ensures leaves { IfOk result (λ rest. LeavesRest (formula tree.now) name.now kind range.new.low.items (high_of range.new)
+    ensures leaves { IfOk result (λ rest. LeavesRest (formula tree.now) name.now kind
+        range.new.low.items (high_of range.new)
         (option_map formula (option_copied rest))) }
     ensures inside { IfOk result (λ _. pick < at + comparisons (formula tree.now)) }
-    ensures behind { IfErr result (λ end. (end ≡ at + comparisons (formula tree.now)) × (end ≤ pick) × (range.new ≡ range.old)) }
+    ensures behind { IfErr result (λ end. (end ≡ at + comparisons (formula tree.now)) × (end ≤ pick)
+        × (range.new ≡ range.old)) }
 {
     match tree {
         Tree::Leaf(_) => {

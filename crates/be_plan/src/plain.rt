@@ -1,6 +1,7 @@
 //! A plain volume as a source.
 //!
-//! The source only lends the volume and takes no memory, so each call is that of the volume. The nodes of a range are found from key to key.
+//! The source only lends the volume and takes no memory, so each call is that of the volume. The
+//! nodes of a range are found from key to key.
 ghost use Rattle.std.specs.Prelude.{◌≡◌, OnOk, IfErr};
 ghost use Rattle.std.specs.Option.{option_copied};
 ghost use Rattle.be_value.specs.declared.refusals.Refusal.TheVariants.{OutOfMemory};
@@ -72,7 +73,8 @@ impl Source for VolumeSource<'_> {
     }
 }
 
-/// Adds the nodes of the keys of an index from `low` to `high`, both included, or to the last key, by one search for each and one more.
+/// Adds the nodes of the keys of an index from `low` to `high`, both included, or to the last key,
+/// by one search for each and one more.
 fn nodes_in(
     volume: &Volume,
     name: &Name,
@@ -83,8 +85,10 @@ fn nodes_in(
     requires sound { IsSound volume.now }
     ensures memory { IfErr result (λ e. e ≡ OutOfMemory) }
     ensures keeps { Keeps found.old.items found.new.items }
-    ensures only { HasOnly volume.now name.now low.now (option_copied high.entry) found.old.items found.new.items }
-    ensures has { OnOk result (HasNodes volume.now name.now low.now (option_copied high.entry) found.new.items) }
+    ensures only { HasOnly volume.now name.now low.now (option_copied high.entry) found.old.items
+        found.new.items }
+    ensures has { OnOk result (HasNodes volume.now name.now low.now (option_copied high.entry)
+        found.new.items) }
 {
     let mut next = volume.next_key(name, low, false);
     'keys: while let Some(key) = &next {

@@ -5,14 +5,16 @@ use std::alloc::{AllocError, Global};
 use std::marker::Model;
 use std::slice::from_ref;
 
-/// Where places lie: one alone, from which most queries are answered, in the value itself, and more in a list.
+/// A list of places: one alone, which is enough for most queries, is kept in the value itself, and
+/// more in a list.
 #[derive(Debug, Drop)]
 enum Places {
     One(usize),
     Many(Vec<usize>),
 }
 
-/// Places of comparisons, counted from 0 from left to right over the whole query. A contract sees their list.
+/// Places of comparisons, counted from 0 from left to right over the whole query. A contract sees
+/// their list.
 #[derive(Debug, Drop)]
 pub struct Picks {
     places: Places,
@@ -72,7 +74,8 @@ impl Picks {
     }
 }
 
-/// The comparisons that a query is answered from, and the score of that: the lower, the fewer keys the walks are thought to pass.
+/// The comparisons that a query is answered from, and the score of that: the lower, the fewer keys
+/// the walks are thought to pass.
 #[derive(Debug, Drop)]
 pub struct Cover {
     pub picks: Picks,

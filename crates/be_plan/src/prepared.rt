@@ -1,7 +1,8 @@
 //! Queries that are asked again and again.
 //!
-//! Most queries have all their comparisons on one name, and then depend on the version only by the index of that name: what range of its keys they
-//! leave depends on the query and on the index's kind. So a prepared query keeps that range, and where the index stood at the last asking.
+//! Most queries have all their comparisons on one name, and then depend on the version only by the
+//! index of that name: what range of its keys they leave depends on the query and on the index's
+//! kind. So a prepared query keeps that range, and the place of the index at the last asking.
 ghost use Rattle.std.specs.Prelude.{◌≡◌, true, IfSome};
 ghost use Rattle.std.specs.Option.{option_copied};
 ghost use Rattle.be_plan.specs.Narrow.{high_of};
@@ -16,8 +17,9 @@ use be_query::Query;
 use be_value::{Kind, Name};
 use std::marker::Model;
 
-/// A query with what its askings share: the name that all its comparisons are on, if it is one, and the range of keys by which they are
-/// decided in an index of the kind that was met last. It is asked of any versions of any stores, one after the other. A contract sees the query.
+/// A query with what its askings share: the name that all its comparisons are on, if it is one, and
+/// the range of keys by which they are decided in an index of the kind that was met last. It is
+/// asked of any versions of any stores, one after the other. A contract sees the query.
 #[derive(Drop)]
 pub struct PreparedQuery {
     query: Query,
@@ -42,10 +44,11 @@ impl Model for PreparedQuery {
 
     ghost view = { λ p. p.query };
 
-    ghost invariant = { λ p. IfSome p.name (λ name. AreAllOn p.query name) × DecidesIf p.decided p.query p.range.low.items (high_of p.range) };
+    ghost invariant = { λ p. IfSome p.name (λ name. AreAllOn p.query name)
+        × DecidesIf p.decided p.query p.range.low.items (high_of p.range) };
 }
 
-/// The name that all comparisons of the query are on, if it is one and none stands under `||`.
+/// The name that all comparisons of the query are on, if it is one and none is under `||`.
 fn name_asked(query: &Query) -> Option<Name>
     ensures { IfSome result (λ name. AreAllOn query.now name) }
 {
@@ -89,7 +92,7 @@ impl PreparedQuery {
         &self.query
     }
 
-    /// The name that all comparisons are on, if it is one and none stands under `||`.
+    /// The name that all comparisons are on, if it is one and none is under `||`.
     pub fn name(&self) -> Option<&Name>
         ensures { IfSome (option_copied result) (λ name. AreAllOn self.now name) }
     {
@@ -99,12 +102,14 @@ impl PreparedQuery {
         }
     }
 
-    /// Where the index of that name stood at the last asking, as `meet` was told; 0 before the first.
+    /// The place of that name's index at the last asking, as it was passed to `meet`; 0 before the
+    /// first.
     pub fn place(&self) -> usize {
         self.place
     }
 
-    /// Makes the range for an index of the kind, unless it was made for this kind last, and keeps where the index stands.
+    /// Makes the range for an index of the kind, unless it was made for this kind last, and keeps
+    /// the index's place.
     #[inline(always)]
     pub fn meet(&mut self, place: usize, kind: Kind)
         ensures { self.new ≡ self.old }
@@ -128,11 +133,13 @@ impl PreparedQuery {
         }
     }
 
-    /// The range that decides the query in an index of the kind; none if the range was made for another kind, or leaves something to ask.
+    /// The range that decides the query in an index of the kind; none if the range was made for
+    /// another kind, or leaves something to ask.
     #[inline(always)]
     pub fn keys_for(&self, kind: Kind) -> Option<KeyRange<'_>>
         ensures on { IfSome result (λ keys. AreAllOn self.now keys.name.now) }
-        ensures decides { IfSome result (λ keys. Decides self.now kind keys.low.now (option_copied keys.high)) }
+        ensures decides { IfSome result (λ keys. Decides self.now kind keys.low.now
+            (option_copied keys.high)) }
     {
         if self.decided != Some(kind) {
             return None;

@@ -1,7 +1,8 @@
 //! Ranges of keys.
 //!
-//! A range is narrowed by bounds. A bound is given in two parts, a front and an end, such as the bytes of a literal and those of a node behind
-//! it: so its bytes need not be put together to be compared, and are written where they stay, and only if the range changes.
+//! A range is narrowed by bounds. A bound is given in two parts, a front and an end, such as the
+//! bytes of a literal and those of a node after it: so its bytes need not be put together to be
+//! compared, and are written where they stay, and only if the range changes.
 ghost use Rattle.std.specs.Prelude.{◌≡◌, ◌+◌, ◌≤◌, true, false, List, [], ◌++◌, ℕ, length};
 ghost use Rattle.std.specs.Option.{option_copied};
 ghost use Rattle.std.specs.Ordering.{is_lt, is_gt};
@@ -12,9 +13,10 @@ use arrayvec::ArrayVec;
 use std::cmp::Ordering;
 use std::marker::Model;
 
-/// The bytes at an end of a range, which are at most those next above the longest key. Few lie in their own room, since all room is cleared when
-/// it is made: 40 bytes are enough for numbers and for texts of 30 bytes. To write that there are no more clears their room too, so it is written
-/// only where there were.
+/// The bytes at an end of a range, which are at most those next above the longest key. Few lie in
+/// their own room, since all room is cleared when it is made: 40 bytes are enough for numbers and
+/// for texts of 30 bytes. To write that there are no more clears their room too, so it is written
+/// only if there were more.
 #[derive(Drop)]
 struct Bound {
     few: ArrayVec<u8, 40>,
@@ -78,7 +80,8 @@ impl Bound {
         }
     }
 
-    /// Puts a front and an end in the place of the bytes, in room of their own. It stands by itself, since its room is cleared whenever it is called.
+    /// Puts a front and an end in the place of the bytes, in room of their own. It is a function of
+    /// its own, since its room is cleared whenever it is called.
     #[inline(never)]
     fn put_many(&mut self, front: &[u8], end: &[u8])
         requires { length front.now + length end.now ≤ 265 }
@@ -111,7 +114,8 @@ impl Range {
         }
     }
 
-    /// Takes all keys again. So a range is made once for all walks of a query: to clear the room for its ends takes as long as to narrow it.
+    /// Takes all keys again. So a range is made once for all walks of a query: to clear the room
+    /// for its ends takes as long as to narrow it.
     pub(crate) fn open(&mut self)
         ensures { (k : List ℕ) → IsIn self.new k }
     {
@@ -144,21 +148,26 @@ impl Range {
         self.bounded && key.cmp(&self.high.as_slice()).is_gt()
     }
 
-    /// Whether no key of the range is below the front with the end behind it; if not, the range has all keys from there. With no bytes at its
-    /// low end nothing is compared.
+    /// Whether no key of the range is below the front followed by the end; if not, the range has
+    /// all keys from there. With no bytes at its low end nothing is compared.
     fn starts_at(&self, front: &[u8], end: &[u8]) -> bool
-        ensures starts { result ≡ true → (k : List ℕ) → is_lt (name_cmp k self.now.low.items) ≡ false → is_lt (name_cmp k (front.now ++ end.now)) ≡ false }
-        ensures reaches { result ≡ false → (k : List ℕ) → is_lt (name_cmp k (front.now ++ end.now)) ≡ false → is_lt (name_cmp k self.now.low.items) ≡ false }
+        ensures starts { result ≡ true → (k : List ℕ) → is_lt (name_cmp k self.now.low.items)
+            ≡ false → is_lt (name_cmp k (front.now ++ end.now)) ≡ false }
+        ensures reaches { result ≡ false → (k : List ℕ) → is_lt (name_cmp k (front.now ++ end.now))
+            ≡ false → is_lt (name_cmp k self.now.low.items) ≡ false }
     {
         let low = self.low.as_slice();
         !low.is_empty() && !order(low, front, end).is_lt()
     }
 
-    /// Leaves out keys below the front with the end behind it, unless these are longer than an end of a range. Whether none is left.
+    /// Leaves out keys below the front followed by the end, unless these are longer than an end of
+    /// a range. Returns whether none is left.
     pub(crate) fn raise_to(&mut self, front: &[u8], end: &[u8]) -> bool
         ensures within { (k : List ℕ) → IsIn self.new k → IsIn self.old k }
-        ensures keeps { (k : List ℕ) → is_lt (name_cmp k (front.now ++ end.now)) ≡ false → IsIn self.old k → IsIn self.new k }
-        ensures leaves { result ≡ true → (k : List ℕ) → IsIn self.new k → is_lt (name_cmp k (front.now ++ end.now)) ≡ false }
+        ensures keeps { (k : List ℕ) → is_lt (name_cmp k (front.now ++ end.now)) ≡ false
+            → IsIn self.old k → IsIn self.new k }
+        ensures leaves { result ≡ true → (k : List ℕ) → IsIn self.new k
+            → is_lt (name_cmp k (front.now ++ end.now)) ≡ false }
     {
         if self.starts_at(front, end) {
             return true;
@@ -166,19 +175,25 @@ impl Range {
         put(&mut self.low, front, end)
     }
 
-    /// Whether no key of the range is above the front with the end behind it; if not, the range has all keys up to there.
+    /// Whether no key of the range is above the front followed by the end; if not, the range has
+    /// all keys up to there.
     fn ends_at(&self, front: &[u8], end: &[u8]) -> bool
-        ensures ends { result ≡ true → (k : List ℕ) → is_above (high_of self.now) k ≡ false → is_gt (name_cmp k (front.now ++ end.now)) ≡ false }
-        ensures reaches { result ≡ false → (k : List ℕ) → is_gt (name_cmp k (front.now ++ end.now)) ≡ false → is_above (high_of self.now) k ≡ false }
+        ensures ends { result ≡ true → (k : List ℕ) → is_above (high_of self.now) k ≡ false
+            → is_gt (name_cmp k (front.now ++ end.now)) ≡ false }
+        ensures reaches { result ≡ false → (k : List ℕ) → is_gt (name_cmp k (front.now ++ end.now))
+            ≡ false → is_above (high_of self.now) k ≡ false }
     {
         self.bounded && !order(self.high.as_slice(), front, end).is_gt()
     }
 
-    /// Leaves out keys above the front with the end behind it, unless these are longer than an end of a range. Whether none is left.
+    /// Leaves out keys above the front followed by the end, unless these are longer than an end of
+    /// a range. Returns whether none is left.
     pub(crate) fn lower_to(&mut self, front: &[u8], end: &[u8]) -> bool
         ensures within { (k : List ℕ) → IsIn self.new k → IsIn self.old k }
-        ensures keeps { (k : List ℕ) → is_gt (name_cmp k (front.now ++ end.now)) ≡ false → IsIn self.old k → IsIn self.new k }
-        ensures leaves { result ≡ true → (k : List ℕ) → IsIn self.new k → is_gt (name_cmp k (front.now ++ end.now)) ≡ false }
+        ensures keeps { (k : List ℕ) → is_gt (name_cmp k (front.now ++ end.now)) ≡ false
+            → IsIn self.old k → IsIn self.new k }
+        ensures leaves { result ≡ true → (k : List ℕ) → IsIn self.new k
+            → is_gt (name_cmp k (front.now ++ end.now)) ≡ false }
     {
         if self.ends_at(front, end) {
             return true;
@@ -190,7 +205,8 @@ impl Range {
         true
     }
 
-    /// Leaves out all keys, since none is without bytes. The walk then ends at the first key that it asks for.
+    /// Leaves out all keys, since none is without bytes. The walk then ends at the first key that
+    /// it asks for.
     pub(crate) fn close(&mut self)
         ensures within { (k : List ℕ) → IsIn self.new k → IsIn self.old k }
         ensures leaves { (k : List ℕ) → IsIn self.new k → k ≡ [] }
@@ -216,7 +232,7 @@ fn put(bytes: &mut Bound, front: &[u8], end: &[u8]) -> bool
     true
 }
 
-/// The order of bytes and a front with an end behind it.
+/// The order of bytes and a front followed by an end.
 fn order(bytes: &[u8], front: &[u8], end: &[u8]) -> Ordering
     ensures { result ≡ name_cmp bytes.now (front.now ++ end.now) }
 {

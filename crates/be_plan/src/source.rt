@@ -1,9 +1,11 @@
 //! What answers for a volume.
 //!
-//! A source is read by six calls, and each may change the source itself: a cursor moves, a reader counts its steps. What stays is said in two
-//! ways. `kept` names the facts of the source that no call changes, and `answers_for` says by a relation which volume it answers for. It is a
-//! relation and not a function, since a reader of pages spells a volume but can't compute it: a contract says what holds of each volume
-//! that the source answers for, and the caller, who knows the volume, names it.
+//! A source is read by six calls, and each may change the source itself: a cursor moves, a reader
+//! counts its steps. What stays is said in two ways. `kept` names the facts of the source that no
+//! call changes, and `answers_for` is the relation between the source and the volume that it reads.
+//! It is a relation and not a function, since a reader of pages encodes a volume but can't compute
+//! it: a contract says what holds of each volume in that relation, and the caller, who knows the
+//! volume, names it.
 ghost use Rattle.std.specs.Prelude.{◌≡◌, true, OnOk, IfErr};
 ghost use Rattle.std.specs.Option.{option_copied, option_map};
 ghost use Rattle.be_value.specs.declared.refusals.Refusal.TheVariants.{OutOfMemory};
@@ -29,9 +31,9 @@ pub struct KeyRange<'a> {
     pub high: Option<&'a [u8]>,
 }
 
-/// A reader of one volume. Its calls may change the reader itself, but neither the volume nor the facts that it keeps. Each call asks that
-/// the source answers for some volume, and its clauses hold of every volume for which it does. No call takes memory, but for what is added to a
-/// list.
+/// A reader of one volume. Its calls may change the reader itself, but neither the volume nor the
+/// facts that it keeps. Each call asks that the source answers for some volume, and its clauses
+/// hold of every volume for which it does. No call takes memory, but for what is added to a list.
 pub trait Source {
     /// The facts of the source that no call changes.
     ghost Kept: { Type 0 };
@@ -44,55 +46,70 @@ pub trait Source {
     /// The kind of the index of that name, none without an index.
     fn kind_of(&mut self, name: &Name) -> Option<Kind>
         requires { (volume : State) × answers_for self.old volume }
-        ensures answer { (volume : State) → answers_for self.old volume → result ≡ index_kind volume name.now }
+        ensures answer { (volume : State) → answers_for self.old volume → result
+            ≡ index_kind volume name.now }
         ensures stays { kept self.new ≡ kept self.old }
-        ensures answers { (volume : State) → answers_for self.old volume → answers_for self.new volume };
+        ensures answers { (volume : State) → answers_for self.old volume
+            → answers_for self.new volume };
 
-    /// The least key of the index of that name at `from` or after it, or strictly after it. Keys are ordered by their bytes, and `from` may
-    /// be any bytes. Without an index there is none.
+    /// The least key of the index of that name at `from` or after it, or strictly after it. Keys
+    /// are ordered by their bytes, and `from` may be any bytes. Without an index there is none.
     fn next_key(&mut self, name: &Name, from: &[u8], after: bool) -> Option<ArrayVec<u8, 264>>
         requires { (volume : State) × answers_for self.old volume }
         ensures answer { (volume : State) → answers_for self.old volume →
             IsNextKey volume name.now from.now after (option_map (λ k. k.items) result) }
         ensures stays { kept self.new ≡ kept self.old }
-        ensures answers { (volume : State) → answers_for self.old volume → answers_for self.new volume };
+        ensures answers { (volume : State) → answers_for self.old volume
+            → answers_for self.new volume };
 
-    /// Adds the node of each of these keys; best in the order of the keys. Without an index there is none.
+    /// Adds the node of each of these keys; best in the order of the keys. Without an index there
+    /// is none.
     fn nodes_within(&mut self, keys: KeyRange<'_>, found: &mut Vec<u64>) -> Result<(), Refusal>
         requires { (volume : State) × answers_for self.old volume }
         ensures memory { IfErr result (λ e. e ≡ OutOfMemory) }
         ensures keeps { Keeps found.old.items found.new.items }
         ensures only { (volume : State) → answers_for self.old volume →
-            HasOnly volume keys.entry.name.now keys.entry.low.now (option_copied keys.entry.high) found.old.items found.new.items }
+            HasOnly volume keys.entry.name.now keys.entry.low.now (option_copied keys.entry.high)
+            found.old.items found.new.items }
         ensures has { OnOk result ((volume : State) → answers_for self.old volume →
-            HasNodes volume keys.entry.name.now keys.entry.low.now (option_copied keys.entry.high) found.new.items) }
+            HasNodes volume keys.entry.name.now keys.entry.low.now (option_copied keys.entry.high)
+            found.new.items) }
         ensures stays { kept self.new ≡ kept self.old }
-        ensures answers { (volume : State) → answers_for self.old volume → answers_for self.new volume };
+        ensures answers { (volume : State) → answers_for self.old volume
+            → answers_for self.new volume };
 
     /// Whether the index of that name has the key; false without an index.
     fn has_key(&mut self, name: &Name, key: &[u8]) -> bool
         requires { (volume : State) × answers_for self.old volume }
-        ensures found { (volume : State) → answers_for self.old volume → result ≡ true → IsKey volume name.now key.now }
-        ensures finds { (volume : State) → answers_for self.old volume → IsKey volume name.now key.now → result ≡ true }
+        ensures found { (volume : State) → answers_for self.old volume → result ≡ true
+            → IsKey volume name.now key.now }
+        ensures finds { (volume : State) → answers_for self.old volume
+            → IsKey volume name.now key.now → result ≡ true }
         ensures stays { kept self.new ≡ kept self.old }
-        ensures answers { (volume : State) → answers_for self.old volume → answers_for self.new volume };
+        ensures answers { (volume : State) → answers_for self.old volume
+            → answers_for self.new volume };
 
     /// The node's attribute of that name, whether or not an index has it.
     fn value(&mut self, node: u64, name: &Name) -> Option<Value>
         requires { (volume : State) × answers_for self.old volume }
-        ensures answer { (volume : State) → answers_for self.old volume → result ≡ attribute volume node name.now }
+        ensures answer { (volume : State) → answers_for self.old volume → result
+            ≡ attribute volume node name.now }
         ensures stays { kept self.new ≡ kept self.old }
-        ensures answers { (volume : State) → answers_for self.old volume → answers_for self.new volume };
+        ensures answers { (volume : State) → answers_for self.old volume
+            → answers_for self.new volume };
 
-    /// Whether the comparison is true of what it sees of the node. A pair of an index is always its node's attribute, so the index of the
-    /// comparison's name holds the attribute or nothing, and whether it has the attribute's key tells which; without an index the attribute is
-    /// seen. A source that can compare a value where it stands has a body of its own, which moves none.
+    /// Whether the comparison is true of what it sees of the node. A pair of an index is always its
+    /// node's attribute, so the index of the comparison's name holds the attribute or nothing, and
+    /// whether it has the attribute's key decides which; without an index the attribute is seen. A
+    /// source that can compare a value where it lies has a body of its own, which moves none.
     fn holds(&mut self, node: u64, comparison: &Comparison) -> bool
         requires { (volume : State) × answers_for self.old volume }
         ensures answer { (volume : State) → answers_for self.old volume →
-            result ≡ sat volume (Leaf comparison.now.name comparison.now.op (literal comparison.now.literal)) node }
+            result ≡ sat volume (Leaf comparison.now.name comparison.now.op
+            (literal comparison.now.literal)) node }
         ensures stays { kept self.new ≡ kept self.old }
-        ensures answers { (volume : State) → answers_for self.old volume → answers_for self.new volume }
+        ensures answers { (volume : State) → answers_for self.old volume
+            → answers_for self.new volume }
     {
         let name = &comparison.name;
         let Some(value) = self.value(node, name) else {

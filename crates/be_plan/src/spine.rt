@@ -1,8 +1,10 @@
-//! The parts of a query that stand under `||` alone.
+//! The parts of a query that are under `||` alone.
 //!
-//! What lies on the other side of an `||` says nothing of a pick, so a walk for it looks at its own part only. A query of many parts leans to
-//! the left: its last part is the right side of its first joint, and what is left of that joint begins with the same comparison. So where the
-//! picks are taken from the last to the first, each looks on from where the one before it was found, and all of them pass the joints once.
+//! What lies on the other side of an `||` says nothing of a pick, so a walk for it looks at its own
+//! part only. A query of many parts leans to the left: its last part is the right side of its first
+//! joint, and what is left of that joint begins with the same comparison. So if the picks are taken
+//! from the last to the first, each search goes on from the place of the one before it, and all of
+//! them pass the joints once.
 ghost use Rattle.std.specs.Prelude.{◌≡◌, ◌≤◌, ◌<◌, ◌+◌};
 ghost use Rattle.be_query.specs.Grammar.{Formula, comparisons};
 ghost use Rattle.be_query.specs.View.{formula};
@@ -11,8 +13,9 @@ ghost use Rattle.be_plan.specs.Spine.{IsUnderOr, StandsIn};
 use crate::choosing::count;
 use be_query::Tree;
 
-/// A part of a query that begins with its first comparison, the number of its comparisons, and its last side: the right one of an `||`, else the
-/// part itself, which begins at the place `from`.
+/// A part of a query that begins with its first comparison, the number of its comparisons, and its
+/// last side: the right one of an `||`, otherwise the part itself, which begins at the place
+/// `from`.
 #[derive(Clone, Copy)]
 pub(crate) struct Front<'a> {
     pub(crate) tree: &'a Tree,
@@ -36,15 +39,18 @@ pub(crate) fn whole_front(tree: &Tree) -> Front<'_>
     }
 }
 
-/// Of a front of so many comparisons what is left where the last sides that begin behind the pick are cut off: so the pick stands in its last side.
+/// The front that is left of a front of that many comparisons if the last sides that begin after
+/// the pick are cut off: so the pick is in its last side.
 fn cut_behind(tree: &Tree, end: usize, pick: usize) -> Front<'_>
     requires end { end ≡ comparisons (formula tree.now) }
     requires few { end ≤ 256 }
     requires within { pick < end }
-    ensures under { (whole : Formula) → IsUnderOr whole 0 (formula tree.now) → IsUnderOr whole 0 (formula result.tree.now) }
+    ensures under { (whole : Formula) → IsUnderOr whole 0 (formula tree.now)
+        → IsUnderOr whole 0 (formula result.tree.now) }
     ensures end { result.end ≡ comparisons (formula result.tree.now) }
     ensures few { result.end ≤ 256 }
-    ensures stands { (whole : Formula) → IsUnderOr whole 0 (formula tree.now) → StandsIn whole pick result.from (formula result.side.now) }
+    ensures stands { (whole : Formula) → IsUnderOr whole 0 (formula tree.now)
+        → StandsIn whole pick result.from (formula result.side.now) }
     ensures side { result.from + comparisons (formula result.side.now) ≡ result.end }
 {
     match tree {
@@ -69,7 +75,8 @@ fn cut_behind(tree: &Tree, end: usize, pick: usize) -> Front<'_>
     }
 }
 
-/// The front in whose last side the pick stands. It is looked for in the front before, and in the whole where the pick is behind that.
+/// The front in whose last side the pick is. It is looked for in the front before, or in the whole
+/// if the pick is beyond that.
 pub(crate) fn front_for<'a>(whole: &'a Tree, before: &Front<'a>, pick: usize) -> Front<'a>
     requires end { before.now.end ≡ comparisons (formula before.now.tree.now) }
     requires few { before.now.end ≤ 256 }

@@ -1,13 +1,14 @@
 //! Worked examples, over a plain volume's source that writes down its calls.
 //!
-//! A volume is made by lines of a script, such as `set 1 n LONG 5`; `6 times new` is six of them, and `each n LONG: 5 7` sets
-//! the attribute of nodes 1, 2, .. to one of these values each. What is asked of it stands
-//! in lines `COMMAND QUERY => REPLY`. The command `explain` asks what the query is answered from, and `query` for its nodes
-//! by these picks; `list` explains what the list of the indices chooses. Digits are a command too: the nodes by these picks, a
-//! digit for each. Behind the nodes stands of which indices a key was asked, the first letter of the name for each call, and for a
-//! range that is asked for whole, one for each key that lies in it and one for its end: `nodes 2 3 asks nnn`. The commands `keys`,
-//! `looks` and `kinds` count what is asked for where the source tells the kinds, and `ranges` counts the ranges that answer a query
-//! whole.
+//! A volume is made by lines of a script, such as `set 1 n LONG 5`; `6 times new` is six of them,
+//! and `each n LONG: 5 7` sets the attribute of nodes 1, 2, .. to one of these values each. The
+//! requests are lines `COMMAND QUERY => REPLY`. The command `explain` returns what the query is
+//! computed from, and `query` its nodes by these picks; `list` explains what the list of the
+//! indices chooses. Digits are a command too: the nodes by these picks, a digit for each. After the
+//! nodes come the indices of which a key was asked, by the first letter of the name for each call;
+//! of a range that is asked for whole, a letter for each key that lies in it and one for its end:
+//! `nodes 2 3 asks nnn`. The commands `keys`, `looks` and `kinds` count the calls to a source that
+//! knows the kinds, and `ranges` counts the ranges that decide a query whole.
 
 mod counting;
 mod ranges;
@@ -20,7 +21,7 @@ ghost use Rattle.be_plan.specs.Explain.{are_places};
 use crate::tests::counting::{nodes_by, nodes_chosen};
 use be_plan::{Cover, Picks, Source, choose, choose_from, explain, volume_source};
 use be_query::{Query, parse};
-use be_testing::{Answers, check_lines, list_of};
+use be_test_tools::{Answers, check_lines, list_of};
 use be_value::{Kind, Name, Refusal, word_of};
 use be_volume::{Op, Volume};
 use std::alloc::{AllocError, Global};
@@ -35,7 +36,7 @@ fn write(volume: &mut Volume, ops: &[Op]) -> Result<(), Refusal> {
     Ok(())
 }
 
-/// Does the operations of a line, again where they are refused memory.
+/// Does the operations of a line, again if they are refused memory.
 fn write_line(alloc: Global, volume: &mut Volume, line: &str) -> Result<(), Refusal> {
     let ops = list_of(alloc, line)?;
     match write(volume, &ops) {
@@ -63,7 +64,7 @@ fn set_one(
     write_line(alloc, volume, line.as_str())
 }
 
-/// Sets an attribute of nodes 1, 2, .. to a value each. Its name and its kind stand before these.
+/// Sets an attribute of nodes 1, 2, .. to a value each. Its name and its kind come before these.
 fn set_each(alloc: Global, volume: &mut Volume, words: &str) -> Result<(), Refusal> {
     let (attribute, values) = words.split_once(": ").unwrap_or((words, ""));
     let mut node: u64 = 0;
@@ -155,12 +156,13 @@ fn kinds(alloc: Global, nodes: &[u64], kinds: u64, ranges: u64) -> Result<String
     Ok(text)
 }
 
+/// The text of the counts of values asked for and of searches of an index.
 fn looks(alloc: Global, values: u64, searches: u64) -> Result<String, Refusal> {
     Ok(format!(in alloc; "values {values} searches {searches}")?)
 }
 
-/// What was asked for where the source tells the kinds: the keys of a range without its end, the values and the keys that were searched for, or
-/// the kinds and the ranges.
+/// The counts of calls to a source that knows the kinds: the keys of a range without its end, the
+/// values and the keys that were searched for, or the kinds and the ranges.
 fn counted(
     alloc: Global,
     volume: &Volume,
@@ -286,6 +288,8 @@ query b==2 => nodes 1 2 asks bbb
     replies_of(rt.alloc(), lines, requests)
 }
 
+/// A query is covered if both sides of each `||` rest on an index and one side of each `&&` does;
+/// otherwise it is refused.
 #[test]
 fn coverage(rt: HostRuntime) -> Result<(), Fail> {
     let lines = "mkindex a LONG
@@ -327,14 +331,15 @@ list z==1 && (b==2 || z==3) => refused 17";
     replies_of(rt.alloc(), lines, requests)
 }
 
-/// Six nodes, where m is 7 less n.
+/// Six nodes. At each of them m is 7 less n.
 const NUMBERS: &str = "mkindex n LONG
 mkindex m LONG
 6 times new
 each n LONG: 1 2 3 4 5 6
 each m LONG: 6 5 4 3 2 1";
 
-/// A walk is bounded by what stands beside its pick under `&&`, and by nothing under an `||` that the pick isn't in.
+/// A walk is bounded by what is beside its pick under `&&`, and by nothing under an `||` that the
+/// pick isn't in.
 #[test]
 fn bounds(rt: HostRuntime) -> Result<(), Fail> {
     let requests = "0 n==3 => nodes 3 asks nn
@@ -355,7 +360,8 @@ fn bounds(rt: HostRuntime) -> Result<(), Fail> {
     replies_of(rt.alloc(), NUMBERS, requests)
 }
 
-/// A number outside the kind of the index bounds a walk as well, and so does what spells no number.
+/// A number outside the kind of the index bounds a walk as well, and so does a text that encodes no
+/// number.
 #[test]
 fn bounds_outside_the_kind(rt: HostRuntime) -> Result<(), Fail> {
     let requests = "0 n>=2147483648 => nodes asks n
@@ -399,7 +405,8 @@ set 1 w ULLG 5";
     replies_of(rt.alloc(), lines, requests)
 }
 
-/// Texts are bounded by their bytes, and patterns by their literal characters before the first wildcard.
+/// Texts are bounded by their bytes, and patterns by their literal characters before the first
+/// wildcard.
 #[test]
 fn bounds_of_texts(rt: HostRuntime) -> Result<(), Fail> {
     let lines = "mkindex t CSTR
@@ -467,6 +474,8 @@ fn gives_keys(volume: &Volume, index: &Name, other: &Name) -> bool {
         && is_next_in(volume, other, LAST, false, &[])
 }
 
+/// A volume as a source gives the kind of an index and its keys in order, and neither for a name
+/// without an index.
 #[test]
 fn plan_source(rt: HostRuntime) -> Result<(), Fail> {
     let lines = "mkindex k CSTR
@@ -495,14 +504,16 @@ fn with_long(alloc: Global, text: &str) -> Result<String, Refusal> {
     }
 }
 
-/// Fails unless each request has its reply on a volume of these lines, where both have 254 times m in place of each M.
+/// Fails unless each request has its reply on a volume of these lines. In both each M is replaced
+/// by 254 times m.
 fn replies_of_long(alloc: Global, lines: &str, requests: &str) -> Result<(), Fail> {
     let lines = with_long(alloc, lines)?;
     let requests = with_long(alloc, requests)?;
     replies_of(alloc, lines.as_str(), requests.as_str())
 }
 
-/// A text longer than any value's bounds a walk by the bytes that a value may have, and a pattern of more literal bytes leaves out all keys.
+/// A text longer than any value's bounds a walk by the bytes that a value may have, and a pattern
+/// of more literal bytes leaves out all keys.
 #[test]
 fn bounds_of_long_texts(rt: HostRuntime) -> Result<(), Fail> {
     let lines = "mkindex t CSTR
@@ -520,7 +531,8 @@ each t CSTR: a Mm Mn z";
     replies_of_long(rt.alloc(), lines, requests)
 }
 
-/// Texts around the fronts of patterns: of one, two and four bytes a character, with the least byte behind a front, and of 255 bytes.
+/// Texts around the fronts of patterns: of one, two and four bytes a character, with the least byte
+/// after a front, and of 255 bytes.
 const BY_FRONT: &str = "mkindex t CSTR
 10 times new
 each t CSTR: a a\u{1} ab aé aéz aè \u{10ffff} Mm M b";
@@ -544,7 +556,8 @@ ranges t==\"a*z\" => 0
 ranges t==\"[a]*\" => 0
 ranges t!=\"a*\" => 0";
 
-/// A pattern that says how a text begins is answered by its range alone, and every other is asked of each key.
+/// A pattern that says how a text begins is answered by its range alone, and every other is asked
+/// of each key.
 #[test]
 fn patterns_by_range(rt: HostRuntime) -> Result<(), Fail> {
     replies_of_long(rt.alloc(), BY_FRONT, BY_RANGE)
@@ -558,8 +571,9 @@ ranges t==\"Mmm*\" => 0";
     replies_of_long(rt.alloc(), BY_FRONT, requests)
 }
 
-/// 256 comparisons on the names of 32 indices, joined by `||`: i0==0, i1==1, .. i31==255. They find nodes 1 and 2, and the
-/// kind of each comparison's index is asked for once to choose and once to walk.
+/// 256 comparisons on the names of 32 indices, joined by `||`: i0==0, i1==1, .. i31==255. They find
+/// nodes 1 and 2, and the kind of each comparison's index is asked for once to choose and once to
+/// walk.
 fn most_comparisons(alloc: Global) -> Result<String, Refusal> {
     let mut text = String::from_str(alloc, "kinds i0==0")?;
     for number in 1..256u64 {
@@ -570,7 +584,8 @@ fn most_comparisons(alloc: Global) -> Result<String, Refusal> {
     Ok(text)
 }
 
-/// The lines of a volume with 32 indices, of which the first and the last hold a value that the query asks for last.
+/// The lines of a volume with 32 indices, of which the first and the last hold a value that the
+/// query asks for last.
 fn most_indices(alloc: Global) -> Result<String, Refusal> {
     let mut lines = String::from_str(alloc, "new\nnew\nnew")?;
     for index in 0..32u64 {
@@ -594,7 +609,7 @@ fn largest_query(rt: HostRuntime) -> Result<(), Fail> {
     replies_of(rt.alloc(), lines.as_str(), request.as_str())
 }
 
-/// The lines of a volume whose values fall where its 300 nodes rise.
+/// The lines of a volume of 300 nodes whose values fall as their numbers rise.
 fn falling_values(alloc: Global) -> Result<String, Refusal> {
     let mut lines = String::from_str(alloc, "mkindex n LONG")?;
     for node in 1..301u64 {

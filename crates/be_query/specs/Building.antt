@@ -1,23 +1,33 @@
--- Building the tree of a query while its tokens are read. It serves the proofs alone: `Grammar` says which tree it is.
-use Rattle.std.specs.Prelude.{◌≡◌, ℕ, zero, suc, Bool, true, false, Option, Some, None, List, [], ◌∷◌, not, if◌then◌else◌}
+-- Building the tree of a query while its tokens are read. It serves the proofs alone: `Grammar`
+-- says which tree it is.
+use Rattle.std.specs.Prelude.{◌≡◌, ℕ, zero, suc, Bool, true, false, Option, Some, None, List, []}
+use Rattle.std.specs.Prelude.{◌∷◌, not, if◌then◌else◌}
 use Rattle.be_query.specs.declared.tree.Cmp.{Cmp}
-use Rattle.be_query.specs.Tokens.{Token, Open, Close, Bang, Both, Either, Compares, Text, plain, is_name}
+use Rattle.be_query.specs.Tokens.{Token, Open, Close, Bang, Both, Either, Compares, Text, plain}
+use Rattle.be_query.specs.Tokens.{is_name}
 use Rattle.be_query.specs.Grammar.{Formula, Leaf, And, Or, complement, opposite, literal_of}
 use Rattle.be_query.specs.Reading.{Awaited, Operand, Operator, Value, Joint, Mark, Paren, Negation}
 
--- What waits for its right end inside one pair of parentheses: the left sides of `||` and `&&`, and the number of `!`.
--- A tree inside an odd number of `!` is its complement from the start, so each side here is turned as its level is.
+-- What waits for its right end inside one pair of parentheses: the left sides of `||` and `&&`, and
+-- the number of `!`. A tree inside an odd number of `!` is its complement from the start, so each
+-- side here is turned as its level is.
 pub record Level : Type 0 where
-  -- an odd number of `!` stands round the level
+  -- an odd number of `!` applies to the level
   pub negated : Bool
-  -- an odd number stands round the operand that comes next
+  -- an odd number applies to the operand that comes next
   pub operand_negated : Bool
   pub or_left : Option Formula
   pub and_left : Option Formula
   pub negations : ℕ
 
 abbrev pub fresh : Bool → Level
-fresh negated = record { negated = negated; operand_negated = negated; or_left = None; and_left = None; negations = 0 }
+fresh negated = record {
+  negated = negated;
+  operand_negated = negated;
+  or_left = None;
+  and_left = None;
+  negations = 0;
+}
 
 -- what may come next, with the comparison or the tree before it
 pub data Stage : Type 0 where
@@ -57,13 +67,24 @@ abbrev pub joined : (Formula → Formula → Formula) → Option Formula → For
 joined join None t = t
 joined join (Some l) t = join l t
 
--- behind an operand no `!` waits, and no `&&`
+-- after an operand no `!` waits, and no `&&`
 abbrev pub ended_level : Level → Level
-ended_level level = record { negated = level.negated; operand_negated = level.negated; or_left = level.or_left; and_left = None; negations = 0 }
+ended_level level = record {
+  negated = level.negated;
+  operand_negated = level.negated;
+  or_left = level.or_left;
+  and_left = None;
+  negations = 0;
+}
 
 -- an operand has ended, and its `!` and its `&&` with it
 abbrev pub with_operand : Formula → Level → List Level → State
-with_operand t level outer = record { stage = Joints (joined (conjunction level.negated) level.and_left t); level = ended_level level; outer = outer }
+with_operand t level outer = record {
+  stage = Joints
+      (joined (conjunction level.negated) level.and_left t);
+  level = ended_level level;
+  outer = outer;
+}
 
 -- a side of `||` has ended
 abbrev pub with_side : Formula → Level → Formula
@@ -74,13 +95,29 @@ close t [] = None
 close t (level ∷ outer) = Some (with_operand t level outer)
 
 abbrev pub build_at : Stage → Level → List Level → Token → Option State
-build_at Operands level outer Open = Some (record { stage = Operands; level = fresh level.operand_negated; outer = level ∷ outer })
-build_at Operands level outer Bang = Some (record { stage = Operands; level = record level { operand_negated = not level.operand_negated; negations = suc level.negations }; outer = outer })
-build_at Operands level outer (Text raw) = if is_name raw then Some (record { stage = Operators (plain raw); level = level; outer = outer }) else None
-build_at (Operators name) level outer (Compares op) = Some (record { stage = Values name op; level = level; outer = outer })
-build_at (Values name op) level outer (Text raw) = Some (with_operand (turned level.operand_negated (Leaf name op (literal_of op raw))) level outer)
-build_at (Joints t) level outer Both = Some (record { stage = Operands; level = record level { and_left = Some t }; outer = outer })
-build_at (Joints t) level outer Either = Some (record { stage = Operands; level = record level { or_left = Some (with_side t level) }; outer = outer })
+build_at Operands level outer Open = Some
+    (record { stage = Operands; level = fresh level.operand_negated; outer = level ∷ outer })
+build_at Operands level outer Bang = Some
+    (record {
+      stage = Operands;
+      level = record level
+          { operand_negated = not level.operand_negated; negations = suc level.negations };
+      outer = outer;
+    })
+build_at Operands level outer (Text raw) = if is_name raw
+    then Some (record { stage = Operators (plain raw); level = level; outer = outer }) else None
+build_at (Operators name) level outer (Compares op) = Some
+    (record { stage = Values name op; level = level; outer = outer })
+build_at (Values name op) level outer (Text raw) = Some
+    (with_operand (turned level.operand_negated (Leaf name op (literal_of op raw))) level outer)
+build_at (Joints t) level outer Both = Some
+    (record { stage = Operands; level = record level { and_left = Some t }; outer = outer })
+build_at (Joints t) level outer Either = Some
+    (record {
+      stage = Operands;
+      level = record level { or_left = Some (with_side t level) };
+      outer = outer;
+    })
 build_at (Joints t) level outer Close = close (with_side t level) outer
 build_at _ _ _ _ = None
 
@@ -96,7 +133,7 @@ abbrev pub tree_at : Stage → Level → List Level → Option Formula
 tree_at (Joints t) level [] = Some (with_side t level)
 tree_at _ _ _ = None
 
--- the tree, where nothing waits any more
+-- the tree, if nothing waits any more
 abbrev pub tree_of : Option State → Option Formula
 tree_of None = None
 tree_of (Some s) = tree_at s.stage s.level s.outer
@@ -122,7 +159,7 @@ marks_of level outer = negations_on level.negations (outer_marks outer)
 abbrev pub view_of : State → Awaited × List Mark
 view_of s = (awaited_at s.stage, marks_of s.level s.outer)
 
--- behind a whole operand no `!` waits
+-- after a whole operand no `!` waits
 abbrev pub IsSettledAt : Stage → Level → Type 0
 IsSettledAt (Joints t) level = level.negations ≡ 0
 IsSettledAt _ level = Unit {0}

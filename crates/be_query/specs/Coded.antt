@@ -1,4 +1,5 @@
--- A code of formulas, by which a model may have them as its value: their symbols in reverse Polish order.
+-- A code of formulas, by which a model may have them as its value: their symbols in reverse Polish
+-- order.
 use Rattle.std.specs.Prelude.{◌≡◌, ◌⊎◌, ℕ, Bool, true, false, List, [], ◌∷◌, refl}
 use Rattle.std.specs.Coded.{Coded, code_by, coded_ℕ, coded_bool, coded_list, coded×, coded⊎}
 use Rattle.std.proofs.Common.{inl, inr, zero, suc, ◌∙◌}
@@ -56,7 +57,9 @@ same_part (Among negated members) = refl
 same_part (Only c) = refl
 
 abbrev pub coded_part : Coded Part
-coded_part = code_by PartSum (coded⊎ coded_bool (coded⊎ (coded× coded_bool (coded_list (coded× coded_ℕ coded_ℕ))) coded_ℕ)) to_part from_part same_part
+coded_part = code_by PartSum (coded⊎ coded_bool
+    (coded⊎ (coded× coded_bool (coded_list (coded× coded_ℕ coded_ℕ))) coded_ℕ)) to_part from_part
+    same_part
 
 abbrev pub to_literal : Literal → List Part ⊎ List ℕ
 to_literal (Wild parts) = inl parts
@@ -71,7 +74,8 @@ same_literal (Wild parts) = refl
 same_literal (Exact bytes) = refl
 
 abbrev pub coded_literal : Coded Literal
-coded_literal = code_by (List Part ⊎ List ℕ) (coded⊎ (coded_list coded_part) (coded_list coded_ℕ)) to_literal from_literal same_literal
+coded_literal = code_by (List Part ⊎ List ℕ) (coded⊎ (coded_list coded_part) (coded_list coded_ℕ))
+    to_literal from_literal same_literal
 
 -- a comparison, or whether two sides are joined by `&&`
 abbrev pub Symbol : Type 0
@@ -97,10 +101,13 @@ build [] stack = top stack
 build (inl c ∷ behind) stack = build behind (Leaf c.0 c.1.0 c.1.1 ∷ stack)
 build (inr both ∷ behind) stack = build behind (join both stack)
 
-pub same_build : (t : Formula) (behind : List Symbol) (stack : List Formula) → build (symbols t behind) stack ≡ build behind (t ∷ stack)
+pub same_build : (t : Formula) (behind : List Symbol) (stack : List Formula)
+    → build (symbols t behind) stack ≡ build behind (t ∷ stack)
 same_build (Leaf name op value) behind stack = refl
-same_build (And l r) behind stack = same_build l (symbols r (inr true ∷ behind)) stack ∙ same_build r (inr true ∷ behind) (l ∷ stack)
-same_build (Or l r) behind stack = same_build l (symbols r (inr false ∷ behind)) stack ∙ same_build r (inr false ∷ behind) (l ∷ stack)
+same_build (And l r) behind stack = same_build l (symbols r (inr true ∷ behind)) stack ∙ same_build
+    r (inr true ∷ behind) (l ∷ stack)
+same_build (Or l r) behind stack = same_build l (symbols r (inr false ∷ behind)) stack ∙ same_build
+    r (inr false ∷ behind) (l ∷ stack)
 
 abbrev pub to_symbols : Formula → List Symbol
 to_symbols t = symbols t []
@@ -112,4 +119,6 @@ pub same_formula : (t : Formula) → from_symbols (to_symbols t) ≡ t
 same_formula t = same_build t [] []
 
 abbrev pub coded_formula : Coded Formula
-coded_formula = code_by (List Symbol) (coded_list (coded⊎ (coded× (coded_list coded_ℕ) (coded× coded_cmp coded_literal)) coded_bool)) to_symbols from_symbols same_formula
+coded_formula = code_by (List Symbol)
+    (coded_list (coded⊎ (coded× (coded_list coded_ℕ) (coded× coded_cmp coded_literal)) coded_bool))
+    to_symbols from_symbols same_formula

@@ -1,9 +1,11 @@
 -- The fault of a query's text: the first that is met when its tokens are read from the left.
-use Rattle.std.specs.Prelude.{ℕ, ◌+◌, Bool, true, false, Option, Some, None, Result, Ok, Err, List, [], ◌∷◌, length, nat_lt, nat_le, if◌then◌else◌}
+use Rattle.std.specs.Prelude.{ℕ, ◌+◌, Bool, true, false, Option, Some, None, Result, Ok, Err, List}
+use Rattle.std.specs.Prelude.{[], ◌∷◌, length, nat_lt, nat_le, if◌then◌else◌}
 use Rattle.std.specs.Str.{chars}
 use Rattle.be_pattern.specs.Parse.{pattern}
 use Rattle.be_value.specs.declared.refusals.Refusal.{Refusal}
-use Rattle.be_value.specs.declared.refusals.Refusal.TheVariants.{Syntax, BadPattern, TooLong, TooDeep, TooMany}
+use Rattle.be_value.specs.declared.refusals.Refusal.TheVariants.{Syntax, BadPattern, TooLong}
+use Rattle.be_value.specs.declared.refusals.Refusal.TheVariants.{TooDeep, TooMany}
 use Rattle.be_query.specs.declared.tree.Cmp.{Cmp}
 use Rattle.be_query.specs.declared.tree.Cmp.TheVariants.{Eq, Ne, Lt, Le, Gt, Ge}
 use Rattle.be_query.specs.Tokens.{Token, Open, Bang, Text}
@@ -23,27 +25,30 @@ abbrev pub error_of : {A : Type 0} → Result A ℕ → Option ℕ
 error_of (Ok a) = None
 error_of (Err at) = Some at
 
--- where a value that is a pattern is faulty
+-- the place of the fault in a value that is a pattern, if it is faulty
 abbrev pub bad_pattern : Cmp → List ℕ → Option ℕ
 bad_pattern op raw = if takes_pattern op then error_of (pattern (chars raw)) else None
 
--- the fault of a value that is a bad pattern there, or ends a comparison behind so many others
+-- the fault of a value: it is a bad pattern there, or ends a comparison after `comparisons` others
 abbrev pub value_fault : ℕ → ℕ → Option ℕ → Option Refusal
 value_fault comparisons start (Some at) = Some (BadPattern (start + at))
 value_fault comparisons start None = if nat_le 256 comparisons then Some TooMany else None
 
--- the fault of a token that can follow, behind so many comparisons; its text begins at start
+-- the fault of a token that can follow, after `comparisons` comparisons; its text begins at start
 abbrev pub own_fault : Awaited → List Mark → ℕ → ℕ → Token → Option Refusal
-own_fault Operand marks comparisons start Open = if nat_le 64 (length marks) then Some TooDeep else None
-own_fault Operand marks comparisons start Bang = if nat_le 64 (length marks) then Some TooDeep else None
-own_fault (Value op) marks comparisons start (Text raw) = value_fault comparisons start (bad_pattern op raw)
+own_fault Operand marks comparisons start Open = if nat_le 64 (length marks) then Some TooDeep
+    else None
+own_fault Operand marks comparisons start Bang = if nat_le 64 (length marks) then Some TooDeep
+    else None
+own_fault (Value op) marks comparisons start (Text raw) = value_fault comparisons start
+    (bad_pattern op raw)
 own_fault _ _ _ _ _ = None
 
 abbrev pub comparisons_with : Awaited → ℕ → ℕ
 comparisons_with (Value op) comparisons = comparisons + 1
 comparisons_with _ comparisons = comparisons
 
--- a name or value that breaks off is a text that ends too soon, or has a NUL, where it may stand
+-- a name or value that breaks off: where one is allowed, the text ends too soon or has a NUL
 abbrev pub broken_at : Awaited → ℕ → ℕ → ℕ
 broken_at Operand at n = at + n
 broken_at (Value op) at n = at + n
@@ -53,7 +58,7 @@ abbrev pub ends : Awaited → List Mark → ℕ → Option Refusal
 ends Joint [] len = None
 ends _ _ len = Some (Syntax len)
 
--- the first fault of the lexemes, where a text of so many bytes is read up to them
+-- the first fault of the lexemes, if a text of `len` bytes is read up to them
 abbrev pub first_fault : Awaited → List Mark → ℕ → ℕ → List Placed → Option Refusal
 first_fault place marks comparisons len [] = ends place marks len
 first_fault place marks comparisons len (x ∷ xs) = elim x.lexeme [
@@ -69,4 +74,5 @@ first_fault place marks comparisons len (x ∷ xs) = elim x.lexeme [
 ]
 
 abbrev pub fault : List ℕ → Option Refusal
-fault text = if nat_lt 4096 (length text) then Some TooLong else first_fault Operand [] 0 (length text) (lexemes 0 0 text)
+fault text = if nat_lt 4096 (length text) then Some TooLong
+    else first_fault Operand [] 0 (length text) (lexemes 0 0 text)

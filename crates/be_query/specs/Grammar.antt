@@ -9,7 +9,8 @@ use Rattle.be_pattern.specs.Parse.{pattern}
 use Rattle.be_query.specs.declared.tree.Cmp.{Cmp}
 use Rattle.be_query.specs.declared.tree.Cmp.TheVariants.{Eq, Ne, Lt, Le, Gt, Ge}
 use Rattle.be_query.specs.Lexing.{lexemes, all_whole, tokens}
-use Rattle.be_query.specs.Tokens.{Token, Open, Close, Bang, Both, Either, Compares, Text, plain, is_name}
+use Rattle.be_query.specs.Tokens.{Token, Open, Close, Bang, Both, Either, Compares, Text, plain}
+use Rattle.be_query.specs.Tokens.{is_name}
 
 mutual
   pub data OrPhrase : Type 0 where
@@ -57,7 +58,7 @@ literal_of Le raw = Exact (plain raw)
 literal_of Gt raw = Exact (plain raw)
 literal_of Ge raw = Exact (plain raw)
 
--- A tree, without where it lies in memory.
+-- A tree, without its place in memory.
 pub data Formula : Type 0 where
   Leaf : List ℕ → Cmp → Literal → Formula
   And : Formula → Formula → Formula
@@ -101,10 +102,10 @@ comparisons (Or l r) = comparisons l + comparisons r
 abbrev pub Spells : List Token → Formula → Type 0
 Spells ts tree = (o : OrPhrase) × (or_tokens o ≡ ts) × (or_tree o ≡ tree)
 
--- some tokens behind these make a sentence
+-- some tokens after these make a sentence
 abbrev pub Viable : List Token → Type 0
 Viable ts = (more : List Token) × (o : OrPhrase) × (or_tokens o ≡ ts ++ more)
 
--- the text is cut into tokens, with nothing else in it, and these spell the tree
+-- the text is cut into tokens, with nothing else in it, and these encode the tree
 abbrev pub IsTextOf : List ℕ → Formula → Type 0
 IsTextOf text tree = (all_whole (lexemes 0 0 text) ≡ true) × Spells (tokens text) tree

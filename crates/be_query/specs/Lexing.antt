@@ -1,5 +1,7 @@
 -- How a query's text, a list of bytes, is cut into tokens. The longest token is taken.
-use Rattle.std.specs.Prelude.{◌≡◌, ◌≢◌, ◌≤◌, ◌<◌, ◌⊎◌, ℕ, ◌+◌, ◌-◌, zero, suc, Bool, true, false, List, [], ◌∷◌, length, slice_index, take, ◌||◌, not, ◌==◌, if◌then◌else◌}
+use Rattle.std.specs.Prelude.{◌≡◌, ◌≢◌, ◌≤◌, ◌<◌, ◌⊎◌, ℕ, ◌+◌, ◌-◌, zero, suc, Bool, true, false}
+use Rattle.std.specs.Prelude.{List, [], ◌∷◌, length, slice_index, take, ◌||◌, not, ◌==◌}
+use Rattle.std.specs.Prelude.{if◌then◌else◌}
 use Rattle.be_query.specs.declared.lexer.Span.{Span}
 use Rattle.be_query.specs.declared.lexer.Span.TheVariants.{Ends, Breaks}
 use Rattle.be_query.specs.declared.tree.Cmp.TheVariants.{Eq, Ne, Lt, Le, Gt, Ge}
@@ -15,52 +17,59 @@ is_quote b = (b == 34) || (b == 39)
 
 -- `=`, `!`, `<`, `>`, `&`, `|`, `(` and `)`
 abbrev pub is_sign : ℕ → Bool
-is_sign b = (b == 61) || (b == 33) || (b == 60) || (b == 62) || (b == 38) || (b == 124) || (b == 40) || (b == 41)
+is_sign b = (b == 61) || (b == 33) || (b == 60) || (b == 62) || (b == 38) || (b == 124) || (b == 40)
+    || (b == 41)
 
 abbrev pub is_word : ℕ → Bool
 is_word b = not (is_separator b || is_quote b || is_sign b || (b == 0))
 
--- a quoted text may end or break off at the byte, or takes the next one as it stands
+-- at the byte a quoted text may end or break off, or the next byte is taken as it is
 abbrev pub is_mark : ℕ → ℕ → Bool
 is_mark quote b = (b == quote) || (b == 0) || (b == 92)
 
--- the place behind a byte, and behind the one that it takes if it is a backslash
+-- the place after a byte; of a backslash, the place after the byte that it escapes
 abbrev pub IsBehind : List ℕ → ℕ → ℕ → Type 0
 IsBehind bytes at next =
     ((slice_index bytes at ≢ 92) × (next ≡ at + 1))
-    ⊎ ((slice_index bytes at ≡ 92) × (at + 1 < length bytes) × (slice_index bytes (at + 1) ≢ 0) × (next ≡ at + 1 + 1))
+    ⊎ ((slice_index bytes at ≡ 92) × (at + 1 < length bytes) × (slice_index bytes (at + 1) ≢ 0)
+    × (next ≡ at + 1 + 1))
 
--- a backslash stands there, and behind it a NUL or nothing
+-- a backslash lies there, and a NUL or nothing after it
 abbrev pub IsLone : List ℕ → ℕ → Type 0
-IsLone bytes at = (slice_index bytes at ≡ 92) × ((length bytes ≤ at + 1) ⊎ ((at + 1 < length bytes) × (slice_index bytes (at + 1) ≡ 0)))
+IsLone bytes at = (slice_index bytes at ≡ 92)
+    × ((length bytes ≤ at + 1) ⊎ ((at + 1 < length bytes) × (slice_index bytes (at + 1) ≡ 0)))
 
 abbrev pub further : Span → Span
 further (Ends n) = Ends (n + 1)
 further (Breaks n) = Breaks (n + 1)
 
--- How far a word goes, where a backslash stands before these bytes or not.
+-- How far a word goes. The first argument says whether a backslash lies before these bytes.
 abbrev pub word_span : Bool → List ℕ → Span
 word_span true [] = Breaks 0
 word_span true (b ∷ bs) = if b == 0 then Breaks 0 else further (word_span false bs)
 word_span false [] = Ends 0
-word_span false (b ∷ bs) = if b == 92 then further (word_span true bs) else (if is_word b then further (word_span false bs) else Ends 0)
+word_span false (b ∷ bs) = if b == 92 then further (word_span true bs)
+    else (if is_word b then further (word_span false bs) else Ends 0)
 
--- The same for what stands behind a quote, up to the next such quote.
+-- The same for the text after a quote, up to the next such quote.
 abbrev pub quoted_span : ℕ → Bool → List ℕ → Span
 quoted_span quote true [] = Breaks 0
 quoted_span quote true (b ∷ bs) = if b == 0 then Breaks 0 else further (quoted_span quote false bs)
 quoted_span quote false [] = Breaks 0
 quoted_span quote false (b ∷ bs) =
-    if b == quote then Ends 0 else (if b == 0 then Breaks 0 else (if b == 92 then further (quoted_span quote true bs) else further (quoted_span quote false bs)))
+    if b == quote then Ends 0 else (if b == 0 then Breaks 0
+    else (if b == 92 then further (quoted_span quote true bs)
+    else further (quoted_span quote false bs)))
 
 pub data Lexeme : Type 0 where
   Whole : Token → Lexeme
-  -- a name or value that breaks off, so many bytes behind its first
+  -- a name or value that breaks off, that many bytes after its first
   Broken : ℕ → Lexeme
   -- no token begins so: a single `&` or `|`, or a NUL
   Odd : Lexeme
 
--- what stands at the front of a text: a separator; or a lexeme, its bytes, and how many of them stand before its text
+-- the front of a text: a separator; or a lexeme, its bytes, and how many of them lie before its
+-- text
 pub data Front : Type 0 where
   Separator : Front
   Takes : Lexeme → ℕ → ℕ → Front
@@ -73,7 +82,7 @@ abbrev pub quoted_front : List ℕ → Span → Front
 quoted_front bs (Ends n) = Takes (Whole (Text (take n bs))) (n + 2) 1
 quoted_front bs (Breaks n) = Takes (Broken (n + 1)) 1 0
 
--- a sign of two bytes, if the second stands behind the first, or else what one byte is
+-- a sign of two bytes, if the second follows the first; otherwise what one byte is
 abbrev pub sign_front : ℕ → Lexeme → Lexeme → List ℕ → Front
 sign_front second two one [] = Takes one 1 0
 sign_front second two one (b ∷ bs) = if b == second then Takes two 2 0 else Takes one 1 0
@@ -99,13 +108,14 @@ pub record Placed : Type 0 where
   pub start : ℕ
   pub lexeme : Lexeme
 
--- The lexemes of a text that begins at a place, behind its first bytes, which were taken already.
+-- The lexemes of a text that begins at a place, after its first bytes, which were taken already.
 abbrev pub lexemes : ℕ → ℕ → List ℕ → List Placed
 lexemes taken at [] = []
 lexemes (suc taken) at (b ∷ bs) = lexemes taken (at + 1) bs
 lexemes zero at (b ∷ bs) = elim (front b bs) [
   | Separator ↦ lexemes 0 (at + 1) bs
-  | Takes lexeme width shift ↦ record { at = at; start = at + shift; lexeme = lexeme } ∷ lexemes (width - 1) (at + 1) bs
+  | Takes lexeme width shift ↦ record { at = at; start = at + shift; lexeme = lexeme }
+      ∷ lexemes (width - 1) (at + 1) bs
 ]
 
 -- the tokens among them

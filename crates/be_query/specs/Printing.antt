@@ -1,5 +1,7 @@
 -- The canonical text of a tree.
-use Rattle.std.specs.Prelude.{◌≡◌, Ok, Some, None, ℕ, ◌+◌, max, nat_lt, Option, Bool, true, false, List, [], ◌∷◌, ◌++◌, length, ◌||◌, ◌==◌, if◌then◌else◌, encode_utf8_all, codes}
+use Rattle.std.specs.Prelude.{◌≡◌, Ok, Some, None, ℕ, ◌+◌, max, nat_lt, Option, Bool, true, false}
+use Rattle.std.specs.Prelude.{List, [], ◌∷◌, ◌++◌, length, ◌||◌, ◌==◌, if◌then◌else◌}
+use Rattle.std.specs.Prelude.{encode_utf8_all, codes}
 use Rattle.be_pattern.specs.Canonical.{canonical}
 use Rattle.be_value.specs.declared.refusals.Refusal.{Refusal}
 use Rattle.be_value.specs.declared.refusals.Refusal.TheVariants.{TooLong, TooDeep}
@@ -21,7 +23,8 @@ wants_backslash b = (b == 34) || (b == 92)
 -- a backslash before each `"` and `\`
 abbrev pub with_backslashes : List ℕ → List ℕ
 with_backslashes [] = []
-with_backslashes (b ∷ bs) = if wants_backslash b then 92 ∷ b ∷ with_backslashes bs else b ∷ with_backslashes bs
+with_backslashes (b ∷ bs) = if wants_backslash b then 92 ∷ b ∷ with_backslashes bs else b
+    ∷ with_backslashes bs
 
 abbrev pub literal_text : Literal → List ℕ
 literal_text (Wild ps) = encode_utf8_all (canonical ps)
@@ -36,9 +39,10 @@ cmp_text Gt = codes ">"
 cmp_text Ge = codes ">="
 
 abbrev pub leaf_text : List ℕ → Cmp → Literal → List ℕ
-leaf_text name op value = codes "\"" ++ with_backslashes name ++ codes "\"" ++ cmp_text op ++ codes "\"" ++ literal_text value ++ codes "\""
+leaf_text name op value = codes "\"" ++ with_backslashes name ++ codes "\"" ++ cmp_text op
+    ++ codes "\"" ++ literal_text value ++ codes "\""
 
--- The text of a tree where an `||`, a side of `||`, or an operand of `&&` may stand.
+-- The text of a tree where an `||`, a side of `||`, or an operand of `&&` is allowed.
 abbrev mutual
   pub or_text : Formula → List ℕ
   or_text (Leaf n op v) = leaf_text n op v
@@ -55,7 +59,7 @@ abbrev mutual
   operand_text (And l r) = codes "(" ++ and_text l ++ codes " && " ++ operand_text r ++ codes ")"
   operand_text (Or l r) = codes "(" ++ or_text l ++ codes " || " ++ and_text r ++ codes ")"
 
--- How many parentheses stand round a comparison of that text at most.
+-- The greatest number of parentheses round a comparison of that text.
 abbrev mutual
   pub or_depth : Formula → ℕ
   or_depth (Leaf n op v) = 0
@@ -74,11 +78,13 @@ abbrev mutual
 
 -- the limit that the text is past
 abbrev pub limit_of : Formula → Option Refusal
-limit_of t = if nat_lt 4096 (length (or_text t)) then Some TooLong else (if nat_lt 64 (or_depth t) then Some TooDeep else None)
+limit_of t = if nat_lt 4096 (length (or_text t)) then Some TooLong
+    else (if nat_lt 64 (or_depth t) then Some TooDeep else None)
 
 -- The tokens of the same.
 abbrev pub leaf_tokens : List ℕ → Cmp → Literal → List Token
-leaf_tokens name op value = Text (with_backslashes name) ∷ Compares op ∷ Text (literal_text value) ∷ []
+leaf_tokens name op value = Text (with_backslashes name) ∷ Compares op ∷ Text (literal_text value)
+    ∷ []
 
 abbrev mutual
   pub or_printed : Formula → List Token
@@ -98,7 +104,8 @@ abbrev mutual
 
 -- each name is one, and each printed name and value is read back
 abbrev pub IsPrintable : Formula → Type 0
-IsPrintable (Leaf n op v) = (is_name (with_backslashes n) ≡ true) × (plain (with_backslashes n) ≡ n) × (literal_of op (literal_text v) ≡ v)
+IsPrintable (Leaf n op v) = (is_name (with_backslashes n) ≡ true) × (plain (with_backslashes n) ≡ n)
+    × (literal_of op (literal_text v) ≡ v)
 IsPrintable (And l r) = IsPrintable l × IsPrintable r
 IsPrintable (Or l r) = IsPrintable l × IsPrintable r
 
@@ -114,7 +121,8 @@ IsQuotable (Or l r) = IsQuotable l × IsQuotable r
 
 -- a pattern is read back from its canonical text, and no text has a NUL
 abbrev pub IsKeptBy : Cmp → Literal → Type 0
-IsKeptBy op (Wild ps) = (takes_pattern op ≡ true) × (pattern (canonical ps) ≡ Ok ps) × (has_nul (canonical ps) ≡ false) × (all_scalars (canonical ps) ≡ true)
+IsKeptBy op (Wild ps) = (takes_pattern op ≡ true) × (pattern (canonical ps) ≡ Ok ps)
+    × (has_nul (canonical ps) ≡ false) × (all_scalars (canonical ps) ≡ true)
 IsKeptBy op (Exact bs) = (takes_pattern op ≡ false) × (has_nul bs ≡ false)
 
 -- each name is one, and each value is kept by printing

@@ -1,17 +1,21 @@
 -- The tree that items in reverse Polish order build, or why they build none.
-use Rattle.std.specs.Prelude.{◌≡◌, ℕ, ◌+◌, Bool, true, false, Option, Some, None, Result, Ok, Err, List, [], ◌∷◌, length, map, reverse, nat_le, nat_lt, if◌then◌else◌, string_bytes, IsUtf8}
+use Rattle.std.specs.Prelude.{◌≡◌, ℕ, ◌+◌, Bool, true, false, Option, Some, None, Result, Ok, Err}
+use Rattle.std.specs.Prelude.{List, [], ◌∷◌, length, map, reverse, nat_le, nat_lt, if◌then◌else◌}
+use Rattle.std.specs.Prelude.{string_bytes, IsUtf8}
 use Rattle.std.specs.Str.{chars}
 use Rattle.std.specs.Fmt.{decimal, signed_decimal}
 use Rattle.be_pattern.specs.Canonical.{around}
 use Rattle.be_value.specs.declared.refusals.Refusal.{Refusal}
-use Rattle.be_value.specs.declared.refusals.Refusal.TheVariants.{BadPattern, TooDeep, TooMany, BadRpn}
+use Rattle.be_value.specs.declared.refusals.Refusal.TheVariants.{BadPattern, TooDeep, TooMany}
+use Rattle.be_value.specs.declared.refusals.Refusal.TheVariants.{BadRpn}
 use Rattle.be_query.specs.declared.tree.Cmp.{Cmp}
 use Rattle.be_query.specs.declared.tree.Cmp.TheVariants.{Eq, Ne, Lt, Le, Gt, Ge}
 use Rattle.be_query.specs.declared.rpn.Item as code_item
 use Rattle.be_query.specs.declared.rpn.Thing as code_thing
 use Rattle.be_query.specs.declared.rpn.Stack as code_stack
 use Rattle.be_value.specs.Name.{name_from, has_nul}
-use Rattle.be_query.specs.Grammar.{Formula, Leaf, And, Or, complement, Literal, Wild, Exact, literal_of}
+use Rattle.be_query.specs.Grammar.{Formula, Leaf, And, Or, complement, Literal, Wild, Exact}
+use Rattle.be_query.specs.Grammar.{literal_of}
 use Rattle.be_query.specs.Faults.{takes_pattern, bad_pattern}
 use Rattle.be_query.specs.View.{formula}
 
@@ -26,7 +30,7 @@ pub data Item : Type 0 where
   -- a number, as its decimal text
   Number : List ℕ → Item
   Compare : Cmp → Item
-  -- `==` with the literal text, and whether a `*` stands before it and behind it
+  -- `==` with the literal text, and whether a `*` lies before it and after it
   Around : Bool → Bool → Item
   Both : Item
   Either : Item
@@ -68,15 +72,20 @@ counts n leaf stack = if nat_le 256 n then Err TooMany else Ok (n + 1, Whole lea
 abbrev pub given_literal : Cmp → List ℕ → Literal
 given_literal op text = if takes_pattern op then literal_of op text else Exact text
 
-abbrev pub compares : ℕ → ℕ → Cmp → Option (List ℕ × List ℕ × List Thing) → Result (ℕ × List Thing) Refusal
+abbrev pub compares : ℕ → ℕ → Cmp → Option (List ℕ × List ℕ × List Thing)
+    → Result (ℕ × List Thing) Refusal
 compares at n op None = Err (BadRpn at)
-compares at n op (Some c) = elim (bad_pattern op c.1) [ Some _ ↦ Err (BadPattern at) | None ↦ counts n (Leaf c.0 op (given_literal op c.1)) c.2 ]
+compares at n op (Some c) = elim (bad_pattern op c.1)
+    [ Some _ ↦ Err (BadPattern at) | None ↦ counts n (Leaf c.0 op (given_literal op c.1)) c.2 ]
 
-abbrev pub surrounds : ℕ → ℕ → Bool → Bool → Option (List ℕ × List ℕ × List Thing) → Result (ℕ × List Thing) Refusal
+abbrev pub surrounds : ℕ → ℕ → Bool → Bool → Option (List ℕ × List ℕ × List Thing)
+    → Result (ℕ × List Thing) Refusal
 surrounds at n before behind None = Err (BadRpn at)
-surrounds at n before behind (Some c) = counts n (Leaf c.0 Eq (Wild (around before (chars c.1) behind))) c.2
+surrounds at n before behind (Some c) = counts n
+    (Leaf c.0 Eq (Wild (around before (chars c.1) behind))) c.2
 
-abbrev pub joins : ℕ → ℕ → (Formula → Formula → Formula) → Option (Formula × Formula × List Thing) → Result (ℕ × List Thing) Refusal
+abbrev pub joins : ℕ → ℕ → (Formula → Formula → Formula) → Option (Formula × Formula × List Thing)
+    → Result (ℕ × List Thing) Refusal
 joins at n join None = Err (BadRpn at)
 joins at n join (Some s) = Ok (n, Whole (join s.0 s.1) ∷ s.2)
 
@@ -84,7 +93,7 @@ abbrev pub complements : ℕ → ℕ → Option (Formula × List Thing) → Resu
 complements at n None = Err (BadRpn at)
 complements at n (Some s) = Ok (n, Whole (complement s.0) ∷ s.1)
 
--- what the item at a place makes of the stack, behind so many comparisons
+-- what the item at a place makes of the stack, after `n` comparisons
 abbrev pub work : ℕ → ℕ → List Thing → Item → Result (ℕ × List Thing) Refusal
 work at n stack (Attr name) = Ok (n, Attribute name ∷ stack)
 work at n stack (Given text) = if has_nul text then Err (BadRpn at) else Ok (n, Value text ∷ stack)
@@ -95,12 +104,12 @@ work at n stack Both = joins at n And (top_trees stack)
 work at n stack Either = joins at n Or (top_trees stack)
 work at n stack Complement = complements at n (top_tree stack)
 
--- at most 64 things may stand
+-- the stack may have up to 64 things
 abbrev pub shallow : Result (ℕ × List Thing) Refusal → Result (ℕ × List Thing) Refusal
 shallow (Err e) = Err e
 shallow (Ok s) = if nat_lt 64 (length s.1) then Err TooDeep else Ok s
 
--- exactly one tree must stand at the end
+-- exactly one tree must be left at the end
 abbrev pub one_tree : ℕ → List Thing → Result Formula Refusal
 one_tree at (Whole t ∷ []) = Ok t
 one_tree at _ = Err (BadRpn at)

@@ -1,5 +1,8 @@
--- The values of the code, as the definitions see them. Of these only `formula`, `literal` and `IsMemory` stand in public contracts.
-use Rattle.std.specs.Prelude.{◌≡◌, ◌⊎◌, ◌<◌, ◌≤◌, ◌-◌, ℕ, Bool, true, if◌then◌else◌, ◌||◌, ◌==◌, ◌+◌, Option, Some, None, List, [], ◌∷◌, string_bytes, map, reverse, length, drop, IsUtf8, false}
+-- The values of the code, as the definitions see them. Of these only `formula`, `literal` and
+-- `IsMemory` are in public contracts.
+use Rattle.std.specs.Prelude.{◌≡◌, ◌⊎◌, ◌<◌, ◌≤◌, ◌-◌, ℕ, Bool, true, if◌then◌else◌, ◌||◌, ◌==◌}
+use Rattle.std.specs.Prelude.{◌+◌, Option, Some, None, List, [], ◌∷◌, string_bytes, map, reverse}
+use Rattle.std.specs.Prelude.{length, drop, IsUtf8, false}
 use Rattle.be_value.specs.Name.{name_from, has_nul}
 use Rattle.std.specs.Prelude.{get_or}
 use Rattle.be_value.specs.declared.refusals.Refusal.{Refusal}
@@ -19,8 +22,10 @@ use Rattle.be_query.specs.Printing.{or_text, and_text, operand_text}
 use Rattle.std.specs.Result.{is_ok}
 use Rattle.be_query.specs.Tokens.{Token, Open, Close, Bang, Both, Either, Compares, Text, plain}
 use Rattle.be_query.specs.Grammar.{Formula, Leaf, And, Or, Literal, Wild, Exact}
-use Rattle.be_query.specs.Building.{Level, Stage, Operands, Operators, Values, Joints, State, IsSettledAt, marks_of, awaited_at, build_at}
-use Rattle.be_query.specs.Lexing.{Placed, Lexeme, Whole, Broken, Odd, Separator, Takes, front, is_sign}
+use Rattle.be_query.specs.Building.{Level, Stage, Operands, Operators, Values, Joints, State}
+use Rattle.be_query.specs.Building.{IsSettledAt, marks_of, awaited_at, build_at}
+use Rattle.be_query.specs.Lexing.{Placed, Lexeme, Whole, Broken, Odd, Separator, Takes, front}
+use Rattle.be_query.specs.Lexing.{is_sign}
 use Rattle.be_query.specs.Faults.{first_fault}
 
 abbrev pub literal : code_literal.Literal → Literal
@@ -37,7 +42,13 @@ side_of None = None
 side_of (Some b) = Some (formula b.value)
 
 abbrev pub level_seen : code_level.Level → Level
-level_seen l = record { negated = l.negated; operand_negated = l.operand_negated; or_left = side_of l.or_left; and_left = side_of l.and_left; negations = l.negations }
+level_seen l = record {
+  negated = l.negated;
+  operand_negated = l.operand_negated;
+  or_left = side_of l.or_left;
+  and_left = side_of l.and_left;
+  negations = l.negations;
+}
 
 abbrev pub stage_of : code_stage.Stage → Stage
 stage_of code_stage.TheVariants.Operand = Operands
@@ -64,7 +75,7 @@ IsClean Either = Unit {0}
 IsClean (Compares op) = Unit {0}
 IsClean (Text raw) = (has_nul raw ≡ false) × IsUtf8 raw
 
--- and so it is in what stands at the front of a text
+-- and so it is in the front of a text
 abbrev pub IsCleanFront : code_front.Front → Type 0
 IsCleanFront (code_front.TheVariants.Separator rest) = Unit {0}
 IsCleanFront (code_front.TheVariants.Token token shift rest) = IsClean (token_of token)
@@ -108,9 +119,10 @@ pub record IsCounted (stage : Stage) (c : code_context.Context) : Type 0 where
 
 -- the first fault of what follows
 abbrev pub fault_in : Stage → code_context.Context → ℕ → List Placed → Option Refusal
-fault_in stage c len xs = first_fault (awaited_at stage) (marks_of (level_seen c.level) (outer_of c)) c.comparisons len xs
+fault_in stage c len xs = first_fault (awaited_at stage)
+    (marks_of (level_seen c.level) (outer_of c)) c.comparisons len xs
 
--- the refusal is want of memory, or what it otherwise has to be
+-- the refusal is out of memory, or what it otherwise has to be
 abbrev pub IsMemory : Refusal → Type 0 → Type 0
 IsMemory e otherwise = (e ≡ OutOfMemory) ⊎ otherwise
 
@@ -124,16 +136,22 @@ abbrev pub only_if : Bool → List ℕ → List ℕ
 only_if shown t = if shown then t else []
 
 -- a token was taken, and the reading goes on
-pub record TakesToken (stage : Stage) (c : code_context.Context) (at start : ℕ) (t : Token) (after : code_stage.Stage) (d : code_context.Context) : Type 0 where
+pub record TakesToken (stage : Stage) (c : code_context.Context) (at start : ℕ) (t : Token)
+    (after : code_stage.Stage) (d : code_context.Context) : Type 0 where
   pub counted : IsCounted (stage_of after) d
-  pub built : build_at stage (level_seen c.level) (outer_of c) t ≡ Some (state_of (stage_of after) d)
-  pub faults : (len : ℕ) (xs : List Placed) → fault_in stage c len (record { at = at; start = start; lexeme = Whole t } ∷ xs) ≡ fault_in (stage_of after) d len xs
+  pub built : build_at stage (level_seen c.level) (outer_of c) t
+      ≡ Some (state_of (stage_of after) d)
+  pub faults : (len : ℕ) (xs : List Placed)
+      → fault_in stage c len (record { at = at; start = start; lexeme = Whole t } ∷ xs)
+      ≡ fault_in (stage_of after) d len xs
 
 -- the token is refused so, whatever follows, unless memory ran out
 abbrev pub Refuses : Stage → code_context.Context → ℕ → ℕ → Token → Refusal → Type 0
-Refuses stage c at start t e = IsMemory e ((len : ℕ) (xs : List Placed) → fault_in stage c len (record { at = at; start = start; lexeme = Whole t } ∷ xs) ≡ Some e)
+Refuses stage c at start t e = IsMemory e
+    ((len : ℕ) (xs : List Placed) → fault_in stage c len
+    (record { at = at; start = start; lexeme = Whole t } ∷ xs) ≡ Some e)
 
--- a lexeme stands at the front of the bytes
+-- a lexeme lies at the front of the bytes
 abbrev pub HasLexeme : List ℕ → Lexeme → ℕ → ℕ → Type 0
 HasLexeme [] lexeme width shift = ⊥
 HasLexeme (b ∷ bs) lexeme width shift = front b bs ≡ Takes lexeme width shift
@@ -144,15 +162,21 @@ BeginsSeparated (b ∷ bs) rest = (front b bs ≡ Separator) × (rest ≡ bs)
 
 abbrev pub IsFront : List ℕ → code_front.Front → Type 0
 IsFront text (code_front.TheVariants.Separator rest) = BeginsSeparated text rest.now
-IsFront text (code_front.TheVariants.Token token shift rest) = (width : ℕ) × HasLexeme text (Whole (token_of token)) width shift × (rest.now ≡ drop width text) × (1 ≤ width) × (width ≤ length text) × (shift + text_len (token_of token) ≤ width)
-IsFront text (code_front.TheVariants.Broken n) = (width : ℕ) × HasLexeme text (Broken n) width 0 × (n ≤ length text)
+IsFront text (code_front.TheVariants.Token token shift rest) = (width : ℕ)
+    × HasLexeme text (Whole (token_of token)) width shift × (rest.now ≡ drop width text)
+    × (1 ≤ width) × (width ≤ length text) × (shift + text_len (token_of token) ≤ width)
+IsFront text (code_front.TheVariants.Broken n) = (width : ℕ) × HasLexeme text (Broken n) width 0
+    × (n ≤ length text)
 IsFront text code_front.TheVariants.Odd = (width : ℕ) × HasLexeme text Odd width 0
 
 abbrev pub second_of : Option ℕ → List ℕ
 second_of None = []
 second_of (Some b) = b ∷ []
 
--- what a sign is before the byte behind it
+-- what a sign is before the byte that follows it
 abbrev pub SignIs : ℕ → Option ℕ → Option (code_token.Token × ℕ) → Type 0
-SignIs first second None = (is_sign first || (first == 0)) ≡ true → front first (second_of second) ≡ Takes Odd 1 0
-SignIs first second (Some p) = (front first (second_of second) ≡ Takes (Whole (token_of p.0)) p.1 0) × (1 ≤ p.1) × (p.1 ≤ 1 + length (second_of second)) × (get_or (first ∷ second_of second) (p.1 - 1) 0 < 128) × (text_len (token_of p.0) ≡ 0)
+SignIs first second None = (is_sign first || (first == 0)) ≡ true → front first (second_of second)
+    ≡ Takes Odd 1 0
+SignIs first second (Some p) = (front first (second_of second) ≡ Takes (Whole (token_of p.0)) p.1 0)
+    × (1 ≤ p.1) × (p.1 ≤ 1 + length (second_of second))
+    × (get_or (first ∷ second_of second) (p.1 - 1) 0 < 128) × (text_len (token_of p.0) ≡ 0)

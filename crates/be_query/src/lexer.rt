@@ -1,8 +1,11 @@
-//! How a query's text is cut into tokens. The longest token is taken; a name or value is a word or a quoted text.
-ghost use Rattle.std.specs.Prelude.{false, true, ◌||◌, ℕ, ◌≡◌, ◌≤◌, ◌<◌, ◌+◌, ◌==◌, length, take, drop, slice_get, slice_index, IfNone, IfSome};
+//! How a query's text is cut into tokens. The longest token is taken; a name or value is a word or
+//! a quoted text.
+ghost use Rattle.std.specs.Prelude.{false, true, ◌||◌, ℕ, ◌≡◌, ◌≤◌, ◌<◌, ◌+◌, ◌==◌, length, take};
+ghost use Rattle.std.specs.Prelude.{drop, slice_get, slice_index, IfNone, IfSome};
 ghost use Rattle.std.specs.List.{list_any};
 ghost use Rattle.be_query.specs.View.{IsClean, IsCleanFront, token_of, IsFront, SignIs};
-ghost use Rattle.be_query.specs.Lexing.{IsBehind, IsLone, is_quote, is_separator, is_sign, is_word, is_mark, word_span, quoted_span};
+ghost use Rattle.be_query.specs.Lexing.{IsBehind, IsLone, is_quote, is_separator, is_sign, is_word};
+ghost use Rattle.be_query.specs.Lexing.{is_mark, word_span, quoted_span};
 
 use crate::token::Token;
 use crate::tree::Cmp;
@@ -15,18 +18,18 @@ const BLOCK: usize = 16;
 pub(crate) enum Span {
     /// It takes this many bytes.
     Ends(usize),
-    /// It breaks off this many bytes behind its first: the text ends, or a NUL stands there.
+    /// It breaks off this many bytes after its first: there the text ends, or there is a NUL.
     Breaks(usize),
 }
 
-/// What stands at the front of a text.
+/// The front of a text.
 #[derive(Clone, Copy)]
 pub(crate) enum Front<'a> {
-    /// A separator, and the text behind it.
+    /// A separator, and the text after it.
     Separator(&'a str),
-    /// A token, how many bytes stand before its text, and the text behind it.
+    /// A token, how many bytes lie before its text, and the text after it.
     Token(Token<'a>, usize, &'a str),
-    /// A name or value that breaks off so many bytes behind its first.
+    /// A name or value that breaks off that many bytes after its first.
     Broken(usize),
     /// No token begins so.
     Odd,
@@ -39,7 +42,7 @@ fn is_separator(b: u8) -> bool
     b == b' ' || b == b'\t' || b == b'\n' || b == b'\r'
 }
 
-/// Whether the byte may stand in a word.
+/// Whether the byte is allowed in a word.
 fn is_word(b: u8) -> bool
     ensures { result ≡ is_word b }
 {
@@ -67,7 +70,8 @@ fn is_sign(b: u8) -> bool
         || b == b')'
 }
 
-/// The place behind a byte, and behind the one that it takes if it is a backslash; none where that is a NUL, or isn't there.
+/// The place after a byte; of a backslash, the place after the byte that it escapes. None if that
+/// byte is a NUL, or is missing.
 fn behind(bytes: &[u8], at: usize) -> Option<usize>
     requires { at < length bytes.now }
     ensures next { IfSome result (λ next. IsBehind bytes.now at next) }
@@ -104,7 +108,7 @@ fn word_span(bytes: &[u8]) -> Span
     Span::Ends(at)
 }
 
-/// How far the text behind a quote goes, up to the next such quote.
+/// How far the text after a quote goes, up to the next such quote.
 fn quoted_span(quote: u8, bytes: &[u8]) -> Span
     ensures { result ≡ quoted_span quote false bytes.now }
 {
@@ -112,7 +116,8 @@ fn quoted_span(quote: u8, bytes: &[u8]) -> Span
     span_behind(quote, bytes, front)
 }
 
-/// How many bytes at the front, by whole blocks, are neither a backslash nor anything that ends the quoted text.
+/// How many bytes at the front, by whole blocks, are neither a backslash nor anything that ends the
+/// quoted text.
 fn unmarked_front(quote: u8, bytes: &[u8]) -> usize
     ensures within { result ≤ length bytes.now }
     ensures unmarked { list_any (is_mark quote) (take result bytes.now) ≡ false }
@@ -148,7 +153,7 @@ fn has_byte(byte: u8, block: &[u8]) -> bool
     found
 }
 
-/// How far the text behind a quote goes, where it doesn't end in so many bytes at its front.
+/// How far the text after a quote goes, if it doesn't end within that many bytes at its front.
 fn span_behind(quote: u8, bytes: &[u8], front: usize) -> Span
     requires within { front ≤ length bytes.now }
     requires unmarked { list_any (is_mark quote) (take front bytes.now) ≡ false }
@@ -171,7 +176,7 @@ fn span_behind(quote: u8, bytes: &[u8], front: usize) -> Span
     Span::Breaks(at)
 }
 
-/// The token that a sign begins, before the byte behind it, and its bytes.
+/// The token that a sign begins, given the byte that follows it, and the token's bytes.
 fn sign(first: u8, second: Option<u8>) -> Option<(Token<'static>, usize)>
     ensures sign { SignIs first second result }
     ensures clean { IfSome result (λ p. IsClean (token_of p.0)) }
@@ -193,7 +198,7 @@ fn sign(first: u8, second: Option<u8>) -> Option<(Token<'static>, usize)>
     }
 }
 
-/// What stands at the front of a text that begins with this quote.
+/// The front of a text that begins with this quote.
 fn quoted_front(quote: u8, text: &str) -> Front<'_>
     requires nonempty { 0 < length text.now }
     requires first { slice_index text.now 0 ≡ quote }
@@ -220,7 +225,7 @@ fn byte_at(bytes: &[u8], i: usize) -> Option<u8>
     bytes.get(i).copied()
 }
 
-/// What stands at the front of a text that begins with this sign, or a NUL.
+/// The front of a text that begins with this sign, or a NUL.
 fn sign_front(first: u8, text: &str) -> Front<'_>
     requires nonempty { 0 < length text.now }
     requires first { slice_index text.now 0 ≡ first }
@@ -240,7 +245,7 @@ fn sign_front(first: u8, text: &str) -> Front<'_>
     }
 }
 
-/// What stands at the front of a text that begins with a word.
+/// The front of a text that begins with a word.
 fn word_front(text: &str) -> Front<'_>
     requires nonempty { 0 < length text.now }
     requires separator { is_separator (slice_index text.now 0) ≡ false }
@@ -259,7 +264,7 @@ fn word_front(text: &str) -> Front<'_>
     }
 }
 
-/// What stands at the front of a text that is not empty.
+/// The front of a text that is not empty.
 pub(crate) fn split_front(text: &str) -> Front<'_>
     requires { 0 < length text.now }
     ensures front { IsFront text.now result }

@@ -1,19 +1,22 @@
-//! Reading the tokens of a query from the left, with one level for each open `(`: the sides of `||` and `&&` that
-//! wait for their right one, and the `!` that wait for their operand. A `!` is carried down while its operand is read:
-//! inside an odd number of them each comparison and each joint is made as its complement. So nothing here recurses,
-//! and no tree that stands is gone over again.
-ghost use Rattle.std.specs.Prelude.{false, true, ℕ, ◌≡◌, MatchOption, IfNone, IfSome, [], ◌++◌, encode_utf8, string_bytes, Some, None};
+//! Reads the tokens of a query from the left. Each open `(` has one level: it keeps the sides of
+//! `||` and `&&` that wait for their right side, and the `!` that wait for their operand. A `!` is
+//! carried down while its operand is read: inside an odd number of them each comparison and each
+//! joint is made as its complement. So nothing here recurses, and no finished tree is passed again.
+ghost use Rattle.std.specs.Prelude.{false, true, ℕ, ◌≡◌, MatchOption, IfNone, IfSome, [], ◌++◌};
+ghost use Rattle.std.specs.Prelude.{encode_utf8, string_bytes, Some, None};
 ghost use Rattle.std.specs.Prelude.{IfOk, IfErr, ◌<◌, ◌≤◌, ◌+◌, ◌^◌, length};
 ghost use Rattle.std.specs.Result.{is_ok};
 ghost use Rattle.std.specs.Str.{chars};
 ghost use Rattle.be_pattern.specs.Parse.{pattern};
 ghost use Rattle.be_value.specs.Name.{name_from, has_nul};
-ghost use Rattle.be_query.specs.Building.{Operands, Operators, Values, Joints, fresh, turned_operator, conjunction, joined};
+ghost use Rattle.be_query.specs.Building.{Operands, Operators, Values, Joints, fresh};
+ghost use Rattle.be_query.specs.Building.{turned_operator, conjunction, joined};
 ghost use Rattle.be_query.specs.Building.{ended_level, with_side, with_operand, State};
 ghost use Rattle.be_query.specs.Grammar.{literal_of};
 ghost use Rattle.be_query.specs.Faults.{bad_pattern};
 ghost use Rattle.be_query.specs.Tokens.{is_name, plain};
-ghost use Rattle.be_query.specs.View.{IsClean, IsMemory, text_len, literal, formula, level_seen, side_of, stage_of, token_of, IsCounted, TakesToken, Refuses};
+ghost use Rattle.be_query.specs.View.{IsClean, IsMemory, text_len, literal, formula, level_seen};
+ghost use Rattle.be_query.specs.View.{side_of, stage_of, token_of, IsCounted, TakesToken, Refuses};
 
 use crate::token::Token;
 use crate::tree::{Cmp, Comparison, Literal, Tree};
@@ -35,9 +38,9 @@ pub(crate) const MAX_COMPARISONS: usize = 256;
 /// What waits for its right end inside one pair of parentheses.
 #[derive(Drop)]
 pub(crate) struct Level {
-    /// Whether an odd number of `!` stands round the level.
+    /// Whether an odd number of `!` applies to the level.
     negated: bool,
-    /// Whether an odd number stands round the operand that comes next.
+    /// Whether an odd number applies to the operand that comes next.
     operand_negated: bool,
     /// The left side of `||`.
     or_left: Option<Box<Tree>>,
@@ -47,8 +50,8 @@ pub(crate) struct Level {
     negations: usize,
 }
 
-/// What may come next, with the comparison or the tree before it. A name is as the text has it: it is small to move, and
-/// is made once its comparison is.
+/// What may come next, with the comparison or the tree before it. A name is as the text has it: it
+/// is small to move, and is made once its comparison is.
 #[derive(Drop)]
 pub(crate) enum Stage<'a> {
     Operand,
@@ -94,7 +97,7 @@ impl<'a> Stage<'a> {
     ghost use Rattle.be_query.specs.Faults.{broken_at};
     ghost use Rattle.be_query.specs.Building.{awaited_at};
 
-    /// The fault of a name or value at a place that breaks off so many bytes behind its first.
+    /// The fault of a name or value at a place that breaks off that many bytes after its first.
     pub(crate) fn broken(&self, at: usize, len: usize) -> Refusal
         requires { at + len < 2 ^ 64 }
         ensures { result ≡ Refusal.Syntax (broken_at (awaited_at (stage_of self.now)) at len) }
@@ -125,8 +128,10 @@ impl Context {
         requires counted { IsCounted (stage_of stage) self.now }
         requires fits { start + text_len (token_of token) < 2 ^ 64 }
         requires clean { IsClean (token_of token) }
-        ensures ok { IfOk result (λ s. TakesToken (stage_of stage.entry) self.old at start (token_of token.entry) s self.new) }
-        ensures err { IfErr result (Refuses (stage_of stage.entry) self.old at start (token_of token.entry)) }
+        ensures ok { IfOk result (λ s. TakesToken (stage_of stage.entry) self.old at start
+            (token_of token.entry) s self.new) }
+        ensures err { IfErr result (Refuses (stage_of stage.entry) self.old at start
+            (token_of token.entry)) }
     {
         match stage {
             Stage::Operand => take_operand(alloc, self, at, token),
@@ -136,7 +141,7 @@ impl Context {
         }
     }
 
-    /// The tree at the end of a text of so many bytes. Nothing more is taken.
+    /// The tree at the end of a text of `len` bytes. Nothing more is taken.
     pub(crate) fn finish(
         &mut self,
         alloc: Global,
@@ -144,10 +149,13 @@ impl Context {
         len: usize,
     ) -> Result<Box<Tree>, Refusal>
         requires { IsCounted (stage_of stage) self.now }
-        ensures ok { IfOk result (λ t. tree_at (stage_of stage.entry) (level_seen self.old.level) (outer_of self.old) ≡ Some (formula t.value)) }
-        ensures ends { IfOk result (λ t. ends (awaited_at (stage_of stage.entry)) (marks_of (level_seen self.old.level) (outer_of self.old)) len ≡ None) }
+        ensures ok { IfOk result (λ t. tree_at (stage_of stage.entry) (level_seen self.old.level)
+            (outer_of self.old) ≡ Some (formula t.value)) }
+        ensures ends { IfOk result (λ t. ends (awaited_at (stage_of stage.entry))
+            (marks_of (level_seen self.old.level) (outer_of self.old)) len ≡ None) }
         ensures err { IfErr result (λ e. IsMemory e
-            (ends (awaited_at (stage_of stage.entry)) (marks_of (level_seen self.old.level) (outer_of self.old)) len ≡ Some e)) }
+            (ends (awaited_at (stage_of stage.entry))
+            (marks_of (level_seen self.old.level) (outer_of self.old)) len ≡ Some e)) }
     {
         match stage {
             Stage::Joint(tree) => {
@@ -195,8 +203,10 @@ fn take_operand<'a>(
 ) -> Result<Stage<'a>, Refusal>
     requires counted { IsCounted Operands context.now }
     requires clean { IsClean (token_of token) }
-    ensures ok { IfOk result (λ s. (start : ℕ) → TakesToken Operands context.old at start (token_of token.entry) s context.new) }
-    ensures err { IfErr result (λ e. (start : ℕ) → Refuses Operands context.old at start (token_of token.entry) e) }
+    ensures ok { IfOk result (λ s. (start : ℕ)
+        → TakesToken Operands context.old at start (token_of token.entry) s context.new) }
+    ensures err { IfErr result (λ e. (start : ℕ)
+        → Refuses Operands context.old at start (token_of token.entry) e) }
 {
     match token {
         Token::Open => {
@@ -229,7 +239,7 @@ fn take_operand<'a>(
     }
 }
 
-/// Takes a token where an operator must stand.
+/// Takes a token where an operator is due.
 fn take_operator<'a>(
     raw: &'a str,
     context: &mut Context,
@@ -237,8 +247,11 @@ fn take_operator<'a>(
     token: Token<'a>,
 ) -> Result<Stage<'a>, Refusal>
     requires { IsCounted (Operators (plain raw.now)) context.now }
-    ensures ok { IfOk result (λ s. (start : ℕ) → TakesToken (Operators (plain raw.now)) context.old at start (token_of token.entry) s context.new) }
-    ensures err { IfErr result (λ e. (start : ℕ) → Refuses (Operators (plain raw.now)) context.old at start (token_of token.entry) e) }
+    ensures ok { IfOk result (λ s. (start : ℕ)
+        → TakesToken (Operators (plain raw.now)) context.old at start (token_of token.entry) s
+        context.new) }
+    ensures err { IfErr result (λ e. (start : ℕ)
+        → Refuses (Operators (plain raw.now)) context.old at start (token_of token.entry) e) }
 {
     match token {
         Token::Compares(op) => Ok(Stage::Value(raw, op)),
@@ -246,7 +259,7 @@ fn take_operator<'a>(
     }
 }
 
-/// Takes a token where a value must stand, whose text begins at a place.
+/// Takes a token where a value is due. Its text begins at a place.
 fn take_value<'a>(
     alloc: Global,
     name: &'a str,
@@ -258,8 +271,10 @@ fn take_value<'a>(
 ) -> Result<Stage<'a>, Refusal>
     requires counted { IsCounted (Values (plain name.now) op) context.now }
     requires fits { start + text_len (token_of token) < 2 ^ 64 }
-    ensures ok { IfOk result (λ s. TakesToken (Values (plain name.now) op) context.old at start (token_of token.entry) s context.new) }
-    ensures err { IfErr result (Refuses (Values (plain name.now) op) context.old at start (token_of token.entry)) }
+    ensures ok { IfOk result (λ s. TakesToken (Values (plain name.now) op) context.old at start
+        (token_of token.entry) s context.new) }
+    ensures err { IfErr result (Refuses (Values (plain name.now) op) context.old at start
+        (token_of token.entry)) }
 {
     let Token::Text(raw) = token else {
         return Err(Refusal::Syntax(at));
@@ -285,7 +300,7 @@ fn take_value<'a>(
     Ok(Stage::Joint(tree))
 }
 
-/// Takes a token behind an operand.
+/// Takes a token after an operand.
 fn take_joint<'a>(
     alloc: Global,
     tree: Box<Tree>,
@@ -294,8 +309,11 @@ fn take_joint<'a>(
     token: Token<'a>,
 ) -> Result<Stage<'a>, Refusal>
     requires { IsCounted (Joints (formula tree.value)) context.now }
-    ensures ok { IfOk result (λ s. (start : ℕ) → TakesToken (Joints (formula tree.value)) context.old at start (token_of token.entry) s context.new) }
-    ensures err { IfErr result (λ e. (start : ℕ) → Refuses (Joints (formula tree.value)) context.old at start (token_of token.entry) e) }
+    ensures ok { IfOk result (λ s. (start : ℕ)
+        → TakesToken (Joints (formula tree.value)) context.old at start (token_of token.entry) s
+        context.new) }
+    ensures err { IfErr result (λ e. (start : ℕ)
+        → Refuses (Joints (formula tree.value)) context.old at start (token_of token.entry) e) }
 {
     match token {
         Token::Both => {
@@ -323,7 +341,8 @@ fn take_joint<'a>(
 }
 
 #[tactic(auto, using(crate::proofs::Short::short_name))]
-/// Whether a text without a NUL spells a name. Backslashes only make it shorter, so they are looked at in a long text alone.
+/// Whether a text without a NUL encodes a name. Backslashes only make it shorter, so they are
+/// looked at in a long text alone.
 fn spells_name(alloc: Global, raw: &str) -> Result<bool, AllocError>
     requires { has_nul raw.now ≡ false }
     ensures { IfOk result (λ b. is_name raw.now ≡ b) }
@@ -339,9 +358,10 @@ fn spells_name(alloc: Global, raw: &str) -> Result<bool, AllocError>
     }
 }
 
-/// The name that a text spells, if it is one.
+/// The name that a text encodes, if it is one.
 fn read_name(alloc: Global, raw: &str) -> Result<Option<Name>, AllocError>
-    ensures { IfOk result (λ o. MatchOption o (is_name raw.now ≡ false) (λ n. (n ≡ plain raw.now) × (is_name raw.now ≡ true))) }
+    ensures { IfOk result (λ o. MatchOption o (is_name raw.now ≡ false)
+        (λ n. (n ≡ plain raw.now) × (is_name raw.now ≡ true))) }
 {
     if is_plain(raw) {
         return Ok(name_of(raw));
@@ -352,7 +372,8 @@ fn read_name(alloc: Global, raw: &str) -> Result<Option<Name>, AllocError>
 
 /// The name that a text is, if it is one.
 fn name_of(text: &str) -> Option<Name>
-    ensures { MatchOption result (is_ok (name_from text.now) ≡ false) (λ n. (n ≡ text.now) × (is_ok (name_from text.now) ≡ true)) }
+    ensures { MatchOption result (is_ok (name_from text.now) ≡ false)
+        (λ n. (n ≡ text.now) × (is_ok (name_from text.now) ≡ true)) }
 {
     match Name::new(text) {
         Ok(name) => Some(name),
@@ -367,7 +388,7 @@ fn is_plain(raw: &str) -> bool
     !raw.as_bytes().contains(&b'\\')
 }
 
-/// The first character that is meant, and the text behind it.
+/// The first character after escapes are resolved, and the text after it.
 fn split_plain(text: &str) -> Option<(char, &str)>
     ensures none { IfNone result (plain text.now ≡ []) }
     ensures some { IfSome result (λ p. plain text.now ≡ encode_utf8 p.0 ++ plain p.1.now) }
@@ -401,9 +422,10 @@ fn unescape(alloc: Global, raw: &str) -> Result<String, AllocError>
     Ok(text)
 }
 
-/// The pattern that a value spells, or where it is faulty.
+/// The pattern that a value encodes, or the place of its fault.
 fn read_pattern(alloc: Global, raw: &str) -> Result<Result<Pattern, usize>, AllocError>
-    ensures { IfOk result (λ r. (pattern (chars raw.now) ≡ r) × IfErr r (λ at. at ≤ length raw.now)) }
+    ensures { IfOk result (λ r. (pattern (chars raw.now) ≡ r)
+        × IfErr r (λ at. at ≤ length raw.now)) }
 {
     match Pattern::parse(alloc, raw) {
         Ok(pattern) => Ok(Ok(pattern)),
@@ -412,14 +434,16 @@ fn read_pattern(alloc: Global, raw: &str) -> Result<Result<Pattern, usize>, Allo
     }
 }
 
-/// The literal that a value spells, or where its pattern is faulty.
+/// The literal that a value encodes, or the place of its pattern's fault.
 pub(crate) fn read_literal(
     alloc: Global,
     op: Cmp,
     raw: &str,
 ) -> Result<Result<Literal, usize>, AllocError>
-    ensures ok { IfOk result (λ r. IfOk r (λ l. (literal l ≡ literal_of op raw.now) × (bad_pattern op raw.now ≡ None))) }
-    ensures err { IfOk result (λ r. IfErr r (λ at. (bad_pattern op raw.now ≡ Some at) × (at ≤ length raw.now))) }
+    ensures ok { IfOk result (λ r. IfOk r
+        (λ l. (literal l ≡ literal_of op raw.now) × (bad_pattern op raw.now ≡ None))) }
+    ensures err { IfOk result (λ r. IfErr r
+        (λ at. (bad_pattern op raw.now ≡ Some at) × (at ≤ length raw.now))) }
 {
     match op {
         Cmp::Eq | Cmp::Ne => match read_pattern(alloc, raw)? {
@@ -447,7 +471,8 @@ fn end_operand(
     operand: Box<Tree>,
 ) -> Result<Box<Tree>, AllocError>
     ensures tree { IfOk result (λ t. formula t.value
-        ≡ joined (conjunction (level_seen level.old).negated) (level_seen level.old).and_left (formula operand.value)) }
+        ≡ joined (conjunction (level_seen level.old).negated) (level_seen level.old).and_left
+        (formula operand.value)) }
     ensures level { level_seen level.new ≡ ended_level (level_seen level.old) }
 {
     level.negations = 0;
@@ -460,7 +485,8 @@ fn end_operand(
 
 /// A side of `||` has ended.
 fn end_side(alloc: Global, level: &mut Level, side: Box<Tree>) -> Result<Box<Tree>, AllocError>
-    ensures tree { IfOk result (λ t. formula t.value ≡ with_side (formula side.value) (level_seen level.old)) }
+    ensures tree { IfOk result (λ t. formula t.value
+        ≡ with_side (formula side.value) (level_seen level.old)) }
     ensures level { level_seen level.new ≡ record (level_seen level.old) { or_left = None } }
 {
     match level.or_left.take() {

@@ -1,7 +1,8 @@
 //! The canonical text of a query, with parentheses where the tree needs them and nowhere else.
 ghost use Rattle.std.specs.Prelude.{◌≡◌, ◌++◌, ◌<◌, [], length, IfOk, IfErr, string_bytes};
 ghost use Rattle.be_value.specs.declared.refusals.Refusal.TheVariants.{OutOfMemory};
-ghost use Rattle.be_query.specs.Printing.{or_text, leaf_text, cmp_text, literal_text, with_backslashes, wants_backslash};
+ghost use Rattle.be_query.specs.Printing.{or_text, leaf_text, cmp_text, literal_text};
+ghost use Rattle.be_query.specs.Printing.{with_backslashes, wants_backslash};
 ghost use Rattle.be_query.specs.Grammar.{Formula, IsTextOf};
 ghost use Rattle.be_query.specs.View.{formula, literal, printed_at, only_if};
 
@@ -22,16 +23,18 @@ pub(crate) enum Place {
     Operand,
 }
 
-/// The canonical text of a query: each comparison as `"name"op"value"`, sides joined by ` && ` and ` || `. `parse`
-/// reads it back wherever it is within the limits of `parse`: it may have more than 4,096 bytes, or more than 64
-/// parentheses round a comparison. It recurses on the tree's joints, of which a query has at most 255.
+/// The canonical text of a query: each comparison as `"name"op"value"`, sides joined by ` && ` and
+/// ` || `. `parse` reads it back wherever it is within the limits of `parse`: it may have more than
+/// 4,096 bytes, or more than 64 parentheses round a comparison. It recurses on the tree's joints,
+/// of which a query has at most 255.
 pub fn print(alloc: Global, query: &Query) -> Result<String, Refusal>
     // It is the canonical text of the tree,
     ensures text { IfOk result (λ s. string_bytes s ≡ or_text query.now) }
-    // which spells the tree,
+    // which encodes the tree,
     ensures spells { IfOk result (λ s. IsTextOf (string_bytes s) query.now) }
     // and no other.
-    ensures alone { IfOk result (λ s. (tree : Formula) → IsTextOf (string_bytes s) tree → tree ≡ query.now) }
+    ensures alone { IfOk result (λ s. (tree : Formula) → IsTextOf (string_bytes s) tree → tree
+        ≡ query.now) }
     ensures err { IfErr result (λ e. e ≡ OutOfMemory) }
 {
     let mut text = String::new(alloc);
@@ -39,9 +42,10 @@ pub fn print(alloc: Global, query: &Query) -> Result<String, Refusal>
     Ok(text)
 }
 
-/// The canonical text of one comparison, as it stands in that of a query.
+/// The canonical text of one comparison, as it is in that of a query.
 pub fn print_comparison(alloc: Global, comparison: &Comparison) -> Result<String, Refusal>
-    ensures ok { IfOk result (λ s. string_bytes s ≡ leaf_text comparison.now.name comparison.now.op (literal comparison.now.literal)) }
+    ensures ok { IfOk result (λ s. string_bytes s
+        ≡ leaf_text comparison.now.name comparison.now.op (literal comparison.now.literal)) }
     ensures err { IfErr result (λ e. e ≡ OutOfMemory) }
 {
     let mut text = String::new(alloc);
@@ -51,7 +55,8 @@ pub fn print_comparison(alloc: Global, comparison: &Comparison) -> Result<String
 
 /// Appends a tree that is printed in a place.
 fn push_tree(alloc: Global, text: &mut String, tree: &Tree, place: Place) -> Result<(), Refusal>
-    ensures ok { IfOk result (λ _. string_bytes text.new ≡ string_bytes text.old ++ printed_at place (formula tree.now)) }
+    ensures ok { IfOk result (λ _. string_bytes text.new ≡ string_bytes text.old
+        ++ printed_at place (formula tree.now)) }
     ensures err { IfErr result (λ e. e ≡ OutOfMemory) }
 {
     match tree {
@@ -77,9 +82,10 @@ fn push_tree(alloc: Global, text: &mut String, tree: &Tree, place: Place) -> Res
     }
 }
 
-/// Appends a text where it is shown.
+/// Appends a text if it is to be shown.
 fn push_if(text: &mut String, shown: bool, piece: &str) -> Result<(), AllocError>
-    ensures { IfOk result (λ _. string_bytes text.new ≡ string_bytes text.old ++ only_if shown piece.now) }
+    ensures { IfOk result (λ _. string_bytes text.new ≡ string_bytes text.old
+        ++ only_if shown piece.now) }
 {
     if !shown {
         return Ok(());
@@ -90,7 +96,8 @@ fn push_if(text: &mut String, shown: bool, piece: &str) -> Result<(), AllocError
 /// Appends a comparison.
 fn push_comparison(alloc: Global, text: &mut String, comparison: &Comparison) -> Result<(), Refusal>
     ensures ok { IfOk result (λ _. string_bytes text.new
-        ≡ string_bytes text.old ++ leaf_text comparison.now.name comparison.now.op (literal comparison.now.literal)) }
+        ≡ string_bytes text.old ++ leaf_text comparison.now.name comparison.now.op
+        (literal comparison.now.literal)) }
     ensures err { IfErr result (λ e. e ≡ OutOfMemory) }
 {
     text.push('"')?;
@@ -119,7 +126,8 @@ fn sign_of(op: Cmp) -> &'static str
 
 /// Appends what is compared with, without its quotes.
 fn push_value(alloc: Global, text: &mut String, value: &Literal) -> Result<(), Refusal>
-    ensures ok { IfOk result (λ _. string_bytes text.new ≡ string_bytes text.old ++ literal_text (literal value.now)) }
+    ensures ok { IfOk result (λ _. string_bytes text.new ≡ string_bytes text.old
+        ++ literal_text (literal value.now)) }
     ensures err { IfErr result (λ e. e ≡ OutOfMemory) }
 {
     match value {
@@ -137,7 +145,8 @@ fn push_value(alloc: Global, text: &mut String, value: &Literal) -> Result<(), R
 
 /// Appends a text with a backslash before each `"` and `\`.
 fn push_escaped(text: &mut String, piece: &str) -> Result<(), AllocError>
-    ensures { IfOk result (λ _. string_bytes text.new ≡ string_bytes text.old ++ with_backslashes piece.now) }
+    ensures { IfOk result (λ _. string_bytes text.new ≡ string_bytes text.old
+        ++ with_backslashes piece.now) }
 {
     let mut rest = piece;
     'characters: while let Some((c, after)) = split_first_char(rest) {

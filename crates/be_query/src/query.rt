@@ -1,5 +1,5 @@
-//! Queries, and reading one from text: the text's tokens are taken one by one from the left, and the first that can't
-//! follow, or has a fault of its own, is named with its byte.
+//! Queries, and reading one from text: the text's tokens are taken one by one from the left, and
+//! the first that can't follow, or has a fault of its own, is named with its byte.
 ghost use Rattle.std.specs.Prelude.{◌≡◌, ◌≤◌, None, Some, IfOk, IfErr};
 ghost use Rattle.be_query.specs.Faults.{fault};
 ghost use Rattle.be_query.specs.Grammar.{IsTextOf, comparisons};
@@ -16,8 +16,8 @@ use std::marker::Model;
 /// The longest text of a query.
 const MAX_LEN: usize = 4096;
 
-/// A query: a tree of at most 256 comparisons whose names and values canonical text can spell. A contract sees the
-/// tree, without where it lies in memory.
+/// A query: a tree of at most 256 comparisons whose names and values canonical text can encode. A
+/// contract sees the tree, without its place in memory.
 #[derive(Debug, Drop)]
 pub struct Query {
     pub(crate) tree: Box<Tree>,
@@ -36,7 +36,8 @@ impl Model for Query {
 
     ghost view = { λ q. formula q.tree.value };
 
-    ghost invariant = { λ q. (comparisons (formula q.tree.value) ≤ 256) × IsKept (formula q.tree.value) };
+    ghost invariant = { λ q. (comparisons (formula q.tree.value) ≤ 256)
+        × IsKept (formula q.tree.value) };
 }
 
 impl Query {
@@ -50,17 +51,19 @@ impl Query {
     }
 }
 
-/// The query that a text spells.
+/// The query that a text encodes.
 ///
-/// A text of more than 4,096 bytes is `TooLong`, whatever is in it. Else the first fault from the left is named, with
-/// its byte in the text: `Syntax` at a token that can't follow or at the end of a text that ends too soon, `BadPattern`
-/// at the `[` of a faulty set, `TooMany` at the 257th comparison, `TooDeep` at a `(` or `!` inside 64 open ones.
+/// A text of more than 4,096 bytes is `TooLong`, whatever is in it. Otherwise the first fault from
+/// the left is returned, with its byte in the text: `Syntax` at a token that can't follow or at the
+/// end of a text that ends too soon, `BadPattern` at the `[` of a faulty set, `TooMany` at the
+/// 257th comparison, `TooDeep` at a `(` or `!` inside 64 open ones.
 ///
-/// The text is read in one pass, in a loop, and no tree is gone over again: a `!` costs no more than any other token.
-/// Nothing recurses, whatever the text is, not even where a refusal drops the trees that stand by then. Memory is asked
-/// for by tokens: for the text of a name that has a backslash, and of one with more than 63 bytes before that, for the text
-/// of a value, for the tokens and each of the sets of a pattern that has a character of its notation, for a comparison, and
-/// for each joint that ends.
+/// The text is read in one pass, in a loop, and no tree is passed again: a `!` costs no more than
+/// any other token. Nothing recurses, whatever the text is, not even when a refusal drops the trees
+/// that were built. Memory is allocated per token: for the text of a name that has a backslash, and
+/// of one with more than 63 bytes before that, for the text of a value, for the tokens and each of
+/// the sets of a pattern that has a character of its notation, for a comparison, and for each joint
+/// that ends.
 pub fn parse(alloc: Global, text: &str) -> Result<Query, Refusal>
     // A text without a fault is a sentence of the grammar, and this is its tree.
     ensures ok { IfOk result (λ q. (fault text.now ≡ None) × IsTextOf text.now q) }

@@ -1,10 +1,14 @@
-//! Queries from items in reverse Polish order, which are worked on a stack (after `BQuery` of the Be Book).
-ghost use Rattle.std.specs.Prelude.{◌≡◌, ◌≤◌, ℕ, ◌∷◌, Ok, Err, Some, None, IfOk, IfErr, MatchOption, map, string_bytes};
+//! Queries from items in reverse Polish order, which are worked on a stack (after `BQuery` of the
+//! Be Book).
+ghost use Rattle.std.specs.Prelude.{◌≡◌, ◌≤◌, ℕ, ◌∷◌, Ok, Err, Some, None, IfOk, IfErr};
+ghost use Rattle.std.specs.Prelude.{MatchOption, map, string_bytes};
 ghost use Rattle.be_query.specs.Building.{conjunction};
 ghost use Rattle.be_query.specs.Faults.{bad_pattern};
 ghost use Rattle.be_query.specs.Grammar.{Leaf};
-ghost use Rattle.be_query.specs.Rpn.{Number, Attribute, Value, Whole, top_value, top_attribute, top_tree, top_comparison, top_trees};
-ghost use Rattle.be_query.specs.Rpn.{counts, given_literal, compares, surrounds, joins, complements, work, shallow, one_tree, rpn};
+ghost use Rattle.be_query.specs.Rpn.{Number, Attribute, Value, Whole, top_value, top_attribute};
+ghost use Rattle.be_query.specs.Rpn.{top_tree, top_comparison, top_trees};
+ghost use Rattle.be_query.specs.Rpn.{counts, given_literal, compares, surrounds, joins};
+ghost use Rattle.be_query.specs.Rpn.{complements, work, shallow, one_tree, rpn};
 ghost use Rattle.be_query.specs.Rpn.{thing_of, things_of, stack_of, item_of, ItemClean};
 ghost use Rattle.be_value.specs.Name.{has_nul};
 ghost use Rattle.std.specs.Fmt.{decimal, signed_decimal};
@@ -44,7 +48,7 @@ pub enum Item {
     Not,
 }
 
-/// What stands on the stack.
+/// A thing on the stack.
 #[derive(Drop)]
 pub(crate) enum Thing {
     Attribute(Name),
@@ -61,9 +65,10 @@ pub(crate) struct Stack {
 
 /// The query that the items build.
 ///
-/// `BadRpn` names the item that finds something else on the stack than it needs, or is a text with a NUL, or the number
-/// of items where other than one query is left; `BadPattern` the item of the comparison. At one item the order is
-/// `BadRpn`, `BadPattern`, `TooMany` (the 257th comparison), `TooDeep` (more than 64 things on the stack).
+/// `BadRpn` names the item that finds something else on the stack than it needs, or is a text with
+/// a NUL, or the number of items if they leave other than one query; `BadPattern` names the item of
+/// the comparison. At one item the order is `BadRpn`, `BadPattern`, `TooMany` (the 257th
+/// comparison), `TooDeep` (more than 64 things on the stack).
 pub fn from_rpn(alloc: Global, items: &[Item]) -> Result<Query, Refusal>
     // The tree is the one that the items build.
     ensures ok { IfOk result (λ q. rpn (map item_of items.now) ≡ Ok q) }
@@ -120,7 +125,7 @@ fn know_uint(n: u64)
     let _n = n;
 }
 
-/// The tree at the end of so many items.
+/// The tree at the end of that many items.
 fn finish(stack: &mut Stack, len: usize) -> Result<Tree, Refusal>
     ensures ok { IfOk result (λ t. one_tree len (stack_of stack.old).1 ≡ Ok (formula t)) }
     ensures err { IfErr result (λ e. one_tree len (stack_of stack.old).1 ≡ Err e) }
@@ -134,10 +139,14 @@ fn finish(stack: &mut Stack, len: usize) -> Result<Tree, Refusal>
     Err(Refusal::BadRpn(len))
 }
 
-/// Works an item, and sees that the stack is not too high behind it.
+/// Applies an item, and checks that the stack is not too high after it.
 fn take_item(alloc: Global, stack: &mut Stack, at: usize, item: &Item) -> Result<(), Refusal>
-    ensures ok { IfOk result (λ _. shallow (work at (stack_of stack.old).0 (stack_of stack.old).1 (item_of item.now)) ≡ Ok (stack_of stack.new)) }
-    ensures err { IfErr result (λ e. IsMemory e (shallow (work at (stack_of stack.old).0 (stack_of stack.old).1 (item_of item.now)) ≡ Err e)) }
+    ensures ok { IfOk result (λ _. shallow
+        (work at (stack_of stack.old).0 (stack_of stack.old).1 (item_of item.now))
+        ≡ Ok (stack_of stack.new)) }
+    ensures err { IfErr result (λ e. IsMemory e
+        (shallow (work at (stack_of stack.old).0 (stack_of stack.old).1 (item_of item.now))
+        ≡ Err e)) }
 {
     match work(alloc, stack, at, item) {
         Ok(()) => {}
@@ -151,8 +160,10 @@ fn take_item(alloc: Global, stack: &mut Stack, at: usize, item: &Item) -> Result
 
 /// Works an item on the stack.
 fn work(alloc: Global, stack: &mut Stack, at: usize, item: &Item) -> Result<(), Refusal>
-    ensures ok { IfOk result (λ _. work at (stack_of stack.old).0 (stack_of stack.old).1 (item_of item.now) ≡ Ok (stack_of stack.new)) }
-    ensures err { IfErr result (λ e. IsMemory e (work at (stack_of stack.old).0 (stack_of stack.old).1 (item_of item.now) ≡ Err e)) }
+    ensures ok { IfOk result (λ _. work at (stack_of stack.old).0 (stack_of stack.old).1
+        (item_of item.now) ≡ Ok (stack_of stack.new)) }
+    ensures err { IfErr result (λ e. IsMemory e
+        (work at (stack_of stack.old).0 (stack_of stack.old).1 (item_of item.now) ≡ Err e)) }
 {
     match item {
         Item::Attr(name) => push(stack, Thing::Attribute(name.copy())),
@@ -188,7 +199,8 @@ fn has_nul(text: &str) -> bool
 
 /// Lays a thing on the stack.
 fn push(stack: &mut Stack, thing: Thing) -> Result<(), Refusal>
-    ensures ok { IfOk result (λ _. stack_of stack.new ≡ ((stack_of stack.old).0, thing_of thing ∷ (stack_of stack.old).1)) }
+    ensures ok { IfOk result (λ _. stack_of stack.new
+        ≡ ((stack_of stack.old).0, thing_of thing ∷ (stack_of stack.old).1)) }
     ensures err { IfErr result (λ e. e ≡ Refusal.OutOfMemory) }
 {
     stack.things.push(thing)?;
@@ -197,10 +209,12 @@ fn push(stack: &mut Stack, thing: Thing) -> Result<(), Refusal>
 
 /// Lays one comparison more on the stack.
 fn push_comparison(stack: &mut Stack, comparison: Comparison) -> Result<(), Refusal>
-    ensures ok { IfOk result (λ _. counts (stack_of stack.old).0 (Leaf comparison.name comparison.op (literal comparison.literal)) (stack_of stack.old).1
+    ensures ok { IfOk result (λ _. counts (stack_of stack.old).0
+        (Leaf comparison.name comparison.op (literal comparison.literal)) (stack_of stack.old).1
         ≡ Ok (stack_of stack.new)) }
     ensures err { IfErr result (λ e. IsMemory e
-        (counts (stack_of stack.old).0 (Leaf comparison.name comparison.op (literal comparison.literal)) (stack_of stack.old).1 ≡ Err e)) }
+        (counts (stack_of stack.old).0 (Leaf comparison.name comparison.op
+        (literal comparison.literal)) (stack_of stack.old).1 ≡ Err e)) }
 {
     if stack.comparisons >= MAX_COMPARISONS {
         return Err(Refusal::TooMany);
@@ -212,8 +226,10 @@ fn push_comparison(stack: &mut Stack, comparison: Comparison) -> Result<(), Refu
 
 /// Compares the attribute with the value above it.
 fn compare(alloc: Global, stack: &mut Stack, at: usize, op: Cmp) -> Result<(), Refusal>
-    ensures ok { IfOk result (λ _. compares at (stack_of stack.old).0 op (top_comparison (stack_of stack.old).1) ≡ Ok (stack_of stack.new)) }
-    ensures err { IfErr result (λ e. IsMemory e (compares at (stack_of stack.old).0 op (top_comparison (stack_of stack.old).1) ≡ Err e)) }
+    ensures ok { IfOk result (λ _. compares at (stack_of stack.old).0 op
+        (top_comparison (stack_of stack.old).1) ≡ Ok (stack_of stack.new)) }
+    ensures err { IfErr result (λ e. IsMemory e
+        (compares at (stack_of stack.old).0 op (top_comparison (stack_of stack.old).1) ≡ Err e)) }
 {
     let Some((name, text)) = pop_comparison(&mut stack.things) else {
         return Err(Refusal::BadRpn(at));
@@ -225,10 +241,14 @@ fn compare(alloc: Global, stack: &mut Stack, at: usize, op: Cmp) -> Result<(), R
     push_comparison(stack, Comparison { name, op, literal })
 }
 
-/// What a text is compared as: a pattern, or where it is faulty as one; by an order operator the text as it is.
+/// What a text is compared as: a pattern, or the place of its fault; by an order operator the text
+/// as it is.
 fn given_literal(alloc: Global, op: Cmp, text: String) -> Result<Result<Literal, usize>, AllocError>
-    ensures ok { IfOk result (λ r. IfOk r (λ l. (literal l ≡ given_literal op (string_bytes text)) × (bad_pattern op (string_bytes text) ≡ None))) }
-    ensures err { IfOk result (λ r. IfErr r (λ place. bad_pattern op (string_bytes text) ≡ Some place)) }
+    ensures ok { IfOk result (λ r. IfOk r
+        (λ l. (literal l ≡ given_literal op (string_bytes text))
+        × (bad_pattern op (string_bytes text) ≡ None))) }
+    ensures err { IfOk result (λ r. IfErr r
+        (λ place. bad_pattern op (string_bytes text) ≡ Some place)) }
 {
     match op {
         Cmp::Eq | Cmp::Ne => read_literal(alloc, op, &text),
@@ -236,7 +256,8 @@ fn given_literal(alloc: Global, op: Cmp, text: String) -> Result<Result<Literal,
     }
 }
 
-/// Compares the attribute with the literal text above it, which may have a `*` before it and behind it.
+/// Compares the attribute with the literal text above it, which may have a `*` before it and after
+/// it.
 fn surround(
     alloc: Global,
     stack: &mut Stack,
@@ -244,8 +265,11 @@ fn surround(
     before: bool,
     behind: bool,
 ) -> Result<(), Refusal>
-    ensures ok { IfOk result (λ _. surrounds at (stack_of stack.old).0 before behind (top_comparison (stack_of stack.old).1) ≡ Ok (stack_of stack.new)) }
-    ensures err { IfErr result (λ e. IsMemory e (surrounds at (stack_of stack.old).0 before behind (top_comparison (stack_of stack.old).1) ≡ Err e)) }
+    ensures ok { IfOk result (λ _. surrounds at (stack_of stack.old).0 before behind
+        (top_comparison (stack_of stack.old).1) ≡ Ok (stack_of stack.new)) }
+    ensures err { IfErr result (λ e. IsMemory e
+        (surrounds at (stack_of stack.old).0 before behind (top_comparison (stack_of stack.old).1)
+        ≡ Err e)) }
 {
     let Some((name, text)) = pop_comparison(&mut stack.things) else {
         return Err(Refusal::BadRpn(at));
@@ -257,8 +281,11 @@ fn surround(
 
 /// Joins the two trees on the top, by `||` or by `&&`.
 fn join(alloc: Global, stack: &mut Stack, at: usize, either: bool) -> Result<(), Refusal>
-    ensures ok { IfOk result (λ _. joins at (stack_of stack.old).0 (conjunction either) (top_trees (stack_of stack.old).1) ≡ Ok (stack_of stack.new)) }
-    ensures err { IfErr result (λ e. IsMemory e (joins at (stack_of stack.old).0 (conjunction either) (top_trees (stack_of stack.old).1) ≡ Err e)) }
+    ensures ok { IfOk result (λ _. joins at (stack_of stack.old).0 (conjunction either)
+        (top_trees (stack_of stack.old).1) ≡ Ok (stack_of stack.new)) }
+    ensures err { IfErr result (λ e. IsMemory e
+        (joins at (stack_of stack.old).0 (conjunction either) (top_trees (stack_of stack.old).1)
+        ≡ Err e)) }
 {
     let Some((left, right)) = pop_trees(&mut stack.things) else {
         return Err(Refusal::BadRpn(at));
@@ -269,8 +296,10 @@ fn join(alloc: Global, stack: &mut Stack, at: usize, either: bool) -> Result<(),
 
 /// Turns the tree on the top into its complement.
 fn turn(alloc: Global, stack: &mut Stack, at: usize) -> Result<(), Refusal>
-    ensures ok { IfOk result (λ _. complements at (stack_of stack.old).0 (top_tree (stack_of stack.old).1) ≡ Ok (stack_of stack.new)) }
-    ensures err { IfErr result (λ e. IsMemory e (complements at (stack_of stack.old).0 (top_tree (stack_of stack.old).1) ≡ Err e)) }
+    ensures ok { IfOk result (λ _. complements at (stack_of stack.old).0
+        (top_tree (stack_of stack.old).1) ≡ Ok (stack_of stack.new)) }
+    ensures err { IfErr result (λ e. IsMemory e
+        (complements at (stack_of stack.old).0 (top_tree (stack_of stack.old).1) ≡ Err e)) }
 {
     let Some(tree) = pop_tree(&mut stack.things) else {
         return Err(Refusal::BadRpn(at));
@@ -282,7 +311,8 @@ fn turn(alloc: Global, stack: &mut Stack, at: usize) -> Result<(), Refusal>
 /// Takes the value off the top.
 fn pop_value(things: &mut Vec<Thing>) -> Option<String>
     ensures { MatchOption result (top_value (things_of things.old.items) ≡ None)
-        (λ text. top_value (things_of things.old.items) ≡ Some (string_bytes text, things_of things.new.items)) }
+        (λ text. top_value (things_of things.old.items)
+        ≡ Some (string_bytes text, things_of things.new.items)) }
 {
     match things.pop()? {
         Thing::Value(text) => Some(text),
@@ -294,7 +324,8 @@ fn pop_value(things: &mut Vec<Thing>) -> Option<String>
 /// Takes the attribute off the top.
 fn pop_attribute(things: &mut Vec<Thing>) -> Option<Name>
     ensures { MatchOption result (top_attribute (things_of things.old.items) ≡ None)
-        (λ name. top_attribute (things_of things.old.items) ≡ Some (name, things_of things.new.items)) }
+        (λ name. top_attribute (things_of things.old.items)
+        ≡ Some (name, things_of things.new.items)) }
 {
     match things.pop()? {
         Thing::Attribute(name) => Some(name),
@@ -306,7 +337,8 @@ fn pop_attribute(things: &mut Vec<Thing>) -> Option<Name>
 /// Takes the tree off the top.
 fn pop_tree(things: &mut Vec<Thing>) -> Option<Tree>
     ensures { MatchOption result (top_tree (things_of things.old.items) ≡ None)
-        (λ tree. top_tree (things_of things.old.items) ≡ Some (formula tree, things_of things.new.items)) }
+        (λ tree. top_tree (things_of things.old.items)
+        ≡ Some (formula tree, things_of things.new.items)) }
 {
     match things.pop()? {
         Thing::Whole(tree) => Some(tree),
@@ -318,7 +350,8 @@ fn pop_tree(things: &mut Vec<Thing>) -> Option<Tree>
 /// Takes the value off the top, and the attribute below it.
 fn pop_comparison(things: &mut Vec<Thing>) -> Option<(Name, String)>
     ensures { MatchOption result (top_comparison (things_of things.old.items) ≡ None)
-        (λ p. top_comparison (things_of things.old.items) ≡ Some (p.0, string_bytes p.1, things_of things.new.items)) }
+        (λ p. top_comparison (things_of things.old.items)
+        ≡ Some (p.0, string_bytes p.1, things_of things.new.items)) }
 {
     let text = pop_value(things)?;
     let name = pop_attribute(things)?;
@@ -328,7 +361,8 @@ fn pop_comparison(things: &mut Vec<Thing>) -> Option<(Name, String)>
 /// Takes the two trees off the top, the lower one first.
 fn pop_trees(things: &mut Vec<Thing>) -> Option<(Tree, Tree)>
     ensures { MatchOption result (top_trees (things_of things.old.items) ≡ None)
-        (λ p. top_trees (things_of things.old.items) ≡ Some (formula p.0, formula p.1, things_of things.new.items)) }
+        (λ p. top_trees (things_of things.old.items)
+        ≡ Some (formula p.0, formula p.1, things_of things.new.items)) }
 {
     let right = pop_tree(things)?;
     let left = pop_tree(things)?;

@@ -1,4 +1,5 @@
-//! The tree of a query: comparisons under `&&` and `||`. A `!` is never in it, since the complement of a tree is one.
+//! The tree of a query: comparisons under `&&` and `||`. A `!` is never in it, since the complement
+//! of a tree is one.
 ghost use Rattle.std.specs.Prelude.{◌≡◌, ◌<◌, true, false, IfOk};
 ghost use Rattle.be_query.specs.Grammar.{And, complement, opposite};
 ghost use Rattle.be_query.specs.Turning.{rounds, IsLeaf, BeginsWithLeaf};
@@ -37,7 +38,8 @@ pub struct Comparison {
     pub literal: Literal,
 }
 
-/// Comparisons under `&&` and `||`. It is dropped in a loop: no tree makes that recurse, however deep it is.
+/// Comparisons under `&&` and `||`. It is dropped in a loop: no tree makes that recurse, however
+/// deep it is.
 #[derive(Debug)]
 pub enum Tree {
     Leaf(Comparison),
@@ -46,7 +48,7 @@ pub enum Tree {
 }
 
 impl Cmp {
-    /// The operator that holds where this one does not.
+    /// The operator that is true exactly if this one is false.
     pub fn opposite(self) -> Cmp
         ensures { result ≡ opposite self }
     {
@@ -62,8 +64,8 @@ impl Cmp {
 }
 
 impl Drop for Tree {
-    /// The joints on the left are turned to the right one by one, and the comparison that comes to stand left is let go:
-    /// at most two rounds for each joint.
+    /// The joints on the left are turned to the right one by one, and each comparison that becomes
+    /// a left side is dropped: at most two rounds for each joint.
     fn drop(mut self) {
         'joints: loop {
             if turn(&mut self) {
@@ -84,8 +86,8 @@ impl Drop for Tree {
     }
 }
 
-/// Makes the joint on the left of a joint, if there is one, the joint on its right, and says whether it did. The
-/// comparisons keep their order, but the joints do not keep what they join.
+/// Makes the joint on the left of a joint, if there is one, the joint on its right, and says
+/// whether it did. The comparisons keep their order, but the joints do not keep what they join.
 fn turn(tree: &mut Tree) -> bool
     ensures turned { result ≡ true → rounds (formula tree.new) < rounds (formula tree.old) }
     ensures kept { result ≡ false → formula tree.new ≡ formula tree.old }
@@ -102,7 +104,8 @@ fn turn(tree: &mut Tree) -> bool
 fn turn_sides(left: &mut Box<Tree>, right: &mut Box<Tree>) -> bool
     ensures turned { result ≡ true → rounds (And (formula left.new.value) (formula right.new.value))
         < rounds (And (formula left.old.value) (formula right.old.value)) }
-    ensures kept { result ≡ false → (formula left.new.value ≡ formula left.old.value) × (formula right.new.value ≡ formula right.old.value) }
+    ensures kept { result ≡ false → (formula left.new.value ≡ formula left.old.value)
+        × (formula right.new.value ≡ formula right.old.value) }
     ensures leaf { result ≡ false → IsLeaf (formula left.new.value) }
 {
     let turns = match &mut **left {
@@ -148,8 +151,8 @@ impl Tree {
         }
     }
 
-    /// The tree that holds where this one does not. It recurses on the tree's joints, which `from_rpn` keeps to 255 at
-    /// most, and makes each anew.
+    /// The tree that is true exactly if this one is false. It recurses on the tree's joints, of
+    /// which `from_rpn` allows up to 255, and makes each anew.
     pub(crate) fn complement(self, alloc: Global) -> Result<Tree, AllocError>
         ensures { IfOk result (λ t. formula t ≡ complement (formula self)) }
     {

@@ -1,8 +1,10 @@
 //! Scripts and what they are answered, as rows `LINE => REPLY`.
 //!
-//! Each table is run over the shared store and over a plain volume with its journal, and both give the replies of the rows.
+//! Each table is run over the shared store and over a plain volume with its journal, and both give
+//! the replies of the rows.
 //!
-//! Every test passes with any one request for memory refused: a run that wanted memory is looked at, and made again.
+//! Every test passes with any one request for memory refused: a run that ran out of memory is
+//! looked at, and made again.
 ghost use Rattle.std.specs.Prelude.{◌<◌, ◌^◌};
 
 mod alike;
@@ -14,7 +16,7 @@ mod pools;
 mod readings;
 mod tellings;
 
-use be_serving::{Limits, RunFault, run, serve};
+use be_script_runner::{Limits, RunFault, run, serve};
 use be_value::word_of;
 use plain::PlainStore;
 use std::alloc::{AllocError, Global};
@@ -27,7 +29,8 @@ const LIMITS: Limits = Limits {
     commits: 1_000_000,
 };
 
-/// The character that a character of a row stands for: the pictures of control characters are those.
+/// The character that a character of a row stands for: the pictures of control characters are
+/// those.
 fn meaning_of(c: char) -> char {
     match c {
         '␀' => '\0',
@@ -48,7 +51,8 @@ fn push_meant(text: &mut String, written: &str) -> Result<(), AllocError> {
     Ok(())
 }
 
-/// Appends `COUNT*PART}` and what follows it: the part as often as counted. Any other text stands for itself.
+/// Appends `COUNT*PART}` and what follows it: the part as often as counted. Any other text stands
+/// for itself.
 fn push_repeated(text: &mut String, written: &str) -> Result<(), AllocError> {
     let Some((repeated, rest)) = written.split_once('}') else {
         return push_meant(text, written);
@@ -83,7 +87,8 @@ fn push_lines(text: &mut String, written: &str) -> Result<(), AllocError> {
     Ok(())
 }
 
-/// Appends the lines of a row to a script, and their replies to the replies. A row without ` => ` is a line without a reply.
+/// Appends the lines of a row to a script, and their replies to the replies. A row without ` => `
+/// is a line without a reply.
 fn push_row(script: &mut String, replies: &mut String, row: &str) -> Result<(), AllocError> {
     let Some((lines, reply)) = row.split_once(" => ") else {
         push_part(script, row)?;
@@ -104,7 +109,7 @@ fn push_rows(script: &mut String, replies: &mut String, rows: &str) -> Result<()
     Ok(())
 }
 
-/// The script of an example's rows and of those behind it, and its replies.
+/// The script of an example's rows and of the rows after it, and its replies.
 fn script_of(alloc: Global, example: &str, rows: &str) -> Result<(String, String), AllocError> {
     let mut script = String::new(alloc);
     let mut replies = String::new(alloc);
@@ -124,7 +129,7 @@ fn first_other<'a>(written: &'a str, replies: &str) -> Option<&'a str> {
     None
 }
 
-/// Whether the first line that isn't as expected tells a want of memory.
+/// Whether the first line that isn't as expected reports out of memory.
 fn wants_memory(written: &str, replies: &str) -> bool {
     first_other(written, replies) == Some("refused 10 OutOfMemory")
 }
@@ -157,7 +162,8 @@ fn run_by(
     }
 }
 
-/// Runs a script. True if it is replied to so, and false if it wanted memory, behind a front of these replies.
+/// Runs a script. True if its replies are these, and false if memory ran out after a front of these
+/// replies.
 fn replies_to(
     by: By,
     alloc: Global,
@@ -179,7 +185,8 @@ fn replies_to(
     }
 }
 
-/// Fails unless the script has these replies by this server, at the second run where the first one wanted memory.
+/// Fails unless the script has these replies by this server, at the second run if memory ran out at
+/// the first.
 fn check_by(by: By, alloc: Global, script: &[u8], replies: &str, commits: u64) -> Result<(), Fail>
     requires { commits < 2 ^ 32 }
 {
@@ -199,7 +206,7 @@ fn check_bytes(alloc: Global, script: &[u8], replies: &str, commits: u64) -> Res
     check_by(By::PlainVolume, alloc, script, replies, commits)
 }
 
-/// Fails unless each line of an example's rows and of those behind it has its reply.
+/// Fails unless each line of an example's rows and of the rows after it has its reply.
 fn check_behind(alloc: Global, example: &str, rows: &str) -> Result<(), Fail> {
     let (script, replies) = match script_of(alloc, example, rows) {
         Ok(parts) => parts,

@@ -1,13 +1,17 @@
--- The numbers of faults.
+-- The numbers of errors.
 use Rattle.std.specs.Prelude.{ℕ, unwrap_or}
 use Rattle.be_value.specs.Refusal.{carried, refusal_number}
 use Rattle.be_store.specs.declared.conditional.ApplyIfError.{ApplyIfError}
 use Rattle.be_store.specs.declared.conditional.ApplyIfError.TheVariants as errors
 use Rattle.be_session.specs.declared.faults.Fault.{Fault}
-use Rattle.be_session.specs.declared.faults.Fault.TheVariants.{NotPinned, AlreadyPinned, NoPass, BadCount}
-use Rattle.be_session.specs.declared.faults.Fault.TheVariants.{NotUtf8, NoOperation, NoKind, NoValue, BadPart, NoItem, Conflict, Refused}
+use Rattle.be_session.specs.declared.faults.Fault.TheVariants.{NotPinned, AlreadyPinned, NoPass}
+use Rattle.be_session.specs.declared.faults.Fault.TheVariants.{BadCount}
+use Rattle.be_session.specs.declared.faults.Fault.TheVariants.{NotUtf8, NoOperation, NoKind}
+use Rattle.be_session.specs.declared.faults.Fault.TheVariants.{NoValue, BadPart, NoItem, Conflict}
+use Rattle.be_session.specs.declared.faults.Fault.TheVariants.{Refused}
 
--- the number by which other languages know a fault: a refusal's own, and 66 on for those of a session
+-- the number by which other languages know an error: a refusal's own, and from 66 on those of a
+-- session
 abbrev pub fault_code : Fault → ℕ
 fault_code NotPinned = 66
 fault_code AlreadyPinned = 67
@@ -22,7 +26,8 @@ fault_code NoItem = 75
 fault_code (Conflict length) = 76
 fault_code (Refused e) = refusal_number e
 
--- the number that goes with a fault: what a refusal carries, the length of a conflict, and 0 where there is none
+-- the number that an error carries: what a refusal carries, the journal's length for a conflict,
+-- and otherwise 0
 abbrev pub fault_carried : Fault → ℕ
 fault_carried NotPinned = 0
 fault_carried AlreadyPinned = 0
@@ -37,7 +42,7 @@ fault_carried NoItem = 0
 fault_carried (Conflict length) = length
 fault_carried (Refused e) = unwrap_or (carried e) 0
 
--- the fault of a conditional write that the store did not make
+-- the error of a conditional write that the store did not make
 abbrev pub fault_of : ApplyIfError → Fault
 fault_of (errors.Conflict length) = Conflict length
 fault_of (errors.Refused e) = Refused e

@@ -1,4 +1,4 @@
--- What numbers and bytes mean: values and operations as other languages spell them.
+-- What numbers and bytes mean: values and operations as other languages encode them.
 use Rattle.std.specs.Prelude.{◌≡◌, ◌≢◌, ◌⊎◌, ◌<◌, ◌≤◌, ◌^◌, ℕ, List, [], IsUtf8, Ok, Err}
 use Rattle.std.specs.Int.{cast_signed, w32, w64}
 use Rattle.std.specs.Int.RustNames.{FitsSigned}
@@ -8,13 +8,16 @@ use Rattle.be_value.specs.declared.refusals.Refusal.{Refusal}
 use Rattle.be_value.specs.declared.values.Kind.{Kind}
 use Rattle.be_value.specs.declared.values.Kind.TheVariants as kinds
 use Rattle.be_value.specs.declared.values.Value.{Value}
-use Rattle.be_value.specs.declared.values.Value.TheVariants.{Cstr, Long, Llng, Mims, Rawt, Ulng, Ullg}
+use Rattle.be_value.specs.declared.values.Value.TheVariants.{Cstr, Long, Llng, Mims, Rawt, Ulng}
+use Rattle.be_value.specs.declared.values.Value.TheVariants.{Ullg}
 use Rattle.be_volume.specs.declared.ops.Op.{Op}
 use Rattle.be_volume.specs.declared.ops.Op.TheVariants.{New, Drop, Set, Unset, MkIndex, RmIndex}
 use Rattle.be_session.specs.declared.faults.Fault.{Fault}
-use Rattle.be_session.specs.declared.faults.Fault.TheVariants.{NotUtf8, NoOperation, NoKind, NoValue, Refused}
+use Rattle.be_session.specs.declared.faults.Fault.TheVariants.{NotUtf8, NoOperation, NoKind}
+use Rattle.be_session.specs.declared.faults.Fault.TheVariants.{NoValue, Refused}
 
--- The value that a type code, a number and bytes mean: a text or raw bytes is its bytes, and a number is the number, with a sign as two's complement.
+-- The value that a type code, a number and bytes mean: a text or raw bytes is its bytes, and a
+-- number is the number, with a sign as two's complement.
 abbrev pub IsValueMeant : ℕ → ℕ → List ℕ → Value → Type 0
 IsValueMeant code number bytes (Cstr text) = (code ≡ code_of kinds.Cstr) × (text ≡ bytes)
 IsValueMeant code number bytes (Long n) = (code ≡ code_of kinds.Long) × (n ≡ cast_signed w64 number)
@@ -38,9 +41,12 @@ HasNoMore number bytes (Ullg n) = bytes ≡ []
 abbrev pub IsMeant : ℕ → ℕ → List ℕ → ℕ → ℕ → List ℕ → Op → Type 0
 IsMeant number node name code value_number bytes New = number ≡ 0
 IsMeant number node name code value_number bytes (Drop n) = (number ≡ 1) × (n ≡ node)
-IsMeant number node name code value_number bytes (Set n called value) = (number ≡ 2) × (n ≡ node) × (called ≡ name) × IsValueMeant code value_number bytes value
-IsMeant number node name code value_number bytes (Unset n called) = (number ≡ 3) × (n ≡ node) × (called ≡ name)
-IsMeant number node name code value_number bytes (MkIndex called kind) = (number ≡ 4) × (called ≡ name) × (code_of kind ≡ code)
+IsMeant number node name code value_number bytes (Set n called value) = (number ≡ 2) × (n ≡ node)
+    × (called ≡ name) × IsValueMeant code value_number bytes value
+IsMeant number node name code value_number bytes (Unset n called) = (number ≡ 3) × (n ≡ node)
+    × (called ≡ name)
+IsMeant number node name code value_number bytes (MkIndex called kind) = (number ≡ 4)
+    × (called ≡ name) × (code_of kind ≡ code)
 IsMeant number node name code value_number bytes (RmIndex called) = (number ≡ 5) × (called ≡ name)
 
 -- no kind has this type code
@@ -49,11 +55,13 @@ IsNoKind code = (kind : Kind) → code_of kind ≢ code
 
 -- why bytes are no name
 abbrev pub IsNoName : List ℕ → Fault → Type 0
-IsNoName name e = ((e ≡ NotUtf8) × (¬ (IsUtf8 name))) ⊎ ((why : Refusal) × (e ≡ Refused why) × (name_from name ≡ Err why))
+IsNoName name e = ((e ≡ NotUtf8) × (¬ (IsUtf8 name)))
+    ⊎ ((why : Refusal) × (e ≡ Refused why) × (name_from name ≡ Err why))
 
 -- why bytes are no text of a value
 abbrev pub IsNoText : List ℕ → Fault → Type 0
-IsNoText bytes e = ((e ≡ NotUtf8) × (¬ (IsUtf8 bytes))) ⊎ ((why : Refusal) × (e ≡ Refused why) × (text_from bytes ≡ Err why))
+IsNoText bytes e = ((e ≡ NotUtf8) × (¬ (IsUtf8 bytes)))
+    ⊎ ((why : Refusal) × (e ≡ Refused why) × (text_from bytes ≡ Err why))
 
 -- why a number and bytes mean no value of this kind
 abbrev pub IsNoneOf : Kind → ℕ → List ℕ → Fault → Type 0
@@ -61,15 +69,17 @@ IsNoneOf kinds.Cstr number bytes e = IsNoText bytes e
 IsNoneOf kinds.Long number bytes e = (e ≡ NoValue) × (¬ (FitsSigned w32 (cast_signed w64 number)))
 IsNoneOf kinds.Llng number bytes e = ⊥
 IsNoneOf kinds.Mims number bytes e = IsNoText bytes e
-IsNoneOf kinds.Rawt number bytes e = (why : Refusal) × (e ≡ Refused why) × (bytes_from bytes ≡ Err why)
+IsNoneOf kinds.Rawt number bytes e = (why : Refusal) × (e ≡ Refused why)
+    × (bytes_from bytes ≡ Err why)
 IsNoneOf kinds.Ulng number bytes e = (e ≡ NoValue) × (¬ (number < 2 ^ 32))
 IsNoneOf kinds.Ullg number bytes e = ⊥
 
 -- why a type code, a number and bytes mean no value
 abbrev pub IsNoValue : ℕ → ℕ → List ℕ → Fault → Type 0
-IsNoValue code number bytes e = ((e ≡ NoKind) × IsNoKind code) ⊎ ((kind : Kind) × (code_of kind ≡ code) × IsNoneOf kind number bytes e)
+IsNoValue code number bytes e = ((e ≡ NoKind) × IsNoKind code)
+    ⊎ ((kind : Kind) × (code_of kind ≡ code) × IsNoneOf kind number bytes e)
 
--- Why these mean no operation. The name is looked at first, where the operation has one.
+-- Why these mean no operation. The name is tested first, if the operation has one.
 abbrev pub IsNoOperation : ℕ → List ℕ → ℕ → ℕ → List ℕ → Fault → Type 0
 IsNoOperation number name code value_number bytes e =
     ((e ≡ NoOperation) × (5 < number))

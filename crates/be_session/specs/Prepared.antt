@@ -1,20 +1,30 @@
--- A query that is prepared: parsed once and kept, to be asked again.
+-- A query that is prepared: parsed once and kept, so that it can be asked again.
 use Rattle.std.specs.Prelude.{◌≡◌, ℕ, List, [], refl}
 use Rattle.std.specs.Coded.{Coded, code_by, coded_ℕ, coded_list, coded×}
 use Rattle.be_query.specs.Grammar.{Formula}
 use Rattle.be_store.specs.Live.{LiveQuery, coded_live}
 
--- the query with its answer at the last refresh, and the nodes that came and that went then
+-- the query with its answer at the last refresh, the nodes that came and that went then, and those
+-- that were found when it was asked last
 pub record PreparedQuery : Type 0 where
   pub live : LiveQuery
+  pub found : List ℕ
   pub came : List ℕ
   pub went : List ℕ
 
 abbrev pub coded_prepared : Coded PreparedQuery
 coded_prepared =
-    code_by _ (coded× coded_live (coded× (coded_list coded_ℕ) (coded_list coded_ℕ))) (λ p. (p.live, (p.came, p.went)))
-    (λ c. record { live = c.0; came = c.1.0; went = c.1.1 }) (λ _. refl)
+    code_by _ (coded× coded_live (coded× (coded_list coded_ℕ)
+    (coded× (coded_list coded_ℕ) (coded_list coded_ℕ))))
+    (λ p. (p.live, (p.found, (p.came, p.went))))
+    (λ c. record { live = c.0; found = c.1.0; came = c.1.1.0; went = c.1.1.1 }) (λ _. refl)
 
--- this query, which was never refreshed: its last answer is empty, and nothing came or went
+-- this query before it was asked or refreshed: nothing was found, its last answer is empty, and
+-- nothing came or went
 abbrev pub IsUnasked : Formula → PreparedQuery → Type 0
-IsUnasked query p = (p.live ≡ record { query = query; last = [] }) × (p.came ≡ []) × (p.went ≡ [])
+IsUnasked query p = (p.live ≡ record { query = query; last = [] }) × (p.found ≡ []) × (p.came ≡ [])
+    × (p.went ≡ [])
+
+-- the same query, which found these nodes when it was asked last
+abbrev pub with_found : PreparedQuery → List ℕ → PreparedQuery
+with_found p nodes = record p { found = nodes }

@@ -1,7 +1,8 @@
-//! Predicates in reverse Polish order as other languages spell them.
+//! Predicates in reverse Polish order as other languages encode them.
 ghost use Rattle.std.specs.Prelude.{◌≡◌, ◌<◌, ℕ, List, IfOk, IfErr, map};
 ghost use Rattle.be_query.specs.Rpn.{item_of};
-ghost use Rattle.be_session.specs.Items.{AreItemsMeant, AreItemsMisspelt, IsBuilt, IsItemMeant, IsItemMisspelt, IsNoItem, IsUnbuilt, item_told};
+ghost use Rattle.be_session.specs.Items.{AreItemsMeant, AreItemsMisspelt, IsBuilt, IsItemMeant};
+ghost use Rattle.be_session.specs.Items.{IsItemMisspelt, IsNoItem, IsUnbuilt, item_told};
 ghost use Rattle.be_session.specs.Operations.{part};
 ghost use Rattle.be_session.specs.declared.faults.Fault.TheVariants.{NoItem};
 
@@ -11,22 +12,25 @@ use crate::{Fault, ListFault};
 use be_store::{Item, Query, from_rpn};
 use std::alloc::Global;
 
-/// An item of a predicate as C spells it. Its bytes are a part of one string of bytes that goes with all items.
+/// An item of a predicate as C encodes it. Its bytes are a part of one string of bytes that goes
+/// with all items.
 #[repr(C)]
 #[derive(Clone, Copy)]
 pub struct PredicateItem {
-    /// 0 is an attribute and 1 a text, by their bytes; 2 is a signed number and 3 another; 4 to 9 compare by ==, !=, <, <=, >
-    /// and >=; 10 to 12 ask whether the attribute contains the text, begins or ends with it; 13 is and, 14 or, 15 not.
+    /// 0 is an attribute and 1 a text, by their bytes; 2 is a signed number and 3 another; 4 to 9
+    /// compare by ==, !=, <, <=, > and >=; 10 to 12 ask whether the attribute contains the text,
+    /// begins or ends with it; 13 is and, 14 or, 15 not.
     pub kind: u32,
     pub at: u32,
     pub length: u32,
     pub number: u64,
 }
 
-/// An item that does something with those before it.
+/// An item that is an operator on the items before it.
 fn working_item(kind: u32) -> Result<Item, Fault>
     requires { 3 < kind }
-    ensures ok { IfOk result (λ item. (number : ℕ) (bytes : List ℕ) → IsItemMeant kind number bytes (item_of item)) }
+    ensures ok { IfOk result (λ item. (number : ℕ) (bytes : List ℕ)
+        → IsItemMeant kind number bytes (item_of item)) }
     ensures err { IfErr result (λ e. (e ≡ NoItem) × (15 < kind)) }
 {
     match kind {
@@ -60,7 +64,8 @@ fn item(alloc: Global, kind: u32, number: u64, bytes: &[u8]) -> Result<Item, Fau
 }
 
 fn one_item(alloc: Global, spelled: &PredicateItem, bytes: &[u8]) -> Result<Item, Fault>
-    ensures ok { IfOk result (λ item. IsItemMeant spelled.now.kind spelled.now.number (part bytes.now spelled.now.at spelled.now.length) (item_of item)) }
+    ensures ok { IfOk result (λ item. IsItemMeant spelled.now.kind spelled.now.number
+        (part bytes.now spelled.now.at spelled.now.length) (item_of item)) }
     ensures err { IfErr result (λ e. IsItemMisspelt spelled.now bytes.now e) }
 {
     match part(bytes, spelled.at, spelled.length) {
@@ -69,7 +74,7 @@ fn one_item(alloc: Global, spelled: &PredicateItem, bytes: &[u8]) -> Result<Item
     }
 }
 
-/// What is told of the fault of the item at this place.
+/// The place that is reported with the error of the item at this place.
 fn told(fault: &Fault, place: usize) -> u64
     ensures { result ≡ item_told fault.now place }
 {
@@ -79,8 +84,11 @@ fn told(fault: &Fault, place: usize) -> u64
     place as u64
 }
 
+/// The item that is encoded here. Its error says that its part isn't within the bytes, or that it
+/// means no item.
 fn items(alloc: Global, spelled: &[PredicateItem], bytes: &[u8]) -> Result<Vec<Item>, ListFault>
-    ensures ok { IfOk result (λ items. AreItemsMeant spelled.now bytes.now (map item_of items.items)) }
+    ensures ok { IfOk result (λ items. AreItemsMeant spelled.now bytes.now
+        (map item_of items.items)) }
     ensures err { IfErr result (λ e. AreItemsMisspelt spelled.now bytes.now e.fault e.place) }
 {
     let mut items = Vec::new(alloc);
@@ -96,8 +104,8 @@ fn items(alloc: Global, spelled: &[PredicateItem], bytes: &[u8]) -> Result<Vec<I
     Ok(items)
 }
 
-/// The query that items in reverse Polish order build. A fault of spelling is that of the first item that has one, with its
-/// place; else it is as of `be_query::from_rpn`, with the item that it names.
+/// The query that items in reverse Polish order build. The first invalid item gives the error and
+/// its place. Otherwise an error is that of `be_query::from_rpn`, with the item that it names.
 pub fn query_of_items(
     alloc: Global,
     spelled: &[PredicateItem],

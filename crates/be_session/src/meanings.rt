@@ -1,11 +1,12 @@
-//! Operations and values as other languages spell them: numbers and bytes.
+//! Operations and values as other languages encode them: numbers and bytes.
 ghost use Rattle.std.specs.Int.{cast_signed, w32, w64};
 ghost use Rattle.std.specs.Int.RustNames.{FitsSigned};
 ghost use Rattle.std.specs.Prelude.{◌≡◌, ◌≢◌, ◌<◌, ◌^◌, Ok, IfOk, IfErr, IfSome, IfNone, IsUtf8};
 ghost use Rattle.be_value.specs.Name.{name_from};
 ghost use Rattle.be_value.specs.Value.{code_of};
 ghost use Rattle.be_value.specs.declared.values.Kind.{Kind as AnyKind};
-ghost use Rattle.be_session.specs.Meaning.{HasNoMore, IsMeant, IsValueMeant, IsNoName, IsNoOperation, IsNoValue};
+ghost use Rattle.be_session.specs.Meaning.{HasNoMore, IsMeant, IsValueMeant, IsNoName};
+ghost use Rattle.be_session.specs.Meaning.{IsNoOperation, IsNoValue};
 ghost use Rattle.be_session.specs.declared.faults.Fault.TheVariants.{NotUtf8, NoKind, NoValue};
 
 use crate::Fault;
@@ -48,7 +49,7 @@ pub(crate) fn text(bytes: &[u8]) -> Result<&str, Fault>
     }
 }
 
-/// The name that bytes spell.
+/// The name that these bytes are.
 pub fn name(bytes: &[u8]) -> Result<Name, Fault>
     ensures ok { IfOk result (λ name. (name ≡ bytes.now) × IsUtf8 bytes.now) }
     ensures named { IfOk result (λ name. name_from bytes.now ≡ Ok bytes.now) }
@@ -62,7 +63,8 @@ pub fn name(bytes: &[u8]) -> Result<Name, Fault>
 
 fn int32(number: u64) -> Result<Value, Fault>
     ensures ok { IfOk result (λ value. value ≡ Value.Long (cast_signed w64 number)) }
-    ensures err { IfErr result (λ e. (e ≡ NoValue) × (¬ (FitsSigned w32 (cast_signed w64 number)))) }
+    ensures err { IfErr result (λ e. (e ≡ NoValue)
+        × (¬ (FitsSigned w32 (cast_signed w64 number)))) }
 {
     match i32::try_from(number.cast_signed()) {
         Ok(n) => Ok(Value::int32(n)),
@@ -80,8 +82,8 @@ fn uint32(number: u64) -> Result<Value, Fault>
     }
 }
 
-/// The value that a type code, a number and bytes mean. A number that the kind has no use for is not looked at, nor are
-/// such bytes.
+/// The value that a type code, a number and bytes mean. A number that the kind has no use for is
+/// not looked at, nor are such bytes.
 pub(crate) fn value(code: u32, number: u64, bytes: &[u8]) -> Result<Value, Fault>
     ensures ok { IfOk result (λ value. IsValueMeant code number bytes.now value) }
     ensures err { IfErr result (λ e. IsNoValue code number bytes.now e) }
@@ -97,8 +99,8 @@ pub(crate) fn value(code: u32, number: u64, bytes: &[u8]) -> Result<Value, Fault
     }
 }
 
-/// The type code, the number and the bytes that mean this value. The number is 0 for a text or raw bytes, and there are
-/// no bytes for a number.
+/// The type code, the number and the bytes that mean this value. The number is 0 for a text or raw
+/// bytes, and there are no bytes for a number.
 pub fn spelled(value: &Value) -> (u32, u64, &[u8])
     ensures meant { IsValueMeant result.0 result.1 result.2.now value.now }
     ensures no_more { HasNoMore result.1 result.2.now value.now }
@@ -114,8 +116,9 @@ pub fn spelled(value: &Value) -> (u32, u64, &[u8])
     }
 }
 
-/// The operation that a number means: 0 makes a node, 1 removes it, 2 sets an attribute and 3 removes it, 4 makes an index
-/// and 5 removes it. A part that the operation has no use for is not looked at.
+/// The operation that a number means: 0 makes a node, 1 removes it, 2 sets an attribute and 3
+/// removes it, 4 makes an index and 5 removes it. A part that the operation has no use for is not
+/// looked at.
 pub(crate) fn operation(
     number: u32,
     node: u64,
@@ -124,8 +127,10 @@ pub(crate) fn operation(
     value_number: u64,
     bytes: &[u8],
 ) -> Result<Op, Fault>
-    ensures ok { IfOk result (λ op. IsMeant number node name_bytes.now code value_number bytes.now op) }
-    ensures err { IfErr result (λ e. IsNoOperation number name_bytes.now code value_number bytes.now e) }
+    ensures ok { IfOk result (λ op. IsMeant number node name_bytes.now code value_number bytes.now
+        op) }
+    ensures err { IfErr result (λ e. IsNoOperation number name_bytes.now code value_number bytes.now
+        e) }
 {
     match number {
         0 => Ok(Op::New),
@@ -138,8 +143,9 @@ pub(crate) fn operation(
     }
 }
 
-/// The number, the node and the name that mean this operation, and the type code, the number and the bytes of its value: the parts
-/// that `operation` takes, and 0 or no bytes for what the operation has no use for.
+/// The number, the node and the name that mean this operation, and the type code, the number and
+/// the bytes of its value: the parts that `operation` takes, and 0 or no bytes for what the
+/// operation has no use for.
 pub(crate) fn operation_spelled(op: &Op) -> (u32, u64, &[u8], (u32, u64, &[u8]))
     ensures { IsMeant result.0 result.1 result.2.now result.3.0 result.3.1 result.3.2.now op.now }
 {

@@ -1,5 +1,5 @@
-//! Queries that are parsed once and kept, to be asked again.
-ghost use Rattle.std.specs.Prelude.{◌≡◌, ℕ, IfOk, IfErr, string_bytes};
+//! Queries that are parsed once and kept, so that they can be asked again.
+ghost use Rattle.std.specs.Prelude.{◌≡◌, ℕ, [], Ok, IfOk, IfErr, OnOk, string_bytes};
 ghost use Rattle.be_value.specs.declared.refusals.Refusal.TheVariants.{OutOfMemory};
 ghost use Rattle.be_query.specs.Grammar.{Formula, IsTextOf};
 ghost use Rattle.be_query.specs.Printing.{or_text};
@@ -8,8 +8,8 @@ ghost use Rattle.be_table.specs.Seats.{pinned_number};
 ghost use Rattle.be_store.specs.Live.{Refreshes};
 ghost use Rattle.be_store.specs.Passes.{HasRead, IsPinnedTo, volume_pinned};
 ghost use Rattle.be_session.specs.Items.{IsBuilt, IsUnbuilt};
-ghost use Rattle.be_session.specs.Prepared.{IsUnasked};
-ghost use Rattle.be_session.specs.Sitting.{AtPin, IsNoQuery, IsUnrefreshed, ReadAnswers};
+ghost use Rattle.be_session.specs.Prepared.{IsUnasked, with_found};
+ghost use Rattle.be_session.specs.Sitting.{IsNoQuery, IsUnrefreshed};
 ghost use Rattle.be_session.specs.declared.faults.Fault.TheVariants.{Refused};
 
 use crate::session::{Session, query_of};
@@ -19,11 +19,13 @@ use be_store::{Live, Query, Updates};
 use std::alloc::{AllocError, Global};
 use std::marker::Model;
 
-/// A query that is parsed once and kept, with its answer at the last refresh, and with which nodes came and which went then.
-/// It belongs to no session, and may be asked by any.
+/// A query that is parsed once and kept. It has what it found when it was asked last, its answer at
+/// the last refresh, and which nodes came and which went then. It belongs to no session, and any
+/// session may ask it.
 #[derive(Drop)]
 pub struct Prepared {
     live: Live,
+    found: Vec<u64>,
     updates: Updates,
 }
 
@@ -34,31 +36,57 @@ impl Model for Prepared {
 
     ghost coded = { coded_prepared };
 
-    ghost view = { λ p. record { live = p.live; came = p.updates.created.items; went = p.updates.removed.items } };
+    ghost view = { λ p. record {
+      live = p.live;
+      found = p.found.items;
+      came = p.updates.created.items;
+      went = p.updates.removed.items;
+    } };
 }
 
 impl Prepared {
-    /// The nodes of which the query is true in the session's pinned version, ascending. The last answer stays as it was.
-    pub fn find(&self, alloc: Global, session: &mut Session) -> Result<Vec<u64>, Fault>
-        ensures store { (session.new.store ≡ session.old.store) × (session.new.spare ≡ session.old.spare) }
+    /// Asks the query in the session's pinned version, and keeps the nodes of which it is true
+    /// there, in place of what it found before. After an error it keeps none. What the last refresh
+    /// found stays.
+    ///
+    /// It costs what `Store::query_prepared` costs. The list of an earlier asking is used again, so
+    /// it takes memory only if that has no room.
+    #[tactic(auto, using(crate::proofs::Same::same_but_found))]
+    pub fn find(&mut self, session: &mut Session) -> Result<(), Fault>
+        ensures store { (session.new.store ≡ session.old.store)
+            × (session.new.spare ≡ session.old.spare) }
         ensures read { HasRead session.old.knows session.new.knows }
-        ensures nodes { AtPin (pinned_number session.old.knows.phase) result
-            (ReadAnswers (λ nodes. nodes.items) result (scan (volume_pinned session.old.knows) self.now.live.query)) }
+        ensures nodes { OnOk result (scan (volume_pinned session.old.knows) self.old.live.query
+            ≡ Ok self.new.found) }
+        ensures pin { OnOk result ((n : ℕ) × IsPinnedTo session.old.knows n) }
+        ensures same { self.new ≡ with_found self.old self.new.found }
+        ensures err { IfErr result (λ e. (self.new.found ≡ [])
+            × IsUnrefreshed (pinned_number session.old.knows.phase)
+            (scan (volume_pinned session.old.knows) self.old.live.query) e) }
     {
-        let asked = self.live.query();
-        session.query(alloc, asked)
+        session.query_into(&mut self.live, &mut self.found)
     }
 
-    /// Asks the query in the session's pinned version, and keeps which nodes came and which went since the last refresh. A fault
-    /// leaves the query as it was.
+    /// The nodes that the last asking found, ascending; none before the first, or after an error.
+    pub fn found(&self) -> &[u64]
+        ensures { result.now ≡ self.now.found }
+    {
+        self.found.as_slice()
+    }
+
+    /// Asks the query in the session's pinned version, and keeps which nodes came and which went
+    /// since the last refresh. An error leaves the query as it was.
     #[tactic(auto, using(crate::proofs::Same::same_prepared))]
     pub fn refresh(&mut self, session: &mut Session) -> Result<(), Fault>
-        ensures store { (session.new.store ≡ session.old.store) × (session.new.spare ≡ session.old.spare) }
+        ensures store { (session.new.store ≡ session.old.store)
+            × (session.new.spare ≡ session.old.spare) }
         ensures read { HasRead session.old.knows session.new.knows }
-        ensures ok { IfOk result (λ _. Refreshes (volume_pinned session.old.knows) self.old.live self.new.live self.new.came self.new.went) }
+        ensures ok { IfOk result (λ _. Refreshes (volume_pinned session.old.knows) self.old.live
+            self.new.live self.new.came self.new.went) }
         ensures pin { IfOk result (λ _. (n : ℕ) × IsPinnedTo session.old.knows n) }
         ensures err { IfErr result (λ e. (self.new ≡ self.old)
-            × IsUnrefreshed (pinned_number session.old.knows.phase) (scan (volume_pinned session.old.knows) self.old.live.query) e) }
+            × IsUnrefreshed (pinned_number session.old.knows.phase)
+            (scan (volume_pinned session.old.knows) self.old.live.query) e) }
     {
         match session.refresh(&mut self.live) {
             Ok(updates) => {
@@ -92,11 +120,13 @@ impl Prepared {
     }
 }
 
+/// A query that was never asked or refreshed, in a box. OutOfMemory.
 fn in_box(alloc: Global, query: Query) -> Result<Box<Prepared, Global>, AllocError>
     ensures { IfOk result (λ p. IsUnasked query p.value) }
 {
     let prepared = Prepared {
         live: Live::new(alloc, query),
+        found: Vec::new(alloc),
         updates: Updates {
             created: Vec::new(alloc),
             removed: Vec::new(alloc),
@@ -108,22 +138,25 @@ fn in_box(alloc: Global, query: Query) -> Result<Box<Prepared, Global>, AllocErr
     }
 }
 
-/// The query of a text in bytes, in a box. Faults are those of `query_of`.
+/// The query of a text in bytes, in a box. Errors are those of `query_of`.
 pub fn prepare(alloc: Global, text: &[u8]) -> Result<Box<Prepared, Global>, Fault>
-    ensures ok { IfOk result (λ p. (query : Formula) × IsTextOf text.now query × IsUnasked query p.value) }
+    ensures ok { IfOk result (λ p. (query : Formula) × IsTextOf text.now query
+        × IsUnasked query p.value) }
     ensures err { IfErr result (λ e. IsNoQuery text.now e) }
 {
     let query = query_of(alloc, text)?;
     Ok(in_box(alloc, query)?)
 }
 
-/// The query that items in reverse Polish order build, in a box. Faults are those of `query_of_items`.
+/// The query that items in reverse Polish order build, in a box. Errors are those of
+/// `query_of_items`.
 pub fn prepare_items(
     alloc: Global,
     spelled: &[PredicateItem],
     bytes: &[u8],
 ) -> Result<Box<Prepared, Global>, ListFault>
-    ensures ok { IfOk result (λ p. (query : Formula) × IsBuilt spelled.now bytes.now query × IsUnasked query p.value) }
+    ensures ok { IfOk result (λ p. (query : Formula) × IsBuilt spelled.now bytes.now query
+        × IsUnasked query p.value) }
     ensures err { IfErr result (λ e. IsUnbuilt spelled.now bytes.now e.fault e.place) }
 {
     let query = query_of_items(alloc, spelled, bytes)?;

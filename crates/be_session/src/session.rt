@@ -1,5 +1,7 @@
 //! A pass with its share of the store, and its calls.
-ghost use Rattle.std.specs.Prelude.{◌≡◌, ◌⊎◌, ◌≤◌, ◌<◌, ◌+◌, ◌*◌, ◌^◌, ℕ, [], None, Ok, IsOk, IfOk, IfErr, OnErr, OnOk, false, is_some, length, map as each, string_bytes, true, vec_len};
+ghost use Rattle.std.specs.Prelude.{◌≡◌, ◌⊎◌, ◌≤◌, ◌<◌, ◌+◌, ◌*◌, ◌^◌, ℕ, [], None, Ok, IsOk, IfOk};
+ghost use Rattle.std.specs.Prelude.{IfErr, OnErr, OnOk, false, is_some, length, map as each};
+ghost use Rattle.std.specs.Prelude.{string_bytes, true, vec_len};
 ghost use Rattle.be_value.specs.declared.refusals.Refusal.{Refusal as AnyRefusal};
 ghost use Rattle.be_value.specs.declared.refusals.Refusal.TheVariants.{OutOfMemory};
 ghost use Rattle.be_query.specs.Grammar.{IsTextOf};
@@ -8,20 +10,23 @@ ghost use Rattle.be_volume.specs.Reading.{attribute, attributes_at, index_kinds}
 ghost use Rattle.be_journal.specs.Journal.{IsLegal};
 ghost use Rattle.be_paged.specs.Cells.{IsReadInto, TellsColumns, name_in};
 ghost use Rattle.be_paged.specs.Nodes.{nodes_from};
-ghost use Rattle.be_table.specs.Rule.{IsWithin, entries, newcomer};
+ghost use Rattle.be_table.specs.Rule.{IsWithin, entries, newcomer, one_step_on};
 ghost use Rattle.be_table.specs.Seats.{pinned_number};
-ghost use Rattle.be_table.specs.Steps.{unpins};
-ghost use Rattle.be_table.specs.Trace.{with_history};
-ghost use Rattle.be_table.specs.Works.{AreNew, FoundHeld, IsOpenRefused};
+ghost use Rattle.be_table.specs.Steps.{unpins, with_history};
+ghost use Rattle.be_table.specs.Works.{AreNew, FoundHeld, IsOpenRefused, IsWitnessOf};
 ghost use Rattle.be_store.specs.Conditional.{AcceptsAt};
-ghost use Rattle.be_store.specs.History.{Accepts, IsUntold, Learns, LocksAndUnlocks, Pins, entries_from, text_seen};
+ghost use Rattle.be_store.specs.History.{Accepts, IsUntold, Learns, LocksAndUnlocks, Pins};
+ghost use Rattle.be_store.specs.History.{entries_from, text_seen};
 ghost use Rattle.be_store.specs.Live.{Refreshes};
 ghost use Rattle.be_store.specs.Passes.{HasRead, IsPassOf, IsPinnedTo, volume_pinned};
 ghost use Rattle.be_store.specs.Statuses.{TellsStatus};
 ghost use Rattle.be_session.specs.Explained.{explanation_in};
-ghost use Rattle.be_session.specs.Sitting.{AtPin, HasMet, IsHandedOut, IsPinned, IsUnwritten, IsUnwrittenIf, IsNoQuery, IsOpened, IsUnpinnedAt, IsUnrefreshed, ReadAnswers};
+ghost use Rattle.be_session.specs.Sitting.{AtPin, HasMet, IsHandedOut, IsPinned, IsUnwritten};
+ghost use Rattle.be_session.specs.Sitting.{IsUnwrittenIf, IsNoQuery, IsOpened, IsUnpinnedAt};
+ghost use Rattle.be_session.specs.Sitting.{IsUnrefreshed, Joins, ReadAnswers};
 ghost use Rattle.be_session.specs.States.{untold, waiting};
-ghost use Rattle.be_session.specs.declared.faults.Fault.TheVariants.{AlreadyPinned, BadCount, NoPass, NotPinned, Refused};
+ghost use Rattle.be_session.specs.declared.faults.Fault.TheVariants.{AlreadyPinned, BadCount};
+ghost use Rattle.be_session.specs.declared.faults.Fault.TheVariants.{NoPass, NotPinned, Refused};
 
 use crate::explaining::cover_text;
 use crate::held::are_few;
@@ -31,13 +36,14 @@ use crate::{Fault, StatePlace};
 use be_store::laws::seen_is_legal;
 use be_store::{
     ArrayVec, Cell, Done, Entry, HeldName, Kind, Limits, Live, Name, Op, Pass, Query, Refusal,
-    Status, Store, Updates, Value, parse,
+    Status, Store, Updates, Value, Witness, parse,
 };
 use std::alloc::{AllocFailed, Global};
 use std::marker::Model;
 use std::sync::Arc;
 
-/// A pass, with the store that it is a pass of, and those passes that wait for a session of their own.
+/// A pass, with the store that it is a pass of, and those passes that wait for a session of their
+/// own.
 #[derive(Drop)]
 pub struct Session {
     shared: Arc<Shared, Global>,
@@ -54,12 +60,17 @@ impl Model for Session {
     ghost use Rattle.be_table.specs.Works.{AreNew};
     ghost use Rattle.be_store.specs.Passes.{IsPassOf};
 
-    ghost view = { λ s. record { store = s.shared.value; knows = s.pass.knows; spare = vec_len s.spare } };
+    ghost view = { λ s. record {
+      store = s.shared.value;
+      knows = s.pass.knows;
+      spare = vec_len s.spare;
+    } };
 
-    ghost invariant = { λ s. IsPassOf s.shared.value s.pass × AreNew s.shared.value 0 s.spare.items };
+    ghost invariant = { λ s. IsPassOf s.shared.value s.pass
+        × AreNew s.shared.value 0 s.spare.items };
 }
 
-/// A session of a store that nobody shares yet, with the passes that are left over.
+/// A session of a store that nobody shares yet, with the passes that are left.
 fn seated(
     alloc: Global,
     limits: Limits,
@@ -68,10 +79,12 @@ fn seated(
     spare: Vec<Pass>,
 ) -> Result<Session, Fault>
     requires limits { (shared.limits ≡ limits) × IsWithin limits }
-    requires pass { IsPassOf shared pass × (pass.knows ≡ newcomer limits (vec_len spare + 1) (vec_len spare)) }
+    requires pass { IsPassOf shared pass
+        × (pass.knows ≡ newcomer limits (vec_len spare + 1) (vec_len spare)) }
     requires spare { AreNew shared 0 spare.items × (vec_len spare + 1 ≡ limits.passes) }
     ensures ok { IfOk result (λ s. IsOpened limits s) }
-    ensures err { IfErr result (λ e. (why : AnyRefusal) × (e ≡ Refused why) × IsOpenRefused limits why) }
+    ensures err { IfErr result (λ e. (why : AnyRefusal) × (e ≡ Refused why)
+        × IsOpenRefused limits why) }
 {
     match Arc::new(alloc, shared) {
         Ok(shared) => Ok(Session {
@@ -83,7 +96,8 @@ fn seated(
     }
 }
 
-/// Takes a session apart for its pass. Its share of the store is given up, with the passes that wait.
+/// Takes the pass out of a session. The session's share of the store is given up, with the passes
+/// that wait.
 fn pass_of(session: Session) -> Pass
     ensures pass { IsPassOf session.store result }
     ensures knows { result.knows ≡ session.knows }
@@ -96,7 +110,8 @@ fn pass_of(session: Session) -> Pass
     pass
 }
 
-/// A session with a pass, in a box; no other pass waits with it. Where memory is refused it comes back.
+/// A session with a pass, in a box; no other pass waits with it. After running out of memory the
+/// error has the session.
 fn in_box(
     alloc: Global,
     shared: Arc<Shared, Global>,
@@ -118,7 +133,8 @@ fn in_box(
     }
 }
 
-/// A session with a pass that was given back, in a box. NoPass where none is there, and OutOfMemory: the pass is given back again.
+/// A session with a pass that was given back, in a box. NoPass if there is none; OutOfMemory: the
+/// pass is given back again.
 fn of_returned(alloc: Global, shared: Arc<Shared, Global>) -> Result<Box<Session, Global>, Fault>
     ensures session { IfOk result (λ s. (s.value.store ≡ shared.value) × (s.value.spare ≡ 0)) }
     ensures pass { IfOk result (λ s. IsUnpinnedAt shared.value s.value.knows) }
@@ -136,7 +152,7 @@ fn of_returned(alloc: Global, shared: Arc<Shared, Global>) -> Result<Box<Session
     }
 }
 
-/// Whether a write may have so many operations: 1 to 64.
+/// Whether a write may have this many operations: 1 to 64.
 fn is_batch(ops: &[Op]) -> bool
     ensures is { result ≡ true → (1 ≤ length ops.now) × (length ops.now ≤ 64) }
     ensures not { result ≡ false → (length ops.now ≡ 0) ⊎ (64 < length ops.now) }
@@ -145,13 +161,15 @@ fn is_batch(ops: &[Op]) -> bool
 }
 
 impl Session {
-    /// A new store, and the session of the last of its passes, which has seen nothing. The others wait.
+    /// A new store, and the session of the last of its passes, which has seen nothing. The others
+    /// wait.
     ///
-    /// BadLimits exactly where a limit is out of its range, and OutOfMemory. The memory of all pages, 4 KiB each, is taken
-    /// here.
+    /// BadLimits exactly if a limit is out of its range; OutOfMemory. It takes the memory of all
+    /// pages, 4 KiB each.
     pub fn open(alloc: Global, limits: Limits) -> Result<Session, Fault>
         ensures ok { IfOk result (λ s. IsOpened limits s) }
-        ensures err { IfErr result (λ e. (why : AnyRefusal) × (e ≡ Refused why) × IsOpenRefused limits why) }
+        ensures err { IfErr result (λ e. (why : AnyRefusal) × (e ≡ Refused why)
+            × IsOpenRefused limits why) }
     {
         let (store, mut passes) = match Store::open(alloc, limits) {
             Ok(opened) => opened,
@@ -166,16 +184,20 @@ impl Session {
         seated(alloc, limits, shared, pass, passes)
     }
 
-    /// A session of the same store, in a box: with the last pass that waits here, or where none does, with one that was given
-    /// back by `close`, in whatever thread. NoPass where there is none of either, and OutOfMemory: the pass stays where it was.
+    /// A session of the same store, in a box. It gets the last pass that waits here. If none waits,
+    /// it gets one that `close` gave back, in whatever thread. NoPass if there is neither;
+    /// OutOfMemory: the pass stays where it was.
     ///
-    /// Passes that nobody has used wait with the session that opened the store. A pass that was given back has seen what it
-    /// had seen, and its own writes stand in the journal under its number.
+    /// Passes that nobody has used wait with the session that opened the store. A pass that was
+    /// given back has seen what it had seen, and its own writes stay in the journal under its
+    /// number.
     pub fn another(&mut self, alloc: Global) -> Result<Box<Session, Global>, Fault>
         ensures same { (self.new.store ≡ self.old.store) × (self.new.knows ≡ self.old.knows) }
-        ensures session { IfOk result (λ s. (s.value.store ≡ self.old.store) × (s.value.spare ≡ 0)) }
+        ensures session { IfOk result (λ s. (s.value.store ≡ self.old.store)
+            × (s.value.spare ≡ 0)) }
         ensures pass { IfOk result (λ s. IsHandedOut self.old self.new s.value.knows) }
-        ensures err { IfErr result (λ e. (self.new ≡ self.old) × ((e ≡ Refused OutOfMemory) ⊎ ((e ≡ NoPass) × (self.old.spare ≡ 0)))) }
+        ensures err { IfErr result (λ e. (self.new ≡ self.old)
+            × ((e ≡ Refused OutOfMemory) ⊎ ((e ≡ NoPass) × (self.old.spare ≡ 0)))) }
     {
         let Ok(shared) = Arc::try_clone(&self.shared) else {
             return Err(Fault::Refused(Refusal::OutOfMemory));
@@ -192,8 +214,9 @@ impl Session {
         }
     }
 
-    /// Gives the pass back, and its pin up, with the passes that wait here: `another` of each session of the store may hand
-    /// them out. A session that is dropped loses them. The store goes with its last session. It waits for nobody.
+    /// Releases the pin and gives the pass back, with the passes that wait here: `another` of each
+    /// session of the store may then use them. A session that is dropped loses them. The store goes
+    /// with its last session. It waits for nobody.
     pub fn close(self) {
         let Session {
             shared,
@@ -204,10 +227,10 @@ impl Session {
         shared.give_back_all(spare);
     }
 
-    /// Meets a pass that was given back: both have then seen what either had. Answers how much that is. NoPass where none is there,
-    /// or another thread is at it.
+    /// Meets a pass that was given back: both have then seen what either had. Returns the length of
+    /// that. NoPass if there is no such pass, or another thread uses it.
     ///
-    /// So such a pass carries what one session has seen to another, where each meets it in turn.
+    /// So such a pass carries what one session has seen to another, if both meet it in turn.
     pub fn meet(&mut self) -> Result<u64, Fault>
         ensures store { (self.new.store ≡ self.old.store) × (self.new.spare ≡ self.old.spare) }
         ensures ok { IfOk result (λ n. HasMet self.old.store self.old.knows self.new.knows n) }
@@ -221,11 +244,40 @@ impl Session {
         Ok(length)
     }
 
-    /// Pins the version that is current, and answers its number: how many writes it has.
+    /// A witness of all that the pass has seen of the journal. Send it to another thread, by
+    /// whatever channel: a session that joins it there has seen as much. It owns no share of the
+    /// store. One step, and no memory.
+    pub fn witness(&mut self) -> Witness
+        ensures store { (self.new.store ≡ self.old.store) × (self.new.spare ≡ self.old.spare) }
+        ensures knows { self.new.knows ≡ one_step_on self.old.knows }
+        ensures witness { IsWitnessOf self.old.store result
+            × (result.seen ≡ self.old.knows.seen) }
+    {
+        self.shared.store().witness(&mut self.pass)
+    }
+
+    /// The session and the witness have then both seen what either had. Returns the length of that.
+    /// A pin stays, and the witness can be sent on. What the session pins and writes from then on
+    /// comes after what the witness had seen. Three steps, and no memory.
+    ///
+    /// It is the one call of a session that its caller can make wrongly: nothing that is there at
+    /// run time says which store a witness is of.
+    pub fn join(&mut self, witness: &mut Witness) -> u64
+        requires witness { IsWitnessOf self.old.store witness.old }
+        ensures store { (self.new.store ≡ self.old.store) × (self.new.spare ≡ self.old.spare) }
+        ensures witness { IsWitnessOf self.old.store witness.new }
+        ensures joins { Joins self.old.knows witness.old.seen self.new.knows witness.new.seen
+            result }
+    {
+        self.shared.store().join(&mut self.pass, witness)
+    }
+
+    /// Pins the current version, and returns its number: how many writes it has.
     pub fn pin(&mut self) -> Result<u64, Fault>
         ensures store { (self.new.store ≡ self.old.store) × (self.new.spare ≡ self.old.spare) }
         ensures ok { IfOk result (λ n. Pins self.old.knows self.new.knows n) }
-        ensures err { IfErr result (λ e. (self.new ≡ self.old) × (e ≡ AlreadyPinned) × IsPinned self.old.knows) }
+        ensures err { IfErr result (λ e. (self.new ≡ self.old) × (e ≡ AlreadyPinned)
+            × IsPinned self.old.knows) }
     {
         if self.pass.pinned().is_some() {
             return Err(Fault::AlreadyPinned);
@@ -243,11 +295,13 @@ impl Session {
         self.pass.pinned().is_some()
     }
 
-    /// Gives the pin up.
+    /// Releases the pin.
     pub fn unpin(&mut self) -> Result<(), Fault>
         ensures store { (self.new.store ≡ self.old.store) × (self.new.spare ≡ self.old.spare) }
-        ensures ok { IfOk result (λ n. self.new.knows ≡ unpins (with_history self.old.knows self.new.knows.history)) }
-        ensures err { IfErr result (λ e. (self.new ≡ self.old) × (e ≡ NotPinned) × (pinned_number self.old.knows.phase ≡ None)) }
+        ensures ok { IfOk result (λ n. self.new.knows
+            ≡ unpins (with_history self.old.knows self.new.knows.history)) }
+        ensures err { IfErr result (λ e. (self.new ≡ self.old) × (e ≡ NotPinned)
+            × (pinned_number self.old.knows.phase ≡ None)) }
     {
         let Some(_) = self.pass.pinned() else {
             return Err(Fault::NotPinned);
@@ -256,12 +310,14 @@ impl Session {
         Ok(())
     }
 
-    /// Writes 1 to 64 operations, all or none. Answers the journal's length with them, and puts an answer for each in the place of
-    /// what the list had. BadCount where they are another number, and then nothing has happened; else as the store's own
+    /// Writes a batch of 1 to 64 operations, all or none. Returns the journal's length with them,
+    /// and fills `dones` with an outcome for each, in place of what the list had. BadCount for any
+    /// other number of operations, and then nothing has happened; otherwise as the store's own
     /// `apply_into`.
     pub fn apply(&mut self, ops: &[Op], dones: &mut ArrayVec<Done, 64>) -> Result<u64, Fault>
         ensures store { (self.new.store ≡ self.old.store) × (self.new.spare ≡ self.old.spare) }
-        ensures ok { IfOk result (λ n. Accepts self.old.knows self.new.knows ops.now n dones.new.items) }
+        ensures ok { IfOk result (λ n. Accepts self.old.knows self.new.knows ops.now n
+            dones.new.items) }
         ensures count { OnOk result ((1 ≤ length ops.now) × (length ops.now ≤ 64)) }
         ensures err { IfErr result (λ e. IsUnwritten self.old.knows self.new.knows ops.now e) }
         ensures empty { OnErr result (dones.new.items ≡ []) }
@@ -273,8 +329,9 @@ impl Session {
         Ok(self.shared.store().apply_into(&mut self.pass, ops, dones)?)
     }
 
-    /// Writes as `apply` does if the journal has `number` entries, and otherwise nothing: as the store's own `apply_if_into`. BadCount
-    /// comes before everything else, and Conflict has the length that was found.
+    /// Writes as `apply` does if the journal has `number` entries, and otherwise nothing: as the
+    /// store's own `apply_if_into`. BadCount comes before everything else. Conflict carries the
+    /// length that was found.
     pub fn apply_if(
         &mut self,
         number: u64,
@@ -282,7 +339,8 @@ impl Session {
         dones: &mut ArrayVec<Done, 64>,
     ) -> Result<u64, Fault>
         ensures store { (self.new.store ≡ self.old.store) × (self.new.spare ≡ self.old.spare) }
-        ensures ok { IfOk result (λ n. AcceptsAt self.old.knows self.new.knows number ops.now n dones.new.items) }
+        ensures ok { IfOk result (λ n. AcceptsAt self.old.knows self.new.knows number ops.now n
+            dones.new.items) }
         ensures count { OnOk result ((1 ≤ length ops.now) × (length ops.now ≤ 64)) }
         ensures err { IfErr result (IsUnwrittenIf self.old.knows self.new.knows number ops.now) }
         ensures empty { OnErr result (dones.new.items ≡ []) }
@@ -295,7 +353,7 @@ impl Session {
         Ok(store.apply_if_into(&mut self.pass, number, ops, dones)?)
     }
 
-    /// The number of the pass, which its entries in the journal have.
+    /// The number of the pass, which its entries in the journal carry.
     pub fn number(&self) -> u64
         ensures { result ≡ self.now.knows.number }
     {
@@ -309,7 +367,8 @@ impl Session {
         self.pass.seen()
     }
 
-    /// The journal's entries from an index on, from 0, up to so many of them: as the store's own `journal_from`. It needs no pin.
+    /// Up to `most` entries of the journal from the index `from` on, which counts from 0: as the
+    /// store's own `journal_from`. It needs no pin.
     pub fn journal_from(
         &mut self,
         alloc: Global,
@@ -318,8 +377,10 @@ impl Session {
     ) -> Result<Vec<Entry>, Fault>
         ensures store { (self.new.store ≡ self.old.store) × (self.new.spare ≡ self.old.spare) }
         ensures learns { Learns self.old.knows self.new.knows }
-        ensures list { IfOk result (λ list. list.items ≡ entries_from (entries self.new.knows.seen) from most) }
-        ensures err { IfErr result (λ e. (why : AnyRefusal) × (e ≡ Refused why) × IsUntold self.old.knows self.new.knows why) }
+        ensures list { IfOk result (λ list. list.items
+            ≡ entries_from (entries self.new.knows.seen) from most) }
+        ensures err { IfErr result (λ e. (why : AnyRefusal) × (e ≡ Refused why)
+            × IsUntold self.old.knows self.new.knows why) }
         ensures moves { OnOk result (LocksAndUnlocks self.old.knows self.new.knows) }
     {
         let store = self.shared.store();
@@ -330,7 +391,8 @@ impl Session {
     pub fn next(&mut self) -> Result<u64, Fault>
         ensures store { (self.new.store ≡ self.old.store) × (self.new.spare ≡ self.old.spare) }
         ensures read { HasRead self.old.knows self.new.knows }
-        ensures next { AtPin (pinned_number self.old.knows.phase) result (result ≡ Ok (volume_pinned self.old.knows).next) }
+        ensures next { AtPin (pinned_number self.old.knows.phase) result
+            (result ≡ Ok (volume_pinned self.old.knows).next) }
     {
         let Some(_) = self.pass.pinned() else {
             return Err(Fault::NotPinned);
@@ -338,13 +400,15 @@ impl Session {
         Ok(self.shared.store().next(&mut self.pass))
     }
 
-    /// The text of the journal up to now, which is legal: as the store's own `journal_text`. It needs no pin.
+    /// The text of the journal up to now, which is legal: as the store's own `journal_text`. It
+    /// needs no pin.
     pub fn journal_text(&mut self) -> Result<String, Fault>
         ensures store { (self.new.store ≡ self.old.store) × (self.new.spare ≡ self.old.spare) }
         ensures learns { Learns self.old.knows self.new.knows }
         ensures legal { IsLegal (entries self.new.knows.seen) }
         ensures text { IfOk result (λ text. string_bytes text ≡ text_seen self.new.knows) }
-        ensures err { IfErr result (λ e. (why : AnyRefusal) × (e ≡ Refused why) × IsUntold self.old.knows self.new.knows why) }
+        ensures err { IfErr result (λ e. (why : AnyRefusal) × (e ≡ Refused why)
+            × IsUntold self.old.knows self.new.knows why) }
         ensures moves { OnOk result (LocksAndUnlocks self.old.knows self.new.knows) }
     {
         let answer = self.shared.store().journal_text(&mut self.pass);
@@ -352,12 +416,14 @@ impl Session {
         Ok(answer?)
     }
 
-    /// How full the store is, and the oldest version that a pass has announced: as the store's own `status`. It needs no pin.
+    /// How full the store is, and the oldest version that a pass has announced: as the store's own
+    /// `status`. It needs no pin.
     pub fn status(&mut self) -> Result<Status, Fault>
         ensures store { (self.new.store ≡ self.old.store) × (self.new.spare ≡ self.old.spare) }
         ensures learns { Learns self.old.knows self.new.knows }
         ensures told { IfOk result (λ s. TellsStatus self.old.knows self.new.knows s) }
-        ensures err { IfErr result (λ e. (why : AnyRefusal) × (e ≡ Refused why) × FoundHeld why self.old.knows self.new.knows) }
+        ensures err { IfErr result (λ e. (why : AnyRefusal) × (e ≡ Refused why)
+            × FoundHeld why self.old.knows self.new.knows) }
     {
         let told = self.shared.store().status(&mut self.pass);
         Ok(told?)
@@ -368,7 +434,8 @@ impl Session {
         ensures store { (self.new.store ≡ self.old.store) × (self.new.spare ≡ self.old.spare) }
         ensures read { HasRead self.old.knows self.new.knows }
         ensures nodes { AtPin (pinned_number self.old.knows.phase) result
-            (ReadAnswers (λ nodes. nodes.items) result (scan (volume_pinned self.old.knows) query.now)) }
+            (ReadAnswers (λ nodes. nodes.items) result
+            (scan (volume_pinned self.old.knows) query.now)) }
     {
         let Some(_) = self.pass.pinned() else {
             return Err(Fault::NotPinned);
@@ -377,15 +444,44 @@ impl Session {
         Ok(store.query(alloc, &mut self.pass, query)?.nodes)
     }
 
-    /// Asks a live query in the pinned version, and tells which nodes came and which went since its last refresh. A fault
-    /// leaves it as it was.
+    /// Puts the nodes of which a live query is true in the pinned version into a list, ascending,
+    /// in place of what it had. A list that has room for them takes no memory. After an error it is
+    /// empty. What the last refresh found stays.
+    pub fn query_into(&mut self, live: &mut Live, nodes: &mut Vec<u64>) -> Result<(), Fault>
+        ensures store { (self.new.store ≡ self.old.store) × (self.new.spare ≡ self.old.spare) }
+        ensures read { HasRead self.old.knows self.new.knows }
+        ensures nodes { OnOk result (scan (volume_pinned self.old.knows) live.old.query
+            ≡ Ok nodes.new.items) }
+        ensures pin { OnOk result ((n : ℕ) × IsPinnedTo self.old.knows n) }
+        ensures same { live.new ≡ live.old }
+        ensures err { IfErr result (λ e. (nodes.new.items ≡ [])
+            × IsUnrefreshed (pinned_number self.old.knows.phase)
+            (scan (volume_pinned self.old.knows) live.old.query) e) }
+    {
+        let Some(_) = self.pass.pinned() else {
+            nodes.clear();
+            return Err(Fault::NotPinned);
+        };
+        match live.query_into(self.shared.store(), &mut self.pass, nodes) {
+            Ok(_) => Ok(()),
+            Err(refusal) => {
+                nodes.clear();
+                Err(Fault::Refused(refusal))
+            }
+        }
+    }
+
+    /// Asks a live query in the pinned version, and returns which nodes came and which went since
+    /// its last refresh. An error leaves the query as it was.
     pub fn refresh(&mut self, live: &mut Live) -> Result<Updates, Fault>
         ensures store { (self.new.store ≡ self.old.store) × (self.new.spare ≡ self.old.spare) }
         ensures read { HasRead self.old.knows self.new.knows }
-        ensures ok { IfOk result (λ u. Refreshes (volume_pinned self.old.knows) live.old live.new u.created.items u.removed.items) }
+        ensures ok { IfOk result (λ u. Refreshes (volume_pinned self.old.knows) live.old live.new
+            u.created.items u.removed.items) }
         ensures pin { IfOk result (λ u. (n : ℕ) × IsPinnedTo self.old.knows n) }
         ensures err { IfErr result (λ e. (live.new ≡ live.old)
-            × IsUnrefreshed (pinned_number self.old.knows.phase) (scan (volume_pinned self.old.knows) live.old.query) e) }
+            × IsUnrefreshed (pinned_number self.old.knows.phase)
+            (scan (volume_pinned self.old.knows) live.old.query) e) }
     {
         let Some(_) = self.pass.pinned() else {
             return Err(Fault::NotPinned);
@@ -393,13 +489,15 @@ impl Session {
         Ok(live.refresh(self.shared.store(), &mut self.pass)?)
     }
 
-    /// What a query would be answered from in the pinned version: the comparisons that are picked, in canonical form and joined
-    /// by ` || `, and the score. NotCovered where the query rests on no index of that version, and OutOfMemory.
+    /// The index cover from which a query would be answered in the pinned version: the chosen
+    /// comparisons, in canonical form and joined by ` || `, and the score. NotCovered if the query
+    /// rests on no index of that version; OutOfMemory.
     pub fn explain(&mut self, alloc: Global, query: &Query) -> Result<String, Fault>
         ensures store { (self.new.store ≡ self.old.store) × (self.new.spare ≡ self.old.spare) }
         ensures read { HasRead self.old.knows self.new.knows }
         ensures text { AtPin (pinned_number self.old.knows.phase) result
-            (ReadAnswers string_bytes result (explanation_in (volume_pinned self.old.knows) query.now)) }
+            (ReadAnswers string_bytes result
+            (explanation_in (volume_pinned self.old.knows) query.now)) }
     {
         let Some(_) = self.pass.pinned() else {
             return Err(Fault::NotPinned);
@@ -408,13 +506,14 @@ impl Session {
         Ok(cover_text(alloc, query, &cover)?)
     }
 
-    /// The nodes of the pinned version from a number on, ascending, and so many of them at most. A list with fewer is the end, and
-    /// the next one begins behind the last node of this.
+    /// Up to `most` nodes of the pinned version from the number `from` on, ascending. A list with
+    /// fewer is the last one. The next list begins after the last node of this one.
     pub fn nodes(&mut self, alloc: Global, from: u64, most: usize) -> Result<Vec<u64>, Fault>
         ensures store { (self.new.store ≡ self.old.store) × (self.new.spare ≡ self.old.spare) }
         ensures read { HasRead self.old.knows self.new.knows }
         ensures nodes { AtPin (pinned_number self.old.knows.phase) result
-            (ReadAnswers (λ nodes. nodes.items) result (Ok (nodes_from (volume_pinned self.old.knows) from most))) }
+            (ReadAnswers (λ nodes. nodes.items) result
+            (Ok (nodes_from (volume_pinned self.old.knows) from most))) }
     {
         let Some(_) = self.pass.pinned() else {
             return Err(Fault::NotPinned);
@@ -427,7 +526,8 @@ impl Session {
     pub fn get(&mut self, node: u64, name: &Name) -> Result<Option<Value>, Fault>
         ensures store { (self.new.store ≡ self.old.store) × (self.new.spare ≡ self.old.spare) }
         ensures read { HasRead self.old.knows self.new.knows }
-        ensures value { AtPin (pinned_number self.old.knows.phase) result (result ≡ Ok (attribute (volume_pinned self.old.knows) node name.now)) }
+        ensures value { AtPin (pinned_number self.old.knows.phase) result
+            (result ≡ Ok (attribute (volume_pinned self.old.knows) node name.now)) }
     {
         let Some(_) = self.pass.pinned() else {
             return Err(Fault::NotPinned);
@@ -435,8 +535,8 @@ impl Session {
         Ok(self.shared.store().get(&mut self.pass, node, name))
     }
 
-    /// A node's attribute in the pinned version as a cell, if it has one. The bytes of a text are put to the front of the places,
-    /// as many as there are places.
+    /// A node's attribute in the pinned version as a cell, if it has one. The bytes of a text go to
+    /// the front of the places, as many as there are places.
     pub fn get_into(
         &mut self,
         node: u64,
@@ -446,7 +546,9 @@ impl Session {
         ensures store { (self.new.store ≡ self.old.store) × (self.new.spare ≡ self.old.spare) }
         ensures read { HasRead self.old.knows self.new.knows }
         ensures value { AtPin (pinned_number self.old.knows.phase) result (IsOk result
-            × IfOk result (λ cell. IsReadInto (attribute (volume_pinned self.old.knows) node (name_in name.now)) cell bytes.old bytes.new)) }
+            × IfOk result (λ cell. IsReadInto
+            (attribute (volume_pinned self.old.knows) node (name_in name.now)) cell bytes.old
+            bytes.new)) }
         ensures kept { OnErr result (bytes.new ≡ bytes.old) }
     {
         let Some(_) = self.pass.pinned() else {
@@ -456,8 +558,8 @@ impl Session {
         Ok(store.get_into(&mut self.pass, node, name, bytes))
     }
 
-    /// Tells what each node has at each name in the pinned version, in a cell for each, as the store's own `columns`. BadCount
-    /// if there are more than 2^32 cells to tell.
+    /// Returns what each node has at each name in the pinned version, in a cell for each, as the
+    /// store's own `columns`. BadCount if there are more than 2^32 cells.
     pub fn columns(
         &mut self,
         nodes: &[u64],
@@ -468,7 +570,8 @@ impl Session {
         ensures store { (self.new.store ≡ self.old.store) × (self.new.spare ≡ self.old.spare) }
         ensures read { HasRead self.old.knows self.new.knows }
         ensures told { AtPin (pinned_number self.old.knows.phase) result
-            (IfOk result (λ needed. TellsColumns (volume_pinned self.old.knows) nodes.now (each name_in names.now) cells.old cells.new bytes.old bytes.new needed)
+            (IfOk result (λ needed. TellsColumns (volume_pinned self.old.knows) nodes.now
+            (each name_in names.now) cells.old cells.new bytes.old bytes.new needed)
             × IfErr result (λ e. (e ≡ BadCount) × (2 ^ 32 < length nodes.now * length names.now))) }
         ensures kept { OnErr result ((cells.new ≡ cells.old) × (bytes.new ≡ bytes.old)) }
     {
@@ -487,7 +590,8 @@ impl Session {
         ensures store { (self.new.store ≡ self.old.store) × (self.new.spare ≡ self.old.spare) }
         ensures read { HasRead self.old.knows self.new.knows }
         ensures list { AtPin (pinned_number self.old.knows.phase) result
-            (ReadAnswers (λ list. list.items) result (attributes_at (volume_pinned self.old.knows) node)) }
+            (ReadAnswers (λ list. list.items) result
+            (attributes_at (volume_pinned self.old.knows) node)) }
     {
         let Some(_) = self.pass.pinned() else {
             return Err(Fault::NotPinned);
@@ -500,7 +604,8 @@ impl Session {
         ensures store { (self.new.store ≡ self.old.store) × (self.new.spare ≡ self.old.spare) }
         ensures read { HasRead self.old.knows self.new.knows }
         ensures list { AtPin (pinned_number self.old.knows.phase) result
-            (ReadAnswers (λ list. list.items) result (Ok (index_kinds (volume_pinned self.old.knows)))) }
+            (ReadAnswers (λ list. list.items) result
+            (Ok (index_kinds (volume_pinned self.old.knows)))) }
     {
         let Some(_) = self.pass.pinned() else {
             return Err(Fault::NotPinned);
@@ -508,18 +613,22 @@ impl Session {
         Ok(self.shared.store().indices(alloc, &mut self.pass)?)
     }
 
-    /// Reads on, where nothing is ready to be told: the next operations are then that make the pinned version again on an empty
-    /// store, up to 64, and none where all were told. OutOfMemory: nothing is lost.
+    /// Reads the next operations if none is ready. They are the next up to 64 operations that
+    /// rebuild the pinned version on an empty store, and none after the last. OutOfMemory: nothing
+    /// is lost.
     ///
-    /// A place goes with one pin. At another pin it tells what is left there behind the same steps, and what was ready is still of
-    /// the first.
+    /// A place belongs to one pin. At another pin it goes on after the same steps there, while the
+    /// operations that are ready are still those of the first pin.
     pub fn state(&mut self, alloc: Global, place: &mut StatePlace) -> Result<(), Fault>
         ensures store { (self.new.store ≡ self.old.store) × (self.new.spare ≡ self.old.spare) }
         ensures read { HasRead self.old.knows self.new.knows }
-        ensures same { untold (volume_pinned self.old.knows) place.new ≡ untold (volume_pinned self.old.knows) place.old }
+        ensures same { untold (volume_pinned self.old.knows) place.new
+            ≡ untold (volume_pinned self.old.knows) place.old }
         ensures few { length (waiting place.new) ≤ 64 }
-        ensures ends { OnOk result (waiting place.new ≡ [] → untold (volume_pinned self.old.knows) place.old ≡ []) }
-        ensures err { AtPin (pinned_number self.old.knows.phase) result (IfErr result (λ e. e ≡ Refused OutOfMemory)) }
+        ensures ends { OnOk result (waiting place.new ≡ []
+            → untold (volume_pinned self.old.knows) place.old ≡ []) }
+        ensures err { AtPin (pinned_number self.old.knows.phase) result
+            (IfErr result (λ e. e ≡ Refused OutOfMemory)) }
     {
         let Some(_) = self.pass.pinned() else {
             return Err(Fault::NotPinned);
@@ -538,7 +647,7 @@ impl Session {
     }
 }
 
-/// The query of a text in bytes. NotUtf8 where the bytes are none; else as `be_query::parse`.
+/// The query of a text in bytes. NotUtf8 if the bytes aren't UTF-8; otherwise as `be_query::parse`.
 pub fn query_of(alloc: Global, text: &[u8]) -> Result<Query, Fault>
     ensures ok { IfOk result (λ query. IsTextOf text.now query) }
     ensures err { IfErr result (λ e. IsNoQuery text.now e) }
@@ -549,7 +658,7 @@ pub fn query_of(alloc: Global, text: &[u8]) -> Result<Query, Fault>
     }
 }
 
-/// The same value. It compiles only where values of the type may go to another thread.
+/// The same value. It compiles only if values of the type may go to another thread.
 pub fn sent<T: Send>(value: T) -> T
     ensures { result ≡ value }
 {

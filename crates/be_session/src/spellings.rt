@@ -1,7 +1,9 @@
-//! Attributes, indices and operations as other languages are told of them: as operations, with the bytes that their parts are in.
+//! Attributes, indices and operations as other languages get them: as operations, with the bytes
+//! that their parts are in.
 ghost use Rattle.std.specs.Prelude.{◌≡◌, ◌++◌, IfOk, IfErr, IfSome, length, map};
 ghost use Rattle.be_value.specs.declared.refusals.Refusal.TheVariants.{OutOfMemory};
-ghost use Rattle.be_session.specs.Operations.{AreSpelled, IsMeantBy, ArePartsWithin, TellNodes, TellsNode, both_parts, makes, sets};
+ghost use Rattle.be_session.specs.Operations.{AreSpelled, IsMeantBy, ArePartsWithin, TellNodes};
+ghost use Rattle.be_session.specs.Operations.{TellsNode, both_parts, makes, sets};
 ghost use Rattle.be_session.specs.declared.faults.Fault.TheVariants.{Refused};
 
 use crate::meanings::operation_spelled;
@@ -9,16 +11,17 @@ use crate::{Fault, Operation, spelled};
 use be_store::{Done, Kind, Name, Op, Refusal, Value};
 use std::alloc::Global;
 
-/// Operations as they are spelled, with the bytes that their parts are in.
+/// Encoded operations, with the bytes that their parts are in.
 #[derive(Drop)]
 pub struct Spelling {
     pub operations: Vec<Operation>,
     pub bytes: Vec<u8>,
 }
 
-/// Appends bytes, and answers where they begin and how many they are. OutOfMemory also at 4 GiB.
+/// Appends bytes, and returns their offset and length. OutOfMemory also at 4 GiB.
 fn append(bytes: &mut Vec<u8>, more: &[u8]) -> Result<(u32, u32), Fault>
-    ensures ok { IfOk result (λ r. (r.0 ≡ length bytes.old.items) × (r.1 ≡ length more.now) × (bytes.new.items ≡ bytes.old.items ++ more.now)) }
+    ensures ok { IfOk result (λ r. (r.0 ≡ length bytes.old.items) × (r.1 ≡ length more.now)
+        × (bytes.new.items ≡ bytes.old.items ++ more.now)) }
     ensures err { IfErr result (λ e. e ≡ Refused OutOfMemory) }
 {
     let Ok(at) = u32::try_from(bytes.len()) else {
@@ -31,14 +34,18 @@ fn append(bytes: &mut Vec<u8>, more: &[u8]) -> Result<(u32, u32), Fault>
     Ok((at, length))
 }
 
+/// The operation that sets an attribute of a node. Appends its name and its value to the bytes.
+/// OutOfMemory.
 fn spell_attribute(
     bytes: &mut Vec<u8>,
     node: u64,
     name: &Name,
     value: &Value,
 ) -> Result<Operation, Fault>
-    ensures more { IfOk result (λ o. bytes.new.items ≡ bytes.old.items ++ both_parts o bytes.new.items) }
-    ensures meant { IfOk result (λ o. ArePartsWithin o (length bytes.new.items) × IsMeantBy o bytes.new.items (sets node (name.now, value.now))) }
+    ensures more { IfOk result (λ o. bytes.new.items ≡ bytes.old.items
+        ++ both_parts o bytes.new.items) }
+    ensures meant { IfOk result (λ o. ArePartsWithin o (length bytes.new.items)
+        × IsMeantBy o bytes.new.items (sets node (name.now, value.now))) }
     ensures err { IfErr result (λ e. e ≡ Refused OutOfMemory) }
 {
     let (code, number, data) = spelled(value);
@@ -56,9 +63,12 @@ fn spell_attribute(
     })
 }
 
+/// The operation that makes an index. Appends its name to the bytes. OutOfMemory.
 fn spell_index(bytes: &mut Vec<u8>, name: &Name, kind: Kind) -> Result<Operation, Fault>
-    ensures more { IfOk result (λ o. bytes.new.items ≡ bytes.old.items ++ both_parts o bytes.new.items) }
-    ensures meant { IfOk result (λ o. ArePartsWithin o (length bytes.new.items) × IsMeantBy o bytes.new.items (makes (name.now, kind))) }
+    ensures more { IfOk result (λ o. bytes.new.items ≡ bytes.old.items
+        ++ both_parts o bytes.new.items) }
+    ensures meant { IfOk result (λ o. ArePartsWithin o (length bytes.new.items)
+        × IsMeantBy o bytes.new.items (makes (name.now, kind))) }
     ensures err { IfErr result (λ e. e ≡ Refused OutOfMemory) }
 {
     let (name_at, name_length) = append(bytes, name.as_str().as_bytes())?;
@@ -80,7 +90,8 @@ pub fn attributes_spelled(
     node: u64,
     list: &[(Name, Value)],
 ) -> Result<Spelling, Fault>
-    ensures ok { IfOk result (λ s. AreSpelled s.operations.items s.bytes.items (map (sets node) list.now)) }
+    ensures ok { IfOk result (λ s. AreSpelled s.operations.items s.bytes.items
+        (map (sets node) list.now)) }
     ensures err { IfErr result (λ e. e ≡ Refused OutOfMemory) }
 {
     let mut operations = Vec::new(alloc);
@@ -94,7 +105,8 @@ pub fn attributes_spelled(
 
 /// Indices, as the operations that make them, in the list's order. OutOfMemory.
 pub fn indices_spelled(alloc: Global, list: &[(Name, Kind)]) -> Result<Spelling, Fault>
-    ensures ok { IfOk result (λ s. AreSpelled s.operations.items s.bytes.items (map makes list.now)) }
+    ensures ok { IfOk result (λ s. AreSpelled s.operations.items s.bytes.items
+        (map makes list.now)) }
     ensures err { IfErr result (λ e. e ≡ Refused OutOfMemory) }
 {
     let mut operations = Vec::new(alloc);
@@ -106,9 +118,12 @@ pub fn indices_spelled(alloc: Global, list: &[(Name, Kind)]) -> Result<Spelling,
     Ok(Spelling { operations, bytes })
 }
 
+/// Encodes an operation. Appends its name and its value to the bytes. OutOfMemory.
 fn spell(bytes: &mut Vec<u8>, op: &Op) -> Result<Operation, Fault>
-    ensures more { IfOk result (λ o. bytes.new.items ≡ bytes.old.items ++ both_parts o bytes.new.items) }
-    ensures meant { IfOk result (λ o. ArePartsWithin o (length bytes.new.items) × IsMeantBy o bytes.new.items op.now) }
+    ensures more { IfOk result (λ o. bytes.new.items ≡ bytes.old.items
+        ++ both_parts o bytes.new.items) }
+    ensures meant { IfOk result (λ o. ArePartsWithin o (length bytes.new.items)
+        × IsMeantBy o bytes.new.items op.now) }
     ensures err { IfErr result (λ e. e ≡ Refused OutOfMemory) }
 {
     let (kind, node, name, (code, number, data)) = operation_spelled(op);
@@ -126,7 +141,7 @@ fn spell(bytes: &mut Vec<u8>, op: &Op) -> Result<Operation, Fault>
     })
 }
 
-/// Operations, spelled in the list's order. OutOfMemory.
+/// Encodes operations in the list's order. OutOfMemory.
 pub(crate) fn operations_spelled(alloc: Global, list: &[Op]) -> Result<Spelling, Fault>
     ensures ok { IfOk result (λ s. AreSpelled s.operations.items s.bytes.items list.now) }
     ensures err { IfErr result (λ e. e ≡ Refused OutOfMemory) }
@@ -140,10 +155,12 @@ pub(crate) fn operations_spelled(alloc: Global, list: &[Op]) -> Result<Spelling,
     Ok(Spelling { operations, bytes })
 }
 
-/// An operation of an entry, as `spell` spells it; one that made a node has that node.
+/// Encodes an operation of an entry as `spell` does; one that made a node has that node.
 fn spell_done(bytes: &mut Vec<u8>, op: &Op, done: Option<&Done>) -> Result<Operation, Fault>
-    ensures more { IfOk result (λ o. bytes.new.items ≡ bytes.old.items ++ both_parts o bytes.new.items) }
-    ensures meant { IfOk result (λ o. ArePartsWithin o (length bytes.new.items) × IsMeantBy o bytes.new.items op.now) }
+    ensures more { IfOk result (λ o. bytes.new.items ≡ bytes.old.items
+        ++ both_parts o bytes.new.items) }
+    ensures meant { IfOk result (λ o. ArePartsWithin o (length bytes.new.items)
+        × IsMeantBy o bytes.new.items op.now) }
     ensures made { IfOk result (λ o. IfSome done.entry (λ d. TellsNode o op.now d.now)) }
     ensures err { IfErr result (λ e. e ≡ Refused OutOfMemory) }
 {
@@ -154,7 +171,8 @@ fn spell_done(bytes: &mut Vec<u8>, op: &Op, done: Option<&Done>) -> Result<Opera
     Ok(operation)
 }
 
-/// The operations of an entry, spelled in their order, each that made a node with that node. OutOfMemory.
+/// Encodes the operations of an entry in their order; each that made a node has that node.
+/// OutOfMemory.
 pub fn entry_spelled(alloc: Global, ops: &[Op], dones: &[Done]) -> Result<Spelling, Fault>
     ensures ok { IfOk result (λ s. AreSpelled s.operations.items s.bytes.items ops.now) }
     ensures made { IfOk result (λ s. TellNodes s.operations.items ops.now dones.now) }

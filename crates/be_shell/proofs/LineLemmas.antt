@@ -7,8 +7,8 @@ use Rattle.std.specs.Io.KnownBytes.{Consumes, IsAtEnd, Keeps}
 use Rattle.std.specs.declared.option.Option.{Option}
 use Rattle.std.specs.declared.result.Result.{Result}
 use Rattle.std.specs.declared.result.Result.TheVariants.{Ok, Err}
-use Rattle.be_serving.specs.Run.{is_line_end}
-use Rattle.be_serving.proofs.RunLemmas.{read_both}
+use Rattle.be_script_runner.specs.Run.{is_line_end}
+use Rattle.be_script_runner.proofs.RunLemmas.{read_both}
 use Rattle.be_shell.specs.Bytes.{HasTaken, Hears, ChangesBytes}
 use Rattle.be_shell.specs.Conversation.{Event, short_line, long_line, hears, ends, says, flushes, fails}
 

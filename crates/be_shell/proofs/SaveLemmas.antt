@@ -5,12 +5,12 @@ use Rattle.std.proofs.lemmas.List.Sums.{fold-append}
 use Rattle.be_volume.specs.Ahead.{state_after}
 use Rattle.be_volume.specs.Volume.{State}
 use Rattle.be_journal.specs.declared.entries.Entry.{Entry}
-use Rattle.be_serving.specs.Output.{Session}
-use Rattle.be_serving.specs.Store.{Store, Joins, IsOther}
-use Rattle.be_serving.specs.View.{session}
-use Rattle.be_serving.specs.declared.client.Client.{Client}
-use Rattle.be_serving.specs.declared.faults.RunFault.{RunFault}
-use Rattle.be_serving.specs.declared.faults.RunFault.TheVariants.{Limits, Read, TooLong, Write, Memory}
+use Rattle.be_script_runner.specs.Output.{Session}
+use Rattle.be_script_runner.specs.Store.{Store, Joins, IsOther}
+use Rattle.be_script_runner.specs.View.{session}
+use Rattle.be_script_runner.specs.declared.client.Client.{Client}
+use Rattle.be_script_runner.specs.declared.faults.RunFault.{RunFault}
+use Rattle.be_script_runner.specs.declared.faults.RunFault.TheVariants.{Limits, Read, TooLong, Write, Memory}
 use Rattle.be_shell.specs.Conversation.{Event, Heard, hears, IsBroken, RepliedTo, BrokeBehind}
 
 same_store : (a : Store) (j j' : List Entry) (v v' : State) → j ≡ j' → v ≡ v' → (record a { journal = j; volume = v }) ≡ (record a { journal = j'; volume = v' })

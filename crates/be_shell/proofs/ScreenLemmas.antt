@@ -1,7 +1,7 @@
 -- How a text is said piece by piece.
 use Rattle.std.proofs.Common.{◌≡◌, ℕ, List, [], ◌∷◌, ◌++◌, length, map, append_assoc, refl, sym, ap, ◌∙◌, subst, arith}
 use Rattle.std.proofs.lemmas.List.{append-nil}
-use Rattle.be_serving.specs.Run.{IsFrontOf}
+use Rattle.be_script_runner.specs.Run.{IsFrontOf}
 use Rattle.be_shell.specs.Conversation.{Event, says, Happens}
 use Rattle.be_shell.specs.Escape.{shown}
 use Rattle.be_shell.specs.Screen.{SaysAll, joined}

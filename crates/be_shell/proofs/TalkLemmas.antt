@@ -3,14 +3,14 @@ use Rattle.std.proofs.Common.{◌≡◌, ℕ, ◌+◌, ◌^◌, Bool, true, fals
 use Rattle.std.specs.Result.{IfErr, IsErrAnd}
 use Rattle.std.specs.declared.result.Result.{Result}
 use Rattle.std.specs.declared.result.Result.TheVariants.{Ok, Err}
-use Rattle.be_language.specs.Reply.{none}
-use Rattle.be_language.specs.Request.{Request, silent}
-use Rattle.be_serving.specs.Output.{Session, Outputs, Serves}
-use Rattle.be_serving.specs.Run.{IsNotLimits}
-use Rattle.be_serving.specs.declared.faults.RunFault.{RunFault}
-use Rattle.be_serving.specs.declared.faults.RunFault.TheVariants.{Limits, Read, TooLong, Write, Memory}
-use Rattle.be_serving.proofs.EndLemmas.{nothing_asked}
-use Rattle.be_serving.proofs.ReplyLemmas.{serves_at_once}
+use Rattle.be_script_language.specs.Reply.{none}
+use Rattle.be_script_language.specs.Request.{Request, silent}
+use Rattle.be_script_runner.specs.Output.{Session, Outputs, Serves}
+use Rattle.be_script_runner.specs.Run.{IsNotLimits}
+use Rattle.be_script_runner.specs.declared.faults.RunFault.{RunFault}
+use Rattle.be_script_runner.specs.declared.faults.RunFault.TheVariants.{Limits, Read, TooLong, Write, Memory}
+use Rattle.be_script_runner.proofs.EndLemmas.{nothing_asked}
+use Rattle.be_script_runner.proofs.ReplyLemmas.{serves_at_once}
 use Rattle.be_shell.specs.Conversation.{Heard, Event, hears, ends, says, flushes, fails, RepliedTo, exchange, IsTalk, Happens, SoFar, TalkedTo, Went, IsCut, IsDeaf, IsBroken, Broke, BrokeBehind, BrokeOff, all_short, said}
 
 -- a fault that is passed on

@@ -5,10 +5,10 @@ use Rattle.std.proofs.lemmas.List.Elements.{All-head, All-tail}
 use Rattle.std.proofs.lemmas.List.Splits.{slice_split_at, slice_split_none}
 use Rattle.std.specs.Io.KnownBytes.{Appends, Consumes, IsAtEnd, Keeps}
 use Rattle.std.specs.declared.option.Option.{Option}
-use Rattle.be_language.specs.Request.{lines_of}
-use Rattle.be_serving.specs.Output.{Session, Outputs, opening}
-use Rattle.be_serving.specs.Run.{is_line_end}
-use Rattle.be_serving.specs.Store.{Store}
+use Rattle.be_script_language.specs.Request.{lines_of}
+use Rattle.be_script_runner.specs.Output.{Session, Outputs, opening}
+use Rattle.be_script_runner.specs.Run.{is_line_end}
+use Rattle.be_script_runner.specs.Store.{Store}
 use Rattle.be_shell.specs.Bytes.{AreShort, IsHeardOf, IsWhole, Known, TakesLine, known_do, knows}
 use Rattle.be_shell.specs.Conversation.{Event, Heard, short_line, long_line, ends, RepliedTo, exchange, IsTalk, Happens, TalkedTo}
 use Rattle.be_shell.proofs.TalkLemmas.{empty_more}

@@ -1,9 +1,11 @@
 -- What a line that is typed asks of the terminal itself, and not of the store.
-use Rattle.std.specs.Prelude.{ℕ, Bool, List, [], ◌∷◌, length, nat_eq, nat_le, position, take, drop, unwrap_or, ◌&&◌, ◌||◌, if◌then◌else◌, codes}
+use Rattle.std.specs.Prelude.{ℕ, Bool, List, [], ◌∷◌, length, nat_eq, nat_le, position, take, drop}
+use Rattle.std.specs.Prelude.{unwrap_or, ◌&&◌, ◌||◌, if◌then◌else◌, codes}
 use Rattle.std.specs.List.{list_all, ends_with}
 use Rattle.std.specs.Str.{bytes_eq}
 use Rattle.be_shell.specs.declared.asides.Aside.{Aside}
-use Rattle.be_shell.specs.declared.asides.Aside.TheVariants.{Nothing, Cancelled, Cut, Help, Quit, Read, Save}
+use Rattle.be_shell.specs.declared.asides.Aside.TheVariants.{Nothing, Cancelled, Cut, Help, Quit}
+use Rattle.be_shell.specs.declared.asides.Aside.TheVariants.{Read, Save}
 
 -- space, tab and CR
 abbrev pub is_blank : ℕ → Bool
@@ -13,7 +15,7 @@ abbrev pub skip : List ℕ → List ℕ
 skip [] = []
 skip (c ∷ line) = if is_blank c then skip line else c ∷ line
 
--- where the first blank is, or the length
+-- the position of the first blank, or the length
 abbrev pub end_of_word : List ℕ → ℕ
 end_of_word line = unwrap_or (position is_blank line) (length line)
 
@@ -28,7 +30,8 @@ named word alone =
 
 -- a line without the blanks at its front, by its first word
 abbrev pub by_word : List ℕ → Aside
-by_word line = named (take (end_of_word line) line) (list_all is_blank (drop (end_of_word line) line))
+by_word line = named (take (end_of_word line) line)
+    (list_all is_blank (drop (end_of_word line) line))
 
 -- a line of a file
 abbrev pub aside_of : List ℕ → Aside
@@ -38,6 +41,8 @@ aside_of line = by_word (skip line)
 abbrev pub is_cancelled : List ℕ → Bool
 is_cancelled line = ends_with nat_eq line (3 ∷ [])
 
--- A line that was typed: cancelled, or as long as the longest that a terminal gives, so that it may have been cut.
+-- A line that was typed: cancelled, or as long as the longest that a terminal gives, so that it may
+-- have been cut.
 abbrev pub typed_of : List ℕ → Aside
-typed_of line = if is_cancelled line then Cancelled else if nat_le 4095 (length line) then Cut else aside_of line
+typed_of line = if is_cancelled line then Cancelled else if nat_le 4095 (length line) then Cut
+    else aside_of line

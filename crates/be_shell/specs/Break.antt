@@ -1,5 +1,6 @@
 -- A reader in which a line also ends after a byte 3, which is what Ctrl-C types.
-use Rattle.std.specs.Prelude.{ℕ, Bool, true, false, List, [], ◌∷◌, nat_eq, if◌then◌else◌, option_map}
+use Rattle.std.specs.Prelude.{ℕ, Bool, true, false, List, [], ◌∷◌, nat_eq, if◌then◌else◌}
+use Rattle.std.specs.Prelude.{option_map}
 use Rattle.std.specs.declared.option.Option.{Option}
 use Rattle.be_shell.specs.declared.breaks.Breaking.{Breaking}
 
@@ -8,7 +9,7 @@ abbrev pub broken : List ℕ → List ℕ
 broken [] = []
 broken (c ∷ bytes) = if nat_eq c 3 then 3 ∷ 10 ∷ broken bytes else c ∷ broken bytes
 
--- the same, behind a byte 3 whose LF is still to be read or not
+-- the same, after a byte 3 whose LF is still to be read (true) or not (false)
 abbrev pub owed : Bool → List ℕ → List ℕ
 owed true bytes = 10 ∷ broken bytes
 owed false bytes = broken bytes

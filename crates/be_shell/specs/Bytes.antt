@@ -1,11 +1,14 @@
--- What a conversation does to the bytes that a reader has left and to those that a writer holds, where they are known.
-use Rattle.std.specs.Prelude.{◌≡◌, ◌⊎◌, ◌≤◌, ◌<◌, ℕ, false, All, List, [], ◌∷◌, ◌++◌, length, Some, None}
+-- What a conversation does to the bytes that a reader has left and to those that a writer holds, if
+-- they are known.
+use Rattle.std.specs.Prelude.{◌≡◌, ◌⊎◌, ◌≤◌, ◌<◌, ℕ, false, All, List, [], ◌∷◌, ◌++◌, length, Some}
+use Rattle.std.specs.Prelude.{None}
 use Rattle.std.specs.Io.KnownBytes.{Appends, Consumes, IsAtEnd, Keeps}
 use Rattle.std.specs.declared.option.Option.{Option}
-use Rattle.be_serving.specs.Output.{Session, IsOutputTo}
-use Rattle.be_serving.specs.Run.{is_line_end}
-use Rattle.be_serving.specs.Store.{Store}
-use Rattle.be_shell.specs.Conversation.{Heard, short_line, long_line, Event, hears, ends, says, flushes, fails}
+use Rattle.be_script_runner.specs.Output.{Session, IsOutputTo}
+use Rattle.be_script_runner.specs.Run.{is_line_end}
+use Rattle.be_script_runner.specs.Store.{Store}
+use Rattle.be_shell.specs.Conversation.{Heard, short_line, long_line, Event, hears, ends, says}
+use Rattle.be_shell.specs.Conversation.{flushes, fails}
 use Rattle.be_shell.specs.declared.ends.Ends.{Ends}
 
 -- none of the bytes ends a line
@@ -17,19 +20,22 @@ abbrev pub IsHeardOf : List ℕ → Heard → Type 0
 IsHeardOf bytes (short_line line) = (bytes ≡ line) × (length bytes ≤ 65536)
 IsHeardOf bytes long_line = 65536 < length bytes
 
--- A line was taken off the front: its bytes and the LF behind them, or all that was left, where no LF is in it.
+-- A line was taken off the front: its bytes and the LF after them, or all that was left if it has
+-- no LF.
 pub record TakesLine (old new : Option (List ℕ)) (line : Heard) : Type 0 where
   pub bytes : List ℕ
   pub within : IsWithinLine bytes
   pub heard : IsHeardOf bytes line
-  pub taken : Consumes old new (bytes ++ 10 ∷ []) ⊎ ((1 ≤ length bytes) × Consumes old new bytes × IsAtEnd new)
+  pub taken : Consumes old new (bytes ++ 10 ∷ [])
+      ⊎ ((1 ≤ length bytes) × Consumes old new bytes × IsAtEnd new)
 
 -- what one byte that was read, or the end, makes of what is left
 abbrev pub TakesByte : Option (List ℕ) → Option (List ℕ) → Option ℕ → Type 0
 TakesByte old new (Some byte) = Consumes old new (byte ∷ [])
 TakesByte old new None = Consumes old new [] × IsAtEnd new
 
--- What was taken so far of a line, where these bytes of it are kept: all of them, or else one more than 65,536.
+-- What was taken so far of a line if these bytes of it are kept. Up to 65,536 kept bytes are all
+-- that was taken; more say that the line is longer than that.
 pub record HasTaken (old new : Option (List ℕ)) (kept : List ℕ) : Type 0 where
   pub bytes : List ℕ
   pub within : IsWithinLine bytes
@@ -46,7 +52,8 @@ Hears old new flushes = ⊥
 Hears old new fails = ⊥
 
 -- what an event makes of what is left to hear and of what was said
-abbrev pub ChangesBytes : Option (List ℕ) → Option (List ℕ) → Option (List ℕ) → Option (List ℕ) → Event → Type 0
+abbrev pub ChangesBytes : Option (List ℕ) → Option (List ℕ) → Option (List ℕ) → Option (List ℕ)
+    → Event → Type 0
 ChangesBytes left left' told told' (hears line) = TakesLine left left' line × (told' ≡ told)
 ChangesBytes left left' told told' ends = (Consumes left left' [] × IsAtEnd left') × (told' ≡ told)
 ChangesBytes left left' told told' (says bytes) = (left' ≡ left) × Appends told told' bytes
@@ -54,8 +61,10 @@ ChangesBytes left left' told told' flushes = (left' ≡ left) × Keeps told told
 ChangesBytes left left' told told' fails = Keeps told told'
 
 -- the same of a reader and a writer
-abbrev pub ends_do : {R W : Type 0} → (R → Option (List ℕ)) → (W → Option (List ℕ)) → Ends R W → Event → Ends R W → Type 0
-ends_do remaining contents old event new = ChangesBytes (remaining old.reader) (remaining new.reader) (contents old.writer) (contents new.writer) event
+abbrev pub ends_do : {R W : Type 0} → (R → Option (List ℕ)) → (W → Option (List ℕ)) → Ends R W
+    → Event → Ends R W → Type 0
+ends_do remaining contents old event new = ChangesBytes (remaining old.reader)
+    (remaining new.reader) (contents old.writer) (contents new.writer) event
 
 -- the bytes that are left to be heard and those that were said, as a peer of their own
 pub record Known : Type 0 where
@@ -73,7 +82,8 @@ abbrev pub AreShort : List (List ℕ) → Type 0
 AreShort lines = All (λ line. length line ≤ 65536) lines
 
 -- All of the script was heard, and what was said is an output of it.
-pub record IsWhole (store : Store) (script told : List ℕ) (last : Session) (end : Known) : Type 0 where
-  pub out : List ℕ
-  pub said : end.told ≡ Some (told ++ out)
-  pub output : IsOutputTo store script last.store out
+pub record IsWhole (store : Store) (script told : List ℕ) (last : Session) (end : Known) : Type 0
+  where
+    pub out : List ℕ
+    pub said : end.told ≡ Some (told ++ out)
+    pub output : IsOutputTo store script last.store out

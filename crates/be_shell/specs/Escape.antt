@@ -1,5 +1,6 @@
 -- How bytes are shown on a screen: control characters by their codes, all else as it is.
-use Rattle.std.specs.Prelude.{◌≡◌, ℕ, ◌+◌, ◌/◌, ◌%◌, Bool, List, [], ◌∷◌, ◌++◌, nat_eq, nat_lt, nat_le, not, ◌&&◌, ◌||◌, if◌then◌else◌}
+use Rattle.std.specs.Prelude.{◌≡◌, ℕ, ◌+◌, ◌/◌, ◌%◌, Bool, List, [], ◌∷◌, ◌++◌, nat_eq, nat_lt}
+use Rattle.std.specs.Prelude.{nat_le, not, ◌&&◌, ◌||◌, if◌then◌else◌}
 
 -- The characters U+0000 to U+001F but LF, which ends a line of a reply, and U+007F.
 abbrev pub is_control : ℕ → Bool
@@ -24,7 +25,8 @@ form c = if is_control c then mark c else c ∷ []
 abbrev pub shown : List ℕ → List ℕ
 shown [] = []
 shown (b ∷ []) = form b
-shown (b ∷ c ∷ bytes) = if is_wide_control b c then mark c ++ shown bytes else form b ++ shown (c ∷ bytes)
+shown (b ∷ c ∷ bytes) = if is_wide_control b c then mark c ++ shown bytes else form b
+    ++ shown (c ∷ bytes)
 
 -- the first byte of these is shown as it is
 abbrev pub KeepsFirst : List ℕ → Type 0

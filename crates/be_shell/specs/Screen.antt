@@ -1,6 +1,6 @@
 -- A peer that shows control characters by their codes.
 use Rattle.std.specs.Prelude.{◌≡◌, ◌⊎◌, Bool, true, ℕ, List, [], ◌∷◌, ◌++◌, map}
-use Rattle.be_serving.specs.Run.{IsFrontOf}
+use Rattle.be_script_runner.specs.Run.{IsFrontOf}
 use Rattle.be_shell.specs.Conversation.{Event, hears, ends, says, flushes, fails, Happens}
 use Rattle.be_shell.specs.Escape.{shown}
 
@@ -11,14 +11,17 @@ joined (piece ∷ pieces) = piece ++ joined pieces
 
 -- these bytes are said, in one piece or in several
 abbrev pub SaysAll : {P : Type 0} → (P → Event → P → Type 0) → P → List ℕ → P → Type 0
-SaysAll does p bytes q = (pieces : List (List ℕ)) × Happens does p (map says pieces) q × (joined pieces ≡ bytes)
+SaysAll does p bytes q = (pieces : List (List ℕ)) × Happens does p (map says pieces) q
+    × (joined pieces ≡ bytes)
 
--- What an event at a screen is to the peer below it. What is said is said as it is shown, all of it; or, once a write has
--- failed, a front of that.
+-- What an event at a screen is to the peer below it. What is said is said as it is shown, all of
+-- it; or, once a write has failed, a front of that.
 abbrev pub shows : {P : Type 0} → (P → Event → P → Type 0) → P → Bool → Event → P → Bool → Type 0
 shows does p torn (hears line) q torn' = does p (hears line) q × (torn' ≡ torn)
 shows does p torn ends q torn' = does p ends q × (torn' ≡ torn)
 shows does p torn (says bytes) q torn' =
-    (SaysAll does p (shown bytes) q × (torn' ≡ torn)) ⊎ ((front : List ℕ) × IsFrontOf (shown bytes) front × SaysAll does p front q × (torn' ≡ true))
+    (SaysAll does p (shown bytes) q × (torn' ≡ torn))
+    ⊎ ((front : List ℕ) × IsFrontOf (shown bytes) front × SaysAll does p front q
+    × (torn' ≡ true))
 shows does p torn flushes q torn' = does p flushes q × (torn' ≡ torn)
 shows does p torn fails q torn' = does p fails q × (torn' ≡ torn)

@@ -1,7 +1,8 @@
 -- A peer at a terminal.
 use Rattle.std.specs.Prelude.{◌≡◌, ◌⊎◌, Bool, true, []}
 use Rattle.be_shell.specs.Aside.{typed_of}
-use Rattle.be_shell.specs.Conversation.{Event, Heard, hears, ends, says, flushes, fails, short_line, long_line}
+use Rattle.be_shell.specs.Conversation.{Event, Heard, hears, ends, says, flushes, fails, short_line}
+use Rattle.be_shell.specs.Conversation.{long_line}
 use Rattle.be_shell.specs.declared.asides.Aside.{Aside}
 use Rattle.be_shell.specs.declared.asides.Aside.TheVariants.{Nothing, Cut, Quit, Read}
 
@@ -10,7 +11,7 @@ abbrev pub asks_of : Heard → Aside
 asks_of (short_line line) = typed_of line
 asks_of long_line = Cut
 
--- A line as the shell hears it: where it is for the terminal, an empty line, or the end.
+-- A line as the shell hears it: itself, or an empty line or the end if it is for the terminal.
 abbrev pub passed_on : Heard → Aside → Event
 passed_on line Nothing = hears line
 passed_on line Quit = ends
@@ -40,9 +41,11 @@ IsOfFile (says bytes) = ⊥
 IsOfFile flushes = ⊥
 IsOfFile fails = ⊥
 
--- What an event at a terminal is to the peer below it, and whether a file is being read before and after it. It is an event of
--- that peer, as the shell has it, and only the line `read` makes that a file is read; or, while one is read, a line of it.
+-- What an event at a terminal is to the peer below it, and whether a file is being read before and
+-- after it. It is an event of that peer, as the shell has it, and only the line `read` makes that a
+-- file is read; or, while one is read, a line of it.
 abbrev pub asks : {P : Type 0} → (P → Event → P → Type 0) → P → Bool → Event → P → Bool → Type 0
 asks does p reads event q reads' =
-    ((below : Event) × (event ≡ passes below) × does p below q × (reads' ≡ true → (reads ≡ true) ⊎ IsReading below))
+    ((below : Event) × (event ≡ passes below) × does p below q
+    × (reads' ≡ true → (reads ≡ true) ⊎ IsReading below))
     ⊎ ((reads ≡ true) × (q ≡ p) × IsOfFile event)

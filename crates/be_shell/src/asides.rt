@@ -3,7 +3,8 @@ ghost use Rattle.std.specs.Prelude.{◌≡◌, position, take, drop};
 ghost use Rattle.std.specs.List.{list_all};
 ghost use Rattle.be_shell.specs.Aside as spec;
 
-/// The bytes of the longest line that a terminal gives, its LF not counted. It cuts a longer one there.
+/// The bytes of the longest line that a terminal gives, its LF not counted. It cuts a longer one
+/// there.
 pub(crate) const MAX_TYPED: usize = 4095;
 
 /// What a line asks of the terminal itself.
@@ -47,7 +48,7 @@ fn is_all_blank(line: &[u8]) -> bool
     line.iter().all(|c| is_blank(*c))
 }
 
-/// Where the first blank is.
+/// The position of the first blank.
 fn first_blank(line: &[u8]) -> Option<usize>
     ensures { result ≡ position spec.is_blank line.now }
 {

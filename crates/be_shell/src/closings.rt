@@ -1,17 +1,17 @@
-//! A store that is talked with, and whose journal is given back at the end.
+//! A store that is talked with, and whose journal is returned at the end.
 ghost use Rattle.std.specs.Prelude.{◌≡◌, ◌≤◌, ◌↔◌, IfErr, IfSome, OnOk, Err, length};
 ghost use Rattle.be_journal.specs.Journal.{IsLegal};
-ghost use Rattle.be_serving.specs.Output.{Session, opening};
-ghost use Rattle.be_serving.specs.Run.{IsNotLimits};
-ghost use Rattle.be_serving.specs.Store.{start};
-ghost use Rattle.be_serving.specs.View.{session, queued_ops};
+ghost use Rattle.be_script_runner.specs.Output.{Session, opening};
+ghost use Rattle.be_script_runner.specs.Run.{IsNotLimits};
+ghost use Rattle.be_script_runner.specs.Store.{start};
+ghost use Rattle.be_script_runner.specs.View.{session, queued_ops};
 ghost use Rattle.be_shell.specs.Conversation as spec;
 ghost use Rattle.be_table.specs.Rule.{AreBad};
 ghost use Rattle.be_table.specs.Versions.{CanSpellEach};
 
 use crate::conversations::converse;
 use crate::peers::Peer;
-use be_serving::{
+use be_script_runner::{
     Client, Journal, Limits, PassServer, RunFault, Server, close_alone, open_for_one,
 };
 use std::alloc::Global;
@@ -29,7 +29,8 @@ fn converse_with_both<S: Server, F: Peer, P: Peer>(
         × spec.TalkedTo F.does (session (S.shows server.old) client.old) first.old mid first.new
         × spec.TalkedTo P.does mid peer.old (session (S.shows server.new) client.new) peer.new) }
     ensures fault { IfErr result (λ e.
-        spec.ShellLeaves F.does P.does e (session (S.shows server.old) client.old) first.old first.new peer.old peer.new) }
+        spec.ShellLeaves F.does P.does e (session (S.shows server.old) client.old) first.old
+        first.new peer.old peer.new) }
     ensures other { IfErr result IsNotLimits }
     ensures stays { S.kept server.new ≡ S.kept server.old }
 {
@@ -37,8 +38,8 @@ fn converse_with_both<S: Server, F: Peer, P: Peer>(
     converse(alloc, server, client, peer)
 }
 
-/// Talks as [`crate::shell`] does, and gives the store's journal back, also where a fault has ended the talk: what was accepted
-/// by then. None where no store was opened, or memory was missing to close it.
+/// Talks as [`crate::shell`] does, and returns the store's journal, also if a fault has ended the
+/// talk: what was accepted by then. None if no store was opened, or memory was missing to close it.
 pub fn shell_and_close<F: Peer, P: Peer>(
     alloc: Global,
     first: &mut F,
@@ -46,11 +47,13 @@ pub fn shell_and_close<F: Peer, P: Peer>(
     limits: Limits,
 ) -> (Result<(), RunFault>, Option<Journal>)
     ensures talked { OnOk result.0 ((mid : Session) × (last : Session)
-        × spec.TalkedTo F.does (opening (start limits.commits)) first.old mid first.new × spec.TalkedTo P.does mid peer.old last peer.new
+        × spec.TalkedTo F.does (opening (start limits.commits)) first.old mid first.new
+        × spec.TalkedTo P.does mid peer.old last peer.new
         × IfSome result.1 (λ journal. journal.entries ≡ last.store.journal)) }
     ensures legal { IfSome result.1 (λ journal. IsLegal journal.entries) }
     ensures volumes { IfSome result.1 (λ journal. CanSpellEach limits.pages journal.entries) }
-    ensures fault { IfErr result.0 (λ e. spec.ShellLeaves F.does P.does e (opening (start limits.commits)) first.old first.new peer.old peer.new) }
+    ensures fault { IfErr result.0 (λ e. spec.ShellLeaves F.does P.does e
+        (opening (start limits.commits)) first.old first.new peer.old peer.new) }
     ensures limits { (result.0 ≡ Err RunFault.Limits) ↔ AreBad limits }
 {
     if !limits.are_within() {

@@ -1,11 +1,12 @@
 //! A reader and a writer as a peer.
 ghost use Rattle.std.specs.Prelude.{◌≡◌, ◌≤◌, ◌<◌, ◌∷◌, ◌++◌, [], IfOk, IfErr, OnOk, vec_len};
 ghost use Rattle.be_shell.specs.Bytes.{Hears, TakesByte};
-ghost use Rattle.be_shell.specs.Conversation.{IsDeaf, hearing, hears, ends, short_line, long_line, line_heard};
+ghost use Rattle.be_shell.specs.Conversation.{IsDeaf, hearing, hears, ends, short_line, long_line};
+ghost use Rattle.be_shell.specs.Conversation.{line_heard};
 
 use crate::Line;
 use crate::peers::Peer;
-use be_serving::{RunFault, put};
+use be_script_runner::{RunFault, put};
 use std::alloc::Global;
 use std::io::{Read, Write};
 
@@ -14,7 +15,8 @@ const MAX_LINE: usize = 1 << 16;
 
 /// The next byte, or None at the end.
 fn read_byte<R: Read>(reader: &mut R) -> Result<Option<u8>, RunFault>
-    ensures byte { IfOk result (λ next. TakesByte (R.remaining reader.old) (R.remaining reader.new) next) }
+    ensures byte { IfOk result (λ next. TakesByte (R.remaining reader.old) (R.remaining reader.new)
+        next) }
     ensures fault { IfErr result (λ e. e ≡ RunFault.Read) }
 {
     let mut one = [0u8; 1];
@@ -25,9 +27,11 @@ fn read_byte<R: Read>(reader: &mut R) -> Result<Option<u8>, RunFault>
     }
 }
 
-/// Keeps one byte more of a line, up to one more than a line may have: that many tell that it is too long.
+/// Keeps one byte more of a line, up to one more than a line may have: that many tell that it is
+/// too long.
 fn keep(line: &mut Vec<u8>, byte: u8) -> Result<(), RunFault>
-    ensures more { OnOk result (vec_len line.old ≤ 65536 → line.new.items ≡ line.old.items ++ byte ∷ []) }
+    ensures more { OnOk result (vec_len line.old ≤ 65536 → line.new.items ≡ line.old.items ++ byte
+        ∷ []) }
     ensures full { OnOk result (65536 < vec_len line.old → line.new.items ≡ line.old.items) }
     ensures fault { IfErr result (λ e. e ≡ RunFault.Memory) }
 {
@@ -52,10 +56,11 @@ fn line_of(kept: Vec<u8>) -> Line
     }
 }
 
-/// The line behind the last LF, of which these bytes were kept: it is one only where it isn't empty.
+/// The line after the last LF, of which these bytes were kept: it is one only if it isn't empty.
 fn last_line(kept: Vec<u8>) -> Option<Line>
     ensures none { vec_len kept ≡ 0 → hearing result ≡ ends }
-    ensures short { 1 ≤ vec_len kept → vec_len kept ≤ 65536 → hearing result ≡ hears (short_line kept.items) }
+    ensures short { 1 ≤ vec_len kept → vec_len kept ≤ 65536 → hearing result
+        ≡ hears (short_line kept.items) }
     ensures long { 65536 < vec_len kept → hearing result ≡ hears long_line }
 {
     if kept.is_empty() {
@@ -65,10 +70,11 @@ fn last_line(kept: Vec<u8>) -> Option<Line>
     }
 }
 
-/// Reads to the next LF, or to the end. It takes memory for at most 65,537 bytes, however long the line is. `Read` comes too
-/// after 2^64 - 1 bytes without an LF.
+/// Reads to the next LF, or to the end. It takes memory for at most 65,537 bytes, however long the
+/// line is. `Read` comes too after 2^64 - 1 bytes without an LF.
 fn hear_line<R: Read>(alloc: Global, reader: &mut R) -> Result<Option<Line>, RunFault>
-    ensures heard { IfOk result (λ next. Hears (R.remaining reader.old) (R.remaining reader.new) (hearing next)) }
+    ensures heard { IfOk result (λ next. Hears (R.remaining reader.old) (R.remaining reader.new)
+        (hearing next)) }
     ensures fault { IfErr result IsDeaf }
 {
     let mut kept = Vec::new(alloc);
@@ -90,8 +96,9 @@ fn hear_line<R: Read>(alloc: Global, reader: &mut R) -> Result<Option<Line>, Run
     Err(RunFault::Read)
 }
 
-/// A reader that is heard, a line at a time and to its LF, and a writer to which replies are said. It reads a byte at a
-/// time, so a reader of a file or a pipe is to stand behind a `BufReader`. It doesn't prompt.
+/// A reader that is heard, a line at a time and to its LF, and a writer to which replies are said.
+/// It reads a byte at a time, so a reader of a file or a pipe should be wrapped in a `BufReader`.
+/// It doesn't prompt.
 #[derive(Drop)]
 pub struct Ends<R, W> {
     reader: R,
@@ -99,6 +106,7 @@ pub struct Ends<R, W> {
 }
 
 impl<R: Read, W: Write> Ends<R, W> {
+    /// Makes a peer of this reader and this writer.
     pub fn new(reader: R, writer: W) -> Ends<R, W>
         ensures { (result.reader ≡ reader) × (result.writer ≡ writer) }
     {

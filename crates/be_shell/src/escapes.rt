@@ -24,7 +24,8 @@ pub(crate) fn mark(code: u8) -> [u8; 4]
 
 /// The code of the control character at the front, and what follows it.
 pub(crate) fn control_at(bytes: &[u8]) -> Option<(u8, &[u8])>
-    ensures some { IfSome result (λ found. spec.shown bytes.now ≡ spec.mark found.0 ++ spec.shown found.1.now) }
+    ensures some { IfSome result (λ found. spec.shown bytes.now ≡ spec.mark found.0
+        ++ spec.shown found.1.now) }
     ensures shorter { IfSome result (λ found. length found.1.now < length bytes.now) }
     ensures none { IfNone result (spec.KeepsFirst bytes.now) }
 {
@@ -44,7 +45,8 @@ pub(crate) fn plain_len(bytes: &[u8]) -> usize
     requires some { 1 ≤ length bytes.now }
     requires first { spec.KeepsFirst bytes.now }
     ensures within { (1 ≤ result) × (result ≤ length bytes.now) }
-    ensures plain { spec.shown bytes.now ≡ take result bytes.now ++ spec.shown (drop result bytes.now) }
+    ensures plain { spec.shown bytes.now ≡ take result bytes.now
+        ++ spec.shown (drop result bytes.now) }
 {
     let mut len = 1;
     while len < bytes.len() {

@@ -1,28 +1,34 @@
 //! Laws of the definitions. Each does nothing; its contract is the law.
 ghost use Rattle.std.specs.Prelude.{◌≡◌, List, ℕ, [], ◌∷◌, ◌++◌};
-ghost use Rattle.be_language.specs.Request.{lines_of};
-ghost use Rattle.be_serving.specs.Output.{Session, IsOutputTo, Outputs, opening};
-ghost use Rattle.be_serving.specs.Store.{Store};
+ghost use Rattle.be_script_language.specs.Request.{lines_of};
+ghost use Rattle.be_script_runner.specs.Output.{Session, IsOutputTo, Outputs, opening};
+ghost use Rattle.be_script_runner.specs.Store.{Store};
 ghost use Rattle.be_shell.specs.Bytes.{AreShort, IsWhole, Known, known_do, knows};
 ghost use Rattle.be_shell.specs.Conversation.{Event, IsTalk, TalkedTo, all_short, said};
 
 /// What is said in a conversation is what its lines are answered in a script.
 pub fn talk_is_output()
-    ensures { (s last : Session) (lines : List (List ℕ)) (talk : List Event) → IsTalk s (all_short lines) talk last → Outputs s lines last (said talk) }
+    ensures { (s last : Session) (lines : List (List ℕ)) (talk : List Event)
+        → IsTalk s (all_short lines) talk last → Outputs s lines last (said talk) }
 {}
 
-/// A conversation of a script's lines is an output of that script, and leaves the same store. It doesn't matter whether the
-/// empty line behind a last LF is heard.
+/// A conversation of a script's lines is an output of that script, and leaves the same store. It
+/// doesn't matter whether the empty line after a last LF is heard.
 pub fn talk_of_script_is_output()
     ensures whole { (store : Store) (script : List ℕ) (talk : List Event) (last : Session) →
-        IsTalk (opening store) (all_short (lines_of script)) talk last → IsOutputTo store script last.store (said talk) }
-    ensures ended { (store : Store) (script : List ℕ) (lines : List (List ℕ)) (talk : List Event) (last : Session) →
-        lines_of script ≡ lines ++ [] ∷ [] → IsTalk (opening store) (all_short lines) talk last → IsOutputTo store script last.store (said talk) }
+        IsTalk (opening store) (all_short (lines_of script)) talk last
+        → IsOutputTo store script last.store (said talk) }
+    ensures ended { (store : Store) (script : List ℕ) (lines : List (List ℕ)) (talk : List Event)
+        (last : Session) →
+        lines_of script ≡ lines ++ [] ∷ [] → IsTalk (opening store) (all_short lines) talk last
+        → IsOutputTo store script last.store (said talk) }
 {}
 
-/// Where the bytes that come are a script none of whose lines is long, a conversation over them to their end says an output
-/// of that script: as `run` does of the same bytes.
+/// If the bytes that come are a script none of whose lines is long, a conversation over them to
+/// their end says an output of that script, as `run` does of the same bytes.
 pub fn talk_of_bytes_is_output()
-    ensures { (store : Store) (script told : List ℕ) (last : Session) (end : Known) → AreShort (lines_of script) →
-        TalkedTo known_do (opening store) (knows script told) last end → IsWhole store script told last end }
+    ensures { (store : Store) (script told : List ℕ) (last : Session) (end : Known)
+        → AreShort (lines_of script) →
+        TalkedTo known_do (opening store) (knows script told) last end
+        → IsWhole store script told last end }
 {}

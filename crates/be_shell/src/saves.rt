@@ -12,7 +12,7 @@ fn write_new<R: Files>(rt: &R, name: &str, text: &str) -> io::Result<()> {
     file.sync_all()
 }
 
-/// Gives a draft its name, which no file has. Where the file system has no links the draft is renamed.
+/// Gives a draft its name, which no file has. If the file system has no links the draft is renamed.
 fn settle<R: Files>(rt: &R, draft: &str, name: &str) -> io::Result<()> {
     match fs::hard_link(rt, draft, name) {
         Ok(()) => fs::remove_file(rt, draft),
@@ -34,7 +34,7 @@ fn save_as<R: Files>(rt: &R, draft: &str, name: &str, text: &str) -> io::Result<
     settled
 }
 
-/// Saves a script in a file of this name, and tells that it did or why not.
+/// Saves a script in a file of this name, and reports on standard error that it did or why not.
 pub(crate) fn save<R: Files + Eprint>(rt: &R, alloc: Global, name: &str, script: Option<&str>) {
     let (Some(text), Ok(draft)) = (script, format!(in alloc; "{name}.part")) else {
         let _ = eprintln!(rt; "not saved: out of memory");

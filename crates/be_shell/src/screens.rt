@@ -1,6 +1,7 @@
 //! A peer that shows control characters by their codes.
-ghost use Rattle.std.specs.Prelude.{◌≡◌, ◌<◌, ◌≤◌, ◌++◌, ℕ, List, length, IfOk, IfErr, OnOk, OnErr, false};
-ghost use Rattle.be_serving.specs.Run.{IsFrontOf};
+ghost use Rattle.std.specs.Prelude.{◌≡◌, ◌<◌, ◌≤◌, ◌++◌, ℕ, List, length, IfOk, IfErr, OnOk, OnErr};
+ghost use Rattle.std.specs.Prelude.{false};
+ghost use Rattle.be_script_runner.specs.Run.{IsFrontOf};
 ghost use Rattle.be_shell.specs.Conversation.{says};
 ghost use Rattle.be_shell.specs.Escape.{shown};
 ghost use Rattle.be_shell.specs.Screen.{SaysAll};
@@ -8,15 +9,17 @@ ghost use Rattle.be_shell.specs.Screen.{SaysAll};
 use crate::Line;
 use crate::escapes::{control_at, mark, plain_len};
 use crate::peers::Peer;
-use be_serving::RunFault;
+use be_script_runner::RunFault;
 use std::alloc::Global;
 
 /// Says the front of a text as it is shown, and returns what follows.
 fn say_front<'a, P: Peer>(peer: &mut P, bytes: &'a [u8]) -> Result<&'a [u8], RunFault>
     requires some { 1 ≤ length bytes.now }
-    ensures said { IfOk result (λ rest. (piece : List ℕ) × P.does peer.old (says piece) peer.new × (shown bytes.now ≡ piece ++ shown rest.now)) }
+    ensures said { IfOk result (λ rest. (piece : List ℕ) × P.does peer.old (says piece) peer.new
+        × (shown bytes.now ≡ piece ++ shown rest.now)) }
     ensures shorter { IfOk result (λ rest. length rest.now < length bytes.now) }
-    ensures cut { OnErr result ((front : List ℕ) × IsFrontOf (shown bytes.now) front × P.does peer.old (says front) peer.new) }
+    ensures cut { OnErr result ((front : List ℕ) × IsFrontOf (shown bytes.now) front
+        × P.does peer.old (says front) peer.new) }
     ensures fault { IfErr result (λ e. e ≡ RunFault.Write) }
 {
     if let Some((code, rest)) = control_at(bytes) {
@@ -31,7 +34,8 @@ fn say_front<'a, P: Peer>(peer: &mut P, bytes: &'a [u8]) -> Result<&'a [u8], Run
 /// Says a text as it is shown.
 fn say_shown<P: Peer>(peer: &mut P, bytes: &[u8]) -> Result<(), RunFault>
     ensures said { OnOk result (SaysAll P.does peer.old (shown bytes.now) peer.new) }
-    ensures cut { OnErr result ((front : List ℕ) × IsFrontOf (shown bytes.now) front × SaysAll P.does peer.old front peer.new) }
+    ensures cut { OnErr result ((front : List ℕ) × IsFrontOf (shown bytes.now) front
+        × SaysAll P.does peer.old front peer.new) }
     ensures fault { IfErr result (λ e. e ≡ RunFault.Write) }
 {
     let mut rest = bytes;
@@ -44,9 +48,9 @@ fn say_shown<P: Peer>(peer: &mut P, bytes: &[u8]) -> Result<(), RunFault>
     Ok(())
 }
 
-/// A peer to whom replies are said with control characters, but the LF, as `\x1b`, by two hexadecimal digits of their code, so
-/// that a terminal shows them and takes no orders from a value. It needs no memory. After a failed write a front of what is
-/// shown was said.
+/// A peer to whom replies are said with control characters, but the LF, written as `\x1b`: by two
+/// hexadecimal digits of their code. So a terminal shows them and takes no orders from a value. It
+/// needs no memory. After a failed write a front of what is shown was said.
 #[derive(Drop)]
 pub struct Screen<P> {
     peer: P,
@@ -54,6 +58,7 @@ pub struct Screen<P> {
 }
 
 impl<P: Peer> Screen<P> {
+    /// Makes a screen over a peer. No write has failed yet.
     pub fn new(peer: P) -> Screen<P>
         ensures { (result.peer ≡ peer) × (result.is_torn ≡ false) }
     {

@@ -34,7 +34,7 @@ impl Script {
         Some(line)
     }
 
-    /// Tells the place of the line that was taken last.
+    /// Writes to standard error the place of the line that was taken last.
     pub(crate) fn tell_place<R: Eprint>(&self, rt: &R) {
         let (name, number) = (self.name.as_str(), self.number);
         let _ = eprint!(rt; "{name}:{number}: ");
@@ -76,7 +76,7 @@ fn script_of<R: Files>(rt: &R, alloc: Global, name: &str) -> io::Result<Script> 
     })
 }
 
-/// Opens the file of this name, or tells that it can't.
+/// Opens the file of this name, or reports on standard error that it can't.
 pub(crate) fn open_script<R: Files + Eprint>(rt: &R, alloc: Global, name: &[u8]) -> Option<Script> {
     let Ok(name) = str::from_utf8(name) else {
         let _ = eprintln!(rt; "cannot read it: its name isn't UTF-8");

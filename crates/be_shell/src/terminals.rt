@@ -8,8 +8,8 @@ use crate::asides::{Aside, aside_of, skip, split_word, typed_of};
 use crate::peers::Peer;
 use crate::saves::save;
 use crate::scripts::{Script, next_line, open_script};
-use crate::usages::{hint, tell_help, tell_usage, wants_hint};
-use be_serving::RunFault;
+use crate::usages::{hint, print_help, print_usage, wants_hint};
+use be_script_runner::RunFault;
 use std::alloc::Global;
 use std::io::Eprint;
 use std::rt::Files;
@@ -33,7 +33,7 @@ fn aside_in(line: &Line) -> Aside {
     }
 }
 
-/// A line as the shell hears it: where it is for the terminal, an empty line, or the end.
+/// A line as the shell hears it: itself, or an empty line or the end if it is for the terminal.
 fn passed_on(alloc: Global, line: Line, aside: Aside) -> Option<Line>
     ensures { hearing result ≡ spec.passed_on (line_heard line) aside }
 {
@@ -44,7 +44,7 @@ fn passed_on(alloc: Global, line: Line, aside: Aside) -> Option<Line>
     }
 }
 
-/// The name behind the command of a line.
+/// The name after the command of a line.
 fn name_in(line: &[u8]) -> &[u8] {
     let (_, behind) = split_word(skip(line));
     skip(behind).trim_ascii_end()
@@ -54,21 +54,22 @@ fn name_in(line: &[u8]) -> &[u8] {
 fn open_named<R: Files + Eprint>(rt: &R, alloc: Global, line: &[u8]) -> Option<Script> {
     let name = name_in(line);
     if name.is_empty() {
-        tell_usage(rt, b"read".as_slice());
+        print_usage(rt, b"read".as_slice());
         return None;
     }
     open_script(rt, alloc, name)
 }
 
-/// Answers a line that is for the terminal, where an answer on standard error is all of it.
+/// Answers a line that is for the terminal, if an answer on standard error is all of it.
 fn answer_aside<R: Eprint>(rt: &R, line: &Line, aside: Aside) {
     let _ = match (aside, line) {
         (Aside::Cancelled, _) => eprintln!(rt;),
         (Aside::Cut, _) => eprintln!(rt;
-            "not run: a terminal cuts a line of more than 4094 bytes; put it into a file, and: read FILE"
+            "not run: a terminal cuts a line of more than 4094 bytes; put it into a file, and: \
+             read FILE"
         ),
         (Aside::Help, Line::Short(bytes)) => {
-            tell_help(rt, bytes.as_slice());
+            print_help(rt, bytes.as_slice());
             Ok(())
         }
         _ => Ok(()),
@@ -100,7 +101,7 @@ fn saved_name<R: Eprint>(rt: &R, alloc: Global, line: &Line, aside: Aside) -> Op
     };
     match str::from_utf8(name_in(bytes.as_slice())) {
         Ok("") => {
-            tell_usage(rt, b"save".as_slice());
+            print_usage(rt, b"save".as_slice());
             None
         }
         Ok(name) => String::from_str(alloc, name).ok(),
@@ -121,7 +122,8 @@ fn answer_read<R: Eprint>(rt: &R, alloc: Global, line: Line) -> Option<Line> {
     passed_on(alloc, line, aside)
 }
 
-/// What is heard of the file that is being read. None once it has no more lines, and no file is being read then.
+/// What is heard of the file that is being read. None once it has no more lines, and no file is
+/// being read then.
 fn hear_script<R: Eprint>(
     rt: &R,
     alloc: Global,
@@ -148,7 +150,7 @@ fn hear_script<R: Eprint>(
     }
 }
 
-/// A copy of a line, for hints; None too where there is no memory for it.
+/// A copy of a line, for hints; None too if there is no memory for it.
 fn remembered(alloc: Global, heard: &Option<Line>) -> Option<Vec<u8>> {
     let Some(Line::Short(bytes)) = heard else {
         return None;
@@ -170,10 +172,11 @@ fn ask<R: Eprint>(rt: &R, is_batch_open: bool) {
     let _ = eprint!(rt; "{prompt}");
 }
 
-/// A peer at a terminal, who is asked for each line by a prompt on standard error: `batch> ` while a batch is open, and else
-/// `bestore> `. Lines for the terminal itself ([`Aside`]) are answered there, and are heard as empty lines; `quit` and `exit`
-/// end the lines. The lines of a file that `read` names are heard in place of typed ones, up to its end. After a reply to a
-/// line that is bad or has a bad query, a hint is told. What can't be written to standard error is left out.
+/// A peer at a terminal, who is asked for each line by a prompt on standard error: `batch> ` while
+/// a batch is open, otherwise `bestore> `. Lines for the terminal itself ([`Aside`]) are answered
+/// there, and are heard as empty lines; `quit` and `exit` end the lines. The lines of a file that
+/// `read` names are heard in place of typed ones, up to its end. After a reply to a line that is
+/// bad or has a bad query, a hint is written. What can't be written to standard error is left out.
 #[derive(Drop)]
 pub struct Terminal<'a, R, P> {
     rt: &'a R,
@@ -187,6 +190,7 @@ pub struct Terminal<'a, R, P> {
 }
 
 impl<'a, R: Files + Eprint, P: Peer> Terminal<'a, R, P> {
+    /// Makes a terminal of a peer. It reads no file yet.
     pub fn new(rt: &'a R, alloc: Global, peer: P) -> Terminal<'a, R, P>
         ensures { (result.peer ≡ peer) × (is_some result.script ≡ false) }
     {
@@ -200,7 +204,8 @@ impl<'a, R: Files + Eprint, P: Peer> Terminal<'a, R, P> {
         }
     }
 
-    /// Tells what a reply to the last line doesn't, after its place in a file.
+    /// Writes to standard error what a reply to the last line doesn't say, after the line's place
+    /// in a file.
     fn tell_hint(&self, reply: &[u8]) {
         let Some(heard) = &self.heard else {
             return;
@@ -218,8 +223,11 @@ impl<'a, R: Files + Eprint, P: Peer> Peer for Terminal<'a, R, P> {
     ghost use Rattle.std.specs.Prelude.{is_some};
     ghost use Rattle.be_shell.specs.Terminal.{asks};
 
-    ghost does = { λ old event new. asks P.does old.peer (is_some old.script) event new.peer (is_some new.script) };
+    ghost does = { λ old event new. asks P.does old.peer (is_some old.script) event new.peer
+        (is_some new.script) };
 
+    /// Hears the next line of the file that is being read. Otherwise prompts, and hears a line of
+    /// the peer. A line for the terminal itself is answered here. The errors are those of the peer.
     fn hear(&mut self, alloc: Global, is_batch_open: bool) -> Result<Option<Line>, RunFault> {
         self.saves_to = None;
         if let Some(heard) = hear_script(self.rt, alloc, &mut self.script) {

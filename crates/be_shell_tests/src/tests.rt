@@ -1,9 +1,10 @@
-//! Conversations: with a peer that looks at the order of calls and fails at each of them, and with a reader and a writer.
+//! Conversations: with a peer that looks at the order of calls and fails at each of them, and with
+//! a reader and a writer.
 ghost use Rattle.std.specs.Prelude.{⊤};
 
-use be_serving::{Limits, RunFault};
+use be_script_runner::{Limits, RunFault};
 use be_shell::{Breaking, Ends, Line, Peer, Screen, shell};
-use be_testing::longest_list;
+use be_test_tools::longest_list;
 use std::alloc::{AllocError, Global};
 use std::io::{self, Write};
 use std::test::Fail;
@@ -40,8 +41,8 @@ enum Awaits {
     Flush,
 }
 
-/// Has the lines of the rows, and looks whether each call comes in its turn and each reply is that of its row. It fails at
-/// a call, if there are so many.
+/// Has the lines of the rows, and looks whether each call comes in its turn and each reply is that
+/// of its row. It fails at a call, if there are so many.
 #[derive(Drop)]
 struct Strict {
     row: usize,
@@ -60,7 +61,7 @@ impl Strict {
         }
     }
 
-    /// Notes a call, and tells whether it is to fail.
+    /// Notes a call, and returns whether it is to fail.
     fn fails_at(&mut self, call: Awaits) -> bool {
         if self.awaits != call {
             self.is_in_order = false;
@@ -82,6 +83,8 @@ fn line_of(alloc: Global, text: &str) -> Result<Line, AllocError> {
 impl Peer for Strict {
     ghost does = { λ _ _ _. ⊤ };
 
+    /// Gives the line of the next row, or None after the last one. Fails with `Read` if it is to,
+    /// or out of turn.
     fn hear(&mut self, alloc: Global, _is_batch_open: bool) -> Result<Option<Line>, RunFault> {
         if self.fails_at(Awaits::Hear) {
             return Err(RunFault::Read);
@@ -120,7 +123,7 @@ impl Peer for Strict {
     }
 }
 
-/// A conversation with this peer, behind no other.
+/// A conversation with this peer, after no other.
 fn talk(alloc: Global, peer: &mut Strict) -> Result<(), RunFault> {
     let mut written: Vec<u8> = Vec::new(alloc);
     let mut nothing = Ends::new(b"".as_slice(), &mut written);
@@ -130,8 +133,8 @@ fn talk(alloc: Global, peer: &mut Strict) -> Result<(), RunFault> {
 /// How many calls a whole conversation makes: three a line, and one that hears the end.
 const CALLS: usize = 3 * ROWS + 1;
 
-/// Whether a conversation that fails at this call ends there with its fault, all before it in order; or to its end, where
-/// none fails.
+/// Whether a conversation that fails at this call ends there with its fault, all before it in
+/// order; or to its end, if none fails.
 fn ends_at(alloc: Global, call: usize) -> bool {
     let mut peer = Strict::new(call);
     let ended = talk(alloc, &mut peer);
@@ -155,7 +158,7 @@ fn failing_peer(rt: HostRuntime) -> Result<(), Fail> {
     Ok(())
 }
 
-/// What a shell says to the bytes of a reader, behind those of a first one.
+/// What a shell says to the bytes of a reader, after those of a first one.
 fn said_to(alloc: Global, first: &[u8], bytes: &[u8]) -> Result<Vec<u8>, RunFault> {
     let mut early: Vec<u8> = Vec::new(alloc);
     let mut late: Vec<u8> = Vec::new(alloc);
@@ -171,7 +174,7 @@ fn said_to(alloc: Global, first: &[u8], bytes: &[u8]) -> Result<Vec<u8>, RunFaul
     }
 }
 
-/// Fails unless a shell says this, asked again where memory was wanted.
+/// Fails unless a shell says this, asked again if memory ran out.
 fn check(alloc: Global, first: &[u8], bytes: &[u8], replies: &str) -> Result<(), Fail> {
     for _ in 0..2 {
         if let Ok(said) = said_to(alloc, first, bytes) {
@@ -194,7 +197,8 @@ fn ends_of_lines(rt: HostRuntime) -> Result<(), Fail> {
     check(alloc, b"", b"new\xff\nnew\n", "bad line\nnode 1\n")
 }
 
-/// The end of the first peer's last line, and a batch that goes on from the first peer to the other.
+/// The end of the first peer's last line, and a batch that goes on from the first peer to the
+/// other.
 #[test]
 fn two_peers(rt: HostRuntime) -> Result<(), Fail> {
     let alloc = rt.alloc();
@@ -213,7 +217,7 @@ fn shown_to(alloc: Global, bytes: &[u8]) -> Result<Vec<u8>, RunFault> {
     Ok(late)
 }
 
-/// Fails unless this is shown, asked again where memory was wanted.
+/// Fails unless this is shown, asked again if memory ran out.
 fn check_shown(alloc: Global, bytes: &[u8], replies: &str) -> Result<(), Fail> {
     for _ in 0..2 {
         if let Ok(shown) = shown_to(alloc, bytes) {
@@ -245,7 +249,8 @@ fn cancelled_lines(rt: HostRuntime) -> Result<(), Fail> {
     )
 }
 
-/// A comment of as many bytes as a line may have, and one of a byte more, before a line that is answered.
+/// A comment of as many bytes as a line may have, and one of a byte more, before a line that is
+/// answered.
 fn commented(alloc: Global, len: usize) -> Result<Vec<u8>, AllocError> {
     let mut bytes: Vec<u8> = vec![in alloc; b'#'; len]?;
     bytes.extend_from_slice(b"\nnew\n")?;
@@ -276,7 +281,7 @@ fn long_lines(rt: HostRuntime) -> Result<(), Fail> {
     check_comment(rt.alloc(), 1_100_000, "bad line\nnode 1\n")
 }
 
-/// Holds what it is given until a flush sends it, and fails at each flush behind so many.
+/// Holds what it is given until a flush sends it, and fails at each flush after the first so many.
 #[derive(Drop)]
 struct Sending {
     held: u64,
@@ -301,8 +306,8 @@ impl Write for Sending {
     }
 }
 
-/// Whether a conversation of three lines over a writer that sends so many replies ends with `Write` behind them; or well,
-/// where it sends each.
+/// Whether a conversation of three lines over a writer that sends so many replies ends with `Write`
+/// after them; or with success if it sends each.
 fn sends(alloc: Global, most: u64) -> bool {
     let mut early: Vec<u8> = Vec::new(alloc);
     let mut late = Sending {

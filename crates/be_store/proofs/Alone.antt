@@ -9,8 +9,8 @@ use Rattle.be_table.specs.declared.pass.Commit.{Commit}
 use Rattle.be_table.specs.declared.pass.Knowledge.{Knowledge}
 use Rattle.be_table.specs.History.{AreOfPasses, StartsWith}
 use Rattle.be_table.specs.Rule.{entries}
-use Rattle.be_table.specs.Steps.{IsPass, announces, pins, entry_by}
-use Rattle.be_table.specs.Trace.{Makes, with_history}
+use Rattle.be_table.specs.Steps.{IsPass, announces, pins, entry_by, with_history}
+use Rattle.be_table.specs.Trace.{Makes}
 use Rattle.be_table.specs.Works.{Moves, PinsCurrent, SeesMore}
 use Rattle.be_table.proofs.Traces.{makes_more}
 use Rattle.be_table.specs.declared.pass.Move.TheVariants.{Look, Announce, LookAgain}

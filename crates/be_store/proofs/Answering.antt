@@ -1,9 +1,10 @@
 -- Two rising lists, and what is told of two answers to a query.
-use Rattle.std.proofs.Common.{◌≡◌, ◌≢◌, ◌<◌, ◌≤◌, ◌+◌, ℕ, Bool, true, false, List, [], ◌∷◌, ◌++◌, length, refl, sym, ap, subst, ◌∙◌, inl, inr, arith}
+use Rattle.std.proofs.Common.{◌≡◌, ◌≢◌, ◌<◌, ◌≤◌, ◌+◌, ◌-◌, ℕ, zero, suc, Bool, true, false, List, [], ◌∷◌, ◌++◌, drop, length, refl, sym, ap, subst, take, ◌∙◌, inl, inr, arith}
 use Rattle.std.specs.Prelude.{Result, Ok, Err, IfOk, cond, get_or, not, ◌==◌}
 use Rattle.std.proofs.Common.{eq-eqb, ne_eqb}
+use Rattle.std.proofs.Math.Seq.{take-add}
 use Rattle.std.proofs.lemmas.Bool.{cases_lt}
-use Rattle.std.proofs.lemmas.List.{get_or_default}
+use Rattle.std.proofs.lemmas.List.{get_or-drop, get_or-take, get_or_default, length-drop, length-take, take_more}
 use Rattle.std.proofs.lemmas.List.Elements.{filter-append}
 use Rattle.std.proofs.lemmas.List.Folds.{list_any-from_Any, list_any_none}
 use Rattle.std.proofs.lemmas.List.Kept.{AllPairs-from_increasing}
@@ -38,6 +39,49 @@ pub if_ok : {T E : Type 0} (r : Result T E) (P Q : T → Type 0) → ((x : T) �
 if_ok (Ok x) P Q f p = f x p
 if_ok (Err e) P Q f p = tt
 
+-- one number more: it stays where the others lack it
+alone : (others : List ℕ) (n : ℕ) (b : Bool) → is_among others n ≡ b → without (n ∷ []) others ≡ cond (not b) (n ∷ []) []
+alone others n b is = ap (λ (x : Bool). cond (not x) (n ∷ []) []) is
+
+pub without_more : (front others : List ℕ) (n : ℕ) (b : Bool) → is_among others n ≡ b → without (front ++ n ∷ []) others ≡ without front others ++ cond (not b) (n ∷ []) []
+without_more front others n b is = without_append front (n ∷ []) others ∙ ap (λ l. without front others ++ l) (alone others n b is)
+
+take_short : (n : ℕ) (xs : List ℕ) → length (take n xs) ≤ n
+take_short n xs = subst (λ m. m ≤ n) (sym (length-take n xs)) (omega arith)
+
+-- a list of which the others lack all stays whole
+all_kept : (xs others : List ℕ) → ((i : ℕ) → i < length xs → is_among others (get_or xs i 0) ≡ false) → without xs others ≡ xs
+all_kept [] others all = refl
+all_kept (x ∷ xs) others all =
+    without_append (x ∷ []) xs others ∙ (ap (λ l. l ++ without xs others) (alone others x false (all zero (omega arith)))
+    ∙ ap (λ l. x ∷ l) (all_kept xs others (λ i lt. all (suc i) (omega (arith, lt)))))
+
+-- a part of which the others lack all, added to what the part before it leaves
+pub part_kept : (xs others : List ℕ) (from end : ℕ) → from ≤ end → end ≤ length xs → ((i : ℕ) → from ≤ i → i < end → is_among others (get_or xs i 0) ≡ false) →
+    (was is : List ℕ) → was ≡ without (take from xs) others → is ≡ was ++ take (end - from) (drop from xs) → is ≡ without (take end xs) others
+part_kept xs others from end le short lacking was is before added =
+    let m : ℕ = end - from in
+    let part : List ℕ = take m (drop from xs) in
+    let sum : from + m ≡ end = omega (arith, le) in
+    let seam : take from xs ++ part ≡ take end xs = sym (take-add from m xs) ∙ ap (λ e. take e xs) sum in
+    let long : length part ≤ m = take_short m (drop from xs) in
+    let kept : without part others ≡ part = all_kept part others (λ i lt.
+    let inside : i < m = omega (arith, lt, long) in
+    let at : get_or part i 0 ≡ get_or xs (from + i) 0 = get_or-take m (drop from xs) i 0 inside ∙ get_or-drop from xs i 0 in
+    ap (is_among others) at ∙ lacking (from + i) (omega arith) (omega (arith, inside, sum))) in
+    added ∙ (ap (λ l. l ++ part) before ∙ (ap (λ l. without (take from xs) others ++ l) (sym kept)
+    ∙ (sym (without_append (take from xs) part others) ∙ ap (λ l. without l others) seam)))
+
+-- one number more of such a part
+pub part_more : (xs : List ℕ) (from i : ℕ) → from ≤ i → i < length xs → take (i + 1 - from) (drop from xs) ≡ take (i - from) (drop from xs) ++ get_or xs i 0 ∷ []
+part_more xs from i le short =
+    let m : ℕ = i - from in
+    let rest : List ℕ = drop from xs in
+    let next : i + 1 - from ≡ m + 1 = omega (arith, le) in
+    let sum : from + m ≡ i = omega (arith, le) in
+    let inside : m < length rest = subst (λ l. m < l) (sym (length-drop from xs)) (omega (arith, le, short)) in
+    ap (λ k. take k rest) next ∙ (take_more rest m 0 inside ∙ ap (λ x. take m rest ++ x ∷ []) (get_or-drop from xs m 0 ∙ ap (λ j. get_or xs j 0) sum))
+
 -- Two rising lists are gone over side by side: before the index at the others are below the next number, and from there on they are not.
 module _ (numbers others : List ℕ) (up : IsStrictlyIncreasing numbers) (up_others : IsStrictlyIncreasing others) (k from at : ℕ) (inside : k < length numbers)
     (before : (i j : ℕ) → i < from → k ≤ j → j < length numbers → get_or others i 0 < get_or numbers j 0)
@@ -52,8 +96,9 @@ module _ (numbers others : List ℕ) (up : IsStrictlyIncreasing numbers) (up_oth
       let first = below i lt in
       let more = AllPairs-from_increasing numbers up k j 0 (omega (arith, le)) short in omega (arith, first, more)
 
-  pub lacks_this : (at < length others → get_or others at 0 ≢ get_or numbers k 0) → is_among others (get_or numbers k 0) ≡ false
-  lacks_this other = lacks others (get_or numbers k 0) at below (λ i le short.
+  -- from the index on the others are above it, if it isn't there
+  pub beyond : (at < length others → get_or others at 0 ≢ get_or numbers k 0) → (i : ℕ) → at ≤ i → i < length others → get_or numbers k 0 < get_or others i 0
+  beyond other i le short =
       let here = from_there (omega (arith, le, short)) in
       let differs = other (omega (arith, le, short)) in
       elim (cases_lt at i) [
@@ -61,11 +106,44 @@ module _ (numbers others : List ℕ) (up : IsStrictlyIncreasing numbers) (up_oth
         | inr reached ↦ (let same : at ≡ i = omega (arith, le, reached) in
             let above : get_or numbers k 0 < get_or others at 0 = omega (arith, here, differs) in
             subst (λ n. get_or numbers k 0 < get_or others n 0) same above)
-      ])
+      ]
 
--- one number more: it stays where the others lack it
-alone : (others : List ℕ) (n : ℕ) (b : Bool) → is_among others n ≡ b → without (n ∷ []) others ≡ cond (not b) (n ∷ []) []
-alone others n b is = ap (λ (x : Bool). cond (not x) (n ∷ []) []) is
+  pub lacks_this : (at < length others → get_or others at 0 ≢ get_or numbers k 0) → is_among others (get_or numbers k 0) ≡ false
+  lacks_this other = lacks others (get_or numbers k 0) at below (beyond other)
 
-pub without_more : (front others : List ℕ) (n : ℕ) (b : Bool) → is_among others n ≡ b → without (front ++ n ∷ []) others ≡ without front others ++ cond (not b) (n ∷ []) []
-without_more front others n b is = without_append front (n ∷ []) others ∙ ap (λ l. without front others ++ l) (alone others n b is)
+  -- if it is there, the next number comes after it, and after it come others that are above the number
+  pub below_next_held : get_or others at 0 ≡ get_or numbers k 0 → (i j : ℕ) → i < at + 1 → k + 1 ≤ j → j < length numbers → get_or others i 0 < get_or numbers j 0
+  below_next_held same i j lt le short =
+      let more = AllPairs-from_increasing numbers up k j 0 (omega (arith, le)) short in
+      elim (cases_lt i at) [
+        | inl early ↦ below_next i j early le short
+        | inr reached ↦ (let is : at ≡ i = omega (arith, lt, reached) in subst (λ n. get_or others n 0 < get_or numbers j 0) is (omega (arith, same, more)))
+      ]
+
+  pub beyond_held : get_or others at 0 ≡ get_or numbers k 0 → (i : ℕ) → at + 1 ≤ i → i < length others → get_or numbers k 0 < get_or others i 0
+  beyond_held same i le short = let more = AllPairs-from_increasing others up_others at i 0 (omega (arith, le)) short in omega (arith, same, more)
+
+  module _ (after : (i j : ℕ) → from ≤ i → i < length others → j < k → get_or numbers j 0 < get_or others i 0) where
+    -- the others between the indices are not among the numbers
+    pub between_lack : at ≤ length others → (i : ℕ) → from ≤ i → i < at → is_among numbers (get_or others i 0) ≡ false
+    between_lack short i le lt = lacks numbers (get_or others i 0) k (λ j early. after i j le (omega (arith, lt, short)) early) (λ j late inner.
+        let first = between i le lt in
+        elim (cases_lt k j) [
+          | inl past ↦ (let more = AllPairs-from_increasing numbers up k j 0 past inner in omega (arith, first, more))
+          | inr reached ↦ (let same : k ≡ j = omega (arith, late, reached) in subst (λ n. get_or others i 0 < get_or numbers n 0) same first)
+        ])
+
+    -- from an index on they are above one number more
+    pub after_next : (next : ℕ) → from ≤ next → ((i : ℕ) → next ≤ i → i < length others → get_or numbers k 0 < get_or others i 0) →
+        (i j : ℕ) → next ≤ i → i < length others → j < k + 1 → get_or numbers j 0 < get_or others i 0
+    after_next next le past i j late short lt =
+        elim (cases_lt j k) [
+          | inl early ↦ after i j (omega (arith, le, late)) short early
+          | inr reached ↦ (let same : k ≡ j = omega (arith, lt, reached) in subst (λ n. get_or numbers n 0 < get_or others i 0) same (past i late short))
+        ]
+
+-- when the numbers end, those of the others that are above all of them are not among them
+pub rest_lack : (numbers others : List ℕ) (k from : ℕ) → length numbers ≤ k → ((i j : ℕ) → from ≤ i → i < length others → j < k → get_or numbers j 0 < get_or others i 0) →
+    (i : ℕ) → from ≤ i → i < length others → is_among numbers (get_or others i 0) ≡ false
+rest_lack numbers others k from all after i le lt =
+    lacks numbers (get_or others i 0) k (λ j early. after i j le lt early) (λ j late inner. absurd (omega (arith, all, late, inner)))

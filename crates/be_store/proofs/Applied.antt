@@ -10,8 +10,8 @@ use Rattle.be_table.specs.declared.pass.Knowledge.{Knowledge}
 use Rattle.be_table.specs.declared.pass.Move.{Move}
 use Rattle.be_table.specs.declared.pass.Move.TheVariants.{Lock, Publish, Unlock}
 use Rattle.be_table.specs.Rule.{entries}
-use Rattle.be_table.specs.Steps.{IsPass, entry_by, without_lock}
-use Rattle.be_table.specs.Trace.{Makes, upto_lock, with_history}
+use Rattle.be_table.specs.Steps.{IsPass, entry_by, without_lock, with_history}
+use Rattle.be_table.specs.Trace.{Makes, upto_lock}
 use Rattle.be_table.specs.Working.{HasWorked, WorksOn}
 use Rattle.be_table.specs.Works.{Moves, TakesLock}
 use Rattle.be_table.proofs.Histories.{by_pass-append, by_pass-own}
@@ -105,6 +105,7 @@ module _ (a w : Knowledge) (t : TakesLock a w) where
           publish = makes_more a.number p.worked (Publish a.number p.commit.page p.given ∷ []) v.history (Unlock a.number ∷ []) c.history
               (subst (λ k. Makes k p.worked (Publish k p.commit.page p.given ∷ []) v.history) same_number p.made)
               (subst (λ k. Makes k v.history (Unlock k ∷ []) c.history) (p.same.pass ∙ same_number) unlocked.made);
+          at = unlocked.at;
         };
       }
 

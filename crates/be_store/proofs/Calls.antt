@@ -31,7 +31,7 @@ use Rattle.be_store.proofs.Passes.{pinned_phase}
 starts_refl : {A : Type 0} (xs : List A) → StartsWith xs xs
 starts_refl xs = ([], sym (append-nil xs))
 
-starts_trans : {A : Type 0} (xs ys zs : List A) → StartsWith zs ys → StartsWith ys xs → StartsWith zs xs
+pub starts_trans : {A : Type 0} (xs ys zs : List A) → StartsWith zs ys → StartsWith ys xs → StartsWith zs xs
 starts_trans xs ys zs more first = (first.0 ++ more.0, more.1 ∙ (ap (λ l. l ++ more.0) first.1 ∙ append_assoc xs first.0 more.0))
 
 same_starts : (a c : Knowledge) → c.seen ≡ a.seen → StartsWith c.seen a.seen
@@ -45,7 +45,7 @@ call_seen a c (inr (inr (inr (inl h)))) = same_starts a c (ap (λ (k : Knowledge
 call_seen a c (inr (inr (inr (inr (inl h))))) = same_starts a c (ap (λ (k : Knowledge). k.seen) h)
 call_seen a c (inr (inr (inr (inr (inr (log, more, h)))))) = subst (λ l. StartsWith l a.seen) (sym (ap (λ (k : Knowledge). k.seen) h)) more
 
-calls_seen : (a : Knowledge) (cs : List Knowledge) (z : Knowledge) → Calls a cs z → StartsWith z.seen a.seen
+pub calls_seen : (a : Knowledge) (cs : List Knowledge) (z : Knowledge) → Calls a cs z → StartsWith z.seen a.seen
 calls_seen a [] z h = same_starts a z (ap (λ (k : Knowledge). k.seen) (sym h))
 calls_seen a (c ∷ cs) z h = starts_trans a.seen c.seen z.seen (calls_seen c cs z h.1) (call_seen a c h.0)
 

@@ -11,8 +11,8 @@ use Rattle.be_table.specs.declared.pass.Commit.{Commit}
 use Rattle.be_table.specs.declared.pass.Knowledge.{Knowledge}
 use Rattle.be_table.specs.declared.pass.Move.TheVariants.{Unlock}
 use Rattle.be_table.specs.Rule.{entries}
-use Rattle.be_table.specs.Steps.{IsPass, without_lock}
-use Rattle.be_table.specs.Trace.{Makes, with_history}
+use Rattle.be_table.specs.Steps.{IsPass, without_lock, with_history}
+use Rattle.be_table.specs.Trace.{Makes}
 use Rattle.be_table.specs.Working.{HasWorked}
 use Rattle.be_table.specs.Works.{FoundHeld, Moves, TakesLock}
 use Rattle.be_value.specs.declared.refusals.Refusal.{Refusal}

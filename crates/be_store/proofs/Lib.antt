@@ -8,5 +8,6 @@ pub mod Retries
 pub mod Conditions
 pub mod Fronts
 pub mod Calls
+pub mod Told
 pub mod Statuses
 pub mod Remade

@@ -6,9 +6,9 @@ use Rattle.std.specs.Option.{option_map_or}
 use Rattle.be_journal.specs.Journal.{HasOperations, replay}
 use Rattle.be_journal.specs.declared.entries.Entry.{Entry}
 use Rattle.be_journal.proofs.SoundLemmas.{replay_sound}
-use Rattle.be_state.specs.Rebuilding.{IsNumbered, state_ops}
-use Rattle.be_state.proofs.Numbering.{empty_numbered, stays_numbered}
-use Rattle.be_state.proofs.Rebuilt.{is_accepted, is_same}
+use Rattle.be_volume_state.specs.Rebuilding.{IsNumbered, state_ops}
+use Rattle.be_volume_state.proofs.Numbering.{empty_numbered, stays_numbered}
+use Rattle.be_volume_state.proofs.Rebuilt.{is_accepted, is_same}
 use Rattle.be_table.specs.declared.pass.Commit.{Commit}
 use Rattle.be_table.specs.declared.pass.Knowledge.{Knowledge}
 use Rattle.be_table.specs.History.{IsHistory}

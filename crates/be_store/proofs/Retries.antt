@@ -61,7 +61,7 @@ module _ (a : Knowledge) (holders : List ℕ) (m c : Knowledge) (is : m ≡ trie
         mine = h.mine;
         pass = h.pass;
         pin = h.pin;
-        moves = record { locked = h.moves.locked; lock = h.moves.lock; worked = h.moves.worked; work = h.moves.work; given = h.moves.given; publish = h.moves.publish };
+        moves = record { locked = h.moves.locked; lock = h.moves.lock; worked = h.moves.worked; work = h.moves.work; given = h.moves.given; publish = h.moves.publish; at = h.moves.at };
       }
 
   pub learns_at_last : Learns m c → Learns a c

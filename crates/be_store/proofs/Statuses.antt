@@ -7,8 +7,8 @@ use Rattle.be_table.specs.declared.pass.Move.TheVariants.{Unlock}
 use Rattle.be_table.specs.declared.status.Status.{Status}
 use Rattle.be_table.specs.Place.{Work}
 use Rattle.be_table.specs.Statuses.{FindsOldest, LieAt, Tells}
-use Rattle.be_table.specs.Steps.{IsPass, scans_of, without_lock}
-use Rattle.be_table.specs.Trace.{Makes, with_history}
+use Rattle.be_table.specs.Steps.{IsPass, scans_of, without_lock, with_history}
+use Rattle.be_table.specs.Trace.{Makes}
 use Rattle.be_table.specs.Works.{MakesScan, Moves, TakesLock}
 use Rattle.be_store.specs.History.{Learns}
 use Rattle.be_store.specs.Statuses.{TellsStatus}

@@ -12,8 +12,8 @@ use Rattle.be_table.specs.declared.pass.Move.TheVariants.{Publish}
 use Rattle.be_table.specs.Place.{Work}
 use Rattle.be_table.specs.Reading.{open_of, standing_among, standing_in_work, word_of_page, words_of, StaysOpen}
 use Rattle.be_table.specs.Rule.{entries, page_at, reach_at}
-use Rattle.be_table.specs.Steps.{commit_of, entry_by, given_of, publishes}
-use Rattle.be_table.specs.Trace.{Makes, upto_lock, with_history}
+use Rattle.be_table.specs.Steps.{commit_of, entry_by, given_of, publishes, with_history}
+use Rattle.be_table.specs.Trace.{Makes, upto_lock}
 use Rattle.be_table.specs.Working.{HasWorked, WorksOn}
 use Rattle.be_table.specs.Versions.{at_start, SpellsVolume}
 use Rattle.be_table.specs.Works.{HasNoRoom, MakesScan, Moves, TakesLock}

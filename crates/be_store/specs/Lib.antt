@@ -5,6 +5,7 @@ pub mod Conditional
 pub mod Live
 pub mod Alone
 pub mod Calls
+pub mod Told
 pub mod Statuses
 pub use Rattle.be_table.specs.Seats
 pub use Rattle.be_table.specs.Works

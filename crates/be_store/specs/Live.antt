@@ -13,7 +13,8 @@ pub record LiveQuery : Type 0 where
   pub last : List ℕ
 
 abbrev pub coded_live : Coded LiveQuery
-coded_live = code_by _ (coded× coded_formula (coded_list coded_ℕ)) (λ l. (l.query, l.last)) (λ p. record { query = p.0; last = p.1 }) (λ _. refl)
+coded_live = code_by _ (coded× coded_formula (coded_list coded_ℕ)) (λ l. (l.query, l.last))
+    (λ p. record { query = p.0; last = p.1 }) (λ _. refl)
 
 abbrev pub is_among : List ℕ → ℕ → Bool
 is_among numbers n = list_any (λ m. m == n) numbers
@@ -22,7 +23,8 @@ is_among numbers n = list_any (λ m. m == n) numbers
 abbrev pub without : List ℕ → List ℕ → List ℕ
 without numbers others = filter (λ n. not (is_among others n)) numbers
 
--- The new answer is the last one now; what was created is in it and wasn't in the one before, and what was removed the other way round.
+-- The new answer is the last one now. What was created is in it and wasn't in the one before; what
+-- was removed was in the one before and isn't in it.
 pub record Refreshes (volume : State) (old new : LiveQuery) (came went : List ℕ) : Type 0 where
   pub query : new.query ≡ old.query
   pub answer : scan volume old.query ≡ Ok new.last

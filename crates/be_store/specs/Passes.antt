@@ -12,7 +12,8 @@ use Rattle.be_table.specs.Seats.{pinned_number}
 use Rattle.be_table.specs.Works.{IsSeatOf}
 use Rattle.be_volume.specs.Volume.{State, empty}
 
--- Between two calls of a store a pass is pinned, or it isn't; it has not stopped half way to a pin. The only pass of a store is pinned to the version that it has announced.
+-- Between two calls of a store a pass is pinned, or it isn't; it has not stopped half way to a pin.
+-- The only pass of a store is pinned to the version that it has announced.
 abbrev pub IsBetweenCalls : ℕ → Phase → Type 0
 IsBetweenCalls passes Idle = Unit {0}
 IsBetweenCalls passes (Looked x) = ⊥
@@ -24,6 +25,13 @@ IsBetweenCalls-prop passes Idle = Unit-prop
 IsBetweenCalls-prop passes (Looked x) = λ a b. absurd a
 IsBetweenCalls-prop passes (Announced x) = λ a b. absurd a
 IsBetweenCalls-prop passes (Pinned x n) = →_prop (Coded-set coded_ℕ x n)
+
+-- the same of a pass of this store
+abbrev pub IsAtRest : Opened → SeatFacts → Type 0
+IsAtRest store pass = IsBetweenCalls store.limits.passes pass.knows.phase
+
+pub IsAtRest-prop : (store : Opened) (pass : SeatFacts) → IsProp (IsAtRest store pass)
+IsAtRest-prop store pass = IsBetweenCalls-prop store.limits.passes pass.knows.phase
 
 -- a pass of this store
 abbrev pub IsPassOf : Opened → SeatFacts → Type 0
@@ -39,7 +47,8 @@ volume_seen a = replay (entries a.seen)
 
 -- the volume that a pinned pass reads: that after as many entries of the journal as its pin says
 abbrev pub volume_pinned : Knowledge → State
-volume_pinned a = option_map_or (λ n. replay (take n (entries a.seen))) (pinned_number a.phase) empty
+volume_pinned a = option_map_or (λ n. replay (take n (entries a.seen))) (pinned_number a.phase)
+    empty
 
 -- a pass that has only read: it is as it was but for the count of its steps
 abbrev pub HasRead : Knowledge → Knowledge → Type 0

@@ -1,4 +1,4 @@
-//! What queries answer.
+//! What queries return.
 
 /// What a query returns: the pin's number, and the nodes of which the query is true, ascending.
 #[derive(Debug, Drop)]
@@ -7,7 +7,8 @@ pub struct Answer {
     pub nodes: Vec<u64>,
 }
 
-/// What changed in what a live query finds: the nodes that came, and those that went, each ascending.
+/// What changed in what a live query finds: the nodes that came, and those that went, each
+/// ascending.
 #[derive(Debug, Drop)]
 pub struct Updates {
     pub created: Vec<u64>,

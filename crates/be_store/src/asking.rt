@@ -34,7 +34,8 @@ pub(crate) fn ask<L: Look>(
     (source.into_look(), nodes)
 }
 
-/// Puts the nodes of which the query is true into a list, ascending, in place of what it had, and gives the reader back.
+/// Puts the nodes of which the query is true into a list, ascending, in place of what it had, and
+/// gives the reader back.
 #[inline(never)]
 pub(crate) fn ask_into<L: Look>(
     alloc: Global,
@@ -88,9 +89,11 @@ pub(crate) fn choose_at<L: Look>(
     ghost volume: { State }
     requires version { IsVersion (L.standing look) (L.words look) version_page volume }
     ensures cover { Answers (λ cover. cover) result.1 (chosen (has_index volume) query.now) }
-    ensures covers { IfOk result.1 (λ cover. covers (has_index volume) cover.picks query.now ≡ true) }
+    ensures covers { IfOk result.1 (λ cover. covers (has_index volume) cover.picks query.now
+        ≡ true) }
     ensures places { IfOk result.1 (λ cover. are_places query.now cover.picks ≡ true) }
-    ensures refused { IfErr result.1 (λ e. (e ≡ OutOfMemory) ⊎ ((e ≡ NotCovered) × (covered volume query.now ≡ false))) }
+    ensures refused { IfErr result.1 (λ e. (e ≡ OutOfMemory)
+        ⊎ ((e ≡ NotCovered) × (covered volume query.now ≡ false))) }
     ensures kept { L.kept result.0 ≡ L.kept look }
 {
     let mut source = source(look, version_page);

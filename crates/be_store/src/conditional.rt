@@ -1,8 +1,9 @@
-//! Writes on what was read: they take place only if no other write came between.
+//! Writes on what was read: they happen only if no other write came between.
 //!
-//! A program pins a version, reads it, and writes by `apply_if` with the pin's number. If another write came first, the call
-//! writes nothing and says so, and the program pins and reads again. So no update is lost; and a batch may name the nodes that
-//! it makes itself, since `Store::next` gives their numbers.
+//! A program pins a version, reads it, and writes by `apply_if` with the pin's number. If another
+//! write came first, the call writes nothing and says so, and the program pins and reads again. So
+//! no update is lost; and a batch may name the nodes that it makes itself, since `Store::next`
+//! gives their numbers.
 ghost use Rattle.std.specs.Prelude.{◌≡◌, ◌≤◌, [], IfOk, IfErr, OnErr, length};
 ghost use Rattle.be_store.specs.Conditional.{AcceptsAt, IsLastUnapplied, IsUnapplied, was_held};
 ghost use Rattle.be_store.specs.Passes.{IsPassOf};
@@ -21,7 +22,8 @@ use thiserror::Error;
 /// Why a conditional write was not made.
 #[derive(Debug, Drop, Error)]
 pub enum ApplyIfError {
-    /// Another write came first: the journal has this many entries, and not as many as the caller named.
+    /// Another write came first: the journal has this many entries, and not the number that the
+    /// caller named.
     #[error("another write came first: the journal has {0} entries")]
     Conflict(u64),
     /// The write was refused, as `Store::apply` refuses it.
@@ -46,11 +48,12 @@ impl<T: Drop> From<AllocFailed<T>> for ApplyIfError {
 }
 
 impl Store {
-    /// Writes as `apply_into` does if the journal has `number` entries, and otherwise nothing. So a pass that is pinned to
-    /// `number` writes on exactly what it read. A pin stays.
+    /// Writes as `apply_into` does if the journal has `number` entries, and otherwise nothing. So a
+    /// pass that is pinned to `number` writes on exactly what it read. A pin stays.
     ///
-    /// Errors, in this order: Busy; Conflict with the length that was found; the others of `apply_into`. After an error
-    /// nothing is written and the list is empty. A Conflict costs a lock and its unlock: four atomic operations, and no memory.
+    /// Errors, in this order: Busy; Conflict with the length that was found; the others of
+    /// `apply_into`. After an error nothing is written and the list is empty. A Conflict costs a
+    /// lock and its unlock: four atomic operations, and no memory.
     pub fn apply_if_into(
         &self,
         pass: &mut Pass,
@@ -61,7 +64,8 @@ impl Store {
         requires pass { IsPassOf self.now pass.old }
         requires count { (1 ≤ length ops.now) × (length ops.now ≤ 64) }
         ensures pass { IsPassOf self.now pass.new }
-        ensures accepted { IfOk result (λ n. AcceptsAt pass.old.knows pass.new.knows number ops.now n dones.new.items) }
+        ensures accepted { IfOk result (λ n. AcceptsAt pass.old.knows pass.new.knows number ops.now
+            n dones.new.items) }
         ensures refused { IfErr result (IsUnapplied pass.old.knows pass.new.knows number ops.now) }
         ensures empty { OnErr result (dones.new.items ≡ []) }
     {
@@ -89,7 +93,8 @@ impl Store {
         requires pass { IsPassOf self.now pass.old }
         requires count { (1 ≤ length ops.now) × (length ops.now ≤ 64) }
         ensures pass { IsPassOf self.now pass.new }
-        ensures accepted { IfOk result (λ r. AcceptsAt pass.old.knows pass.new.knows number ops.now r.0 r.1.items) }
+        ensures accepted { IfOk result (λ r. AcceptsAt pass.old.knows pass.new.knows number ops.now
+            r.0 r.1.items) }
         ensures refused { IfErr result (IsUnapplied pass.old.knows pass.new.knows number ops.now) }
     {
         let mut dones = ArrayVec::new();
@@ -99,9 +104,9 @@ impl Store {
         }
     }
 
-    /// Writes as `apply_if` does, and tries again while another pass holds the lock, up to `tries` times in all; between two
-    /// tries other threads may run, as in `apply_or_retry`. A Conflict is returned at once, because the same call can't
-    /// succeed any more.
+    /// Writes as `apply_if` does, and tries again while another pass holds the lock, up to `tries`
+    /// times in all; between two tries other threads may run, as in `apply_or_retry`. A Conflict is
+    /// returned at once, because the same call can't succeed any more.
     pub fn apply_if_or_retry(
         &self,
         pass: &mut Pass,
@@ -113,8 +118,10 @@ impl Store {
         requires count { (1 ≤ length ops.now) × (length ops.now ≤ 64) }
         requires tries { 1 ≤ tries }
         ensures pass { IsPassOf self.now pass.new }
-        ensures accepted { IfOk result (λ r. AcceptsAt pass.old.knows pass.new.knows number ops.now r.0 r.1.items) }
-        ensures refused { IfErr result (IsLastUnapplied tries pass.old.knows pass.new.knows number ops.now) }
+        ensures accepted { IfOk result (λ r. AcceptsAt pass.old.knows pass.new.knows number ops.now
+            r.0 r.1.items) }
+        ensures refused { IfErr result (IsLastUnapplied tries pass.old.knows pass.new.knows number
+            ops.now) }
     {
         let mut turns = 1;
         for _made in 1..tries {

@@ -9,14 +9,15 @@ use be_table::Writing;
 use be_value::Refusal;
 use std::alloc::Global;
 
-/// The entries from an index on, up to so many of them.
+/// Up to `most` entries from an index on.
 pub(crate) fn entries_from(
     alloc: Global,
     held: &Writing<'_>,
     from: u64,
     most: usize,
 ) -> Result<Vec<Entry>, Refusal>
-    ensures ok { IfOk result (λ list. list.items ≡ entries_from (entries held.now.knows.seen) from most) }
+    ensures ok { IfOk result (λ list. list.items
+        ≡ entries_from (entries held.now.knows.seen) from most) }
     ensures err { IfErr result (λ e. e ≡ OutOfMemory) }
 {
     let (length, _) = held.current();

@@ -1,7 +1,8 @@
-//! What a pass of a store knows, and how it is with the only pass of one.
+//! What a pass of a store knows, and what holds for the only pass of a store.
 //!
-//! Each law does nothing; its contract is the law, for the crates above. The laws of the only pass speak of what a pass
-//! knows before and after a call: `alone` says of a pass at hand that it is such.
+//! Each law does nothing; its contract is the law, for the crates above. The laws of the only pass
+//! speak of what a pass knows before and after a call: `alone` says that a given pass is the only
+//! one.
 ghost use Rattle.std.specs.Prelude.{◌≡◌, ◌≤◌, ◌<◌, ℕ, List, IsOk, length};
 ghost use Rattle.be_value.specs.declared.refusals.Refusal.{Refusal};
 ghost use Rattle.be_volume.specs.Ahead.{state_after};
@@ -9,27 +10,30 @@ ghost use Rattle.be_volume.specs.Volume.{empty, steps};
 ghost use Rattle.be_volume.specs.declared.ops.Done.{Done};
 ghost use Rattle.be_volume.specs.declared.ops.Op.{Op};
 ghost use Rattle.be_journal.specs.Journal.{IsLegal, by_pass};
-ghost use Rattle.be_state.specs.Rebuilding.{state_ops};
-ghost use Rattle.be_table.specs.History.{AreOfPasses};
+ghost use Rattle.be_volume_state.specs.Rebuilding.{state_ops};
+ghost use Rattle.be_table.specs.History.{AreOfPasses, StartsWith};
 ghost use Rattle.be_table.specs.Rule.{entries};
 ghost use Rattle.be_table.specs.Steps.{IsPass};
 ghost use Rattle.be_table.specs.Versions.{CanSpellEach};
+ghost use Rattle.be_table.specs.declared.pass.Commit.{Commit};
 ghost use Rattle.be_table.specs.declared.pass.Knowledge.{Knowledge};
 ghost use Rattle.be_store.specs.Alone.{IsAlone, WritesNext};
 ghost use Rattle.be_store.specs.History.{Accepts, Learns, IsReason, IsRefusedAt, Pins as IsPin};
 ghost use Rattle.be_store.specs.Passes.{IsPassOf, IsPinnedTo, volume_pinned, volume_seen};
+ghost use Rattle.be_store.specs.Told.{ComesAfter, EndedBefore};
 
 use crate::{Pass, Store};
 use be_journal::replay_push;
 
-/// What a pass has seen is a legal journal, of entries by passes of the store, and its own writes are just the entries
-/// by its number. The store's pages can spell the volume after each entry.
+/// What a pass has seen is a legal journal, of entries by passes of the store, and its own writes
+/// are exactly the entries by its number. The store's pages can hold the volume after each entry.
 pub fn seen_is_legal(store: &Store, pass: &Pass)
     requires { IsPassOf store.now pass.now }
     ensures pass { IsPass pass.now.knows }
     ensures legal { IsLegal (entries pass.now.knows.seen) }
     ensures by { AreOfPasses store.now.limits.passes (entries pass.now.knows.seen) }
-    ensures mine { by_pass pass.now.knows.number (entries pass.now.knows.seen) ≡ pass.now.knows.mine }
+    ensures mine { by_pass pass.now.knows.number (entries pass.now.knows.seen)
+        ≡ pass.now.knows.mine }
     ensures number { pass.now.knows.number < store.now.limits.passes }
     ensures room { length pass.now.knows.seen ≤ store.now.limits.commits }
     ensures volumes { CanSpellEach store.now.limits.pages (entries pass.now.knows.seen) }
@@ -42,10 +46,34 @@ pub fn pin_reads_all_seen()
     ensures { (a c : Knowledge) (n : ℕ) → IsPin a c n → volume_pinned c ≡ volume_seen c }
 {}
 
-/// The operations that `Store::state` reads of a pinned version are accepted by an empty volume, and make it that version's.
+/// Whoever has joined a witness pins what that had seen, or more, and its accepted writes come
+/// after it. This holds for a commit of another pass, too: a witness that this pass made after its
+/// write has seen that write.
+pub fn told_order()
+    ensures told { (told : List Commit) (d : Knowledge) → StartsWith d.seen told
+        → ComesAfter told d }
+    ensures write { (a c d : Knowledge) (ops : List Op) (n : ℕ) (dones : List Done)
+        → Accepts a c ops n dones → StartsWith d.seen c.seen
+        → ComesAfter c.seen d × (n ≡ length c.seen) }
+{}
+
+/// A pin has each write that ended before it, and is at each pin that ended before it or later, of
+/// whatever passes. Of two calls one ended before the other if the history of the other begins with
+/// its history. `close` has both in one list of moves.
+pub fn pins_have_earlier_writes()
+    ensures writes { (a c b d : Knowledge) (ops : List Op) (n m : ℕ) (dones : List Done)
+        → Accepts a c ops n dones → IsPin b d m → EndedBefore c d → n ≤ m }
+    ensures pins { (a c b d : Knowledge) (n m : ℕ) → IsPin a c n → IsPin b d m → EndedBefore c d → n
+        ≤ m }
+{}
+
+/// The operations that `Store::state` reads of a pinned version are accepted by an empty volume,
+/// and make it that version's.
 pub fn state_makes_again()
-    ensures accepted { (a : Knowledge) (n : ℕ) → IsPass a → IsPinnedTo a n → IsOk (steps empty (state_ops (volume_pinned a))) }
-    ensures same { (a : Knowledge) (n : ℕ) → IsPass a → IsPinnedTo a n → state_after empty (state_ops (volume_pinned a)) ≡ volume_pinned a }
+    ensures accepted { (a : Knowledge) (n : ℕ) → IsPass a → IsPinnedTo a n
+        → IsOk (steps empty (state_ops (volume_pinned a))) }
+    ensures same { (a : Knowledge) (n : ℕ) → IsPass a → IsPinnedTo a n
+        → state_after empty (state_ops (volume_pinned a)) ≡ volume_pinned a }
 {}
 
 /// The only pass of a store has the number 0, and has written all that it has seen.
@@ -59,9 +87,11 @@ pub fn alone(store: &Store, pass: &Pass)
     seen_is_legal(store, pass);
 }
 
-/// An accepted write of the only pass is the next entry after what it had seen: the volume steps from there.
+/// An accepted write of the only pass is the next entry after what it had seen: the volume steps
+/// from there.
 pub fn alone_writes_next()
-    ensures { (a c : Knowledge) (ops : List Op) (n : ℕ) (dones : List Done) → IsAlone a → IsAlone c → Accepts a c ops n dones → WritesNext a c ops n dones }
+    ensures { (a c : Knowledge) (ops : List Op) (n : ℕ) (dones : List Done) → IsAlone a → IsAlone c
+        → Accepts a c ops n dones → WritesNext a c ops n dones }
 {
     replay_push();
 }
@@ -69,7 +99,8 @@ pub fn alone_writes_next()
 /// A refused write of the only pass shows it nothing, and is never refused by Busy.
 pub fn alone_refused()
     ensures seen { (a c : Knowledge) → IsAlone a → IsAlone c → Learns a c → c.seen ≡ a.seen }
-    ensures reason { (a c : Knowledge) (ops : List Op) (e : Refusal) → IsAlone a → IsReason a c ops e → IsRefusedAt c ops e }
+    ensures reason { (a c : Knowledge) (ops : List Op) (e : Refusal) → IsAlone a
+        → IsReason a c ops e → IsRefusedAt c ops e }
 {}
 
 /// A pin of the only pass shows it nothing.

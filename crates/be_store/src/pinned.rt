@@ -1,34 +1,36 @@
 //! A pass while it is pinned.
 //!
-//! A pin that is forgotten holds its version's pages for as long as the store lives. So a program that leaves a function by
-//! `?` asks through a `Pinned`, which unpins when it goes.
+//! A pin that is forgotten holds its version's pages for as long as the store lives. So a program
+//! that leaves a function by `?` asks through a `Pinned`, which unpins when it goes.
 ghost use Rattle.std.specs.List.Sorted.{IsStrictlyIncreasing};
-ghost use Rattle.std.specs.Prelude.{◌≡◌, ◌⊎◌, ◌<◌, ◌≤◌, ◌++◌, ◌*◌, ◌^◌, ℕ, true, false, [], None, Ok, Err, IsOk, IfOk, IfErr, IfNone, IfSome, OnOk, length, map as each};
+ghost use Rattle.std.specs.Prelude.{◌≡◌, ◌⊎◌, ◌<◌, ◌≤◌, ◌++◌, ◌*◌, ◌^◌, ℕ, true, false, [], None};
+ghost use Rattle.std.specs.Prelude.{Ok, Err, IsOk, IfOk, IfErr, IfNone, IfSome, OnOk, length};
+ghost use Rattle.std.specs.Prelude.{map as each};
 ghost use Rattle.be_value.specs.Refusal.{Answers};
 ghost use Rattle.be_value.specs.declared.refusals.Refusal.TheVariants.{OutOfMemory, NotCovered};
 ghost use Rattle.be_volume.specs.Query.{scan, has_index, covered};
 ghost use Rattle.be_volume.specs.Reading.{attribute, attributes_at, index_kinds};
-ghost use Rattle.be_state.specs.Places.{given, left};
+ghost use Rattle.be_volume_state.specs.Places.{given, left};
 ghost use Rattle.be_plan.specs.Cover.{chosen, covers};
 ghost use Rattle.be_plan.specs.Explain.{are_places};
 ghost use Rattle.be_paged.specs.Cells.{TellsColumns, name_in};
 ghost use Rattle.be_paged.specs.Nodes.{nodes_from};
 ghost use Rattle.be_table.specs.Seats.{pinned_number};
-ghost use Rattle.be_table.specs.Steps.{unpins};
-ghost use Rattle.be_table.specs.Trace.{with_history};
+ghost use Rattle.be_table.specs.Steps.{unpins, with_history};
 ghost use Rattle.be_table.specs.Works.{IsSeatOf};
 ghost use Rattle.be_store.specs.History.{Pins};
 ghost use Rattle.be_store.specs.Live.{Refreshes};
-ghost use Rattle.be_store.specs.Passes.{IsBetweenCalls, IsBetweenCalls-prop, IsPassOf, IsPinnedTo, HasRead, volume_pinned};
+ghost use Rattle.be_store.specs.Passes.{IsAtRest, IsAtRest-prop, IsPassOf, IsPinnedTo};
+ghost use Rattle.be_store.specs.Passes.{HasRead, volume_pinned};
 
 use crate::answers::{Answer, Updates};
 use crate::{Live, Pass, Store};
 use be_paged::{Cell, HeldName};
 use be_plan::{Cover, PreparedQuery};
 use be_query::Query;
-use be_state::Place;
 use be_value::{Kind, Name, Refusal, Value};
 use be_volume::Op;
+use be_volume_state::Place;
 use std::alloc::Global;
 
 /// A pass that is pinned as long as this lives. Whichever way it goes, the pass is unpinned then.
@@ -37,12 +39,12 @@ pub struct Pinned<'a> {
     pass: &'a mut Pass,
     number: u64,
     ghost seat: { IsSeatOf store.now pass.now },
-    ghost between: { IsBetweenCalls store.now.limits.passes pass.now.knows.phase } by { IsBetweenCalls-prop store.now.limits.passes pass.now.knows.phase },
+    ghost between: { IsAtRest store.now pass.now } by { IsAtRest-prop store.now pass.now },
 }
 
 impl Store {
-    /// Pins the current version, as `pin` does, until the guard that it returns goes. Three steps, and one at the end; no
-    /// memory.
+    /// Pins the current version, as `pin` does, until the guard that it returns goes. Three steps,
+    /// and one at the end; no memory.
     pub fn pinned<'a>(&'a self, pass: &'a mut Pass) -> Pinned<'a>
         requires pass { IsPassOf self.now pass.old }
         requires unpinned { pinned_number pass.old.knows.phase ≡ None }
@@ -71,9 +73,11 @@ impl Pinned<'_> {
     pub fn query(&mut self, alloc: Global, query: &Query) -> Result<Answer, Refusal>
         requires pinned { (n : ℕ) × IsPinnedTo self.old.pass.now.knows n }
         ensures same_reference { self.new.pass.ghost_name ≡ self.old.pass.ghost_name }
-        ensures store { (self.new.store.now ≡ self.old.store.now) × (self.new.number ≡ self.old.number) }
+        ensures store { (self.new.store.now ≡ self.old.store.now)
+            × (self.new.number ≡ self.old.number) }
         ensures read { HasRead self.old.pass.now.knows self.new.pass.now.knows }
-        ensures nodes { Answers (λ a. a.nodes.items) result (scan (volume_pinned self.old.pass.now.knows) query.now) }
+        ensures nodes { Answers (λ a. a.nodes.items) result
+            (scan (volume_pinned self.old.pass.now.knows) query.now) }
         ensures rising { IfOk result (λ a. IsStrictlyIncreasing a.nodes.items) }
         ensures pin { IfOk result (λ a. IsPinnedTo self.old.pass.now.knows a.pin) }
     {
@@ -89,9 +93,11 @@ impl Pinned<'_> {
     ) -> Result<u64, Refusal>
         requires pinned { (n : ℕ) × IsPinnedTo self.old.pass.now.knows n }
         ensures same_reference { self.new.pass.ghost_name ≡ self.old.pass.ghost_name }
-        ensures store { (self.new.store.now ≡ self.old.store.now) × (self.new.number ≡ self.old.number) }
+        ensures store { (self.new.store.now ≡ self.old.store.now)
+            × (self.new.number ≡ self.old.number) }
         ensures read { HasRead self.old.pass.now.knows self.new.pass.now.knows }
-        ensures nodes { Answers (λ _. nodes.new.items) result (scan (volume_pinned self.old.pass.now.knows) query.now) }
+        ensures nodes { Answers (λ _. nodes.new.items) result
+            (scan (volume_pinned self.old.pass.now.knows) query.now) }
         ensures rising { OnOk result (IsStrictlyIncreasing nodes.new.items) }
         ensures pin { IfOk result (λ pin. IsPinnedTo self.old.pass.now.knows pin) }
     {
@@ -108,9 +114,11 @@ impl Pinned<'_> {
     ) -> Result<u64, Refusal>
         requires pinned { (n : ℕ) × IsPinnedTo self.old.pass.now.knows n }
         ensures same_reference { self.new.pass.ghost_name ≡ self.old.pass.ghost_name }
-        ensures store { (self.new.store.now ≡ self.old.store.now) × (self.new.number ≡ self.old.number) }
+        ensures store { (self.new.store.now ≡ self.old.store.now)
+            × (self.new.number ≡ self.old.number) }
         ensures read { HasRead self.old.pass.now.knows self.new.pass.now.knows }
-        ensures nodes { Answers (λ _. nodes.new.items) result (scan (volume_pinned self.old.pass.now.knows) query.old) }
+        ensures nodes { Answers (λ _. nodes.new.items) result
+            (scan (volume_pinned self.old.pass.now.knows) query.old) }
         ensures rising { OnOk result (IsStrictlyIncreasing nodes.new.items) }
         ensures pin { IfOk result (λ pin. IsPinnedTo self.old.pass.now.knows pin) }
         ensures same { query.new ≡ query.old }
@@ -122,12 +130,17 @@ impl Pinned<'_> {
     pub fn explain(&mut self, alloc: Global, query: &Query) -> Result<Cover, Refusal>
         requires pinned { (n : ℕ) × IsPinnedTo self.old.pass.now.knows n }
         ensures same_reference { self.new.pass.ghost_name ≡ self.old.pass.ghost_name }
-        ensures store { (self.new.store.now ≡ self.old.store.now) × (self.new.number ≡ self.old.number) }
+        ensures store { (self.new.store.now ≡ self.old.store.now)
+            × (self.new.number ≡ self.old.number) }
         ensures read { HasRead self.old.pass.now.knows self.new.pass.now.knows }
-        ensures cover { Answers (λ cover. cover) result (chosen (has_index (volume_pinned self.old.pass.now.knows)) query.now) }
-        ensures covers { IfOk result (λ cover. covers (has_index (volume_pinned self.old.pass.now.knows)) cover.picks query.now ≡ true) }
+        ensures cover { Answers (λ cover. cover) result
+            (chosen (has_index (volume_pinned self.old.pass.now.knows)) query.now) }
+        ensures covers { IfOk result (λ cover. covers
+            (has_index (volume_pinned self.old.pass.now.knows)) cover.picks query.now ≡ true) }
         ensures places { IfOk result (λ cover. are_places query.now cover.picks ≡ true) }
-        ensures refused { IfErr result (λ e. (e ≡ OutOfMemory) ⊎ ((e ≡ NotCovered) × (covered (volume_pinned self.old.pass.now.knows) query.now ≡ false))) }
+        ensures refused { IfErr result (λ e. (e ≡ OutOfMemory)
+            ⊎ ((e ≡ NotCovered) × (covered (volume_pinned self.old.pass.now.knows) query.now
+            ≡ false))) }
     {
         self.store.explain(alloc, self.pass, query)
     }
@@ -137,7 +150,8 @@ impl Pinned<'_> {
     pub fn get(&mut self, node: u64, name: &Name) -> Option<Value>
         requires pinned { (n : ℕ) × IsPinnedTo self.old.pass.now.knows n }
         ensures same_reference { self.new.pass.ghost_name ≡ self.old.pass.ghost_name }
-        ensures store { (self.new.store.now ≡ self.old.store.now) × (self.new.number ≡ self.old.number) }
+        ensures store { (self.new.store.now ≡ self.old.store.now)
+            × (self.new.number ≡ self.old.number) }
         ensures read { HasRead self.old.pass.now.knows self.new.pass.now.knows }
         ensures value { result ≡ attribute (volume_pinned self.old.pass.now.knows) node name.now }
     {
@@ -155,9 +169,11 @@ impl Pinned<'_> {
         requires pinned { (n : ℕ) × IsPinnedTo self.old.pass.now.knows n }
         requires few { length nodes.now * length names.now ≤ 2 ^ 32 }
         ensures same_reference { self.new.pass.ghost_name ≡ self.old.pass.ghost_name }
-        ensures store { (self.new.store.now ≡ self.old.store.now) × (self.new.number ≡ self.old.number) }
+        ensures store { (self.new.store.now ≡ self.old.store.now)
+            × (self.new.number ≡ self.old.number) }
         ensures read { HasRead self.old.pass.now.knows self.new.pass.now.knows }
-        ensures told { TellsColumns (volume_pinned self.old.pass.now.knows) nodes.now (each name_in names.now) cells.old cells.new bytes.old bytes.new result }
+        ensures told { TellsColumns (volume_pinned self.old.pass.now.knows) nodes.now
+            (each name_in names.now) cells.old cells.new bytes.old bytes.new result }
     {
         self.store.columns(self.pass, nodes, names, cells, bytes)
     }
@@ -166,7 +182,8 @@ impl Pinned<'_> {
     pub fn next(&mut self) -> u64
         requires pinned { (n : ℕ) × IsPinnedTo self.old.pass.now.knows n }
         ensures same_reference { self.new.pass.ghost_name ≡ self.old.pass.ghost_name }
-        ensures store { (self.new.store.now ≡ self.old.store.now) × (self.new.number ≡ self.old.number) }
+        ensures store { (self.new.store.now ≡ self.old.store.now)
+            × (self.new.number ≡ self.old.number) }
         ensures read { HasRead self.old.pass.now.knows self.new.pass.now.knows }
         ensures next { result ≡ (volume_pinned self.old.pass.now.knows).next }
     {
@@ -177,10 +194,13 @@ impl Pinned<'_> {
     pub fn attrs(&mut self, alloc: Global, node: u64) -> Result<Vec<(Name, Value)>, Refusal>
         requires pinned { (n : ℕ) × IsPinnedTo self.old.pass.now.knows n }
         ensures same_reference { self.new.pass.ghost_name ≡ self.old.pass.ghost_name }
-        ensures store { (self.new.store.now ≡ self.old.store.now) × (self.new.number ≡ self.old.number) }
+        ensures store { (self.new.store.now ≡ self.old.store.now)
+            × (self.new.number ≡ self.old.number) }
         ensures read { HasRead self.old.pass.now.knows self.new.pass.now.knows }
-        ensures list { Answers (λ list. list.items) result (attributes_at (volume_pinned self.old.pass.now.knows) node) }
-        ensures wanted { IfErr result (λ e. e ≡ OutOfMemory → IsOk (attributes_at (volume_pinned self.old.pass.now.knows) node)) }
+        ensures list { Answers (λ list. list.items) result
+            (attributes_at (volume_pinned self.old.pass.now.knows) node) }
+        ensures wanted { IfErr result (λ e. e ≡ OutOfMemory
+            → IsOk (attributes_at (volume_pinned self.old.pass.now.knows) node)) }
     {
         self.store.attrs(alloc, self.pass, node)
     }
@@ -189,9 +209,11 @@ impl Pinned<'_> {
     pub fn indices(&mut self, alloc: Global) -> Result<Vec<(Name, Kind)>, Refusal>
         requires pinned { (n : ℕ) × IsPinnedTo self.old.pass.now.knows n }
         ensures same_reference { self.new.pass.ghost_name ≡ self.old.pass.ghost_name }
-        ensures store { (self.new.store.now ≡ self.old.store.now) × (self.new.number ≡ self.old.number) }
+        ensures store { (self.new.store.now ≡ self.old.store.now)
+            × (self.new.number ≡ self.old.number) }
         ensures read { HasRead self.old.pass.now.knows self.new.pass.now.knows }
-        ensures list { Answers (λ list. list.items) result (Ok (index_kinds (volume_pinned self.old.pass.now.knows))) }
+        ensures list { Answers (λ list. list.items) result
+            (Ok (index_kinds (volume_pinned self.old.pass.now.knows))) }
     {
         self.store.indices(alloc, self.pass)
     }
@@ -200,9 +222,11 @@ impl Pinned<'_> {
     pub fn nodes(&mut self, alloc: Global, from: u64, most: usize) -> Result<Vec<u64>, Refusal>
         requires pinned { (n : ℕ) × IsPinnedTo self.old.pass.now.knows n }
         ensures same_reference { self.new.pass.ghost_name ≡ self.old.pass.ghost_name }
-        ensures store { (self.new.store.now ≡ self.old.store.now) × (self.new.number ≡ self.old.number) }
+        ensures store { (self.new.store.now ≡ self.old.store.now)
+            × (self.new.number ≡ self.old.number) }
         ensures read { HasRead self.old.pass.now.knows self.new.pass.now.knows }
-        ensures list { Answers (λ list. list.items) result (Ok (nodes_from (volume_pinned self.old.pass.now.knows) from most)) }
+        ensures list { Answers (λ list. list.items) result
+            (Ok (nodes_from (volume_pinned self.old.pass.now.knows) from most)) }
     {
         self.store.nodes(alloc, self.pass, from, most)
     }
@@ -211,12 +235,19 @@ impl Pinned<'_> {
     pub fn state(&mut self, alloc: Global, place: &mut Place) -> Result<Option<Vec<Op>>, Refusal>
         requires pinned { (n : ℕ) × IsPinnedTo self.old.pass.now.knows n }
         ensures same_reference { self.new.pass.ghost_name ≡ self.old.pass.ghost_name }
-        ensures store { (self.new.store.now ≡ self.old.store.now) × (self.new.number ≡ self.old.number) }
+        ensures store { (self.new.store.now ≡ self.old.store.now)
+            × (self.new.number ≡ self.old.number) }
         ensures read { HasRead self.old.pass.now.knows self.new.pass.now.knows }
-        ensures list { left (volume_pinned self.old.pass.now.knows) place.old ≡ given (λ ops. ops.items) result ++ left (volume_pinned self.old.pass.now.knows) place.new }
-        ensures length { IfOk result (λ list. IfSome list (λ ops. (1 ≤ length ops.items) × (length ops.items ≤ 64))) }
-        ensures full { IfOk result (λ list. IfSome list (λ ops. length ops.items < 64 → left (volume_pinned self.old.pass.now.knows) place.new ≡ [])) }
-        ensures ends { IfOk result (λ list. IfNone list (left (volume_pinned self.old.pass.now.knows) place.old ≡ [])) }
+        ensures list { left (volume_pinned self.old.pass.now.knows) place.old
+            ≡ given (λ ops. ops.items) result
+            ++ left (volume_pinned self.old.pass.now.knows) place.new }
+        ensures length { IfOk result (λ list. IfSome list
+            (λ ops. (1 ≤ length ops.items) × (length ops.items ≤ 64))) }
+        ensures full { IfOk result (λ list. IfSome list
+            (λ ops. length ops.items < 64 → left (volume_pinned self.old.pass.now.knows) place.new
+            ≡ [])) }
+        ensures ends { IfOk result (λ list. IfNone list
+            (left (volume_pinned self.old.pass.now.knows) place.old ≡ [])) }
         ensures wanted { IfErr result (λ e. e ≡ OutOfMemory) }
     {
         self.store.state(alloc, self.pass, place)
@@ -226,10 +257,14 @@ impl Pinned<'_> {
     pub fn refresh(&mut self, live: &mut Live) -> Result<Updates, Refusal>
         requires pinned { (n : ℕ) × IsPinnedTo self.old.pass.now.knows n }
         ensures same_reference { self.new.pass.ghost_name ≡ self.old.pass.ghost_name }
-        ensures store { (self.new.store.now ≡ self.old.store.now) × (self.new.number ≡ self.old.number) }
+        ensures store { (self.new.store.now ≡ self.old.store.now)
+            × (self.new.number ≡ self.old.number) }
         ensures read { HasRead self.old.pass.now.knows self.new.pass.now.knows }
-        ensures ok { IfOk result (λ u. Refreshes (volume_pinned self.old.pass.now.knows) live.old live.new u.created.items u.removed.items) }
-        ensures err { IfErr result (λ e. (live.new ≡ live.old) × ((e ≡ OutOfMemory) ⊎ (scan (volume_pinned self.old.pass.now.knows) live.old.query ≡ Err e))) }
+        ensures ok { IfOk result (λ u. Refreshes (volume_pinned self.old.pass.now.knows) live.old
+            live.new u.created.items u.removed.items) }
+        ensures err { IfErr result (λ e. (live.new ≡ live.old)
+            × ((e ≡ OutOfMemory) ⊎ (scan (volume_pinned self.old.pass.now.knows) live.old.query
+            ≡ Err e))) }
     {
         live.refresh(self.store, self.pass)
     }
@@ -239,7 +274,8 @@ impl Drop for Pinned<'_> {
     fn drop(self)
         requires pinned { (n : ℕ) × IsPinnedTo self.pass.now.knows n }
         ensures pass { IsPassOf self.entry.store.now self.exit.1.0.now }
-        ensures unpinned { self.exit.1.0.now.knows ≡ unpins (with_history self.entry.pass.now.knows self.exit.1.0.now.knows.history) }
+        ensures unpinned { self.exit.1.0.now.knows
+            ≡ unpins (with_history self.entry.pass.now.knows self.exit.1.0.now.knows.history) }
     {
         let Pinned {
             store,

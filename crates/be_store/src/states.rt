@@ -1,13 +1,13 @@
-//! The operations that make a version again, over any reader of its pages.
+//! The operations that rebuild a version, over any reader of its pages.
 ghost use Rattle.std.specs.Prelude.{◌≡◌, ◌<◌, ◌≤◌, ◌++◌, [], IfNone, IfOk, IfSome, length};
 ghost use Rattle.be_volume.specs.Volume.{State};
-ghost use Rattle.be_state.specs.Places.{given, left};
+ghost use Rattle.be_volume_state.specs.Places.{given, left};
 ghost use Rattle.be_paged.specs.Version.{IsVersion};
 
 use be_paged::whole;
 use be_pages::Look;
-use be_state::{Place, next_list};
 use be_volume::Op;
+use be_volume_state::{Place, next_list};
 use std::alloc::{AllocError, Global};
 
 /// The next list of a version's operations, and the reader back.
@@ -19,9 +19,12 @@ pub(crate) fn read_on<L: Look>(
 ) -> (L, Result<Option<Vec<Op>>, AllocError>)
     ghost volume: { State }
     requires version { IsVersion (L.standing look) (L.words look) version_page volume }
-    ensures list { left volume place.old ≡ given (λ ops. ops.items) result.1 ++ left volume place.new }
-    ensures length { IfOk result.1 (λ list. IfSome list (λ ops. (1 ≤ length ops.items) × (length ops.items ≤ 64))) }
-    ensures full { IfOk result.1 (λ list. IfSome list (λ ops. length ops.items < 64 → left volume place.new ≡ [])) }
+    ensures list { left volume place.old ≡ given (λ ops. ops.items) result.1
+        ++ left volume place.new }
+    ensures length { IfOk result.1 (λ list. IfSome list
+        (λ ops. (1 ≤ length ops.items) × (length ops.items ≤ 64))) }
+    ensures full { IfOk result.1 (λ list. IfSome list
+        (λ ops. length ops.items < 64 → left volume place.new ≡ [])) }
     ensures ends { IfOk result.1 (λ list. IfNone list (left volume place.old ≡ [])) }
     ensures kept { L.kept result.0 ≡ L.kept look }
 {

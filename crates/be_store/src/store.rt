@@ -1,6 +1,9 @@
 //! The store, and the calls of its passes.
-ghost use Rattle.std.specs.Prelude.{◌≡◌, ◌⊎◌, ◌≤◌, ◌<◌, ◌++◌, ℕ, true, false, [], ◌∷◌, None, Some, Ok, MatchResult, IsOk, IfOk, IfErr, IfNone, IfSome, OnErr, OnOk, length, map, string_bytes};
-ghost use Rattle.be_store.specs.History.{Accepts, Learns, IsReason, IsLastReason, IsUntold, LocksAndUnlocks, Pins, entries_from, text_seen};
+ghost use Rattle.std.specs.Prelude.{◌≡◌, ◌⊎◌, ◌≤◌, ◌<◌, ◌++◌, ℕ, true, false, [], ◌∷◌, None, Some};
+ghost use Rattle.std.specs.Prelude.{Ok, MatchResult, IsOk, IfOk, IfErr, IfNone, IfSome, OnErr};
+ghost use Rattle.std.specs.Prelude.{OnOk, length, map, string_bytes};
+ghost use Rattle.be_store.specs.History.{Accepts, Learns, IsReason, IsLastReason, IsUntold};
+ghost use Rattle.be_store.specs.History.{LocksAndUnlocks, Pins, entries_from, text_seen};
 ghost use Rattle.be_store.specs.Passes.{IsPassOf, IsPinnedTo, HasRead, volume_pinned};
 
 use crate::answers::Answer;
@@ -15,10 +18,10 @@ use be_journal::{Entry, Journal};
 use be_paged::{attrs, first_page, get, indices, next, nodes};
 use be_plan::{Cover, PreparedQuery};
 use be_query::Query;
-use be_state::Place;
-use be_table::{PinnedLook, Status, VersionTable, Writing};
+use be_table::{PinnedLook, Status, VersionTable, Witness, Writing};
 use be_value::{Kind, Name, Refusal, Value};
 use be_volume::{Done, Op};
+use be_volume_state::Place;
 use std::alloc::Global;
 use std::marker::Model;
 
@@ -44,41 +47,47 @@ impl Store {
     ghost use Rattle.be_volume.specs.Query.{scan, has_index, covered};
     ghost use Rattle.be_volume.specs.Reading.{attribute, attributes_at, index_kinds};
     ghost use Rattle.be_journal.specs.Journal.{IsLegal};
-    ghost use Rattle.be_state.specs.Places.{given, left};
+    ghost use Rattle.be_volume_state.specs.Places.{given, left};
     ghost use Rattle.be_plan.specs.Cover.{chosen, covers};
     ghost use Rattle.be_plan.specs.Explain.{are_places};
     ghost use Rattle.be_paged.specs.Nodes.{nodes_from};
     ghost use Rattle.be_paged.specs.Version.{IsVersion};
     ghost use Rattle.be_table.specs.History.{StartsWith, AreOfPasses};
     ghost use Rattle.be_table.specs.Reading.{pinned_standing, word_of_page};
-    ghost use Rattle.be_table.specs.Rule.{IsWithin, entries};
+    ghost use Rattle.be_table.specs.Rule.{IsWithin, entries, one_step_on};
     ghost use Rattle.be_table.specs.Seats.{pinned_number};
-    ghost use Rattle.be_table.specs.Steps.{Has, KeepsSeen, longer, met, unpins};
-    ghost use Rattle.be_table.specs.Trace.{HasTrace, with_history};
+    ghost use Rattle.be_table.specs.Steps.{Has, KeepsSeen, longer, met, unpins, with_history};
+    ghost use Rattle.be_table.specs.Trace.{HasTrace};
     ghost use Rattle.be_table.specs.Versions.{CanSpellEach};
-    ghost use Rattle.be_table.specs.Works.{AllAt, AreNew, FoundHeld, IsOpenRefused, Moves, TakesLock, knows_of};
+    ghost use Rattle.be_table.specs.Works.{AllAt, AreNew, FoundHeld, IsOpenRefused, IsWitnessOf};
+    ghost use Rattle.be_table.specs.Works.{Moves, TakesLock, knows_of};
     ghost use Rattle.be_table.specs.declared.pass.Move.TheVariants as moves;
     ghost use Rattle.be_store.specs.Calls.{AreInOneTrace, HasWrites, ReadsFronts};
     ghost use Rattle.be_store.specs.Statuses.{TellsStatus};
 
-    /// Opens an empty store. Returns it with its passes, in the order of their numbers from 0; they have seen nothing.
+    /// Opens an empty store. Returns it with its passes, in the order of their numbers from 0; they
+    /// have seen nothing.
     ///
-    /// BadLimits exactly if a limit is out of its range; OutOfMemory. It takes the memory of all pages, 4 KiB each, and for a
-    /// moment their words once more.
+    /// BadLimits exactly if a limit is out of its range; OutOfMemory. It takes the memory of all
+    /// pages, 4 KiB each, and for a moment their words once more.
     pub fn open(alloc: Global, limits: Limits) -> Result<(Store, Vec<Pass>), Refusal>
         ensures { MatchResult result
-            (λ r. (r.0.limits ≡ limits) × (length r.1.items ≡ limits.passes) × AreNew r.0 0 r.1.items × IsWithin limits)
+            (λ r. (r.0.limits ≡ limits) × (length r.1.items ≡ limits.passes)
+            × AreNew r.0 0 r.1.items × IsWithin limits)
             (λ e. IsOpenRefused limits e) }
     {
         let (table, passes) = VersionTable::open(alloc, limits, &first_page())?;
         Ok((Store { table }, passes))
     }
 
-    /// An open write of the pass, which is blank until the write's seat is back. Busy where another pass holds the lock.
+    /// An open write of the pass, which is blank until the write's seat is back. Busy if another
+    /// pass holds the lock.
     pub(crate) fn lock(&self, pass: &mut Pass) -> Result<Writing<'_>, Refusal>
         requires pass { IsPassOf self.now pass.old }
-        ensures held { IfOk result (λ w. (w.table ≡ self.now) × (w.reserved ≡ 0) × TakesLock pass.old.knows w.knows) }
-        ensures busy { IfErr result (λ e. IsPassOf self.now pass.new × FoundHeld e pass.old.knows pass.new.knows) }
+        ensures held { IfOk result (λ w. (w.table ≡ self.now) × (w.reserved ≡ 0)
+            × TakesLock pass.old.knows w.knows) }
+        ensures busy { IfErr result (λ e. IsPassOf self.now pass.new
+            × FoundHeld e pass.old.knows pass.new.knows) }
     {
         match self.table.lock(pass.move_out()) {
             Ok(writing) => Ok(writing),
@@ -89,20 +98,24 @@ impl Store {
         }
     }
 
-    /// Writes a transaction of 1 to 64 operations, all or none. Returns its commit number, which is the journal's length with
-    /// it, and fills `dones` with the outcome of each operation, in place of what the list had. A pin stays.
+    /// Writes a transaction of 1 to 64 operations, all or none. Returns its commit number, which is
+    /// the journal's length with it, and fills `dones` with the outcome of each operation, in place
+    /// of what the list had. A pin stays.
     ///
-    /// Errors, in this order: Busy if the one try finds that another pass holds the lock (the call may be made again); NoNode
-    /// to NotIndexable as the volume after the journal gives it; CommitsSpent if the journal is at its limit; OutOfMemory if
-    /// there is no room for the entry (the call may be made again); Full if no page is free. After an error nothing is
-    /// written and the list is empty.
+    /// Errors, in this order: Busy if the one try finds that another pass holds the lock (the call
+    /// may be made again); NoNode to NotIndexable as the volume after the journal gives it;
+    /// CommitsSpent if the journal is at its limit; OutOfMemory if there is no room for the entry
+    /// (the call may be made again); Full if no page is free. After an error nothing is written and
+    /// the list is empty.
     ///
-    /// It costs one compare-exchange to begin, new pages on the way to each change, one store to publish and one to unlock.
-    /// Each word that it reads is a load, and each that it changes a store. If no page is free, or 32 were retired since the
-    /// last scan, it reads each reader slot, and works on each page that this frees. It takes memory for its entry alone.
-    /// Busy costs the compare-exchange.
+    /// It costs one compare-exchange to begin, new pages on the way to each change, one store to
+    /// publish and one to unlock. Each word that it reads is a load, and each that it changes a
+    /// store. If no page is free, or 32 were retired since the last scan, it reads each reader
+    /// slot, and works on each page that this frees. It takes memory for its entry alone. Busy
+    /// costs the compare-exchange.
     ///
-    /// The list is filled in place, because one that is returned by value costs its whole capacity at each move.
+    /// The list is filled in place, because one that is returned by value costs its whole capacity
+    /// at each move.
     pub fn apply_into(
         &self,
         pass: &mut Pass,
@@ -112,8 +125,10 @@ impl Store {
         requires pass { IsPassOf self.now pass.old }
         requires count { (1 ≤ length ops.now) × (length ops.now ≤ 64) }
         ensures pass { IsPassOf self.now pass.new }
-        ensures accepted { IfOk result (λ n. Accepts pass.old.knows pass.new.knows ops.now n dones.new.items) }
-        ensures refused { IfErr result (λ e. Learns pass.old.knows pass.new.knows × IsReason pass.old.knows pass.new.knows ops.now e) }
+        ensures accepted { IfOk result (λ n. Accepts pass.old.knows pass.new.knows ops.now n
+            dones.new.items) }
+        ensures refused { IfErr result (λ e. Learns pass.old.knows pass.new.knows
+            × IsReason pass.old.knows pass.new.knows ops.now e) }
         ensures empty { OnErr result (dones.new.items ≡ []) }
     {
         dones.clear();
@@ -135,8 +150,10 @@ impl Store {
         requires pass { IsPassOf self.now pass.old }
         requires count { (1 ≤ length ops.now) × (length ops.now ≤ 64) }
         ensures pass { IsPassOf self.now pass.new }
-        ensures accepted { IfOk result (λ r. Accepts pass.old.knows pass.new.knows ops.now r.0 r.1.items) }
-        ensures refused { IfErr result (λ e. Learns pass.old.knows pass.new.knows × IsReason pass.old.knows pass.new.knows ops.now e) }
+        ensures accepted { IfOk result (λ r. Accepts pass.old.knows pass.new.knows ops.now r.0
+            r.1.items) }
+        ensures refused { IfErr result (λ e. Learns pass.old.knows pass.new.knows
+            × IsReason pass.old.knows pass.new.knows ops.now e) }
     {
         let mut dones = ArrayVec::new();
         match self.apply_into(pass, ops, &mut dones) {
@@ -145,11 +162,11 @@ impl Store {
         }
     }
 
-    /// Writes as `apply` does, and tries again while another pass holds the lock, up to `tries` times in all. Busy then names
-    /// the pass that the last try found.
+    /// Writes as `apply` does, and tries again while another pass holds the lock, up to `tries`
+    /// times in all. Busy then names the pass that the last try found.
     ///
-    /// Before each further try other threads may run: once, then twice as often each time, up to 1,024 times. A try that
-    /// finds the lock taken costs one compare-exchange.
+    /// Before each further try other threads may run: once, then twice as often each time, up to
+    /// 1,024 times. A try that finds the lock taken costs one compare-exchange.
     pub fn apply_or_retry(
         &self,
         pass: &mut Pass,
@@ -160,8 +177,10 @@ impl Store {
         requires count { (1 ≤ length ops.now) × (length ops.now ≤ 64) }
         requires tries { 1 ≤ tries }
         ensures pass { IsPassOf self.now pass.new }
-        ensures accepted { IfOk result (λ r. Accepts pass.old.knows pass.new.knows ops.now r.0 r.1.items) }
-        ensures refused { IfErr result (λ e. Learns pass.old.knows pass.new.knows × IsLastReason tries pass.old.knows pass.new.knows ops.now e) }
+        ensures accepted { IfOk result (λ r. Accepts pass.old.knows pass.new.knows ops.now r.0
+            r.1.items) }
+        ensures refused { IfErr result (λ e. Learns pass.old.knows pass.new.knows
+            × IsLastReason tries pass.old.knows pass.new.knows ops.now e) }
     {
         let mut turns = 1;
         for _made in 1..tries {
@@ -175,8 +194,9 @@ impl Store {
         self.apply(pass, ops)
     }
 
-    /// Pins the current version and returns its number. The pass then reads the volume after that many entries of the journal
-    /// until it unpins, whatever is written meanwhile. Three steps, and no memory.
+    /// Pins the current version and returns its number. The pass then reads the volume after that
+    /// many entries of the journal until it unpins, whatever is written meanwhile. Three steps, and
+    /// no memory.
     pub fn pin(&self, pass: &mut Pass) -> u64
         requires pass { IsPassOf self.now pass.old }
         requires unpinned { pinned_number pass.old.knows.phase ≡ None }
@@ -193,25 +213,29 @@ impl Store {
         requires pass { IsPassOf self.now pass.old }
         requires pinned { (n : ℕ) × IsPinnedTo pass.old.knows n }
         ensures pass { IsPassOf self.now pass.new }
-        ensures unpinned { pass.new.knows ≡ unpins (with_history pass.old.knows pass.new.knows.history) }
-        ensures moves { Moves pass.old.knows (moves.Unpin pass.old.knows.number ∷ []) pass.new.knows }
+        ensures unpinned { pass.new.knows
+            ≡ unpins (with_history pass.old.knows pass.new.knows.history) }
+        ensures moves { Moves pass.old.knows (moves.Unpin pass.old.knows.number ∷ [])
+            pass.new.knows }
     {
         self.table.unpin(pass);
     }
 
-    /// A reader of the pinned version, and its version page. The pass is blank until the reader's seat is back.
+    /// A reader of the pinned version, and its version page. The pass is blank until the reader's
+    /// seat is back.
     pub(crate) fn reader(&self, pass: &mut Pass) -> (PinnedLook<'_>, u64)
         requires pass { IsPassOf self.now pass.old }
         requires pinned { (n : ℕ) × IsPinnedTo pass.old.knows n }
         ensures look { (result.0.table ≡ self.now) × (result.0.knows ≡ pass.old.knows) }
-        ensures version { IsVersion (pinned_standing result.0.knows) (word_of_page result.0.knows.image) result.1 (volume_pinned pass.old.knows) }
+        ensures version { IsVersion (pinned_standing result.0.knows)
+            (word_of_page result.0.knows.image) result.1 (volume_pinned pass.old.knows) }
     {
         let page = pass.version_page();
         (self.table.pinned_look(pass.move_out()), page)
     }
 
-    /// The number that the next `Op::New` makes, in the pinned version. So a batch that is written by `apply_if` at the pin's
-    /// number may name the nodes that it makes. One load, and no memory.
+    /// The number that the next `Op::New` makes, in the pinned version. So a batch that is written
+    /// by `apply_if` at the pin's number may name the nodes that it makes. One load, and no memory.
     pub fn next(&self, pass: &mut Pass) -> u64
         requires pass { IsPassOf self.now pass.old }
         requires pinned { (n : ℕ) × IsPinnedTo pass.old.knows n }
@@ -226,15 +250,16 @@ impl Store {
 
     /// The nodes of which the query is true in the pinned version, ascending, and the pin's number.
     ///
-    /// NotCovered if the query rests on no index of that version; OutOfMemory. It costs a descent of a tree for each chosen
-    /// index, and a walk over the range of keys that the query leaves of it. If the range doesn't decide the query, it looks
-    /// up the other names at each key. It takes memory for the plan, the nodes, and the marks by which many nodes are put in
-    /// order.
+    /// NotCovered if the query rests on no index of that version; OutOfMemory. It costs a descent
+    /// of a tree for each chosen index, and a walk over the range of keys that the query leaves of
+    /// it. If the range doesn't decide the query, it looks up the other names at each key. It takes
+    /// memory for the plan, the nodes, and the marks by which many nodes are put in order.
     pub fn query(&self, alloc: Global, pass: &mut Pass, query: &Query) -> Result<Answer, Refusal>
         requires pass { IsPassOf self.now pass.old }
         requires pinned { (n : ℕ) × IsPinnedTo pass.old.knows n }
         ensures pass { IsPassOf self.now pass.new × HasRead pass.old.knows pass.new.knows }
-        ensures nodes { Answers (λ a. a.nodes.items) result (scan (volume_pinned pass.old.knows) query.now) }
+        ensures nodes { Answers (λ a. a.nodes.items) result
+            (scan (volume_pinned pass.old.knows) query.now) }
         ensures rising { IfOk result (λ a. IsStrictlyIncreasing a.nodes.items) }
         ensures pin { IfOk result (λ a. IsPinnedTo pass.old.knows a.pin) }
     {
@@ -247,8 +272,9 @@ impl Store {
         Ok(Answer { pin, nodes: nodes? })
     }
 
-    /// Puts the nodes of which the query is true in the pinned version into a list, ascending, in place of what it had, and returns the pin's
-    /// number. A list that has room for the nodes takes no memory, and keeps its room.
+    /// Puts the nodes of which the query is true in the pinned version into a list, ascending, in
+    /// place of what it had, and returns the pin's number. A list that has room for the nodes takes
+    /// no memory, and keeps its room.
     ///
     /// Errors and cost are those of `query`. After an error the list has any numbers.
     pub fn query_into(
@@ -261,7 +287,8 @@ impl Store {
         requires pass { IsPassOf self.now pass.old }
         requires pinned { (n : ℕ) × IsPinnedTo pass.old.knows n }
         ensures pass { IsPassOf self.now pass.new × HasRead pass.old.knows pass.new.knows }
-        ensures nodes { Answers (λ _. nodes.new.items) result (scan (volume_pinned pass.old.knows) query.now) }
+        ensures nodes { Answers (λ _. nodes.new.items) result
+            (scan (volume_pinned pass.old.knows) query.now) }
         ensures rising { OnOk result (IsStrictlyIncreasing nodes.new.items) }
         ensures pin { IfOk result (λ pin. IsPinnedTo pass.old.knows pin) }
     {
@@ -275,10 +302,11 @@ impl Store {
         Ok(pin)
     }
 
-    /// As `query_into`, by a query that was prepared. What depends on the query alone was made at its first asking: if all its comparisons are on
-    /// one name and none stands under `||`, that is the range of keys in the name's index. Such a query costs one descent and a walk over
-    /// the range; the index is looked for only if another stands where it stood at the last asking, and the range is made again if the index
-    /// has another kind. Any other query costs what `query` costs.
+    /// As `query_into`, by a prepared query. What depends on the query alone is made when it is
+    /// asked for the first time: if all its comparisons are on one name and none is under `||`,
+    /// that is the range of keys in the name's index. Such a query costs one descent and a walk
+    /// over the range. The index is looked up again only if another one is now at its place. The
+    /// range is made again if the index has another kind. Any other query costs what `query` costs.
     #[inline(always)]
     pub fn query_prepared(
         &self,
@@ -290,7 +318,8 @@ impl Store {
         requires pass { IsPassOf self.now pass.old }
         requires pinned { (n : ℕ) × IsPinnedTo pass.old.knows n }
         ensures pass { IsPassOf self.now pass.new × HasRead pass.old.knows pass.new.knows }
-        ensures nodes { Answers (λ _. nodes.new.items) result (scan (volume_pinned pass.old.knows) query.old) }
+        ensures nodes { Answers (λ _. nodes.new.items) result
+            (scan (volume_pinned pass.old.knows) query.old) }
         ensures rising { OnOk result (IsStrictlyIncreasing nodes.new.items) }
         ensures pin { IfOk result (λ pin. IsPinnedTo pass.old.knows pin) }
         ensures same { query.new ≡ query.old }
@@ -305,19 +334,22 @@ impl Store {
         Ok(pin)
     }
 
-    /// What the query would be answered from in the pinned version: the comparisons whose indices are chosen, and their
-    /// score. `be_plan::explain` returns them as a text.
+    /// What the query would be answered from in the pinned version: the comparisons whose indices
+    /// are chosen, and their score. `be_plan::explain` returns them as a text.
     ///
-    /// NotCovered if the query rests on no index of that version; OutOfMemory. It asks for the index of each comparison's
-    /// name, and reads no key and no node. It takes memory for the plan.
+    /// NotCovered if the query rests on no index of that version; OutOfMemory. It asks for the
+    /// index of each comparison's name, and reads no key and no node. It takes memory for the plan.
     pub fn explain(&self, alloc: Global, pass: &mut Pass, query: &Query) -> Result<Cover, Refusal>
         requires pass { IsPassOf self.now pass.old }
         requires pinned { (n : ℕ) × IsPinnedTo pass.old.knows n }
         ensures pass { IsPassOf self.now pass.new × HasRead pass.old.knows pass.new.knows }
-        ensures cover { Answers (λ cover. cover) result (chosen (has_index (volume_pinned pass.old.knows)) query.now) }
-        ensures covers { IfOk result (λ cover. covers (has_index (volume_pinned pass.old.knows)) cover.picks query.now ≡ true) }
+        ensures cover { Answers (λ cover. cover) result
+            (chosen (has_index (volume_pinned pass.old.knows)) query.now) }
+        ensures covers { IfOk result (λ cover. covers (has_index (volume_pinned pass.old.knows))
+            cover.picks query.now ≡ true) }
         ensures places { IfOk result (λ cover. are_places query.now cover.picks ≡ true) }
-        ensures refused { IfErr result (λ e. (e ≡ OutOfMemory) ⊎ ((e ≡ NotCovered) × (covered (volume_pinned pass.old.knows) query.now ≡ false))) }
+        ensures refused { IfErr result (λ e. (e ≡ OutOfMemory)
+            ⊎ ((e ≡ NotCovered) × (covered (volume_pinned pass.old.knows) query.now ≡ false))) }
     {
         let (reader, page) = self.reader(pass);
         let (reader, cover) = choose_at(alloc, reader, page, query);
@@ -325,7 +357,8 @@ impl Store {
         cover
     }
 
-    /// A node's attribute in the pinned version, if it has one. One descent of a tree, and no memory.
+    /// A node's attribute in the pinned version, if it has one. One descent of a tree, and no
+    /// memory.
     #[inline(always)]
     pub fn get(&self, pass: &mut Pass, node: u64, name: &Name) -> Option<Value>
         requires pass { IsPassOf self.now pass.old }
@@ -341,8 +374,8 @@ impl Store {
 
     /// A node's attributes in the pinned version, by ascending bytes of their names.
     ///
-    /// NoNode if the node isn't there; OutOfMemory only if it is. It costs one descent, and a step for each attribute. It
-    /// takes memory for the list.
+    /// NoNode if the node isn't there; OutOfMemory only if it is. It costs one descent, and a step
+    /// for each attribute. It takes memory for the list.
     pub fn attrs(
         &self,
         alloc: Global,
@@ -352,8 +385,10 @@ impl Store {
         requires pass { IsPassOf self.now pass.old }
         requires pinned { (n : ℕ) × IsPinnedTo pass.old.knows n }
         ensures pass { IsPassOf self.now pass.new × HasRead pass.old.knows pass.new.knows }
-        ensures list { Answers (λ list. list.items) result (attributes_at (volume_pinned pass.old.knows) node) }
-        ensures wanted { IfErr result (λ e. e ≡ OutOfMemory → IsOk (attributes_at (volume_pinned pass.old.knows) node)) }
+        ensures list { Answers (λ list. list.items) result
+            (attributes_at (volume_pinned pass.old.knows) node) }
+        ensures wanted { IfErr result (λ e. e ≡ OutOfMemory
+            → IsOk (attributes_at (volume_pinned pass.old.knows) node)) }
     {
         let (mut look, page) = self.reader(pass);
         let list = attrs(alloc, &mut look, page, node);
@@ -368,7 +403,8 @@ impl Store {
         requires pass { IsPassOf self.now pass.old }
         requires pinned { (n : ℕ) × IsPinnedTo pass.old.knows n }
         ensures pass { IsPassOf self.now pass.new × HasRead pass.old.knows pass.new.knows }
-        ensures list { Answers (λ list. list.items) result (Ok (index_kinds (volume_pinned pass.old.knows))) }
+        ensures list { Answers (λ list. list.items) result
+            (Ok (index_kinds (volume_pinned pass.old.knows))) }
     {
         let (mut look, page) = self.reader(pass);
         let list = indices(alloc, &mut look, page);
@@ -378,8 +414,8 @@ impl Store {
 
     /// Up to `most` nodes of the pinned version from the number `from` on, ascending.
     ///
-    /// OutOfMemory. It costs one descent, and a step for each node that it returns and for each of their attributes. It takes
-    /// memory for the list.
+    /// OutOfMemory. It costs one descent, and a step for each node that it returns and for each of
+    /// their attributes. It takes memory for the list.
     pub fn nodes(
         &self,
         alloc: Global,
@@ -390,7 +426,8 @@ impl Store {
         requires pass { IsPassOf self.now pass.old }
         requires pinned { (n : ℕ) × IsPinnedTo pass.old.knows n }
         ensures pass { IsPassOf self.now pass.new × HasRead pass.old.knows pass.new.knows }
-        ensures list { Answers (λ list. list.items) result (Ok (nodes_from (volume_pinned pass.old.knows) from most)) }
+        ensures list { Answers (λ list. list.items) result
+            (Ok (nodes_from (volume_pinned pass.old.knows) from most)) }
     {
         let (mut look, page) = self.reader(pass);
         let list = nodes(alloc, &mut look, page, from, most);
@@ -398,14 +435,14 @@ impl Store {
         list
     }
 
-    /// The next batch of the operations that make the pinned version again on an empty store, 1 to 64 of them, and None after
-    /// the last. A new `Place` is before the first. From there on the batches of one pin, put end to end, are be_state's
-    /// `state_ops` of that version, and each but the last has 64. At another pin a place has no meaning: begin with a new one
-    /// there.
+    /// The next batch of the operations that make the pinned version again on an empty store, 1 to
+    /// 64 of them, and None after the last. A new `Place` is before the first. From there on the
+    /// batches of one pin, put end to end, are be_volume_state's `state_ops` of that version, and
+    /// each but the last has 64. At another pin a place has no meaning: begin with a new one there.
     ///
-    /// OutOfMemory: nothing is lost then, and the call may be made again. All calls together read the attributes of each
-    /// number that was given twice, and for each attribute they search its index twice. A call takes memory for its batch and
-    /// for one node's operations.
+    /// OutOfMemory: nothing is lost then, and the call may be made again. All calls together read
+    /// the attributes of each number that was given twice, and for each attribute they search its
+    /// index twice. A call takes memory for its batch and for one node's operations.
     pub fn state(
         &self,
         alloc: Global,
@@ -415,10 +452,14 @@ impl Store {
         requires pass { IsPassOf self.now pass.old }
         requires pinned { (n : ℕ) × IsPinnedTo pass.old.knows n }
         ensures pass { IsPassOf self.now pass.new × HasRead pass.old.knows pass.new.knows }
-        ensures list { left (volume_pinned pass.old.knows) place.old ≡ given (λ ops. ops.items) result ++ left (volume_pinned pass.old.knows) place.new }
-        ensures length { IfOk result (λ list. IfSome list (λ ops. (1 ≤ length ops.items) × (length ops.items ≤ 64))) }
-        ensures full { IfOk result (λ list. IfSome list (λ ops. length ops.items < 64 → left (volume_pinned pass.old.knows) place.new ≡ [])) }
-        ensures ends { IfOk result (λ list. IfNone list (left (volume_pinned pass.old.knows) place.old ≡ [])) }
+        ensures list { left (volume_pinned pass.old.knows) place.old
+            ≡ given (λ ops. ops.items) result ++ left (volume_pinned pass.old.knows) place.new }
+        ensures length { IfOk result (λ list. IfSome list
+            (λ ops. (1 ≤ length ops.items) × (length ops.items ≤ 64))) }
+        ensures full { IfOk result (λ list. IfSome list
+            (λ ops. length ops.items < 64 → left (volume_pinned pass.old.knows) place.new ≡ [])) }
+        ensures ends { IfOk result (λ list. IfNone list
+            (left (volume_pinned pass.old.knows) place.old ≡ [])) }
         ensures wanted { IfErr result (λ e. e ≡ OutOfMemory) }
     {
         let (reader, page) = self.reader(pass);
@@ -427,10 +468,11 @@ impl Store {
         Ok(list?)
     }
 
-    /// The journal's text up to now, as `Journal::text` returns it, while passes are in use. A pin stays.
+    /// The journal's text up to now, as `Journal::text` returns it, while passes are in use. A pin
+    /// stays.
     ///
-    /// Busy if the one try finds that another pass holds the lock; OutOfMemory. It holds the lock while it makes the text, so
-    /// other passes' writes are Busy meanwhile.
+    /// Busy if the one try finds that another pass holds the lock; OutOfMemory. It holds the lock
+    /// while it makes the text, so other passes' writes are Busy meanwhile.
     pub fn journal_text(&self, pass: &mut Pass) -> Result<String, Refusal>
         requires pass { IsPassOf self.now pass.old }
         ensures pass { IsPassOf self.now pass.new }
@@ -449,11 +491,12 @@ impl Store {
         }
     }
 
-    /// Up to `most` entries of the journal from the index `from` on, which counts from 0, while passes are in use. Each has
-    /// its pass, its operations and their outcomes. The entry with the index n has the commit number n + 1. A pin stays.
+    /// Up to `most` entries of the journal from the index `from` on, which counts from 0, while
+    /// passes are in use. Each has its pass, its operations and their outcomes. The entry with the
+    /// index n has the commit number n + 1. A pin stays.
     ///
-    /// Busy if the one try finds that another pass holds the lock; OutOfMemory. It holds the lock while it reads the entries,
-    /// so other passes' writes are Busy meanwhile.
+    /// Busy if the one try finds that another pass holds the lock; OutOfMemory. It holds the lock
+    /// while it reads the entries, so other passes' writes are Busy meanwhile.
     pub fn journal_from(
         &self,
         alloc: Global,
@@ -464,7 +507,8 @@ impl Store {
         requires pass { IsPassOf self.now pass.old }
         ensures pass { IsPassOf self.now pass.new }
         ensures learns { Learns pass.old.knows pass.new.knows }
-        ensures list { IfOk result (λ list. list.items ≡ entries_from (entries pass.new.knows.seen) from most) }
+        ensures list { IfOk result (λ list. list.items
+            ≡ entries_from (entries pass.new.knows.seen) from most) }
         ensures err { IfErr result (λ e. IsUntold pass.old.knows pass.new.knows e) }
         ensures moves { OnOk result (LocksAndUnlocks pass.old.knows pass.new.knows) }
     {
@@ -478,11 +522,12 @@ impl Store {
         }
     }
 
-    /// How full the store is, and which pass is the oldest active reader, while passes are in use. A pin stays.
+    /// How full the store is, and which pass is the oldest active reader, while passes are in use.
+    /// A pin stays.
     ///
-    /// Busy if the one try finds that another pass holds the lock, and no other error. It holds the lock while it reads each
-    /// reader slot, and frees the retired pages that none of them keeps: so those that it counts as retired are kept. No
-    /// memory.
+    /// Busy if the one try finds that another pass holds the lock, and no other error. It holds the
+    /// lock while it reads each reader slot, and frees the retired pages that none of them keeps:
+    /// so those that it counts as retired are kept. No memory.
     pub fn status(&self, pass: &mut Pass) -> Result<Status, Refusal>
         requires pass { IsPassOf self.now pass.old }
         ensures pass { IsPassOf self.now pass.new }
@@ -497,15 +542,20 @@ impl Store {
         Ok(status)
     }
 
-    /// Both passes have then seen what either had: of two prefixes of one journal the longer. Returns its length. The moves of
-    /// both so far lie in one trace, and a meeting makes none. Three steps, and no memory.
+    /// Both passes have then seen what either had: of two prefixes of one journal the longer.
+    /// Returns its length. The moves of both so far lie in one trace, and a meeting makes none.
+    /// Three steps, and no memory.
     pub fn meet(&self, left: &mut Pass, right: &mut Pass) -> u64
         requires passes { IsPassOf self.now left.old × IsPassOf self.now right.old }
         ensures passes { IsPassOf self.now left.new × IsPassOf self.now right.new }
-        ensures left { StartsWith (longer left.old.knows.seen right.old.knows.seen) left.old.knows.seen
-            × (left.new.knows ≡ met left.old.knows (longer left.old.knows.seen right.old.knows.seen)) }
-        ensures right { StartsWith (longer left.old.knows.seen right.old.knows.seen) right.old.knows.seen
-            × (right.new.knows ≡ met right.old.knows (longer left.old.knows.seen right.old.knows.seen)) }
+        ensures left { StartsWith (longer left.old.knows.seen right.old.knows.seen)
+            left.old.knows.seen
+            × (left.new.knows ≡ met left.old.knows
+            (longer left.old.knows.seen right.old.knows.seen)) }
+        ensures right { StartsWith (longer left.old.knows.seen right.old.knows.seen)
+            right.old.knows.seen
+            × (right.new.knows ≡ met right.old.knows
+            (longer left.old.knows.seen right.old.knows.seen)) }
         ensures length { result ≡ length (longer left.old.knows.seen right.old.knows.seen) }
         ensures trace { HasTrace self.now.limits (left.old.knows ∷ right.old.knows ∷ []) }
     {
@@ -515,14 +565,42 @@ impl Store {
         length
     }
 
-    /// Closes the store and returns its journal. It takes all passes; they may be pinned. A store whose pass was dropped
-    /// can't be closed.
+    /// A witness of all that the pass has seen of the journal. Send it to another thread, by
+    /// whatever channel: a pass that joins it there has seen as much. One step, and no memory.
+    pub fn witness(&self, pass: &mut Pass) -> Witness
+        requires pass { IsPassOf self.now pass.old }
+        ensures pass { IsPassOf self.now pass.new × (pass.new.knows ≡ one_step_on pass.old.knows) }
+        ensures witness { IsWitnessOf self.now result × (result.seen ≡ pass.old.knows.seen) }
+    {
+        self.table.witness(pass)
+    }
+
+    /// The pass and the witness have then seen what either had: of two prefixes of one journal the
+    /// longer. Returns its length. A pin stays, and the witness can be sent on. What the pass does
+    /// from then on comes after what the witness had seen (`laws::told_order`). Three steps, no
+    /// move, and no memory.
+    pub fn join(&self, pass: &mut Pass, witness: &mut Witness) -> u64
+        requires pass { IsPassOf self.now pass.old }
+        requires witness { IsWitnessOf self.now witness.old }
+        ensures of { IsPassOf self.now pass.new × IsWitnessOf self.now witness.new }
+        ensures pass { StartsWith (longer pass.old.knows.seen witness.old.seen) pass.old.knows.seen
+            × (pass.new.knows ≡ met pass.old.knows (longer pass.old.knows.seen witness.old.seen)) }
+        ensures witness { StartsWith (longer pass.old.knows.seen witness.old.seen) witness.old.seen
+            × (witness.new.seen ≡ longer pass.old.knows.seen witness.old.seen) }
+        ensures length { result ≡ length (longer pass.old.knows.seen witness.old.seen) }
+    {
+        self.table.join(pass, witness)
+    }
+
+    /// Closes the store and returns its journal. It takes all passes; they may be pinned. A store
+    /// whose pass was dropped can't be closed.
     ///
-    /// `writes` and `reads` are the promise of the whole, whatever calls were made on whatever threads. A write that was
-    /// accepted with the number n is the journal's n-th entry, with its pass, its operations and its outcomes. What a pass
-    /// read at a pin n was the volume after the journal's first n entries. `moves` is the order of all steps: there is one list
-    /// of moves, and after each call its pass's history is a front of it. It costs a load and a join for each pass, and no
-    /// memory.
+    /// `writes` and `reads` are the promise of the whole, whatever calls were made on whatever
+    /// threads. A write that was accepted with the number n is the journal's n-th entry, with its
+    /// pass, its operations and its outcomes. What a pass read at a pin n was the volume after the
+    /// journal's first n entries. `moves` is the order of all steps: there is one list of moves,
+    /// and after each call its pass's history is a prefix of it. It costs a load and a join for
+    /// each pass, and no memory.
     pub fn close(self, passes: Vec<Pass>) -> Journal
         requires passes { AllAt self.id passes.items }
         requires all { (k : ℕ) → k < self.limits.passes → Has (map knows_of passes.items) k }

@@ -4,7 +4,8 @@ ghost use Rattle.be_volume.specs.Volume.{State};
 ghost use Rattle.be_paged.specs.Changes.{Applies, IsRefusedList};
 ghost use Rattle.be_paged.specs.Version.{IsVersion};
 ghost use Rattle.be_table.specs.Place.{Work};
-ghost use Rattle.be_table.specs.Reading.{open_of, standing_among, standing_in_work, word_of_page, words_of};
+ghost use Rattle.be_table.specs.Reading.{open_of, standing_among, standing_in_work, word_of_page};
+ghost use Rattle.be_table.specs.Reading.{words_of};
 ghost use Rattle.be_table.specs.Trace.{upto_lock};
 ghost use Rattle.be_table.specs.Works.{IsSpent, TakesLock};
 ghost use Rattle.be_table.specs.declared.pass.Knowledge.{Knowledge};
@@ -26,22 +27,26 @@ fn apply_to(
     dones: &mut ArrayVec<Done, 64>,
 ) -> Result<u64, Refusal>
     ghost volume: { State }
-    requires version { IsVersion (standing_among writing.old.knows.places) (word_of_page writing.old.knows.words) version_page volume }
+    requires version { IsVersion (standing_among writing.old.knows.places)
+        (word_of_page writing.old.knows.words) version_page volume }
     requires count { (1 ≤ length ops.now) × (length ops.now ≤ 64) }
     requires fits { volume.next + 64 < 2 ^ 64 }
     requires open { writing.old.knows.published ≡ false }
     requires empty { dones.old.items ≡ [] }
-    ensures ok { IfOk result (λ page. Applies open_of standing_in_work words_of version_page page volume ops.now dones.new.items writing.old writing.new) }
-    ensures err { IfErr result (λ e. IsRefusedList open_of standing_in_work words_of (λ w least. IsSpent w.knows least)
+    ensures ok { IfOk result (λ page. Applies open_of standing_in_work words_of version_page page
+        volume ops.now dones.new.items writing.old writing.new) }
+    ensures err { IfErr result (λ e. IsRefusedList open_of standing_in_work words_of
+        (λ w least. IsSpent w.knows least)
         volume ops.now e writing.old writing.new) }
 {
     apply_into(writing, version_page, ops, dones)
 }
 
-/// Scans where a scan is due, and only there, so that the write takes pages that were given up lately.
+/// Scans if a scan is due, and only then, so that the write takes pages that were given up lately.
 fn scan_early(writing: &mut Writing<'_>)
     requires begins { Begins writing.old.knows }
-    requires first { upto_lock writing.old.knows.number writing.old.knows.history ≡ writing.old.knows.history }
+    requires first { upto_lock writing.old.knows.number writing.old.knows.history
+        ≡ writing.old.knows.history }
     ensures table { writing.new.table ≡ writing.old.table }
     ensures begins { Begins writing.new.knows }
     ensures kept { open_of writing.new ≡ open_of writing.old }
@@ -52,8 +57,9 @@ fn scan_early(writing: &mut Writing<'_>)
     }
 }
 
-/// Applies the operations to the current version, and publishes what they make. Their answers enter an empty list, which
-/// is filled where it stands. A refusal by the volume comes at once; the journal's want of room goes before that of a page.
+/// Applies the operations to the current version, and publishes the result. Their outcomes enter an
+/// empty list, which is filled in place. A refusal by the volume is returned at once; a lack of
+/// room in the journal comes before a lack of pages.
 fn write_current(
     writing: &mut Writing<'_>,
     ops: &[Op],
@@ -81,7 +87,7 @@ fn write_current(
     }
 }
 
-/// Writes to the current version, and scans before that where a scan is due.
+/// Writes to the current version, and scans before that if a scan is due.
 pub(crate) fn write(
     writing: &mut Writing<'_>,
     ops: &[Op],
@@ -93,7 +99,8 @@ pub(crate) fn write(
     ensures table { writing.new.table ≡ writing.old.table }
     ensures answer { Writes writing.old.knows writing.new.knows ops.now dones.new.items result }
     ensures room { IfErr result (HasRoomAtFull writing.new (length ops.now)) }
-    ensures early { (between : Work) × ScansEarly writing.old between × Writes between.knows writing.new.knows ops.now dones.new.items result }
+    ensures early { (between : Work) × ScansEarly writing.old between
+        × Writes between.knows writing.new.knows ops.now dones.new.items result }
 {
     scan_early(writing);
     write_current(writing, ops, dones)
@@ -110,7 +117,8 @@ pub(crate) fn write_if(
     requires count { (1 ≤ length ops.now) × (length ops.now ≤ 64) }
     requires empty { dones.old.items ≡ [] }
     ensures table { writing.new.table ≡ writing.old.table }
-    ensures answer { WritesIf writing.old.knows writing.new.knows number ops.now dones.new.items result }
+    ensures answer { WritesIf writing.old.knows writing.new.knows number ops.now dones.new.items
+        result }
 {
     let (length, _) = writing.current();
     if length != number {

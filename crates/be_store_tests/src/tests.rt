@@ -1,11 +1,13 @@
 //! Worked examples of the store, by its public calls.
 //!
-//! A test is a room and a text of requests with their replies. `0` and `1` before a request name the pass that makes it;
-//! `head` gives the first line of what pass 0 is answered, and `state` the operations that make its version again.
+//! A test is a room and a text of requests with their replies. `0` and `1` before a request name
+//! the pass that makes it; `head` gives the first line of what pass 0 replies, and `state` the
+//! operations that rebuild its version.
 
 mod calls;
 mod carrying;
 mod conditional;
+mod handing;
 mod races;
 mod room;
 mod sizes;
@@ -15,7 +17,7 @@ mod writers;
 use crate::tests::room::{Room, for_one, for_two};
 use crate::tests::writers::change_by_four;
 use be_store::{Kind, Limits, Name, Op, Refusal, Store, Value};
-use be_testing::{OUTSIDE_LIMITS, check_lines, has_hundred_by_each, numbered};
+use be_test_tools::{OUTSIDE_LIMITS, check_lines, has_hundred_by_each, numbered};
 use std::alloc::{AllocError, Global};
 use std::test::Fail;
 use std::thread::Threads;
@@ -58,17 +60,20 @@ fn two_passes(rt: HostRuntime) -> Result<(), Fail> {
     check_lines(rt.alloc(), &mut for_two(rt.alloc(), 64, 100)?, lines)
 }
 
-/// An index has the pairs that were set since it was made, and finds a node once its attribute is set again.
+/// An index has the pairs that were set since it was made, and finds a node once its attribute is
+/// set again.
 #[test]
 fn index_made_later(rt: HostRuntime) -> Result<(), Fail> {
     let lines =
-        "0 new / 0 set 1 size LONG 5 / 0 mkindex size LONG => commit 1 / node 1 / commit 2 / ok / commit 3 / ok
+        "0 new / 0 set 1 size LONG 5 / 0 mkindex size LONG => commit 1 / node 1 / commit 2 / ok / \
+         commit 3 / ok
 0 pin / 0 query size==5 / 0 unpin => pin 3 / pin 3 / nodes / ok
 0 set 1 size LONG 5 / 0 pin / 0 query size==5 => commit 4 / ok / pin 4 / pin 4 / nodes 1";
     check_lines(rt.alloc(), &mut for_one(rt.alloc(), 64, 100)?, lines)
 }
 
-/// A store of two commits: what the volume refuses is told before CommitsSpent, and reads go on.
+/// A store of two commits: what the volume refuses is reported before CommitsSpent, and reads go
+/// on.
 #[test]
 fn commits_spent(rt: HostRuntime) -> Result<(), Fail> {
     let lines = "0 new / 0 drop 9 => commit 1 / node 1 / refused 2 NoNode
@@ -84,11 +89,22 @@ fn meeting(rt: HostRuntime) -> Result<(), Fail> {
     check_lines(rt.alloc(), &mut for_two(rt.alloc(), 64, 100)?, lines)
 }
 
-/// A live query tells which nodes came into its range, and which went, since it was last refreshed.
+/// A pass that joins another one's witness has seen what that has seen. A pass that has seen more
+/// keeps it.
+#[test]
+fn joining(rt: HostRuntime) -> Result<(), Fail> {
+    let lines = "0 new / seen / join / seen => commit 1 / node 1 / seen 1 0 / met 1 / seen 1 1
+1 new / join / seen => commit 2 / node 2 / met 2 / seen 1 2";
+    check_lines(rt.alloc(), &mut for_two(rt.alloc(), 64, 100)?, lines)
+}
+
+/// A live query returns which nodes came into its range, and which went, since it was last
+/// refreshed.
 #[test]
 fn live_query(rt: HostRuntime) -> Result<(), Fail> {
     let lines =
-        "live k>4 / 0 mkindex k LONG / 0 new / 0 set 1 k LONG 5 => ok / commit 1 / ok / commit 2 / node 1 / commit 3 / ok
+        "live k>4 / 0 mkindex k LONG / 0 new / 0 set 1 k LONG 5 => ok / commit 1 / ok / commit 2 / \
+         node 1 / commit 3 / ok
 0 pin / 0 refresh => pin 3 / created 1 / removed
 0 new / 0 set 1 k LONG 1 / 0 set 2 k LONG 9 => commit 4 / node 2 / commit 5 / ok / commit 6 / ok
 0 unpin / 0 pin / 0 refresh => ok / pin 6 / created 2 / removed 1
@@ -100,40 +116,47 @@ fn live_query(rt: HostRuntime) -> Result<(), Fail> {
 #[test]
 fn prepared_query(rt: HostRuntime) -> Result<(), Fail> {
     let lines =
-        "live k>=5 / 0 mkindex k LONG / 0 new;set 1 k LONG 5;new;set 2 k LONG 4 => ok / commit 1 / ok / commit 2 / node 1 / ok / node 2 / ok
+        "live k>=5 / 0 mkindex k LONG / 0 new;set 1 k LONG 5;new;set 2 k LONG 4 => ok / commit 1 / \
+         ok / commit 2 / node 1 / ok / node 2 / ok
 0 pin / again / 0 unpin / again => pin 2 / pin 2 / nodes 1 / ok / not pinned
-0 mkindex a LONG;set 2 k LONG 7 / 0 pin / again / 0 unpin => commit 3 / ok / ok / pin 3 / pin 3 / nodes 1 2 / ok
+0 mkindex a LONG;set 2 k LONG 7 / 0 pin / again / 0 unpin => commit 3 / ok / ok / pin 3 / pin 3 / \
+         nodes 1 2 / ok
 0 rmindex k / 0 mkindex k CSTR / 0 set 2 k CSTR 50 => commit 4 / ok / commit 5 / ok / commit 6 / ok
-0 pin / again / 0 unpin / 0 rmindex k / 0 pin / again => pin 6 / pin 6 / nodes 2 / ok / commit 7 / ok / pin 7 / refused 17 NotCovered";
+0 pin / again / 0 unpin / 0 rmindex k / 0 pin / again => pin 6 / pin 6 / nodes 2 / ok / commit 7 / \
+         ok / pin 7 / refused 17 NotCovered";
     check_lines(rt.alloc(), &mut for_one(rt.alloc(), 64, 100)?, lines)
 }
 
-/// A pass that isn't pinned reads at a pin that goes with the read, also where the read is refused.
+/// A pass that isn't pinned reads at a pin that goes with the read, even if the read is refused.
 #[test]
 fn pinned_for_a_read(rt: HostRuntime) -> Result<(), Fail> {
     let lines =
-        "0 mkindex k LONG / live k>1 / 0 new;set 1 k LONG 5 => commit 1 / ok / ok / commit 2 / node 1 / ok
+        "0 mkindex k LONG / live k>1 / 0 new;set 1 k LONG 5 => commit 1 / ok / ok / commit 2 / \
+         node 1 / ok
 0 query k==5 / 0 get 1 k / 0 get 1 j => pin 2 / nodes 1 / LONG 5 / none
-0 attrs 1 / 0 indices / 0 refresh => attrs 1 / \"k\" LONG 5 / indices 1 / \"k\" LONG / created 1 / removed
+0 attrs 1 / 0 indices / 0 refresh => attrs 1 / \"k\" LONG 5 / indices 1 / \"k\" LONG / created 1 / \
+         removed
 0 query j==5 / 0 attrs 9 / 0 unpin => refused 17 NotCovered / refused 2 NoNode / not pinned";
     check_lines(rt.alloc(), &mut for_one(rt.alloc(), 64, 100)?, lines)
 }
 
-/// The operations that make a version again: a number that was dropped, an attribute outside of its index and one in it. A pin
-/// has the same ones, whatever is written meanwhile.
+/// The operations that rebuild a version: a number that was dropped, an attribute outside of its
+/// index and one in it. A pin has the same ones, whatever is written meanwhile.
 #[test]
 fn states_in_order(rt: HostRuntime) -> Result<(), Fail> {
     let lines = "0 new;set 1 k LONG 5;new;drop 2 => commit 1 / node 1 / ok / node 2 / ok
 state => new / set 1 \"k\" LONG 5 / new / drop 2
 0 mkindex k LONG;mkindex j LONG;set 1 j LONG 6 / 0 pin => commit 2 / ok / ok / ok / pin 2
 1 new;set 1 j LONG 7;set 3 k LONG 8;rmindex j => commit 3 / node 3 / ok / ok / ok
-state => new / set 1 \"k\" LONG 5 / new / drop 2 / mkindex \"j\" LONG / mkindex \"k\" LONG / set 1 \"j\" LONG 6
+state => new / set 1 \"k\" LONG 5 / new / drop 2 / mkindex \"j\" LONG / mkindex \"k\" LONG / set 1 \
+     \"j\" LONG 6
 0 unpin => ok
-state => new / set 1 \"j\" LONG 7 / set 1 \"k\" LONG 5 / new / drop 2 / new / mkindex \"k\" LONG / set 3 \"k\" LONG 8";
+state => new / set 1 \"j\" LONG 7 / set 1 \"k\" LONG 5 / new / drop 2 / new / mkindex \"k\" LONG / \
+     set 3 \"k\" LONG 8";
     check_lines(rt.alloc(), &mut for_two(rt.alloc(), 64, 100)?, lines)
 }
 
-/// A part so many times.
+/// A part, repeated `count` times.
 fn times(alloc: Global, part: &str, count: u64) -> Result<String, AllocError> {
     let mut text = String::new(alloc);
     for _ in 0..count {
@@ -142,7 +165,7 @@ fn times(alloc: Global, part: &str, count: u64) -> Result<String, AllocError> {
     Ok(text)
 }
 
-/// Sets k of node 1 to 1 to 63, and then does this.
+/// The requests that set k of node 1 to 1 to 63, and then this last one.
 fn after_63(alloc: Global, last: &str) -> Result<String, AllocError> {
     let mut text = String::new(alloc);
     for i in 1..=63 {
@@ -152,14 +175,15 @@ fn after_63(alloc: Global, last: &str) -> Result<String, AllocError> {
     Ok(text)
 }
 
-/// Three writes by pass 1, and a pin; then a list of 64 that is accepted by pass 1, and one that is refused by pass 0, which
-/// stays pinned; and what comes between and after.
+/// Three writes by pass 1, and a pin; then a list of 64 that is accepted by pass 1, and one that is
+/// refused by pass 0, which stays pinned; and what comes between and after.
 fn lists_of_64(alloc: Global) -> Result<String, AllocError> {
     let accepted = after_63(alloc, "set 1 k LONG 64")?;
     let refused = after_63(alloc, "drop 9")?;
     let oks = times(alloc, " / ok", 64)?;
     format!(in alloc;
-        "1 new / 1 mkindex k LONG / 1 set 1 k LONG 0 => commit 1 / node 1 / commit 2 / ok / commit 3 / ok
+        "1 new / 1 mkindex k LONG / 1 set 1 k LONG 0 => commit 1 / node 1 / commit 2 / ok / commit \
+         3 / ok
 0 pin => pin 3
 1 {accepted} => commit 4{oks}
 0 query k==0 / 0 unpin / 0 pin / 0 query k==64 => pin 3 / nodes 1 / ok / pin 4 / pin 4 / nodes 1
@@ -169,10 +193,11 @@ fn lists_of_64(alloc: Global) -> Result<String, AllocError> {
 }
 
 const ZERO: &str =
-    "0 new / 0 mkindex k LONG / 0 set 1 k LONG 0 => commit 1 / node 1 / commit 2 / ok / commit 3 / ok
+    "0 new / 0 mkindex k LONG / 0 set 1 k LONG 0 => commit 1 / node 1 / commit 2 / ok / commit 3 / \
+     ok
 1 pin => pin 3";
 
-/// The same, told again where memory is refused.
+/// The same, made again after running out of memory.
 fn lines_of_64(alloc: Global) -> Result<String, AllocError> {
     match lists_of_64(alloc) {
         Err(_) => lists_of_64(alloc),
@@ -180,7 +205,8 @@ fn lines_of_64(alloc: Global) -> Result<String, AllocError> {
     }
 }
 
-/// The list that is accepted is by pass 1, and the one that is refused by pass 0, which stays pinned.
+/// The list that is accepted is by pass 1, and the one that is refused by pass 0, which stays
+/// pinned.
 #[test]
 fn batches_in_store(rt: HostRuntime) -> Result<(), Fail> {
     let lines = lines_of_64(rt.alloc())?;
@@ -232,8 +258,9 @@ fn set(room: &mut Room, number: i32) -> Result<u64, Refusal> {
     room.write(Op::Set(1, Name::new("k")?, Value::int32(number)))
 }
 
-/// Sets k of node 1 to one more number. The first that found no page, if this one is answered as it should be: accepted
-/// where there is none before it, and else refused by Full. BadLimits where it is answered otherwise.
+/// Sets k of node 1 to one more number. Returns the first number that found no page, if the reply
+/// to this one is right: accepted if there is no such number before it, and otherwise refused by
+/// Full. BadLimits for any other reply.
 fn set_next(room: &mut Room, number: i32, first: Option<i32>) -> Result<Option<i32>, Refusal> {
     match set(room, number) {
         Ok(_) if first.is_none() => Ok(None),
@@ -242,8 +269,8 @@ fn set_next(room: &mut Room, number: i32, first: Option<i32>) -> Result<Option<i
     }
 }
 
-/// Sets k of node 1 to 1 to 500, with these lines after each. The first value that found no page, if each after it found
-/// none either.
+/// Sets k of node 1 to 1 to 500, with these lines after each. Returns the first value that found no
+/// page, if each after it found none either.
 fn fill(alloc: Global, room: &mut Room, lines: &str) -> Result<i32, Fail> {
     let mut first = None;
     for i in 1..=500 {
@@ -253,8 +280,8 @@ fn fill(alloc: Global, room: &mut Room, lines: &str) -> Result<i32, Fail> {
     Ok(first.unwrap_or(500))
 }
 
-/// The first value that found no page in the room, which the pinned version outlives; the write that follows the pin is
-/// accepted.
+/// The first value that found no page in the room while pass 1 stays pinned. After its unpin a
+/// write is accepted.
 fn fill_pinned(alloc: Global, room: &mut Room) -> Result<i32, Fail> {
     check_lines(alloc, room, ZERO)?;
     let first = fill(alloc, room, "1 query k==0 => pin 3 / nodes 1")?;
@@ -263,7 +290,7 @@ fn fill_pinned(alloc: Global, room: &mut Room) -> Result<i32, Fail> {
     Ok(first)
 }
 
-/// The same in a pool of so many pages.
+/// The same in a pool of this many pages.
 fn first_full(alloc: Global, pages: u64) -> Result<i32, Fail> {
     fill_pinned(alloc, &mut for_two(alloc, pages, 1000)?)
 }
@@ -275,8 +302,9 @@ fn pinned_small_pool(rt: HostRuntime) -> Result<(), Fail> {
     Ok(())
 }
 
-/// In a pool that is larger than what makes a scan due, writes scan before it is empty, under a pin all the while: what
-/// the pin reads stays, each page of the pool is used, and the write that finds none has scanned.
+/// In a pool that is larger than what makes a scan due, writes scan before it is empty, under a pin
+/// all the while. What the pin reads stays, each page of the pool is used, and the write that finds
+/// none has scanned.
 #[test]
 fn early_scan(rt: HostRuntime) -> Result<(), Fail> {
     let first = first_full(rt.alloc(), 1024)?;
@@ -284,7 +312,8 @@ fn early_scan(rt: HostRuntime) -> Result<(), Fail> {
     Ok(())
 }
 
-/// Makes up to 60 nodes. How many there are, if from then on each was refused, with Full of just this number.
+/// Makes up to 60 nodes. Returns how many there are, if from then on each was refused, with Full of
+/// exactly this number.
 fn make_nodes(room: &mut Room) -> Option<u64> {
     let mut made = None;
     for i in 0..60 {
@@ -297,18 +326,20 @@ fn make_nodes(room: &mut Room) -> Option<u64> {
     made
 }
 
-/// A list of several operations that finds no page is refused by Full, though there is memory; once the pin is gone it is
-/// accepted.
+/// A list of several operations that finds no page is refused by Full, though there is memory; once
+/// the pin is gone it is accepted.
 #[test]
 fn list_at_full(rt: HostRuntime) -> Result<(), Fail> {
     let lines =
-        "1 pin / 0 new / 0 new / 0 new => pin 0 / commit 1 / node 1 / commit 2 / node 2 / commit 3 / node 3
-0 new;new / 0 drop 1;new;new / 0 new;drop 9 => refused 11 Full 0 / refused 11 Full 0 / refused 2 NoNode
+        "1 pin / 0 new / 0 new / 0 new => pin 0 / commit 1 / node 1 / commit 2 / node 2 / commit 3 \
+         / node 3
+0 new;new / 0 drop 1;new;new / 0 new;drop 9 => refused 11 Full 0 / refused 11 Full 0 / refused 2 \
+         NoNode
 1 unpin / 0 new;new => ok / commit 4 / node 4 / node 5";
     check_lines(rt.alloc(), &mut for_two(rt.alloc(), 8, 100)?, lines)
 }
 
-/// What is refused and read of a full pool with so many nodes.
+/// What is refused and read in a full pool with this many nodes.
 fn full_lines(alloc: Global, made: u64) -> Result<String, AllocError> {
     format!(in alloc;
         "0 new;drop 99 => refused 2 NoNode
@@ -316,7 +347,7 @@ fn full_lines(alloc: Global, made: u64) -> Result<String, AllocError> {
     )
 }
 
-/// Fills the room with nodes, and looks at it. How many there are.
+/// Fills the room with nodes, and checks it. Returns how many nodes there are.
 fn fill_with_nodes(alloc: Global, room: &mut Room) -> Result<u64, Fail> {
     let made = make_nodes(room).unwrap_or(0);
     let lines = match full_lines(alloc, made) {
@@ -327,8 +358,8 @@ fn fill_with_nodes(alloc: Global, room: &mut Room) -> Result<u64, Fail> {
     Ok(made)
 }
 
-/// In the smallest pool writes end with Full, of the number of nodes that were made. The volume's refusals, reads and the
-/// journal go on.
+/// In the smallest pool writes end with Full, of the number of nodes that were made. The volume's
+/// refusals, reads and the journal go on.
 #[test]
 fn smallest_pool(rt: HostRuntime) -> Result<(), Fail> {
     let mut room = for_one(rt.alloc(), 8, 100)?;
@@ -338,7 +369,7 @@ fn smallest_pool(rt: HostRuntime) -> Result<(), Fail> {
     Ok(())
 }
 
-/// Sets k of node 1 to 1 to 10,000. The last write's number.
+/// Sets k of node 1 to 1 to 10,000. Returns the last write's number.
 fn set_many(room: &mut Room) -> Result<u64, Refusal> {
     let mut last = 0;
     for i in 1..=10_000 {
@@ -349,12 +380,13 @@ fn set_many(room: &mut Room) -> Result<u64, Refusal> {
 
 fn write_many(alloc: Global, room: &mut Room) -> Result<u64, Fail> {
     let lines =
-        "0 new / 0 mkindex k LONG / 0 set 1 k LONG 0 => commit 1 / node 1 / commit 2 / ok / commit 3 / ok";
+        "0 new / 0 mkindex k LONG / 0 set 1 k LONG 0 => commit 1 / node 1 / commit 2 / ok / commit \
+         3 / ok";
     check_lines(alloc, room, lines)?;
     Ok(set_many(room)?)
 }
 
-/// Ten thousand writes go through a pool of 64 pages, where nobody is pinned.
+/// Ten thousand writes go through a pool of 64 pages, while nobody is pinned.
 #[test]
 fn pages_reused(rt: HostRuntime) -> Result<(), Fail> {
     let last = write_many(rt.alloc(), &mut for_one(rt.alloc(), 64, 20_000)?)?;
@@ -362,7 +394,7 @@ fn pages_reused(rt: HostRuntime) -> Result<(), Fail> {
     Ok(())
 }
 
-/// What is read of k where it is this number.
+/// What is read of k if it is this number.
 fn number_lines(alloc: Global, number: i32) -> Result<String, AllocError> {
     let pin = number.saturating_add(3);
     let nodes = if number == 0 { " 1" } else { "" };
@@ -379,7 +411,8 @@ fn check_number(alloc: Global, room: &mut Room, number: i32) -> Result<(), Fail>
     check_lines(alloc, room, lines.as_str())
 }
 
-/// The first value that found no page in the room once its pinned pass is dropped; the one before it is read.
+/// The first value that found no page in the room once its pinned pass is dropped; the one before
+/// it is read.
 fn fill_alone(alloc: Global, room: &mut Room) -> Result<i32, Fail> {
     check_lines(alloc, room, ZERO)?;
     room.lose_second();
@@ -406,20 +439,38 @@ fn two_writers(rt: HostRuntime) -> Result<(), Fail> {
     Ok(())
 }
 
-/// Of two passes that have read the same, the second to write is told that another write came first, and nothing of it is done.
-/// Without the condition the node that it names is the other pass's, and the write is accepted.
+/// A pass that joins a witness on a thread of its own pins what the witness had seen, or more,
+/// while the other pass writes on. There are pages for each write beside the pin.
+#[test]
+fn handed_to_a_thread(rt: HostRuntime) -> Result<(), Fail> {
+    let mut room = for_two(rt.alloc(), 1024, 1000)?;
+    let lines = "0 new;new / seen => commit 1 / node 1 / node 2 / seen 1 0";
+    check_lines(rt.alloc(), &mut room, lines)?;
+    let (number, is_accepted) = room.hand(&rt)?;
+    assert!(rt; is_accepted);
+    assert!(rt; number >= 1);
+    Ok(())
+}
+
+/// Of two passes that have read the same, the second to write gets a Conflict, because another
+/// write came first, and nothing of its write is done. Without the condition the node that it names
+/// is the other pass's, and the write is accepted.
 #[test]
 fn writes_on_what_was_read(rt: HostRuntime) -> Result<(), Fail> {
     let lines =
-        "0 next / 0 if 0 new;set 1 k LONG 5 / 0 if 0 new => next 1 / commit 1 / node 1 / ok / conflict 1
+        "0 next / 0 if 0 new;set 1 k LONG 5 / 0 if 0 new => next 1 / commit 1 / node 1 / ok / \
+         conflict 1
 0 pin / 0 next / 1 pin / 1 next => pin 1 / next 2 / pin 1 / next 2
 0 if 1 new;set 2 k LONG 6 / 1 if 1 new;set 2 k LONG 7 => commit 2 / node 2 / ok / conflict 2
 1 next / 1 unpin / 1 pin / 1 next => next 2 / ok / pin 2 / next 3
-1 new;set 2 k LONG 7 / 0 unpin / 0 get 2 k / 0 get 3 k => commit 3 / node 3 / ok / ok / LONG 7 / none
-0 if 2 new / 0 if 4 new / 0 if 3 drop 9 / 0 if 3 drop 3 => conflict 3 / conflict 3 / refused 2 NoNode / commit 4 / ok";
+1 new;set 2 k LONG 7 / 0 unpin / 0 get 2 k / 0 get 3 k => commit 3 / node 3 / ok / ok / LONG 7 / \
+         none
+0 if 2 new / 0 if 4 new / 0 if 3 drop 9 / 0 if 3 drop 3 => conflict 3 / conflict 3 / refused 2 \
+         NoNode / commit 4 / ok";
     check_lines(rt.alloc(), &mut for_two(rt.alloc(), 64, 4)?, lines)?;
     let spent =
-        "0 new / 0 if 0 new / 0 if 1 drop 9 / 0 if 1 new => commit 1 / node 1 / conflict 1 / refused 2 NoNode / refused 9 CommitsSpent";
+        "0 new / 0 if 0 new / 0 if 1 drop 9 / 0 if 1 new => commit 1 / node 1 / conflict 1 / \
+         refused 2 NoNode / refused 9 CommitsSpent";
     check_lines(rt.alloc(), &mut for_one(rt.alloc(), 64, 1)?, spent)
 }
 
@@ -427,14 +478,18 @@ fn writes_on_what_was_read(rt: HostRuntime) -> Result<(), Fail> {
 #[test]
 fn entries_of_the_journal(rt: HostRuntime) -> Result<(), Fail> {
     let lines =
-        "0 entries 0 9 / 0 new;new / 1 set 1 k LONG 5 / 0 drop 2 => commit 1 / node 1 / node 2 / commit 2 / ok / commit 3 / ok
-0 entries 0 9 => 1 by 0 new; new -> node 1; node 2 / 2 by 1 set 1 \"k\" LONG 5 -> ok / 3 by 0 drop 2 -> ok
+        "0 entries 0 9 / 0 new;new / 1 set 1 k LONG 5 / 0 drop 2 => commit 1 / node 1 / node 2 / \
+         commit 2 / ok / commit 3 / ok
+0 entries 0 9 => 1 by 0 new; new -> node 1; node 2 / 2 by 1 set 1 \"k\" LONG 5 -> ok / 3 by 0 drop \
+         2 -> ok
 1 entries 1 1 / 1 entries 2 1 => 2 by 1 set 1 \"k\" LONG 5 -> ok / 3 by 0 drop 2 -> ok
-1 entries 0 0 / 1 entries 3 9 / 1 entries 18446744073709551615 18446744073709551615 / 1 next => next 3";
+1 entries 0 0 / 1 entries 3 9 / 1 entries 18446744073709551615 18446744073709551615 / 1 next => \
+         next 3";
     check_lines(rt.alloc(), &mut for_two(rt.alloc(), 64, 9)?, lines)
 }
 
-/// Four threads write on what they read, and none mixes its nodes with another's or loses an increment.
+/// Four threads write on what they read, and none mixes its nodes with another's or loses an
+/// increment.
 #[test]
 fn four_writers(rt: HostRuntime) -> Result<(), Fail> {
     let answer = match change_by_four(&rt) {
@@ -445,8 +500,8 @@ fn four_writers(rt: HostRuntime) -> Result<(), Fail> {
     Ok(())
 }
 
-/// Writes lists of different kinds: nodes and one that is dropped, an attribute outside of its index and two in theirs, and
-/// indices. Then it pins. The state there is of two lists.
+/// Writes lists of different kinds: nodes and one that is dropped, an attribute outside of its
+/// index and two in theirs, and indices. Then it pins. The state there has two lists.
 fn write_and_pin(alloc: Global, room: &mut Room) -> Result<(), Fail> {
     let lines = "0 new;set 1 k LONG 5;new;drop 2 => commit 1 / node 1 / ok / node 2 / ok
 0 mkindex k LONG;mkindex j LONG;set 1 j LONG 6 => commit 2 / ok / ok / ok
@@ -458,7 +513,7 @@ fn write_and_pin(alloc: Global, room: &mut Room) -> Result<(), Fail> {
     check_lines(alloc, room, "0 pin => pin 67")
 }
 
-/// Fails unless its journal has two lists, which make this state.
+/// Fails unless the journal of the second room has two lists, which make this state.
 fn check_carried(alloc: Global, carried: &mut Room, state: &str) -> Result<(), Fail> {
     check_lines(alloc, carried, "0 pin => pin 2")?;
     if carried.state(alloc)?.as_str() != state {
@@ -467,7 +522,8 @@ fn check_carried(alloc: Global, carried: &mut Room, state: &str) -> Result<(), F
     Ok(())
 }
 
-/// Carries the state of the room's pin on, while a hundred nodes are made. Whether each was accepted.
+/// Writes the state of the room's pin to a second room, while a hundred nodes are made. Returns
+/// whether each was accepted.
 fn carry<R: Threads + Sync>(rt: &R, alloc: Global, room: &mut Room) -> Result<bool, Fail> {
     let state = room.state(alloc)?;
     let (mut carried, is_accepted) = room.carry(rt, alloc)?;
@@ -475,7 +531,8 @@ fn carry<R: Threads + Sync>(rt: &R, alloc: Global, room: &mut Room) -> Result<bo
     Ok(is_accepted)
 }
 
-/// A state is carried on to a second store while another thread writes: it is the one of the pin, and all writes are accepted.
+/// A state is written to a second store while another thread writes: it is the one of the pin, and
+/// all writes are accepted.
 #[test]
 fn carried_meanwhile(rt: HostRuntime) -> Result<(), Fail> {
     let mut room = for_two(rt.alloc(), 1024, 1000)?;

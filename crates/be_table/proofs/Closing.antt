@@ -1,5 +1,6 @@
 -- All passes come back to one seat, and the slot has the journal.
 use Rattle.std.proofs.Common.{◌≡◌, ℕ, ◌<◌, eq-eqb, List, [], ◌∷◌, ◌++◌, map, length, false, true≢false, Option, Some, None, refl, sym, ap, ◌∙◌, subst, inl, inr, ⊎_elim}
+use Rattle.be_table.specs.declared.pass.View.{View}
 use mathlib.Core.Option.{some, none, some-injective}
 use lib.ListN.{get_elem?}
 use Rattle.atomic_table.specs.Table.{step, Enters, Final, Seen}
@@ -15,7 +16,7 @@ use Rattle.be_journal.specs.Journal.{IsLegal, Log}
 use Rattle.be_table.specs.History.{AreOfPasses}
 use Rattle.be_table.specs.Laws.{ArrivalIsNoEvent}
 use Rattle.be_table.specs.Place.{SeatFacts}
-use Rattle.be_table.specs.Rule.{Board, entries, is_holder, IsHome, AllFit, IsTrace, Shows, everyone, one_step_on, seats_together}
+use Rattle.be_table.specs.Rule.{ViewFits, empty_view, Board, entries, is_holder, IsHome, AllFit, IsTrace, Shows, everyone, one_step_on}
 use Rattle.be_table.specs.Steps.{Arrived, Has, AllIdle, KeepsSeen}
 use Rattle.be_table.specs.Versions.{CanSpellEach}
 use Rattle.be_table.specs.Works.{AllAt, Gathered}
@@ -37,20 +38,20 @@ all_kept limits b i [] f = tt
 all_kept limits b i (a ∷ v) f = (entries-start b.log a.seen f.0.seen, f.0.mine, all_kept limits b i v f.2)
 
 -- once all passes are in one seat, the slot has the journal
-pub ends : (limits : Limits) (i : ℕ) (v : List Knowledge) (words : List ℕ) (slots : List (Option Ledger)) → AllIdle v → ((k : ℕ) → k < limits.passes → Has v k) → Final (Seen (Shows limits) i v) words slots
-    → (ledger : Ledger) × (get_elem? slots 0 ≡ some (Some ledger)) × IsLegal ledger.journal.entries × AreOfPasses limits.passes ledger.journal.entries × KeepsSeen ledger.journal.entries v
-    × CanSpellEach limits.pages ledger.journal.entries × (ledger.journal.limit ≡ limits.commits) × HasTrace limits v
+pub ends : (limits : Limits) (i : ℕ) (v : View) (words : List ℕ) (slots : List (Option Ledger)) → AllIdle v.passes → ((k : ℕ) → k < limits.passes → Has v.passes k) → Final (Seen (Shows limits) i v) words slots
+    → (ledger : Ledger) × (get_elem? slots 0 ≡ some (Some ledger)) × IsLegal ledger.journal.entries × AreOfPasses limits.passes ledger.journal.entries × KeepsSeen ledger.journal.entries v.passes
+    × CanSpellEach limits.pages ledger.journal.entries × (ledger.journal.limit ≡ limits.commits) × HasTrace limits v.passes
 ends limits i v words slots idle all f =
     let s = f.0 in let b = f.1.0.0 in let h = f.1.0.1 in let t = f.1.0.2 in
-    let fit = h.views i v f.1.1 in
-    let none_is = nobody_holds b.world.holder limits.passes h.sound.holder (λ k lt. not_held limits b i v k fit idle (all k lt)) in
+    let fit = (h.views i v f.1.1).0 in
+    let none_is = nobody_holds b.world.holder limits.passes h.sound.holder (λ k lt. not_held limits b i v.passes k fit idle (all k lt)) in
     let home : IsHome None b.world b.log s.homes = subst (λ (o : Option Holder). IsHome o b.world b.log s.homes) none_is h.table.home in
     let is = sym home.2.journal in (
       home.0,
       f.4 0 (Some home.0) (ap (λ hs. get_elem? hs 0) home.1),
       subst IsLegal is (is_legal (entries b.log) h.sound.legal),
       subst (AreOfPasses limits.passes) is h.sound.by_passes,
-      subst (λ l. KeepsSeen l v) is (all_kept limits b i v fit),
+      subst (λ l. KeepsSeen l v.passes) is (all_kept limits b i v.passes fit),
       subst (CanSpellEach limits.pages) is (log_spelt limits b h.sound),
       home.2.limit ∙ h.sound.commits,
       record { trace = t.0; runs = (t.1.words, b.world, t.1.runs); rests = t.1.rests i v f.1.1 },
@@ -96,7 +97,7 @@ rests_parts trace (a ∷ v) w h = let r = rests_parts trace v w h.1 in ((h.0, r.
 pub gathered_none : Gathered [] []
 gathered_none = record { idle = tt; all = λ k h. h; keeps = λ log h. tt; rests = λ trace h. tt }
 
-pub gathered_more : (known v : List Knowledge) (a : Knowledge) → a.writes ≡ false → Gathered known v → Gathered (a ∷ known) (seats_together v (a ∷ []))
+pub gathered_more : (known v : List Knowledge) (a : Knowledge) → a.writes ≡ false → Gathered known v → Gathered (a ∷ known) (map one_step_on v ++ one_step_on a ∷ [])
 gathered_more known v a idle g = record {
   idle = idle_append (map one_step_on v) (one_step_on a ∷ []) (idle_counted v g.idle) (idle, tt);
   all = λ k h. ⊎_elim (λ e. has_right (map one_step_on v) (one_step_on a ∷ []) k (inl e)) (λ m. has_left (map one_step_on v) (one_step_on a ∷ []) k (has_counted v k (g.all k m))) h;
@@ -117,7 +118,7 @@ pub record Closes (limits : Limits) (known : List Knowledge) (journal : Log) : T
   pub traced : HasTrace limits known
 
 -- the ledger that was found in the slot has the journal
-pub closes : (limits : Limits) (known : List Knowledge) (i : ℕ) (v : List Knowledge) (words : List ℕ) (slots : List (Option Ledger)) (ledger : Ledger) (journal : Log) → Gathered known v → ((k : ℕ) → k < limits.passes → Has known k)
+pub closes : (limits : Limits) (known : List Knowledge) (i : ℕ) (v : View) (words : List ℕ) (slots : List (Option Ledger)) (ledger : Ledger) (journal : Log) → Gathered known v.passes → ((k : ℕ) → k < limits.passes → Has known k)
     → Final (Seen (Shows limits) i v) words slots → get_elem? slots 0 ≡ some (Some ledger) → journal ≡ ledger.journal → Closes limits known journal
 closes limits known i v words slots ledger journal g all f at is =
     let e = ends limits i v words slots g.idle (λ k lt. g.all k (all k lt)) f in
@@ -129,7 +130,7 @@ closes limits known i v words slots ledger journal g all f at is =
 pub arrive_by : (limits : Limits) → ArrivalIsNoEvent limits
 arrive_by limits s b h = (
   b,
-  record { table = record { words = h.table.words; home = h.table.home; version = h.table.version }; sound = h.sound; views = λ j u e. ⊎_elim (λ there. h.views j u there) (λ (p : (j ≡ length s.views) × ([] ≡ u)). subst (AllFit limits b j) p.1 tt) (at_snoc_place s.views [] u j e) },
+  record { table = record { words = h.table.words; home = h.table.home; version = h.table.version }; sound = h.sound; views = λ j u e. ⊎_elim (λ there. h.views j u there) (λ (p : (j ≡ length s.views) × (empty_view ≡ u)). subst (ViewFits limits b j) p.1 (tt, tt)) (at_snoc_place s.views empty_view u j e) },
   refl,
   refl,
 )
@@ -137,9 +138,9 @@ arrive_by limits s b h = (
 pub arrives : (limits : Limits) (slots : ℕ) → Enters (Shows limits) slots 0 (λ n w. Arrived (step slots 0 0 0 none) (everyone limits, []) n (w, []))
 arrives limits slots s h sized fits =
     let d = arrive_by limits s h.0 h.1 in let t = h.2.0 in let tr = h.2.1 in
-    let trace : IsTrace limits d.0.world (s.views ++ [] ∷ []) t = record {
+    let trace : IsTrace limits d.0.world (s.views ++ empty_view ∷ []) t = record {
       words = tr.words;
       runs = subst (λ (w : World). RunsTo limits tr.words t w) (sym d.2) tr.runs;
-      rests = λ j u e. ⊎_elim (λ there. tr.rests j u there) (λ (p : (j ≡ length s.views) × ([] ≡ u)). subst (AllRest t) p.1 tt) (at_snoc_place s.views [] u j e);
+      rests = λ j u e. ⊎_elim (λ there. tr.rests j u there) (λ (p : (j ≡ length s.views) × (empty_view ≡ u)). subst (λ (x : View). AllRest t x.passes) p.1 tt) (at_snoc_place s.views empty_view u j e);
     } in
-    ([], (d.0, d.1, (t, trace)), refl)
+    (empty_view, (d.0, d.1, (t, trace)), refl)

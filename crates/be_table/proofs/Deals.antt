@@ -1,5 +1,6 @@
 -- Seats are cut and joined, and the rule at the start.
 use Rattle.std.proofs.Common.{◌≡◌, ◌≢◌, ◌⊎◌, ℕ, zero, suc, ◌+◌, ◌*◌, ◌<◌, ◌≤◌, ◌==◌, eqb, eq-eqb, ne_eqb, List, [], ◌∷◌, ◌++◌, map, length, take, set, false, true≢false, if◌then◌else◌, Option, Some, None, refl, sym, ap, ◌∙◌, subst, inl, inr, ⊎_elim, arith, IsTrue, nat_lt, ◌&&◌, not}
+use Rattle.be_table.specs.declared.pass.View.{View}
 use Rattle.std.proofs.lemmas.Bool.{cases_lt}
 use borrow.Author.Tests.{lt-ltb, le-ltb}
 use Rattle.std.specs.Prelude.{slice_index}
@@ -17,21 +18,23 @@ use Rattle.be_table.specs.declared.ledger.Ledger.{Ledger}
 use Rattle.be_pages.specs.declared.page_pool.Place.{Place as PagePlace}
 use Rattle.be_pages.specs.declared.page_pool.Place.TheVariants.{Free, Current}
 use Rattle.be_table.specs.declared.limits.Limits.{Limits}
+use Rattle.be_table.specs.declared.pass.Commit.{Commit}
 use Rattle.be_table.specs.declared.pass.Knowledge.{Knowledge}
+use Rattle.be_table.specs.declared.pass.Move.{Move}
 use Rattle.be_pages.specs.Place.{undone_place, place_of}
-use Rattle.be_table.specs.Laws.{SplitIsNoEvent, JoinIsNoEvent}
+use Rattle.be_table.specs.Laws.{SplitIsNoEvent, AttestIsNoEvent, JoinIsNoEvent}
 use Rattle.be_table.specs.Ledger.{ShowsPlaces, shows_free, shows_taken, retired_with}
 use Rattle.be_journal.specs.Journal.{replay}
 use Rattle.be_volume.specs.Volume.{empty}
 use Rattle.be_table.specs.Versions.{in_pages, CanSpellEach, SpellsVolume}
 use Rattle.be_table.specs.Place.{SeatFacts}
-use Rattle.be_table.specs.Rule.{ledger_places, Board, IsWithin, IsSoundBoard, AreInside, reach_at, page_at, word_place, Fits, IsAbsent, AllFit, Shows, newcomer, newcomers, everyone, one_step_on, first_seat, other_seats, seats_together}
+use Rattle.be_table.specs.Rule.{alone, ViewFits, AreFronts, empty_view, witnessing, kept_seat, front_seat, undealt, ledger_places, Board, IsWithin, IsSoundBoard, AreInside, reach_at, page_at, word_place, Fits, IsAbsent, AllFit, IsTrace, Shows, newcomer, newcomers, everyone, one_step_on, first_seat, other_seats, seats_together}
 use Rattle.be_table.specs.Seats.{IsTold}
 use Rattle.be_table.specs.Works.{AreNewAt}
-use Rattle.be_table.proofs.Histories.{by_pass-nil, legal-nil, below-nil}
+use Rattle.be_table.proofs.Histories.{starts_itself, by_pass-nil, legal-nil, below-nil}
 use Rattle.std.proofs.lemmas.List.{get_or_past}
 use Rattle.be_table.proofs.Ledgers.{mapped}
-use Rattle.be_table.proofs.Frames.{all_fit, apart, views_change, fits_counted}
+use Rattle.be_table.proofs.Frames.{all_fit, apart, views_change, views_step, fits_counted}
 
 -- a list that is one longer has its old members, and the new one
 pub at_snoc_place : {A : Type 0} (l : List A) (a b : A) (j : ℕ) → get_elem? (l ++ a ∷ []) j ≡ some b → (get_elem? l j ≡ some b) ⊎ ((j ≡ length l) × (a ≡ b))
@@ -79,7 +82,7 @@ all_counted limits b d i j [] f h = tt
 all_counted limits b d i j (a ∷ v) f h = (fits_counted limits d j a (f a h.0), absent_counted a.number v h.1, all_counted limits b d i j v f h.2)
 
 all_joined : (limits : Limits) (b d : Board) (i j : ℕ) (v w : List Knowledge) → j ≢ i → ((x : Knowledge) → Fits limits b i x → Fits limits d i x) → ((x : Knowledge) → Fits limits b j x → Fits limits d i x)
-    → AllFit limits b i v → AllFit limits b j w → AllFit limits d i (seats_together v w)
+    → AllFit limits b i v → AllFit limits b j w → AllFit limits d i (map one_step_on v ++ map one_step_on w)
 all_joined limits b d i j [] w ne f g h k = all_counted limits b d j i w g k
 all_joined limits b d i j (a ∷ v) w ne f g h k =
     (fits_counted limits d i a (f a h.0), absent_append a.number (map one_step_on v) (map one_step_on w) (absent_counted a.number v h.1) (absent_counted a.number w (absent_elsewhere limits b i j a w ne h.0 k)), all_joined limits b d i j v w ne f g h.2 k)
@@ -89,37 +92,53 @@ all_others : (limits : Limits) (b d : Board) (i k : ℕ) (v : List Knowledge) �
 all_others limits b d i k [] f n h = tt
 all_others limits b d i k (a ∷ v) f n h = (fits_counted limits d i a (f a n.0 h.0), absent_counted a.number v h.1, all_others limits b d i k v f n.1 h.2)
 
+fronts_append : (log : List Commit) (fs gs : List (List Commit)) → AreFronts log fs → AreFronts log gs → AreFronts log (fs ++ gs)
+fronts_append log [] gs h g = g
+fronts_append log (f ∷ fs) gs h g = (h.0, fronts_append log fs gs h.1 g)
+
+-- a seat's view is cut in two, of which both rest
+cut_rests : (limits : Limits) (w : World) (views : List View) (t : List Move) → IsTrace limits w views t → (i : ℕ) (left right : View) → AllRest t left.passes → AllRest t right.passes
+    → (j : ℕ) (u : View) → get_elem? (set views i left ++ right ∷ []) j ≡ some u → AllRest t u.passes
+cut_rests limits w views t tr i left right l r j u e =
+    ⊎_elim
+    (λ there. ⊎_elim
+    (λ (q : (j ≡ i) × (left ≡ u)). subst (λ (x : View). AllRest t x.passes) q.1 l)
+    (λ (q : (j ≢ i) × (get_elem? views j ≡ some u)). tr.rests j u q.1)
+    (at_set views i j left u there))
+    (λ (p : (j ≡ length (set views i left)) × (right ≡ u)). subst (λ (x : View). AllRest t x.passes) p.1 r)
+    (at_snoc_place (set views i left) right u j e)
+
 module _ (limits : Limits) where
   -- the first pass of a seat gets a seat of its own
-  pub split_by : (i : ℕ) (a : Knowledge) (v : List Knowledge) → SplitIsNoEvent limits i a v
-  split_by i a v s b t at =
+  pub split_by : (i : ℕ) (a : Knowledge) (v : List Knowledge) (fs : List (List Commit)) → SplitIsNoEvent limits i a v fs
+  split_by i a v fs s b t at =
       let n = length s.views in
+      let all : View = record { passes = a ∷ v; fronts = fs } in
+      let rest : View = record { passes = map one_step_on v; fronts = fs } in
       let d : Board = record b { seat_of = moved a.number n b.seat_of } in
-      let f = t.views i (a ∷ v) at in
-      let changed = views_change limits b d s.views i (a ∷ v) (map one_step_on v) t.views at
+      let f = (t.views i all at).0 in
+      let changed = views_change limits b d s.views i all rest t.views at (starts_itself b.log)
       (λ j x ne fx. reseat limits b d.seat_of j j x (choose_else x.number a.number n (b.seat_of x.number) (apart limits b i j a x ne f.0 fx) ∙ fx.seat_is) fx)
-      (λ all. all_others limits b d i a.number v (λ x ne fx. reseat limits b d.seat_of i i x (choose_else x.number a.number n (b.seat_of x.number) ne ∙ fx.seat_is) fx) all.1 all.2) in
-      let sized : length (set s.views i (map one_step_on v)) ≡ n = length-set s.views i (map one_step_on v) in
-      let new : AllFit limits d n (one_step_on a ∷ []) = (fits_counted limits d n a (reseat limits b d.seat_of i n a (choose_then a.number a.number n (b.seat_of a.number) refl) f.0), tt, tt) in (
+      (λ was. (all_others limits b d i a.number v (λ x ne fx. reseat limits b d.seat_of i i x (choose_else x.number a.number n (b.seat_of x.number) ne ∙ fx.seat_is) fx) was.0.1 was.0.2, was.1)) in
+      let sized : length (set s.views i rest) ≡ n = length-set s.views i rest in
+      let new : ViewFits limits d n (alone (one_step_on a)) = ((fits_counted limits d n a (reseat limits b d.seat_of i n a (choose_then a.number a.number n (b.seat_of a.number) refl) f.0), tt, tt), tt) in (
         d,
         record {
           table = record { words = t.table.words; home = t.table.home; version = t.table.version };
           sound = sound_seats limits b d.seat_of t.sound;
           views = λ j u e. ⊎_elim (λ there. changed j u there)
-              (λ (p : (j ≡ length (set s.views i (map one_step_on v))) × (one_step_on a ∷ [] ≡ u)). subst (λ (q : ℕ × List Knowledge). AllFit limits d q.0 q.1) (λ k. (sym (p.0 ∙ sized) k, p.1 k)) new)
-              (at_snoc_place (set s.views i (map one_step_on v)) (one_step_on a ∷ []) u j e);
+              (λ (p : (j ≡ length (set s.views i rest)) × (alone (one_step_on a) ≡ u)). subst (λ (q : ℕ × View). ViewFits limits d q.0 q.1) (λ k. (sym (p.0 ∙ sized) k, p.1 k)) new)
+              (at_snoc_place (set s.views i rest) (alone (one_step_on a)) u j e);
         },
         refl,
         refl,
       )
 
-  pub deals : (i : ℕ) (a : Knowledge) (v : List Knowledge) → Splits (Shows limits) i (a ∷ v) (other_seats (a ∷ v)) (first_seat (a ∷ v))
-  deals i a v s h at =
-      let d = split_by i a v s h.0 h.1 at in let t = h.2.0 in let tr = h.2.1 in
-      let all = tr.rests i (a ∷ v) at in
-      let left : (j : ℕ) (u : List Knowledge) → get_elem? (set s.views i (map one_step_on v)) j ≡ some u → AllRest t u = λ j u e. ⊎_elim
-      (λ (q : (j ≡ i) × (map one_step_on v ≡ u)). subst (AllRest t) q.1 (rest_counted t v all.1))
-      (λ (q : (j ≢ i) × (get_elem? s.views j ≡ some u)). tr.rests j u q.1) (at_set s.views i j (map one_step_on v) u e) in (
+  pub deals : (i : ℕ) (a : Knowledge) (v : List Knowledge) (fs : List (List Commit)) → let all : View = record { passes = a ∷ v; fronts = fs } in Splits (Shows limits) i all (other_seats all) (first_seat all)
+  deals i a v fs s h at =
+      let rest : View = record { passes = map one_step_on v; fronts = fs } in
+      let d = split_by i a v fs s h.0 h.1 at in let t = h.2.0 in let tr = h.2.1 in
+      let all = tr.rests i (record { passes = a ∷ v; fronts = fs }) at in (
         d.0,
         d.1,
         (
@@ -127,39 +146,73 @@ module _ (limits : Limits) where
           record {
             words = tr.words;
             runs = subst (λ (w : World). RunsTo limits tr.words t w) (sym d.2) tr.runs;
-            rests = λ j u e. ⊎_elim (left j u) (λ (p : (j ≡ length (set s.views i (map one_step_on v))) × (one_step_on a ∷ [] ≡ u)). subst (AllRest t) p.1 (all.0, tt)) (at_snoc_place (set s.views i (map one_step_on v)) (one_step_on a ∷ []) u j e);
+            rests = cut_rests limits h.0.world s.views t tr i rest (alone (one_step_on a)) (rest_counted t v all.1) (all.0, tt);
           },
         ),
       )
 
-  -- two seats become one
-  pub join_by : (i : ℕ) (v : List Knowledge) (other : ℕ) (w : List Knowledge) → JoinIsNoEvent limits i v other w
-  join_by i v other w s b t at ne there =
-      let d : Board = record b { seat_of = gathered other i b.seat_of } in
-      let was : get_elem? s.views other ≡ some w = sym (set_else s.views i other (seats_together v w) ne) ∙ there in
-      let to_i = λ (x : Knowledge) (fx : Fits limits b other x). reseat limits b d.seat_of other i x (choose_then (b.seat_of x.number) other i (b.seat_of x.number) fx.seat_is) fx in
-      let stay = λ (j : ℕ) (x : Knowledge) (apart_from : j ≢ other) (fx : Fits limits b j x). reseat limits b d.seat_of j j x (choose_else (b.seat_of x.number) other i (b.seat_of x.number) (λ q. apart_from (sym fx.seat_is ∙ q)) ∙ fx.seat_is) fx in (
-        d,
+  -- what a pass has seen gets a seat of its own
+  pub attest_by : (i : ℕ) (a : Knowledge) → AttestIsNoEvent limits i a
+  attest_by i a s b t at =
+      let f = (t.views i (alone a) at).0.0 in
+      let kept = views_step limits b b s.views i a (one_step_on a) t.views at (starts_itself b.log) (λ j x ne fx. fx) (fits_counted limits b i a f) in (
+        b,
         record {
           table = record { words = t.table.words; home = t.table.home; version = t.table.version };
-          sound = sound_seats limits b d.seat_of t.sound;
-          views = λ j u e. ⊎_elim
-              (λ (p : (j ≡ other) × ([] ≡ u)). subst (AllFit limits d j) p.1 tt)
-              (λ (p : (j ≢ other) × (get_elem? (set s.views i (seats_together v w)) j ≡ some u)). ⊎_elim
-              (λ (q : (j ≡ i) × (seats_together v w ≡ u)). subst (λ (r : ℕ × List Knowledge). AllFit limits d r.0 r.1) (λ k. (sym q.0 k, q.1 k)) (all_joined limits b d i other v w ne (λ x fx. stay i x (λ q'. ne (sym q')) fx) to_i (t.views i v at) (t.views other w was)))
-              (λ (q : (j ≢ i) × (get_elem? s.views j ≡ some u)). all_fit limits b d j u (λ x fx. stay j x p.0 fx) (t.views j u q.1))
-              (at_set s.views i j (seats_together v w) u p.1))
-              (at_set (set s.views i (seats_together v w)) other j [] u e);
+          sound = t.sound;
+          views = λ j u e. ⊎_elim (λ there. kept j u there)
+              (λ (p : (j ≡ length (set s.views i (alone (one_step_on a)))) × (witnessing a.seen ≡ u)). subst (ViewFits limits b j) p.1 (tt, (f.seen, tt)))
+              (at_snoc_place (set s.views i (alone (one_step_on a))) (witnessing a.seen) u j e);
         },
         refl,
         refl,
       )
 
-  pub joins : (i : ℕ) (v : List Knowledge) (other : ℕ) (w : List Knowledge) → Joins (Shows limits) i v other w (seats_together v w) []
+  pub attests : (i : ℕ) (a : Knowledge) → Splits (Shows limits) i (alone a) (kept_seat (alone a)) (front_seat (alone a))
+  attests i a s h at =
+      let d = attest_by i a s h.0 h.1 at in let t = h.2.0 in let tr = h.2.1 in
+      let all = tr.rests i (alone a) at in (
+        d.0,
+        d.1,
+        (
+          t,
+          record {
+            words = tr.words;
+            runs = subst (λ (w : World). RunsTo limits tr.words t w) (sym d.2) tr.runs;
+            rests = cut_rests limits h.0.world s.views t tr i (alone (one_step_on a)) (witnessing a.seen) (all.0, tt) tt;
+          },
+        ),
+      )
+
+  -- two seats become one
+  pub join_by : (i : ℕ) (v : View) (other : ℕ) (w : View) → JoinIsNoEvent limits i v other w
+  join_by i v other w s b t at ne there =
+      let d : Board = record b { seat_of = gathered other i b.seat_of } in
+      let was : get_elem? s.views other ≡ some w = sym (set_else s.views i other (seats_together v w) ne) ∙ there in
+      let to_i = λ (x : Knowledge) (fx : Fits limits b other x). reseat limits b d.seat_of other i x (choose_then (b.seat_of x.number) other i (b.seat_of x.number) fx.seat_is) fx in
+      let stay = λ (j : ℕ) (x : Knowledge) (apart_from : j ≢ other) (fx : Fits limits b j x). reseat limits b d.seat_of j j x (choose_else (b.seat_of x.number) other i (b.seat_of x.number) (λ q. apart_from (sym fx.seat_is ∙ q)) ∙ fx.seat_is) fx in
+      let both : ViewFits limits d i (seats_together v w) = (all_joined limits b d i other v.passes w.passes ne (λ x fx. stay i x (λ q'. ne (sym q')) fx) to_i (t.views i v at).0 (t.views other w was).0, fronts_append b.log v.fronts w.fronts (t.views i v at).1 (t.views other w was).1) in (
+        d,
+        record {
+          table = record { words = t.table.words; home = t.table.home; version = t.table.version };
+          sound = sound_seats limits b d.seat_of t.sound;
+          views = λ j u e. ⊎_elim
+              (λ (p : (j ≡ other) × (empty_view ≡ u)). subst (ViewFits limits d j) p.1 (tt, tt))
+              (λ (p : (j ≢ other) × (get_elem? (set s.views i (seats_together v w)) j ≡ some u)). ⊎_elim
+              (λ (q : (j ≡ i) × (seats_together v w ≡ u)). subst (λ (r : ℕ × View). ViewFits limits d r.0 r.1) (λ k. (sym q.0 k, q.1 k)) both)
+              (λ (q : (j ≢ i) × (get_elem? s.views j ≡ some u)). (all_fit limits b d j u.passes (λ x fx. stay j x p.0 fx) (t.views j u q.1).0, (t.views j u q.1).1))
+              (at_set s.views i j (seats_together v w) u p.1))
+              (at_set (set s.views i (seats_together v w)) other j empty_view u e);
+        },
+        refl,
+        refl,
+      )
+
+  pub joins : (i : ℕ) (v : View) (other : ℕ) (w : View) → Joins (Shows limits) i v other w (seats_together v w) empty_view
   joins i v other w s h at ne there =
       let d = join_by i v other w s h.0 h.1 at ne there in let t = h.2.0 in let tr = h.2.1 in
       let was : get_elem? s.views other ≡ some w = sym (set_else s.views i other (seats_together v w) ne) ∙ there in
-      let both : AllRest t (seats_together v w) = rest_append t (map one_step_on v) (map one_step_on w) (rest_counted t v (tr.rests i v at)) (rest_counted t w (tr.rests other w was)) in (
+      let both : AllRest t (seats_together v w).passes = rest_append t (map one_step_on v.passes) (map one_step_on w.passes) (rest_counted t v.passes (tr.rests i v at)) (rest_counted t w.passes (tr.rests other w was)) in (
         d.0,
         d.1,
         (
@@ -168,12 +221,12 @@ module _ (limits : Limits) where
             words = tr.words;
             runs = subst (λ (u : World). RunsTo limits tr.words t u) (sym d.2) tr.runs;
             rests = λ j u e. ⊎_elim
-                (λ (p : (j ≡ other) × ([] ≡ u)). subst (AllRest t) p.1 tt)
+                (λ (p : (j ≡ other) × (empty_view ≡ u)). subst (λ (x : View). AllRest t x.passes) p.1 tt)
                 (λ (p : (j ≢ other) × (get_elem? (set s.views i (seats_together v w)) j ≡ some u)). ⊎_elim
-                (λ (q : (j ≡ i) × (seats_together v w ≡ u)). subst (AllRest t) q.1 both)
+                (λ (q : (j ≡ i) × (seats_together v w ≡ u)). subst (λ (x : View). AllRest t x.passes) q.1 both)
                 (λ (q : (j ≢ i) × (get_elem? s.views j ≡ some u)). tr.rests j u q.1)
                 (at_set s.views i j (seats_together v w) u p.1))
-                (at_set (set s.views i (seats_together v w)) other j [] u e);
+                (at_set (set s.views i (seats_together v w)) other j empty_view u e);
           },
         ),
       )
@@ -255,8 +308,8 @@ begins limits words ledger within size blank none limit page count shown idle le
   ([], record { words = λ p i. slice_index words (word_place p i); runs = refl; rests = λ j u e. rested j u e }),
 )
   where
-    rested : (j : ℕ) (u : List Knowledge) → get_elem? (everyone limits ∷ []) j ≡ some u → AllRest [] u
-    rested zero u e = subst (AllRest []) (some-injective (everyone limits) u e) (newcomers_rest limits 0 limits.passes)
+    rested : (j : ℕ) (u : View) → get_elem? (everyone limits ∷ []) j ≡ some u → AllRest [] u.passes
+    rested zero u e = subst (λ (x : View). AllRest [] x.passes) (some-injective (everyone limits) u e) (newcomers_rest limits 0 limits.passes)
     rested (suc j) u e = absurd (some-ne-none u (sym e))
 
     spelt : (n : ℕ) → n ≤ 0 → SpellsVolume (reach_at [] n) (in_pages ((first_board limits words).world.image n)) (page_at [] n) (replay (take n []))
@@ -267,12 +320,12 @@ begins limits words ledger within size blank none limit page count shown idle le
     reached zero p le = zero_first p
     reached (suc n) p le = absurd (omega arith)
 
-    one : (j : ℕ) (u : List Knowledge) → get_elem? (everyone limits ∷ []) j ≡ some u → AllFit limits (first_board limits words) j u
-    one zero u e = subst (AllFit limits (first_board limits words) 0) (some-injective (everyone limits) u e) (newcomers_fit limits words 0 limits.passes (omega arith))
+    one : (j : ℕ) (u : View) → get_elem? (everyone limits ∷ []) j ≡ some u → ViewFits limits (first_board limits words) j u
+    one zero u e = subst (ViewFits limits (first_board limits words) 0) (some-injective (everyone limits) u e) (newcomers_fit limits words 0 limits.passes (omega arith), tt)
     one (suc j) u e = absurd (some-ne-none u (sym e))
 
 -- the first of the newcomers is dealt a seat
-pub newcomers-first : (limits : Limits) (t k n : ℕ) → first_seat (newcomers limits t k (suc n)) ≡ newcomer limits (t + 1) k ∷ []
+pub newcomers-first : (limits : Limits) (t k n : ℕ) → first_seat (undealt limits t k (suc n)) ≡ alone (newcomer limits (t + 1) k)
 unfolding newcomers
 newcomers-first limits t k n = refl
 
@@ -281,16 +334,16 @@ unfolding newcomers
 newcomers-counted limits t k zero = refl
 newcomers-counted limits t k (suc n) = ap (λ v. newcomer limits (t + 1) k ∷ v) (newcomers-counted limits t (suc k) n)
 
-pub newcomers-others : (limits : Limits) (t k n : ℕ) → other_seats (newcomers limits t k (suc n)) ≡ newcomers limits (t + 1) (suc k) n
+pub newcomers-others : (limits : Limits) (t k n : ℕ) → other_seats (undealt limits t k (suc n)) ≡ undealt limits (t + 1) (suc k) n
 unfolding newcomers
-newcomers-others limits t k n = newcomers-counted limits t (suc k) n
+newcomers-others limits t k n = ap (λ (v : List Knowledge). record { passes = v; fronts = [] }) (newcomers-counted limits t (suc k) n)
 
-pub newcomers-deal : (limits of : Limits) (i t k n : ℕ) (v : List Knowledge) → v ≡ newcomers of t k (suc n) → Splits (Shows limits) i v (other_seats v) (first_seat v)
+pub newcomers-deal : (limits of : Limits) (i t k n : ℕ) (v : View) → v ≡ undealt of t k (suc n) → Splits (Shows limits) i v (other_seats v) (first_seat v)
 unfolding newcomers
-newcomers-deal limits of i t k n v e = subst (λ u. Splits (Shows limits) i u (other_seats u) (first_seat u)) (sym e) (deals limits i (newcomer of t k) (newcomers of t (suc k) n))
+newcomers-deal limits of i t k n v e = subst (λ u. Splits (Shows limits) i u (other_seats u) (first_seat u)) (sym e) (deals limits i (newcomer of t k) (newcomers of t (suc k) n) [])
 
 abbrev pub Me2 : Type 0
-Me2 = Me (Option Ledger) (List Knowledge)
+Me2 = Me (Option Ledger) View
 
 pub newcomer_told : (limits : Limits) (t k : ℕ) → IsWithin limits → k < limits.passes → IsTold (newcomer limits t k) k 0
 newcomer_told limits t k within lt = record { number_is = refl; seen_is = refl; writes = refl; pass = record { within = within; legal = legal-nil; number_below = lt; by_passes = below-nil limits.passes; room = omega arith; inside = first_inside limits.pages (some_page limits within); own_pages = first_own; volumes = none_spelt limits.pages; pin = tt; mine = by_pass-nil k; spelt = λ x n e. absurd (cc) } }
@@ -299,15 +352,15 @@ pub AreNewAt-push : (id : TableId) (limits : Limits) (k : ℕ) (ss : List SeatFa
 AreNewAt-push id limits k [] s h new = (subst (λ n. (s.blank ≡ false) × (s.table ≡ id) × (s.knows ≡ newcomer limits (n + 1) n)) (let e : k + length {A = SeatFacts} [] ≡ k = omega arith in e) new, tt)
 AreNewAt-push id limits k (x ∷ ss) s h new = (h.0, AreNewAt-push id limits (k + 1) ss s h.1 (subst (λ n. (s.blank ≡ false) × (s.table ≡ id) × (s.knows ≡ newcomer limits (n + 1) n)) (let e : k + length (x ∷ ss) ≡ k + 1 + length ss = omega arith in e) new))
 
-pub dealt : (limits : Limits) (k n : ℕ) (me r : Me2) → me ≡ (newcomers limits k k (suc n), []) → r ≡ (first_seat me.0, []) → r ≡ (newcomer limits (k + 1) k ∷ [], [])
-dealt limits k n me r e f = f ∙ ap (λ (m : Me2). (first_seat m.0, [])) e ∙ ap (λ (v : List Knowledge). (v, [])) (newcomers-first limits k k n)
+pub dealt : (limits : Limits) (k n : ℕ) (me r : Me2) → me ≡ (undealt limits k k (suc n), []) → r ≡ (first_seat me.0, []) → r ≡ (alone (newcomer limits (k + 1) k), [])
+dealt limits k n me r e f = f ∙ ap (λ (m : Me2). (first_seat m.0, [])) e ∙ ap (λ (v : View). (v, [])) (newcomers-first limits k k n)
 
-pub left_over : (limits : Limits) (k n : ℕ) (me r : Me2) → me ≡ (newcomers limits k k (suc n), []) → r ≡ (other_seats me.0, me.1) → r ≡ (newcomers limits (k + 1) (suc k) n, [])
-left_over limits k n me r e f = f ∙ ap (λ (m : Me2). (other_seats m.0, m.1)) e ∙ ap (λ (v : List Knowledge). (v, [])) (newcomers-others limits k k n)
+pub left_over : (limits : Limits) (k n : ℕ) (me r : Me2) → me ≡ (undealt limits k k (suc n), []) → r ≡ (other_seats me.0, me.1) → r ≡ (undealt limits (k + 1) (suc k) n, [])
+left_over limits k n me r e f = f ∙ ap (λ (m : Me2). (other_seats m.0, m.1)) e ∙ ap (λ (v : View). (v, [])) (newcomers-others limits k k n)
 
-pub newcomers-none : (limits : Limits) (t k n : ℕ) → n ≡ 0 → newcomers limits t k n ≡ []
+pub newcomers-none : (limits : Limits) (t k n : ℕ) → n ≡ 0 → undealt limits t k n ≡ empty_view
 unfolding newcomers
-newcomers-none limits t k n e = ap (newcomers limits t k) e
+newcomers-none limits t k n e = ap (undealt limits t k) e
 
 -- the page 0 is current, and each other is free
 pub first_places : (limits : Limits) (words : List ℕ) (places : List PagePlace) → IsWithin limits → length places ≡ limits.pages → ((q : ℕ) → q < 1 → place_of places q ≡ Current) → ((q : ℕ) → 1 ≤ q → q < limits.pages → place_of places q ≡ Free)

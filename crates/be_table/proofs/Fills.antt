@@ -4,12 +4,12 @@ use Rattle.std.proofs.lemmas.List.{set-set}
 use Rattle.be_pages.specs.declared.page_pool.Place.{Place}
 use Rattle.be_pages.specs.declared.page_pool.Place.TheVariants.{Filled, Current}
 use Rattle.be_table.specs.declared.pass.Knowledge.{Knowledge}
-use Rattle.be_table.specs.Rule.{pass_of, word_place}
+use Rattle.be_table.specs.Rule.{alone, pass_of, word_place}
 use Rattle.be_table.specs.Ledger.{shows_free, shows_taken}
-use Rattle.be_table.specs.Steps.{MayBeFilled, fills, fill_steps, fills_word, fill_moves}
+use Rattle.be_table.specs.Steps.{MayBeFilled, fills, fill_steps, fills_word, fill_moves, with_history}
 use Rattle.be_table.specs.declared.pass.Move.{Move}
 use Rattle.be_table.specs.declared.pass.Move.TheVariants.{Fill}
-use Rattle.be_table.specs.Trace.{Makes, with_history}
+use Rattle.be_table.specs.Trace.{Makes}
 use Rattle.be_table.proofs.Traces.{makes_more}
 use Rattle.be_table.proofs.Frames.{Me1}
 
@@ -33,25 +33,25 @@ stored a p i n x found other =
     ap (λ (q : List Place × List ℕ × ℕ). record a { places = q.0; words = q.1; steps = q.2 }) (λ k. (places k, words k, steps k))
 
 -- the same, of seats before, between and after
-pub there_as : (me r : Me1) (p i n x : ℕ) (h : List Move) → r ≡ (fills (with_history (pass_of me.0) h) p i n ∷ [], me.1) → n ≡ slice_index (pass_of me.0).words (word_place p i) → n ≡ x → r ≡ (fills_word (with_history (pass_of me.0) (pass_of r.0).history) p i x ∷ [], me.1)
+pub there_as : (me r : Me1) (p i n x : ℕ) (h : List Move) → r ≡ (alone (fills (with_history (pass_of me.0) h) p i n), me.1) → n ≡ slice_index (pass_of me.0).words (word_place p i) → n ≡ x → r ≡ (alone (fills_word (with_history (pass_of me.0) (pass_of r.0).history) p i x), me.1)
 there_as me r p i n x h is found same =
     let a = pass_of me.0 in
     let last : (pass_of r.0).history ≡ h = ap (λ (m : Me1). (pass_of m.0).history) is in
-    is ∙ ap (λ (k : Knowledge). (k ∷ [], me.1)) (there (with_history a h) p i n x found same) ∙ ap (λ (l : List Move). (fills_word (with_history a l) p i x ∷ [], me.1)) (sym last)
+    is ∙ ap (λ (k : Knowledge). (alone k, me.1)) (there (with_history a h) p i n x found same) ∙ ap (λ (l : List Move). (alone (fills_word (with_history a l) p i x), me.1)) (sym last)
 
-pub stored_as : (me r q : Me1) (p i n x : ℕ) (h g : List Move) → r ≡ (fills (with_history (pass_of me.0) h) p i n ∷ [], me.1) → q ≡ (fills (with_history (pass_of r.0) g) p i x ∷ [], r.1) → n ≡ slice_index (pass_of me.0).words (word_place p i) → n ≢ x
-    → q ≡ (fills_word (with_history (pass_of me.0) (pass_of q.0).history) p i x ∷ [], me.1)
+pub stored_as : (me r q : Me1) (p i n x : ℕ) (h g : List Move) → r ≡ (alone (fills (with_history (pass_of me.0) h) p i n), me.1) → q ≡ (alone (fills (with_history (pass_of r.0) g) p i x), r.1) → n ≡ slice_index (pass_of me.0).words (word_place p i) → n ≢ x
+    → q ≡ (alone (fills_word (with_history (pass_of me.0) (pass_of q.0).history) p i x), me.1)
 stored_as me r q p i n x h g first next found other =
     let a = pass_of me.0 in
     let last : (pass_of q.0).history ≡ g = ap (λ (m : Me1). (pass_of m.0).history) next in
-    next ∙ ap (λ (m : Me1). (fills (with_history (pass_of m.0) g) p i x ∷ [], m.1)) first ∙ ap (λ (k : Knowledge). (k ∷ [], me.1)) (stored (with_history a g) p i n x found other)
-    ∙ ap (λ (l : List Move). (fills_word (with_history a l) p i x ∷ [], me.1)) (sym last)
+    next ∙ ap (λ (m : Me1). (alone (fills (with_history (pass_of m.0) g) p i x), m.1)) first ∙ ap (λ (k : Knowledge). (alone k, me.1)) (stored (with_history a g) p i n x found other)
+    ∙ ap (λ (l : List Move). (alone (fills_word (with_history a l) p i x), me.1)) (sym last)
 
 -- the moves of a fill, where the word was there or not
 abbrev moves_if : Knowledge → ℕ → ℕ → ℕ → ℕ → Bool → List Move
 moves_if a p i x n z = Fill a.number p i n ∷ (if z then [] else Fill a.number p i x ∷ [])
 
-pub there_makes : (me r : Me1) (p i n x : ℕ) (h : List Move) → r ≡ (fills (with_history (pass_of me.0) h) p i n ∷ [], me.1) → n ≡ slice_index (pass_of me.0).words (word_place p i) → n ≡ x
+pub there_makes : (me r : Me1) (p i n x : ℕ) (h : List Move) → r ≡ (alone (fills (with_history (pass_of me.0) h) p i n), me.1) → n ≡ slice_index (pass_of me.0).words (word_place p i) → n ≡ x
     → Makes (pass_of me.0).number (pass_of me.0).history (Fill (pass_of me.0).number p i n ∷ []) h → Makes (pass_of me.0).number (pass_of me.0).history (fill_moves (pass_of me.0) p i x) (pass_of r.0).history
 there_makes me r p i n x h is found same makes =
     let a = pass_of me.0 in
@@ -59,7 +59,7 @@ there_makes me r p i n x h is found same makes =
     let w = slice_index a.words (word_place p i) in
     subst (λ (y : ℕ × Bool × List Move). Makes a.number a.history (moves_if a p i x y.0 y.1) y.2) (λ k. (found k, sym (eq-eqb w x (sym found ∙ same)) k, sym last k)) makes
 
-pub stored_makes : (me r q : Me1) (p i n x : ℕ) (h g : List Move) → r ≡ (fills (with_history (pass_of me.0) h) p i n ∷ [], me.1) → q ≡ (fills (with_history (pass_of r.0) g) p i x ∷ [], r.1) → n ≡ slice_index (pass_of me.0).words (word_place p i) → n ≢ x
+pub stored_makes : (me r q : Me1) (p i n x : ℕ) (h g : List Move) → r ≡ (alone (fills (with_history (pass_of me.0) h) p i n), me.1) → q ≡ (alone (fills (with_history (pass_of r.0) g) p i x), r.1) → n ≡ slice_index (pass_of me.0).words (word_place p i) → n ≢ x
     → Makes (pass_of me.0).number (pass_of me.0).history (Fill (pass_of me.0).number p i n ∷ []) h → Makes (pass_of r.0).number (pass_of r.0).history (Fill (pass_of r.0).number p i x ∷ []) g
     → Makes (pass_of me.0).number (pass_of me.0).history (fill_moves (pass_of me.0) p i x) (pass_of q.0).history
 stored_makes me r q p i n x h g first next found other makes more =

@@ -1,5 +1,6 @@
 -- What a step leaves: other seats, other words, other versions.
-use Rattle.std.proofs.Common.{◌≡◌, ◌≢◌, ℕ, zero, suc, ◌+◌, ◌*◌, ◌<◌, ◌≤◌, eqb, ne_eqb, List, [], ◌∷◌, ◌++◌, length, set, true, false, Option, Some, None, refl, sym, ap, ◌∙◌, subst, ⊎_elim, inl, inr, arith, length-append, take, IsTrue, slice_index}
+use Rattle.std.proofs.Common.{◌≡◌, ◌≢◌, ℕ, zero, suc, ◌+◌, ◌*◌, ◌<◌, ◌≤◌, eqb, ne_eqb, List, [], ◌∷◌, ◌++◌, length, set, true, false, Option, Some, None, refl, sym, ap, ◌∙◌, subst, ⊎_elim, inl, inr, arith, length-append, append_assoc, take, IsTrue, slice_index}
+use Rattle.be_table.specs.declared.pass.View.{View}
 use Rattle.std.specs.Prelude.{slice_index_or}
 use Rattle.std.proofs.lemmas.Bool.Decides.{eqb_tells}
 use Rattle.std.proofs.lemmas.List.{get_or-set_same, get_or-set_other, set-get_or, length-set, length-map}
@@ -18,41 +19,49 @@ use Rattle.be_table.specs.declared.pass.Knowledge.{Knowledge}
 use Rattle.be_journal.specs.declared.entries.Entry.{Entry}
 use Rattle.be_journal.specs.Journal.{by_pass, replay}
 use Rattle.be_table.specs.History.{StartsWith, AreOfPasses}
-use Rattle.be_table.specs.Rule.{Board, entries, nothing, reach_at, page_at, lock_word, announce_word, word_place, PagesAgree, is_holder, known_holder, WordsAgree, IsHome, IsWithin, ReachesAgree, AreInside, IsSoundBoard, Holds, ImageIs, Fits, AllFit, ViewsFit, Stands, one_step_on}
+use Rattle.be_table.specs.Rule.{alone, ViewFits, AreFronts, Board, entries, nothing, reach_at, page_at, lock_word, announce_word, word_place, PagesAgree, is_holder, known_holder, WordsAgree, IsHome, IsWithin, ReachesAgree, AreInside, IsSoundBoard, Holds, ImageIs, Fits, AllFit, ViewsFit, Stands, one_step_on}
 use Rattle.be_table.specs.Steps.{IsPass, finds_held}
 use Rattle.be_table.specs.Reading.{word_of_page}
 use Rattle.be_table.specs.Versions.{in_pages, CanSpell, CanSpellEach, SpellsVolume}
-use Rattle.be_table.proofs.Histories.{legal-front, below-front}
+use Rattle.be_table.proofs.Histories.{legal-front, below-front, starts_itself}
 use Rattle.be_table.proofs.Versions.{spells_same, clipped, take_front}
 
 abbrev pub Table : Type 0
-Table = State (Option Ledger) (List Knowledge)
+Table = State (Option Ledger) View
 
 abbrev pub Me1 : Type 0
-Me1 = Me (Option Ledger) (List Knowledge)
+Me1 = Me (Option Ledger) View
 
 pub all_fit : (limits : Limits) (b d : Board) (seat : ℕ) (v : List Knowledge) → ((x : Knowledge) → Fits limits b seat x → Fits limits d seat x) → AllFit limits b seat v → AllFit limits d seat v
 all_fit limits b d seat [] f h = tt
 all_fit limits b d seat (a ∷ v) f h = (f a h.0, h.1, all_fit limits b d seat v f h.2)
+
+-- a journal that has grown begins with what it began with
+pub starts_before : {A : Type 0} (log mid seen : List A) → StartsWith log mid → StartsWith mid seen → StartsWith log seen
+starts_before log mid seen s t = (t.0 ++ s.0, s.1 ∙ ap (λ l. l ++ s.0) t.1 ∙ append_assoc seen t.0 s.0)
+
+pub fronts_grow : (log more : List Commit) (fronts : List (List Commit)) → StartsWith more log → AreFronts log fronts → AreFronts more fronts
+fronts_grow log more [] grows h = tt
+fronts_grow log more (f ∷ fs) grows h = (starts_before more log f grows h.0, fronts_grow log more fs grows h.1)
 
 -- two seats have different passes
 pub apart : (limits : Limits) (b : Board) (i j : ℕ) (a x : Knowledge) → j ≢ i → Fits limits b i a → Fits limits b j x → x.number ≢ a.number
 apart limits b i j a x ne fa fx e = ne (sym fx.seat_is ∙ (ap b.seat_of e ∙ fa.seat_is))
 
 -- one seat's view goes from v to w, while the board goes from b to d
-pub views_change : (limits : Limits) (b d : Board) (views : List (List Knowledge)) (i : ℕ) (v w : List Knowledge) → ViewsFit limits b views → get_elem? views i ≡ some v
-    → ((j : ℕ) (x : Knowledge) → j ≢ i → Fits limits b j x → Fits limits d j x) → (AllFit limits b i v → AllFit limits d i w) → ViewsFit limits d (set views i w)
-views_change limits b d views i v w h at others mine j u e =
+pub views_change : (limits : Limits) (b d : Board) (views : List View) (i : ℕ) (v w : View) → ViewsFit limits b views → get_elem? views i ≡ some v → StartsWith d.log b.log
+    → ((j : ℕ) (x : Knowledge) → j ≢ i → Fits limits b j x → Fits limits d j x) → (ViewFits limits b i v → ViewFits limits d i w) → ViewsFit limits d (set views i w)
+views_change limits b d views i v w h at grows others mine j u e =
     ⊎_elim
-    (λ (t : (j ≡ i) × (w ≡ u)). subst (λ (p : ℕ × List Knowledge). AllFit limits d p.0 p.1) (λ k. (sym t.0 k, t.1 k)) (mine (h i v at)))
-    (λ (t : (j ≢ i) × (get_elem? views j ≡ some u)). all_fit limits b d j u (λ x fx. others j x t.0 fx) (h j u t.1))
+    (λ (t : (j ≡ i) × (w ≡ u)). subst (λ (p : ℕ × View). ViewFits limits d p.0 p.1) (λ k. (sym t.0 k, t.1 k)) (mine (h i v at)))
+    (λ (t : (j ≢ i) × (get_elem? views j ≡ some u)). (all_fit limits b d j u.passes (λ x fx. others j x t.0 fx) (h j u t.1).0, fronts_grow b.log d.log u.fronts grows (h j u t.1).1))
     (at_set views i j w u e)
 
 -- one seat's pass goes from a to c
-pub views_step : (limits : Limits) (b d : Board) (views : List (List Knowledge)) (i : ℕ) (a c : Knowledge) → ViewsFit limits b views → get_elem? views i ≡ some (a ∷ [])
-    → ((j : ℕ) (x : Knowledge) → x.number ≢ a.number → Fits limits b j x → Fits limits d j x) → Fits limits d i c → ViewsFit limits d (set views i (c ∷ []))
-views_step limits b d views i a c h at others mine =
-    views_change limits b d views i (a ∷ []) (c ∷ []) h at (λ j x ne fx. others j x (apart limits b i j a x ne (h i (a ∷ []) at).0 fx) fx) (λ f. (mine, tt, tt))
+pub views_step : (limits : Limits) (b d : Board) (views : List View) (i : ℕ) (a c : Knowledge) → ViewsFit limits b views → get_elem? views i ≡ some (alone a) → StartsWith d.log b.log
+    → ((j : ℕ) (x : Knowledge) → x.number ≢ a.number → Fits limits b j x → Fits limits d j x) → Fits limits d i c → ViewsFit limits d (set views i (alone c))
+views_step limits b d views i a c h at grows others mine =
+    views_change limits b d views i (alone a) (alone c) h at grows (λ j x ne fx. others j x (apart limits b i j a x ne (h i (alone a) at).0.0 fx) fx) (λ f. ((mine, tt, tt), tt))
 
 pub fits_counted : (limits : Limits) (b : Board) (i : ℕ) (a : Knowledge) → Fits limits b i a → Fits limits b i (one_step_on a)
 fits_counted limits b i a f = record { number = f.number; limits_are = f.limits_are; seat_is = f.seat_is; seen = f.seen; mine = f.mine; own = f.own; writes = f.writes; whole = λ t. let h = f.whole t in record { log = h.log; holder = h.holder; turn = h.turn; count = h.count; shown = h.shown; size = h.size; words = h.words }; phase = f.phase; pin = f.pin; image = f.image }
@@ -264,13 +273,13 @@ holds_phases b phases x h = record { log = h.log; holder = h.holder; turn = h.tu
 -- ## A reader steps
 
 -- the pass a goes to the phase q, and has then seen `seen`
-pub stands_phase : (limits : Limits) (s : Table) (b : Board) (i : ℕ) (a : Knowledge) (p q : Phase) (seen : List Commit) (image : List ℕ) (ws : List ℕ) → p ≡ q → Stands limits s b → get_elem? s.views i ≡ some (a ∷ [])
+pub stands_phase : (limits : Limits) (s : Table) (b : Board) (i : ℕ) (a : Knowledge) (p q : Phase) (seen : List Commit) (image : List ℕ) (ws : List ℕ) → p ≡ q → Stands limits s b → get_elem? s.views i ≡ some (alone a)
     → Sound (to b.world a.number p) → WordsAgree (to b.world a.number p) (page_at b.log (length b.log)) ws → InTime (length seen) q
     → StartsWith b.log seen → by_pass a.number (entries seen) ≡ a.mine → (a.writes ≡ true → seen ≡ b.log) → ImageIs b.world q image
-    → Stands limits (record { words = ws; homes = s.homes; views = set s.views i (record a { seen = seen; phase = q; image = image; steps = a.steps + 1 } ∷ []) }) (record b { world = to b.world a.number p })
+    → Stands limits (record { words = ws; homes = s.homes; views = set s.views i (alone (record a { seen = seen; phase = q; image = image; steps = a.steps + 1 })) }) (record b { world = to b.world a.number p })
     × Fits limits (record b { world = to b.world a.number p }) i (record a { seen = seen; phase = q; image = image; steps = a.steps + 1 })
 stands_phase limits s b i a p q seen image ws pq h at sound words pin starts own whole pictures =
-    let fa = (h.views i (a ∷ []) at).0 in
+    let fa = (h.views i (alone a) at).0.0 in
     let w = to b.world a.number p in
     let c : Knowledge = record a { seen = seen; phase = q; image = image; steps = a.steps + 1 } in
     let fc : Fits limits (record b { world = w }) i c = record {
@@ -289,7 +298,7 @@ stands_phase limits s b i a p q seen image ws pq h at sound words pin starts own
       record {
         table = record { words = words; home = home_phases b.world.holder b.world w.phases b.log s.homes h.table.home; version = h.table.version };
         sound = sound_world limits b w h.sound refl refl refl refl h.sound.holder h.sound.reaches sound;
-        views = views_step limits b (record b { world = w }) s.views i a c h.views at (λ j x ne f. fits_world limits b w j x refl (rw (test-other x.number a.number ne) refl) (holds_phases b w.phases x) (λ g. g) f) fc;
+        views = views_step limits b (record b { world = w }) s.views i a c h.views at (starts_itself b.log) (λ j x ne f. fits_world limits b w j x refl (rw (test-other x.number a.number ne) refl) (holds_phases b w.phases x) (λ g. g) f) fc;
       },
       fc,
     )

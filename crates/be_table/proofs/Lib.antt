@@ -16,6 +16,7 @@ pub mod Publishing
 pub mod Deals
 pub mod PinMarks
 pub mod Meetings
+pub mod Witnesses
 pub mod Closing
 pub mod Standings
 pub mod Told

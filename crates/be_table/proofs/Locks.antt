@@ -18,8 +18,8 @@ use Rattle.be_table.specs.declared.pass.Move.TheVariants.{Lock, Unlock}
 use Rattle.be_table.specs.Laws.{AllowsBy, IsLock, IsUnlock}
 use Rattle.be_pages.specs.Place.{undone_place}
 use Rattle.be_table.specs.Ledger.{ShowsPlaces}
-use Rattle.be_table.specs.Rule.{ledger_places, LeftAreRetired, Board, entries, reach_at, page_at, word_place, lock_word, is_holder, known_holder, IsHome, IsSoundBoard, Holds, Fits, Stands, Shows}
-use Rattle.be_table.specs.Steps.{takes_lock, finds_held, without_lock, Gets, LockIsHeld, Locked, Unlocked, Moving, LockMoves, UnlockMoves}
+use Rattle.be_table.specs.Rule.{alone, ledger_places, LeftAreRetired, Board, entries, reach_at, page_at, word_place, lock_word, is_holder, known_holder, IsHome, IsSoundBoard, Holds, Fits, Stands, Shows}
+use Rattle.be_table.specs.Steps.{takes_lock, finds_held, without_lock, Gets, LockIsHeld, Locked, Unlocked, Moving, LockMoves, UnlockMoves, with_history}
 use Rattle.be_table.proofs.Histories.{starts_itself}
 use Rattle.be_table.proofs.Frames.{Table, Me1, views_step, fits_late, longer_seen, is_pass, in_time_later, words_load, words_lock, not_holder, fits_world, not_other, sound_world}
 use Rattle.std.proofs.Math.Nat.{le_refl}
@@ -27,7 +27,7 @@ use Rattle.be_table.specs.Versions.{at_start, in_pages, SpellsVolume}
 use Rattle.be_table.specs.Reading.{word_of_page}
 use Rattle.be_table.proofs.Versions.{spells_same, clipped, take_all}
 use Rattle.be_table.proofs.Standings.{begun}
-use Rattle.be_table.specs.Trace.{AllRest, with_history}
+use Rattle.be_table.specs.Trace.{AllRest}
 use Rattle.be_table.proofs.Traces.{Goes, dated, stands_dated, set_at, moved, rested, moving, one_of}
 use Rattle.be_table.proofs.Ledgers.{shows-unlock, idle-idle}
 
@@ -47,10 +47,10 @@ pub unheld_by : (w : World) (h : Holder) (P : World → Type 0) → w.holder ≡
 unheld_by w h P e p = subst P (ap (λ (o : Option Holder). record w { holder = o }) (sym e)) p
 
 -- a pass that holds the lock is the machine's holder, and has seen the journal
-pub at_work : (limits : Limits) (s : Table) (b : Board) (i : ℕ) (a : Knowledge) → Stands limits s b → get_elem? s.views i ≡ some (a ∷ []) → a.writes ≡ true
+pub at_work : (limits : Limits) (s : Table) (b : Board) (i : ℕ) (a : Knowledge) → Stands limits s b → get_elem? s.views i ≡ some (alone a) → a.writes ≡ true
     → Stands limits s (held_by b (Some (known_holder a))) × Holds (held_by b (Some (known_holder a))) a
 at_work limits s b i a h at writes =
-    let f = (h.views i (a ∷ []) at).0 in let r = f.whole writes in
+    let f = (h.views i (alone a) at).0.0 in let r = f.whole writes in
     subst (λ (o : Option Holder). Stands limits s (held_by b o) × Holds (held_by b o) a) r.holder (h, r)
 
 -- the table's words spell the volume after the journal
@@ -67,7 +67,7 @@ now_spelt limits s b h =
     (h.sound.spelt n (le_refl n)))
 
 module _ (limits : Limits) (slots i : ℕ) (a : Knowledge) (carried : List (ℕ × Option Ledger)) where
-  lock_free : (s : Table) (b : Board) → Stands limits s (held_by b None) → get_elem? s.views i ≡ some (a ∷ []) → Goes limits s (held_by b None) 0 (a.number + 1) i carried (λ v w. MayLock v a.number × (w ≡ after_lock v a.number)) (Gets (a ∷ [], carried))
+  lock_free : (s : Table) (b : Board) → Stands limits s (held_by b None) → get_elem? s.views i ≡ some (alone a) → Goes limits s (held_by b None) 0 (a.number + 1) i carried (λ v w. MayLock v a.number × (w ≡ after_lock v a.number)) (Gets (alone a, carried))
   lock_free s b0 h at =
       let b : Board = held_by b0 None in
       let home : IsHome None b.world b.log s.homes = h.table.home in
@@ -77,7 +77,7 @@ module _ (limits : Limits) (slots i : ℕ) (a : Knowledge) (carried : List (ℕ 
       let k = a.number in
       let w : World = after_lock b.world k in
       let d : Board = record b { world = w } in
-      let fa = (h.views i (a ∷ []) at).0 in
+      let fa = (h.views i (alone a) at).0.0 in
       let below : k < b.world.passes = rw h.sound.passes fa.number in
       let few : b.world.passes ≤ 64 = rw h.sound.passes h.sound.within.few in
       let c = takes_lock a b.log (ledger_places ledger) s.words in
@@ -104,7 +104,7 @@ module _ (limits : Limits) (slots i : ℕ) (a : Knowledge) (carried : List (ℕ 
         image = fa.image;
       } in
       let sd : IsSoundBoard limits d = sound_world limits b w h.sound refl refl refl refl (λ g e. subst (λ (g : Holder). g.pass < limits.passes) (same_some _ _ e) fa.number) h.sound.reaches (after_lock-sound b.world h.sound.machine k (below, refl)) in (
-        c ∷ [],
+        alone c,
         takes 0 (Some ledger),
         ap (λ hs. get_elem? hs 0) home.1,
         (
@@ -112,7 +112,7 @@ module _ (limits : Limits) (slots i : ℕ) (a : Knowledge) (carried : List (ℕ 
           record {
             table = record { words = record { size = v.size; lock = v.lock; current = v.current; announced = v.announced; pages = v.pages; unused = v.unused }; home = ap (λ hs. set hs 0 none) home.1; version = t.version };
             sound = sd;
-            views = views_step limits b d s.views i a c h.views at (λ j y ne f. fits_world limits b w j y (not_other k y.number ne) refl (λ z. absurd (let e = z.holder in cc)) (λ g. g) f) fc;
+            views = views_step limits b d s.views i a c h.views at (starts_itself b.log) (λ j y ne f. fits_world limits b w j y (not_other k y.number ne) refl (λ z. absurd (let e = z.holder in cc)) (λ g. g) f) fc;
           },
           ((below, refl), refl),
         ),
@@ -123,11 +123,11 @@ module _ (limits : Limits) (slots i : ℕ) (a : Knowledge) (carried : List (ℕ 
   taken None passes n b f = absurd (n refl)
   taken (Some x) passes n b f = let lt = b x refl in ((λ e. true≢false (sym (eq-eqb x.pass a.number (omega arith)) ∙ f)), omega arith)
 
-  lock_late : (s : Table) (b : Board) → Stands limits s b → get_elem? s.views i ≡ some (a ∷ []) → a.writes ≡ false → lock_word b.world.holder ≢ 0 → Goes limits s b 0 (slice_index s.words 0) i carried (λ v w. w ≡ v) (LockIsHeld (a ∷ [], carried) (lock_word b.world.holder))
+  lock_late : (s : Table) (b : Board) → Stands limits s b → get_elem? s.views i ≡ some (alone a) → a.writes ≡ false → lock_word b.world.holder ≢ 0 → Goes limits s b 0 (slice_index s.words 0) i carried (λ v w. w ≡ v) (LockIsHeld (alone a, carried) (lock_word b.world.holder))
   lock_late s b h at idle held =
-      let fa = (h.views i (a ∷ []) at).0 in
+      let fa = (h.views i (alone a) at).0.0 in
       let late = taken b.world.holder b.world.passes held (λ g e. rw h.sound.passes (h.sound.holder g e)) (sym fa.writes ∙ idle) in (
-        finds_held a (lock_word b.world.holder - 1) ∷ [],
+        alone (finds_held a (lock_word b.world.holder - 1)),
         keeps,
         tt,
         (
@@ -135,28 +135,28 @@ module _ (limits : Limits) (slots i : ℕ) (a : Knowledge) (carried : List (ℕ 
           record {
             table = record { words = words_load b.world (page_at b.log (length b.log)) s.words h.table.words 0; home = h.table.home; version = h.table.version };
             sound = h.sound;
-            views = views_step limits b b s.views i a (finds_held a (lock_word b.world.holder - 1)) h.views at (λ j x _ f. f) (fits_late limits b i (lock_word b.world.holder - 1) a fa);
+            views = views_step limits b b s.views i a (finds_held a (lock_word b.world.holder - 1)) h.views at (starts_itself b.log) (λ j x _ f. f) (fits_late limits b i (lock_word b.world.holder - 1) a fa);
           },
           refl,
         ),
         (refl, late.0, subst (λ (l : Limits). lock_word b.world.holder < l.passes + 1) (sym fa.limits_are) (subst (λ n. lock_word b.world.holder < n + 1) h.sound.passes late.1)),
       )
 
-  pub lock_by : a.writes ≡ false → AllowsBy limits slots i (a ∷ [], carried) 0 (λ n. either (eqb n 0) (a.number + 1) n) (IsLock a.number) (Locked (step slots 0 0 (a.number + 1) none) (a ∷ [], carried))
+  pub lock_by : a.writes ≡ false → AllowsBy limits slots i (alone a, carried) 0 (λ n. either (eqb n 0) (a.number + 1) n) (IsLock a.number) (Locked (step slots 0 0 (a.number + 1) none) (alone a, carried))
   lock_by idle s b h sized at fits =
       let found : slice_index s.words 0 ≡ lock_word b.world.holder = h.table.words.lock in
       let E : Bool → World → World → Type 0 = λ z v w. MatchBool z (MayLock v a.number × (w ≡ after_lock v a.number)) (w ≡ v) in
-      let P : Board → ℕ → Type 0 = λ d n. Goes limits s d 0 (either (eqb n 0) (a.number + 1) n) i carried (E (eqb n 0)) (Locked (step slots 0 0 (a.number + 1) none) (a ∷ [], carried) n) in
+      let P : Board → ℕ → Type 0 = λ d n. Goes limits s d 0 (either (eqb n 0) (a.number + 1) n) i carried (E (eqb n 0)) (Locked (step slots 0 0 (a.number + 1) none) (alone a, carried) n) in
       dite (ℕ_discrete (lock_word b.world.holder) 0)
       (λ is0. let none_is = no_lock b.world.holder is0 in
       subst (λ (o : Option Holder). P (held_by b o) (slice_index s.words 0)) (sym none_is) (subst (P (held_by b None)) (sym (found ∙ is0)) (lock_free s b (subst (λ (o : Option Holder). Stands limits s (held_by b o)) none_is h) at)))
-      (λ held. let Q : Bool → ℕ → Type 0 = λ z n. Goes limits s b 0 (either z (a.number + 1) (slice_index s.words 0)) i carried (E z) (λ r. MatchBool z (Gets (a ∷ [], carried) r) (LockIsHeld (a ∷ [], carried) n r)) in
+      (λ held. let Q : Bool → ℕ → Type 0 = λ z n. Goes limits s b 0 (either z (a.number + 1) (slice_index s.words 0)) i carried (E z) (λ r. MatchBool z (Gets (alone a, carried) r) (LockIsHeld (alone a, carried) n r)) in
       let none_is : eqb (slice_index s.words 0) 0 ≡ false = ne_eqb (slice_index s.words 0) 0 (λ e. held (sym found ∙ e)) in
       subst (λ (p : Bool × ℕ). Q p.0 p.1) (λ k. (sym none_is k, sym found k)) (lock_late s b h at idle held))
 
 module _ (limits : Limits) (slots i : ℕ) (a : Knowledge) (ledger : Ledger) where
   pub unlock_by : a.writes ≡ true → ledger.journal.entries ≡ entries a.seen → ledger.journal.limit ≡ a.limits.commits → ledger.page ≡ page_at a.seen (length a.seen) → (ledger_places ledger) ≡ map undone_place a.places → LeftAreRetired ledger
-      → AllowsBy limits slots i (a ∷ [], (0, Some ledger) ∷ []) 0 (λ _. 0) (IsUnlock a.number) (λ _. Unlocked (step slots 0 0 0 none) (a ∷ [], (0, Some ledger) ∷ []) 0)
+      → AllowsBy limits slots i (alone a, (0, Some ledger) ∷ []) 0 (λ _. 0) (IsUnlock a.number) (λ _. Unlocked (step slots 0 0 0 none) (alone a, (0, Some ledger) ∷ []) 0)
   unlock_by writes journal limit page places left s b0 h0 sized at fits =
       let work = at_work limits s b0 i a h0 at writes in
       let b : Board = held_by b0 (Some (known_holder a)) in
@@ -165,13 +165,13 @@ module _ (limits : Limits) (slots i : ℕ) (a : Knowledge) (ledger : Ledger) whe
       let t = h.table in
       let w : World = after_unlock b.world in
       let d : Board = record b { world = w } in
-      let fa = (h.views i (a ∷ []) at).0 in
+      let fa = (h.views i (alone a) at).0.0 in
       let few : b.world.passes ≤ 64 = rw h.sound.passes h.sound.within.few in
       let c = without_lock a in
       let v = words_lock b.world (page_at b.log (length b.log)) s.words t.words 0 None few refl in
       let shown = shows-unlock a.places b.world m.shown in
       let fc : Fits limits d i c = record { number = fa.number; limits_are = fa.limits_are; seat_is = fa.seat_is; seen = fa.seen; mine = fa.mine; own = fa.own; writes = refl; whole = λ z. absurd (true≢false (sym z)); phase = fa.phase; pin = fa.pin; image = fa.image } in (
-        c ∷ [],
+        alone c,
         gives,
         tt,
         (
@@ -195,53 +195,53 @@ module _ (limits : Limits) (slots i : ℕ) (a : Knowledge) (ledger : Ledger) whe
               version = t.version;
             };
             sound = sound_world limits b w h.sound refl refl refl refl (λ g e. absurd (cc)) h.sound.reaches (after_unlock-sound b.world h.sound.machine a.number (known_holder a, refl, refl));
-            views = views_step limits b d s.views i a c h.views at (λ j y ne f. fits_world limits b w j y (sym (not_other a.number y.number ne)) refl (λ z. absurd (not_holder b a y ne refl z)) (λ g. g) f) fc;
+            views = views_step limits b d s.views i a c h.views at (starts_itself b.log) (λ j y ne f. fits_world limits b w j y (sym (not_other a.number y.number ne)) refl (λ z. absurd (not_holder b a y ne refl z)) (λ g. g) f) fc;
           },
-          ((known_holder a, ((h0.views i (a ∷ []) at).0.whole writes).holder, refl), refl),
+          ((known_holder a, ((h0.views i (alone a) at).0.0.whole writes).holder, refl), refl),
         ),
         refl,
       )
 
 module _ (limits : Limits) (slots i : ℕ) (a : Knowledge) (carried : List (ℕ × Option Ledger)) where
   -- a try is the move Lock where it finds the lock free, and else none
-  pub locking : a.writes ≡ false → Allows (Shows limits) slots i (a ∷ [], carried) 0 (λ n. either (eqb n 0) (a.number + 1) n) (LockMoves (step slots 0 0 (a.number + 1) none) (a ∷ [], carried))
+  pub locking : a.writes ≡ false → Allows (Shows limits) slots i (alone a, carried) 0 (λ n. either (eqb n 0) (a.number + 1) n) (LockMoves (step slots 0 0 (a.number + 1) none) (alone a, carried))
   locking idle s h sized at fits =
       let n = slice_index s.words 0 in
       let hist = h.2.0 ++ Lock a.number ∷ [] in
       dite (ℕ_discrete n 0)
       (λ is0.
       let yes : eqb n 0 ≡ true = eq-eqb n 0 is0 in
-      let y = lock_by limits slots i (with_history a hist) carried idle (dated s i a hist) h.0 (stands_dated limits s h.0 i a hist h.1 at) sized (set_at s.views i (a ∷ []) (with_history a hist ∷ []) at) fits in
-      let m = moved limits s h 0 (either (eqb n 0) (a.number + 1) n) i a carried at (Lock a.number) refl (λ v w. IsLock a.number n v w) (λ l r. MatchBool (eqb n 0) (Gets (with_history a l ∷ [], carried) r) (LockIsHeld (with_history a l ∷ [], carried) n r)) (λ w. Unit {0}) y
+      let y = lock_by limits slots i (with_history a hist) carried idle (dated s i a hist) h.0 (stands_dated limits s h.0 i a hist h.1 at) sized (set_at s.views i (alone a) (alone (with_history a hist)) at) fits in
+      let m = moved limits s h 0 (either (eqb n 0) (a.number + 1) n) i a carried at (Lock a.number) refl (λ v w. IsLock a.number n v w) (λ l r. MatchBool (eqb n 0) (Gets (alone (with_history a l), carried) r) (LockIsHeld (alone (with_history a l), carried) n r)) (λ w. Unit {0}) y
       (λ v w g. (subst (λ b. MatchBool b (MayLock v a.number × (w ≡ after_lock v a.number)) (w ≡ v)) yes g, tt))
-      (λ r g. let x : Gets (with_history a hist ∷ [], carried) r = subst (λ b. MatchBool b (Gets (with_history a hist ∷ [], carried) r) (LockIsHeld (with_history a hist ∷ [], carried) n r)) yes g in
+      (λ r g. let x : Gets (alone (with_history a hist), carried) r = subst (λ b. MatchBool b (Gets (alone (with_history a hist), carried) r) (LockIsHeld (alone (with_history a hist), carried) n r)) yes g in
       one_of a (takes_lock (with_history a hist) x.1 (ledger_places x.0) x.2) hist ((0, Some x.0) ∷ carried) r x.3.0 refl refl) in (
         m.0,
         m.1,
         m.2,
         m.3,
-        subst (λ b. MatchBool b (Moving (Lock a.number) (λ w. Unit {0}) Gets (a ∷ [], carried) (m.0, carried_after carried m.1)) (LockIsHeld (a ∷ [], carried) n (m.0, carried_after carried m.1))) (sym yes)
-            (m.4.0, m.4.1, m.4.2, subst (λ b. MatchBool b (Gets (with_history a m.4.0 ∷ [], carried) (m.0, carried_after carried m.1)) (LockIsHeld (with_history a m.4.0 ∷ [], carried) n (m.0, carried_after carried m.1))) yes m.4.3),
+        subst (λ b. MatchBool b (Moving (Lock a.number) (λ w. Unit {0}) Gets (alone a, carried) (m.0, carried_after carried m.1)) (LockIsHeld (alone a, carried) n (m.0, carried_after carried m.1))) (sym yes)
+            (m.4.0, m.4.1, m.4.2, subst (λ b. MatchBool b (Gets (alone (with_history a m.4.0), carried) (m.0, carried_after carried m.1)) (LockIsHeld (alone (with_history a m.4.0), carried) n (m.0, carried_after carried m.1))) yes m.4.3),
       ))
       (λ other.
       let no : eqb n 0 ≡ false = ne_eqb n 0 other in
       let y = lock_by limits slots i a carried idle s h.0 h.1 sized at fits in
-      let told : (r : Me1) → MatchBool (eqb n 0) (Gets (a ∷ [], carried) r) (LockIsHeld (a ∷ [], carried) n r) → LockIsHeld (a ∷ [], carried) n r = λ r g. subst (λ b. MatchBool b (Gets (a ∷ [], carried) r) (LockIsHeld (a ∷ [], carried) n r)) no g in
-      let m = rested limits s h 0 (either (eqb n 0) (a.number + 1) n) i (a ∷ []) carried at (λ v w. IsLock a.number n v w) (λ r. MatchBool (eqb n 0) (Gets (a ∷ [], carried) r) (LockIsHeld (a ∷ [], carried) n r)) y
+      let told : (r : Me1) → MatchBool (eqb n 0) (Gets (alone a, carried) r) (LockIsHeld (alone a, carried) n r) → LockIsHeld (alone a, carried) n r = λ r g. subst (λ b. MatchBool b (Gets (alone a, carried) r) (LockIsHeld (alone a, carried) n r)) no g in
+      let m = rested limits s h 0 (either (eqb n 0) (a.number + 1) n) i (alone a) carried at (λ v w. IsLock a.number n v w) (λ r. MatchBool (eqb n 0) (Gets (alone a, carried) r) (LockIsHeld (alone a, carried) n r)) y
       (λ v w g. subst (λ b. MatchBool b (MayLock v a.number × (w ≡ after_lock v a.number)) (w ≡ v)) no g)
-      (λ r g l rest. subst (AllRest l) (sym (ap (λ (m : Me1). m.0) (told r g).0)) rest) in
-      (m.0, m.1, m.2, m.3, subst (λ b. MatchBool b (Moving (Lock a.number) (λ w. Unit {0}) Gets (a ∷ [], carried) (m.0, carried_after carried m.1)) (LockIsHeld (a ∷ [], carried) n (m.0, carried_after carried m.1))) (sym no) (told _ m.4)))
+      (λ r g l rest. subst (AllRest l) (sym (ap (λ (m : Me1). m.0.passes) (told r g).0)) rest) in
+      (m.0, m.1, m.2, m.3, subst (λ b. MatchBool b (Moving (Lock a.number) (λ w. Unit {0}) Gets (alone a, carried) (m.0, carried_after carried m.1)) (LockIsHeld (alone a, carried) n (m.0, carried_after carried m.1))) (sym no) (told _ m.4)))
 
 module _ (limits : Limits) (slots i : ℕ) (a : Knowledge) (carried : List (ℕ × Option Ledger)) (me : Me1) where
-  pub locks_as : me ≡ (a ∷ [], carried) → (new : ℕ) → a.writes ≡ false → new ≡ a.number + 1 → Allows (Shows limits) slots i me 0 (λ n. either (eqb n 0) new n) (LockMoves (step slots 0 0 new none) me)
+  pub locks_as : me ≡ (alone a, carried) → (new : ℕ) → a.writes ≡ false → new ≡ a.number + 1 → Allows (Shows limits) slots i me 0 (λ n. either (eqb n 0) new n) (LockMoves (step slots 0 0 new none) me)
   locks_as e new idle is =
       subst (λ (p : Me1 × ℕ). Allows (Shows limits) slots i p.0 0 (λ n. either (eqb n 0) p.1 n) (LockMoves (step slots 0 0 p.1 none) p.0)) (λ k. (sym e k, sym is k)) (locking limits slots i a carried idle)
 
-  pub unlocks_as : (ledger : Ledger) → me ≡ (a ∷ [], (0, Some ledger) ∷ []) → a.writes ≡ true → ledger.journal.entries ≡ entries a.seen → ledger.journal.limit ≡ a.limits.commits → ledger.page ≡ page_at a.seen (length a.seen) → (ledger_places ledger) ≡ map undone_place a.places → LeftAreRetired ledger
+  pub unlocks_as : (ledger : Ledger) → me ≡ (alone a, (0, Some ledger) ∷ []) → a.writes ≡ true → ledger.journal.entries ≡ entries a.seen → ledger.journal.limit ≡ a.limits.commits → ledger.page ≡ page_at a.seen (length a.seen) → (ledger_places ledger) ≡ map undone_place a.places → LeftAreRetired ledger
       → Allows (Shows limits) slots i me 0 (λ _. 0) (λ _. UnlockMoves (step slots 0 0 0 none) me 0)
   unlocks_as ledger e writes journal limit page places left =
       subst (λ (m : Me1). Allows (Shows limits) slots i m 0 (λ _. 0) (λ _. UnlockMoves (step slots 0 0 0 none) m 0)) (sym e)
-      (moving limits slots i a ((0, Some ledger) ∷ []) 0 (λ _. 0) (λ n. Unlock a.number) (IsUnlock a.number) (λ h _. Unlocked (step slots 0 0 0 none) (with_history a h ∷ [], (0, Some ledger) ∷ []) 0) (λ n w. Unit {0}) (λ n. refl)
+      (moving limits slots i a ((0, Some ledger) ∷ []) 0 (λ _. 0) (λ n. Unlock a.number) (IsUnlock a.number) (λ h _. Unlocked (step slots 0 0 0 none) (alone (with_history a h), (0, Some ledger) ∷ []) 0) (λ n w. Unit {0}) (λ n. refl)
       (λ h. unlock_by limits slots i (with_history a h) ledger writes journal limit page places left) (λ n v w g. (g, tt)) (λ h n r t. one_of a (without_lock (with_history a h)) h [] r t refl refl))
 
 pub gained : (m : Me1) (n : ℕ) (r : Me1) (k : ℕ) → MatchBool (eqb n 0) (Moving (Lock k) (λ w. Unit {0}) Gets m r) (LockIsHeld m n r) → n ≡ 0 → Moving (Lock k) (λ w. Unit {0}) Gets m r

@@ -1,6 +1,6 @@
 -- Two passes of one seat compare what they have seen.
 use Rattle.std.proofs.Common.{◌≡◌, ℕ, ◌<◌, ◌≤◌, List, [], ◌∷◌, ◌++◌, length, Bool, false, true≢false, if◌then◌else◌, Option, refl, sym, ap, ◌∙◌, subst, arith}
-use Rattle.std.specs.Prelude.{drop}
+use Rattle.be_table.specs.declared.pass.View.{View}
 use mathlib.Core.Option.{none}
 use mathlib.Core.Logic.{dite}
 use native.Mathlib.Decide.{dec_lt}
@@ -13,7 +13,7 @@ use Rattle.be_table.specs.declared.pass.Commit.{Commit}
 use Rattle.be_table.specs.declared.pass.Knowledge.{Knowledge}
 use Rattle.be_table.specs.History.{StartsWith}
 use Rattle.be_table.specs.Laws.{AllowsBy, NoEvent}
-use Rattle.be_table.specs.Rule.{Board, entries, page_at, Fits, Shows, one_step_on, pass_of, seats_together, first_seat, other_seats}
+use Rattle.be_table.specs.Rule.{alone, beside, second_of, Board, entries, page_at, Fits, Shows, one_step_on, pass_of, seats_together, first_seat, other_seats}
 use Rattle.be_table.specs.Seats.{IsTold, pin_of}
 use Rattle.be_table.specs.Steps.{IsPass, Compared, CompareMoves, having_seen, longer}
 use Rattle.be_table.proofs.Histories.{starts_itself, by_pass-between}
@@ -36,7 +36,7 @@ two_fronts (x ∷ p) r (y ∷ q) z e le =
 shorter_starts : (log p q : List Commit) → StartsWith log p → StartsWith log q → length p ≤ length q → StartsWith q p
 shorter_starts log p q s t le = two_fronts p s.0 q t.0 (sym s.1 ∙ t.1) le
 
-longer_starts : (log p q : List Commit) → StartsWith log p → StartsWith log q → StartsWith (longer p q) p × StartsWith (longer p q) q × StartsWith log (longer p q)
+pub longer_starts : (log p q : List Commit) → StartsWith log p → StartsWith log q → StartsWith (longer p q) p × StartsWith (longer p q) q × StartsWith log (longer p q)
 longer_starts log p q s t = dite (dec_lt (length p) (length q))
     (λ lt. subst P (sym (lt-ltb (length p) (length q) lt)) (shorter_starts log p q s t (omega arith), starts_itself q, t))
     (λ nlt. let le : length q ≤ length p = omega arith in subst P (sym (le-ltb (length p) (length q) le)) (starts_itself p, shorter_starts log q p t s le, s))
@@ -45,7 +45,7 @@ longer_starts log p q s t = dite (dec_lt (length p) (length q))
     P b = StartsWith (if b then q else p) p × StartsWith (if b then q else p) q × StartsWith log (if b then q else p)
 
 -- a pass without the lock sees more
-sees_fits : (limits : Limits) (b : Board) (i : ℕ) (a : Knowledge) (log : List Commit) → a.writes ≡ false → Fits limits b i a → StartsWith log a.seen → StartsWith b.log log → Fits limits b i (having_seen a log)
+pub sees_fits : (limits : Limits) (b : Board) (i : ℕ) (a : Knowledge) (log : List Commit) → a.writes ≡ false → Fits limits b i a → StartsWith log a.seen → StartsWith b.log log → Fits limits b i (having_seen a log)
 sees_fits limits b i a log idle f more front = record {
   number = f.number;
   limits_are = f.limits_are;
@@ -61,14 +61,14 @@ sees_fits limits b i a log idle f more front = record {
 }
 
 module _ (limits : Limits) (slots i : ℕ) (a c : Knowledge) (carried : List (ℕ × Option Ledger)) where
-  pub compare_by : a.writes ≡ false → c.writes ≡ false → AllowsBy limits slots i (a ∷ c ∷ [], carried) 0 (λ n. n) NoEvent (Compared (step slots 0 0 0 none) (a ∷ c ∷ [], carried))
+  pub compare_by : a.writes ≡ false → c.writes ≡ false → AllowsBy limits slots i (beside a c, carried) 0 (λ n. n) NoEvent (Compared (step slots 0 0 0 none) (beside a c, carried))
   compare_by idle idle' s b t sized at fits =
-      let f = t.views i (a ∷ c ∷ []) at in
+      let f = (t.views i (beside a c) at).0 in
       let log = longer a.seen c.seen in
       let l = longer_starts b.log a.seen c.seen f.0.seen f.2.0.seen in
       let ga = sees_fits limits b i a log idle f.0 l.0 l.2 in
       let gc = sees_fits limits b i c log idle' f.2.0 l.1 l.2 in (
-        having_seen a log ∷ having_seen c log ∷ [],
+        beside (having_seen a log) (having_seen c log),
         keeps,
         tt,
         (
@@ -76,21 +76,21 @@ module _ (limits : Limits) (slots i : ℕ) (a c : Knowledge) (carried : List (�
           record {
             table = record { words = words_load b.world (page_at b.log (length b.log)) s.words t.table.words 0; home = t.table.home; version = t.table.version };
             sound = t.sound;
-            views = views_change limits b b s.views i (a ∷ c ∷ []) (having_seen a log ∷ having_seen c log ∷ []) t.views at (λ j x _ g. g) (λ _. (ga, (f.1.0, tt), (gc, tt, tt)));
+            views = views_change limits b b s.views i (beside a c) (beside (having_seen a log) (having_seen c log)) t.views at (starts_itself b.log) (λ j x _ g. g) (λ _. ((ga, (f.1.0, tt), (gc, tt, tt)), tt));
           },
           refl,
         ),
         (refl, l.0, l.1, is_pass limits b i (having_seen a log) t.sound ga, is_pass limits b i (having_seen c log) t.sound gc),
       )
 
-pub joined_pair : (a c : Knowledge) (m n r : Me1) → m ≡ (a ∷ [], []) → n ≡ (c ∷ [], []) → r ≡ (seats_together m.0 n.0, m.1) → r ≡ (one_step_on a ∷ one_step_on c ∷ [], [])
+pub joined_pair : (a c : Knowledge) (m n r : Me1) → m ≡ (alone a, []) → n ≡ (alone c, []) → r ≡ (seats_together m.0 n.0, m.1) → r ≡ (beside (one_step_on a) (one_step_on c), [])
 joined_pair a c m n r e f g = g ∙ (λ k. (seats_together ((e k).0) ((f k).0), (e k).1))
 
 -- a comparison is no move, and tells that both histories are fronts of the trace
-comparing : (limits : Limits) (slots i : ℕ) (a c : Knowledge) → a.writes ≡ false → c.writes ≡ false → Allows (Shows limits) slots i (a ∷ c ∷ [], []) 0 (λ n. n) (CompareMoves (step slots 0 0 0 none) (a ∷ c ∷ [], []))
+comparing : (limits : Limits) (slots i : ℕ) (a c : Knowledge) → a.writes ≡ false → c.writes ≡ false → Allows (Shows limits) slots i (beside a c, []) 0 (λ n. n) (CompareMoves (step slots 0 0 0 none) (beside a c, []))
 comparing limits slots i a c idle idle' s h sized at fits =
-    let y = resting limits slots i (a ∷ c ∷ []) [] 0 (λ n. n) NoEvent (Compared (step slots 0 0 0 none) (a ∷ c ∷ [], [])) (compare_by limits slots i a c [] idle idle')
-    (λ n v w g. g) (λ n r t l rest. subst (AllRest l) (sym (ap (λ (m : Me1). m.0) t.0)) rest) s h sized at fits in
+    let y = resting limits slots i (beside a c) [] 0 (λ n. n) NoEvent (Compared (step slots 0 0 0 none) (beside a c, [])) (compare_by limits slots i a c [] idle idle')
+    (λ n v w g. g) (λ n r t l rest. subst (AllRest l) (sym (ap (λ (m : Me1). m.0.passes) t.0)) rest) s h sized at fits in
     let tr = h.2.1 in (
       y.0,
       y.1,
@@ -98,27 +98,27 @@ comparing limits slots i a c idle idle' s h sized at fits =
       y.3,
       (
         y.4,
-        subst (λ (l : Limits). HasTrace l (a ∷ c ∷ [])) (sym (h.1.views i (a ∷ c ∷ []) at).0.limits_are)
-            (record { trace = h.2.0; runs = (tr.words, h.0.world, tr.runs); rests = tr.rests i (a ∷ c ∷ []) at }),
+        subst (λ (l : Limits). HasTrace l (a ∷ c ∷ [])) (sym (h.1.views i (beside a c) at).0.0.limits_are)
+            (record { trace = h.2.0; runs = (tr.words, h.0.world, tr.runs); rests = tr.rests i (beside a c) at }),
       ),
     )
 
-pub compares_as : (limits : Limits) (slots i : ℕ) (a c : Knowledge) (me : Me1) → me ≡ (a ∷ c ∷ [], []) → a.writes ≡ false → c.writes ≡ false → Allows (Shows limits) slots i me 0 (λ n. n) (CompareMoves (step slots 0 0 0 none) me)
+pub compares_as : (limits : Limits) (slots i : ℕ) (a c : Knowledge) (me : Me1) → me ≡ (beside a c, []) → a.writes ≡ false → c.writes ≡ false → Allows (Shows limits) slots i me 0 (λ n. n) (CompareMoves (step slots 0 0 0 none) me)
 compares_as limits slots i a c me e idle idle' =
     subst (λ (m : Me1). Allows (Shows limits) slots i m 0 (λ n. n) (CompareMoves (step slots 0 0 0 none) m)) (sym e) (comparing limits slots i a c idle idle')
 
 -- what the two had done before they met lies in one trace
-pub traced : (a c : Knowledge) (m n j l : Me1) → m ≡ (a ∷ [], []) → n ≡ (c ∷ [], []) → j ≡ (seats_together m.0 n.0, m.1) → CompareMoves (step 0 0 0 0 none) j 0 l → HasTrace a.limits (a ∷ c ∷ [])
+pub traced : (a c : Knowledge) (m n j l : Me1) → m ≡ (alone a, []) → n ≡ (alone c, []) → j ≡ (seats_together m.0 n.0, m.1) → CompareMoves (step 0 0 0 0 none) j 0 l → HasTrace a.limits (a ∷ c ∷ [])
 traced a c m n j l left right pair compared =
     let t : HasTrace a.limits (one_step_on a ∷ one_step_on c ∷ []) =
-    subst (λ (x : Me1). HasTrace (pass_of x.0).limits (pass_of x.0 ∷ pass_of (drop 1 x.0) ∷ [])) (joined_pair a c m n j left right pair) compared.1 in
+    subst (λ (x : Me1). HasTrace (pass_of x.0).limits (pass_of x.0 ∷ second_of x.0 ∷ [])) (joined_pair a c m n j left right pair) compared.1 in
     record { trace = t.trace; runs = t.runs; rests = (t.rests.0, (t.rests.1.0, tt)) }
 
-pub deals_as : (limits : Limits) (i : ℕ) (a : Knowledge) (v u : List Knowledge) → u ≡ a ∷ v → Splits (Shows limits) i u (other_seats u) (first_seat u)
-deals_as limits i a v u e = subst (λ (w : List Knowledge). Splits (Shows limits) i w (other_seats w) (first_seat w)) (sym e) (deals limits i a v)
+pub deals_as : (limits : Limits) (i : ℕ) (a c : Knowledge) (u : View) → u ≡ beside a c → Splits (Shows limits) i u (other_seats u) (first_seat u)
+deals_as limits i a c u e = subst (λ (w : View). Splits (Shows limits) i w (other_seats w) (first_seat w)) (sym e) (deals limits i a (c ∷ []) [])
 
 -- what a comparison tells, at the two passes
-pub told : (a c : Knowledge) (m r : Me1) (st : Step (Option Ledger)) (n : ℕ) → m ≡ (a ∷ c ∷ [], []) → Compared st m n r → Compared st (a ∷ c ∷ [], []) n r
+pub told : (a c : Knowledge) (m r : Me1) (st : Step (Option Ledger)) (n : ℕ) → m ≡ (beside a c, []) → Compared st m n r → Compared st (beside a c, []) n r
 told a c m r st n e t = subst (λ (x : Me1). Compared st x n r) e t
 
 pub met_pin : (a : Knowledge) (log : List Commit) (pin : Option PinnedVersion) → IsPass a → pin ≡ pin_of a.phase a.seen → StartsWith log a.seen → pin ≡ pin_of a.phase log
@@ -132,8 +132,8 @@ pub left_longer : (p q : List Commit) → length q ≤ length p → length (long
 left_longer p q le = rw (le-ltb (length p) (length q) le) refl
 
 -- what the seats tell once they are cut apart
-module _ (a c : Knowledge) (m n j l f : Me1) (number seen both : ℕ) (left : m ≡ (a ∷ [], [])) (right : n ≡ (c ∷ [], [])) (pair : j ≡ (seats_together m.0 n.0, m.1)) (compared : Compared (step 0 0 0 0 none) j 0 l) (long : length (longer a.seen c.seen) ≡ both) where
-  after_all : Compared (step 0 0 0 0 none) (one_step_on a ∷ one_step_on c ∷ [], []) 0 l
+module _ (a c : Knowledge) (m n j l f : Me1) (number seen both : ℕ) (left : m ≡ (alone a, [])) (right : n ≡ (alone c, [])) (pair : j ≡ (seats_together m.0 n.0, m.1)) (compared : Compared (step 0 0 0 0 none) j 0 l) (long : length (longer a.seen c.seen) ≡ both) where
+  after_all : Compared (step 0 0 0 0 none) (beside (one_step_on a) (one_step_on c), []) 0 l
   after_all = told (one_step_on a) (one_step_on c) j l (step 0 0 0 0 none) 0 (joined_pair a c m n j left right pair) compared
 
   pub met_left : f.0 ≡ first_seat l.0 → IsTold a number seen → IsTold (pass_of f.0) number both

@@ -6,7 +6,7 @@ use Rattle.be_value.specs.declared.refusals.Refusal.{Refusal}
 use Rattle.be_journal.specs.Journal.{Log, IsRefused}
 use Rattle.be_table.specs.declared.pass.Commit.{Commit}
 use Rattle.be_table.specs.declared.writing.Writing.TheInside.{Inside}
-use Rattle.be_table.specs.Rule.{entries, ledger_places, LeftAreRetired, page_at, pass_of}
+use Rattle.be_table.specs.Rule.{alone, entries, ledger_places, LeftAreRetired, page_at, pass_of}
 use Rattle.be_table.specs.Seats.{pin_of}
 use Rattle.be_table.specs.Working.{HasWorked}
 use Rattle.be_table.specs.Writes.{IsOpen}
@@ -80,7 +80,7 @@ has_room a log e l lt = let long : length log.entries ≡ length a.seen = ap len
 
 -- a write goes on: the pass, the places and the page words change, and the journal and the version page stay
 pub reopened : (w v : Inside) (c : Knowledge) → let a = pass_of w.base.me.0 in IsOpen w → v.table.now ≡ w.table.now → v.marks ≡ w.marks → v.reserved ≡ w.reserved → v.ledger.journal ≡ w.ledger.journal → v.ledger.page ≡ w.ledger.page
-    → v.base.table_id ≡ w.base.table_id → v.base.me ≡ (c ∷ [], (0, None) ∷ []) → c ≡ record a { scanned = c.scanned; least = c.least; places = c.places; words = c.words; held = c.held; steps = c.steps; history = c.history }
+    → v.base.table_id ≡ w.base.table_id → v.base.me ≡ (alone c, (0, None) ∷ []) → c ≡ record a { scanned = c.scanned; least = c.least; places = c.places; words = c.words; held = c.held; steps = c.steps; history = c.history }
     → c.scanned ≡ 0 → length c.words ≡ length a.words → length c.places ≡ length a.places → ledger_places v.ledger ≡ c.places → LeftAreRetired v.ledger
     → (c.published ≡ false → HasWorked c.limits c.number c.history) → IsOpen v
 reopened w v c i table marks reserved journal page id me same turn size count places left worked =
@@ -91,7 +91,7 @@ reopened w v c i table marks reserved journal page id me same turn size count pl
     let limits = ap (λ t. t.limits) table in
     record {
       table_is = id ∙ i.table_is ∙ sym (ap (λ t. t.id) table);
-      me_is = me ∙ ap (λ (x : Knowledge). (x ∷ [], (0, None) ∷ [])) (sym k);
+      me_is = me ∙ ap (λ (x : Knowledge). (alone x, (0, None) ∷ [])) (sym k);
       number_is = ap (λ (x : Knowledge). x.number) k ∙ ap (λ (x : Knowledge). x.number) same ∙ i.number_is ∙ sym (ap (λ m. m.number) marks);
       limits_are = ap (λ (x : Knowledge). x.limits) k ∙ ap (λ (x : Knowledge). x.limits) same ∙ i.limits_are ∙ sym limits;
       small = subst (λ m. m.number < 64) (sym marks) i.small;

@@ -1,5 +1,5 @@
 -- The pin that a seat tells stays while its pass sees more.
-use Rattle.std.proofs.Common.{◌≡◌, ℕ, List, [], ◌∷◌, length, Option, Some, refl, sym, ap, ◌∙◌, subst}
+use Rattle.std.proofs.Common.{◌≡◌, ℕ, List, [], length, Option, Some, refl, sym, ap, ◌∙◌, subst}
 use mathlib.Core.Option.{none}
 use Rattle.atomic_table.specs.Table.{Step, step}
 use Rattle.be_core.specs.declared.event.Phase.{Phase}
@@ -10,7 +10,7 @@ use Rattle.be_table.specs.declared.marks.PinnedVersion.{PinnedVersion}
 use Rattle.be_table.specs.declared.pass.Commit.{Commit}
 use Rattle.be_table.specs.declared.pass.Knowledge.{Knowledge}
 use Rattle.be_table.specs.History.{StartsWith}
-use Rattle.be_table.specs.Rule.{pass_of}
+use Rattle.be_table.specs.Rule.{alone, pass_of}
 use Rattle.be_table.specs.Seats.{pin_of}
 use Rattle.be_table.specs.Steps.{IsPass, Gets, Moving, LookMoves}
 use Rattle.be_table.specs.declared.pass.Move.TheVariants.{Lock}
@@ -39,13 +39,13 @@ pin_looks (Pinned a n) seen log c t s = ap (λ q. pinned n q) (page-front log se
 abbrev pub pin_in : Me1 → Option PinnedVersion
 pin_in m = pin_of (pass_of m.0).phase (pass_of m.0).seen
 
-module _ (me r : Me1) (a : Knowledge) (pin : Option PinnedVersion) (e : me ≡ (a ∷ [], [])) (pass : IsPass a) (is : pin ≡ pin_of a.phase a.seen) where
+module _ (me r : Me1) (a : Knowledge) (pin : Option PinnedVersion) (e : me ≡ (alone a, [])) (pass : IsPass a) (is : pin ≡ pin_of a.phase a.seen) where
   pub looked_pin : (n : ℕ) → LookMoves any me n r → pin ≡ pin_in r
   looked_pin n told =
-      let t : LookMoves any (a ∷ [], []) n r = subst (λ (m : Me1). LookMoves any m n r) e told in
+      let t : LookMoves any (alone a, []) n r = subst (λ (m : Me1). LookMoves any m n r) e told in
       is ∙ sym (pin_looks a.phase a.seen t.3.0 (length t.3.0) pass.pin t.3.1.1) ∙ ap pin_in (sym t.3.1.0)
 
   pub locked_pin : (k : ℕ) → Moving (Lock k) (λ w. Unit {0}) Gets me r → pin ≡ pin_in r
   locked_pin k told =
-      let t : Moving (Lock k) (λ w. Unit {0}) Gets (a ∷ [], []) r = subst (λ (m : Me1). Moving (Lock k) (λ w. Unit {0}) Gets m r) e told in
+      let t : Moving (Lock k) (λ w. Unit {0}) Gets (alone a, []) r = subst (λ (m : Me1). Moving (Lock k) (λ w. Unit {0}) Gets m r) e told in
       is ∙ sym (pin_stays a.phase a.seen t.3.1 pass.pin t.3.3.1) ∙ ap pin_in (sym t.3.3.0)

@@ -22,14 +22,13 @@ use Rattle.be_table.specs.History.{AreOfPasses, StartsWith, IsHistory}
 use Rattle.be_table.specs.Laws.{AllowsBy, IsPublish}
 use Rattle.be_pages.specs.Place.{retired_number, place_of, published_place}
 use Rattle.be_table.specs.Ledger.{ShowsPlaces, shows_free, shows_taken, is_current, is_of_next, is_given, retired_with}
-use Rattle.be_table.specs.Rule.{Board, entries, nothing, reach_at, page_at, word_place, current_word, known_holder, WordsAgree, IsSoundBoard, ImageIs, Fits, Shows}
-use Rattle.be_table.specs.Steps.{pages_from, commit_of, publishes, MayPublish, Published, PublishMoves, NoneRetiredLater, given_of}
+use Rattle.be_table.specs.Rule.{alone, Board, entries, nothing, reach_at, page_at, word_place, current_word, known_holder, WordsAgree, IsSoundBoard, ImageIs, Fits, Shows}
+use Rattle.be_table.specs.Steps.{pages_from, commit_of, publishes, MayPublish, Published, PublishMoves, NoneRetiredLater, given_of, with_history}
 use Rattle.be_table.specs.Reading.{word_of_page}
 use Rattle.be_table.specs.Versions.{in_pages, SpellsVolume}
 use Rattle.be_table.proofs.Versions.{spells_same, clipped, take_front, take_all}
 use Rattle.be_table.proofs.Histories.{starts_itself, starts_more, by_pass-own, by_pass-other, legal-push, below-push}
 use Rattle.be_table.proofs.Frames.{Me1, views_step, entries-append, reach-append, page-append, is_pass, in_time_later, longer_seen, not_holder, pages_else}
-use Rattle.be_table.specs.Trace.{with_history}
 use Rattle.be_table.proofs.Traces.{moving, as_me, one_of}
 use Rattle.be_table.proofs.Locks.{at_work, held_by, same_some, unheld_by}
 use Rattle.be_table.proofs.Ledgers.{place-map}
@@ -172,7 +171,7 @@ no_later a g s shown now q = by_place (place_of a.places q) refl
 
 module _ (limits : Limits) (slots i : ℕ) (a : Knowledge) (carried : List (ℕ × Option Ledger)) where
   pub publish_by : (e : Entry) (v new : ℕ) → MayPublish limits a e v → new ≡ current_word (length a.seen + 1) v
-      → AllowsBy limits slots i (a ∷ [], carried) 8 (λ _. new) (IsPublish a.number v (pages_from is_given 0 a.places)) (λ _. Published e v (step slots 8 new 0 none) (a ∷ [], carried) new)
+      → AllowsBy limits slots i (alone a, carried) 8 (λ _. new) (IsPublish a.number v (pages_from is_given 0 a.places)) (λ _. Published e v (step slots 8 new 0 none) (alone a, carried) new)
   publish_by e v new may is s b0 h0 sized at fits =
       let work = at_work limits s b0 i a h0 at may.writes in
       let b : Board = held_by b0 (Some (known_holder a)) in
@@ -185,7 +184,7 @@ module _ (limits : Limits) (slots i : ℕ) (a : Knowledge) (carried : List (ℕ 
       let commit = commit_of a e v in
       let log = b.log ++ commit ∷ [] in
       let d : Board = record { log = log; world = w; seat_of = b.seat_of } in
-      let fa = (h.views i (a ∷ []) at).0 in
+      let fa = (h.views i (alone a) at).0.0 in
       let few : g.passes ≤ 64 = rw h.sound.passes h.sound.within.few in
       let version : g.current ≡ length b.log = h.table.version in
       let seen_is : length a.seen ≡ length b.log = ap length m.log in
@@ -268,7 +267,7 @@ module _ (limits : Limits) (slots i : ℕ) (a : Knowledge) (carried : List (ℕ 
               may.spelt))
         ];
       } in (
-        c ∷ [],
+        alone c,
         keeps,
         tt,
         (
@@ -280,7 +279,7 @@ module _ (limits : Limits) (slots i : ℕ) (a : Knowledge) (carried : List (ℕ 
               version = ap suc version ∙ sym long;
             };
             sound = sd;
-            views = views_step limits b d s.views i a c h.views at
+            views = views_step limits b d s.views i a c h.views at (commit ∷ [], refl)
                 (λ j x ne f. record {
                   number = f.number;
                   limits_are = f.limits_are;
@@ -296,16 +295,16 @@ module _ (limits : Limits) (slots i : ℕ) (a : Knowledge) (carried : List (ℕ 
                 })
                 fc;
           },
-          unheld_by b0.world (known_holder a) (λ u. IsPublish a.number v given 0 u w) ((h0.views i (a ∷ []) at).0.whole may.writes).holder (allowed, refl),
+          unheld_by b0.world (known_holder a) (λ u. IsPublish a.number v given 0 u w) ((h0.views i (alone a) at).0.0.whole may.writes).holder (allowed, refl),
         ),
         (refl, is_pass limits d i c sd fc, no_later a g h.sound.machine m.shown now),
       )
 
-module _ (limits : Limits) (slots i : ℕ) (a : Knowledge) (carried : List (ℕ × Option Ledger)) (me : Me1) (m : me ≡ (a ∷ [], carried)) where
+module _ (limits : Limits) (slots i : ℕ) (a : Knowledge) (carried : List (ℕ × Option Ledger)) (me : Me1) (m : me ≡ (alone a, carried)) where
   pub publishes_as : (e : Entry) (v new : ℕ) → MayPublish limits a e v → new ≡ current_word (length a.seen + 1) v → Allows (Shows limits) slots i me 8 (λ _. new) (λ _. PublishMoves e v (step slots 8 new 0 none) me new)
   publishes_as e v new may is =
       as_me limits slots i a carried me 8 (λ _. new) (λ m _. PublishMoves e v (step slots 8 new 0 none) m new) m
-      (moving limits slots i a carried 8 (λ _. new) (λ n. Publish a.number v (given_of a)) (IsPublish a.number v (pages_from is_given 0 a.places)) (λ h _. Published e v (step slots 8 new 0 none) (with_history a h ∷ [], carried) new) (λ n w. Unit {0}) (λ n. refl)
+      (moving limits slots i a carried 8 (λ _. new) (λ n. Publish a.number v (given_of a)) (IsPublish a.number v (pages_from is_given 0 a.places)) (λ h _. Published e v (step slots 8 new 0 none) (alone (with_history a h), carried) new) (λ n w. Unit {0}) (λ n. refl)
       (λ h. publish_by limits slots i (with_history a h) carried e v new (dated_may h) is) (λ n u w g. (g, tt)) (λ h n r t. one_of a (publishes (with_history a h) e v) h carried r t.0 refl refl))
     where
       dated_may : (h : List Move) → MayPublish limits (with_history a h) e v

@@ -1,5 +1,6 @@
 -- A scan, announcement by announcement.
 use Rattle.std.proofs.Common.{◌≡◌, ◌≢◌, ℕ, suc, Bool, map, ◌+◌, ◌<◌, ◌≤◌, eq-eqb, ne_eqb, List, [], ◌∷◌, ◌++◌, length, cond, refl, sym, ap, ◌∙◌, subst, arith}
+use Rattle.be_table.specs.declared.pass.View.{View}
 use Rattle.std.proofs.Common.{zero, true, false, inl, inr, ⊎_elim, ◌==◌, if◌then◌else◌, slice_index, length-append, append_assoc}
 use Rattle.std.proofs.Math.Nat.{le_refl, min-eq_left, min-eq_right}
 use Rattle.std.proofs.lemmas.Bool.Decides.{leb_tells}
@@ -11,15 +12,15 @@ use Rattle.be_table.specs.declared.pass.Knowledge.{Knowledge}
 use Rattle.be_table.specs.declared.pass.Move.{Move}
 use Rattle.be_table.specs.declared.pass.Move.TheVariants.{Scan}
 use Rattle.be_table.specs.History.{StartsWith}
-use Rattle.be_table.specs.Trace.{RunsTo, Makes, with_history}
+use Rattle.be_table.specs.Trace.{RunsTo, Makes}
 use Rattle.be_table.proofs.Histories.{starts_itself}
 use Rattle.be_table.proofs.Traces.{makes_more}
 use Rattle.std.proofs.Common.{Option}
 use Rattle.atomic_table.specs.Table.{Me}
 use Rattle.be_table.specs.declared.ledger.Ledger.{Ledger}
-use Rattle.be_table.specs.Rule.{Reaches, announce_word, pass_of}
+use Rattle.be_table.specs.Rule.{alone, Reaches, announce_word, pass_of}
 use Rattle.be_pages.specs.Place.{swept_place, is_in_hand}
-use Rattle.be_table.specs.Steps.{scans, scans_on, scans_out, scans_all, scan_from, least_found, IsLeastAnnounced, least_then, pages_from, IsPart, IsOwnLeast, own_least, UnreachedAreFree, FoundAt, AreFound, scans_of}
+use Rattle.be_table.specs.Steps.{scans, scans_on, scans_out, scans_all, scan_from, least_found, IsLeastAnnounced, least_then, pages_from, IsPart, IsOwnLeast, own_least, UnreachedAreFree, FoundAt, AreFound, scans_of, with_history}
 
 pub scans_all-push : (a : Knowledge) (ns : List ℕ) (n : ℕ) → scans_all a (ns ++ n ∷ []) ≡ scans (scans_all a ns) n
 scans_all-push a [] n = refl
@@ -143,19 +144,19 @@ scans_history a n h = by (suc a.scanned == a.limits.passes)
     by false = refl
 
 abbrev pub Me3 : Type 0
-Me3 = Me (Option Ledger) (List Knowledge)
+Me3 = Me (Option Ledger) View
 
 -- the seat has read the announcements ns, and reads n
-pub me_next : (a : Knowledge) (ns : List ℕ) (n : ℕ) (m r b : Me3) → m ≡ (with_history (scans_all a ns) (pass_of m.0).history ∷ [], b.1) → r ≡ (scans (with_history (pass_of m.0) (pass_of r.0).history) n ∷ [], m.1)
-    → r ≡ (with_history (scans_all a (ns ++ n ∷ [])) (pass_of r.0).history ∷ [], b.1)
+pub me_next : (a : Knowledge) (ns : List ℕ) (n : ℕ) (m r b : Me3) → m ≡ (alone (with_history (scans_all a ns) (pass_of m.0).history), b.1) → r ≡ (alone (scans (with_history (pass_of m.0) (pass_of r.0).history) n), m.1)
+    → r ≡ (alone (with_history (scans_all a (ns ++ n ∷ [])) (pass_of r.0).history), b.1)
 me_next a ns n m r b e f =
     let h = (pass_of r.0).history in
     let before : with_history (pass_of m.0) h ≡ with_history (scans_all a ns) h = ap (λ (x : Me3). with_history (pass_of x.0) h) e in
     let after : scans (with_history (pass_of m.0) h) n ≡ with_history (scans_all a (ns ++ n ∷ [])) h =
     ap (λ (k : Knowledge). scans k n) before ∙ scans_history (scans_all a ns) n h ∙ ap (λ (k : Knowledge). with_history k h) (sym (scans_all-push a ns n)) in
-    f ∙ (λ k. (after k ∷ [], ap (λ (x : Me3). x.1) e k))
+    f ∙ (λ k. (alone (after k), ap (λ (x : Me3). x.1) e k))
 
-pub part_step : (passes : ℕ) (a : Knowledge) (m r : Me3) (j l n : ℕ) → j < passes → a.limits.passes ≡ passes → IsPart passes a (pass_of m.0) j l → r ≡ (scans (with_history (pass_of m.0) (pass_of r.0).history) n ∷ [], m.1)
+pub part_step : (passes : ℕ) (a : Knowledge) (m r : Me3) (j l n : ℕ) → j < passes → a.limits.passes ≡ passes → IsPart passes a (pass_of m.0) j l → r ≡ (alone (scans (with_history (pass_of m.0) (pass_of r.0).history) n), m.1)
     → (suc (pass_of m.0).scanned ≡ (pass_of m.0).limits.passes → UnreachedAreFree (scans_out (pass_of m.0) n)) → IsPart passes a (pass_of r.0) (j + 1) (least_found l n)
 part_step passes a m r j l n lt limits h f leaves =
     let s = with_history (pass_of m.0) (pass_of r.0).history in

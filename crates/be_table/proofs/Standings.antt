@@ -169,3 +169,6 @@ taken_among xs q read = in_range (nat_lt q 16384) (place_of xs q) (slice_index_o
     in_range : (b : Bool) (x y : Place) → y ≡ x → IsTrue (is_readable (if b then standing_at y else Nowhere)) → is_in_hand x ≡ is_taken (if b then standing_at y else Nowhere)
     in_range true x y e read = by x ∙ sym (ap (λ z. is_taken (standing_at z)) e)
     in_range false x y e read = absurd (false≢true read)
+
+-- what a call of `is_taken` uses
+pub ruleset taken = (readable_inside, taken_among)

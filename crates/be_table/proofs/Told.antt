@@ -1,14 +1,13 @@
 -- What a seat tells of its pass after a step of its own.
-use Rattle.std.proofs.Common.{◌≡◌, ℕ, ◌+◌, ◌-◌, ◌≤◌, [], ◌∷◌, length, sym, ap, ◌∙◌, subst}
+use Rattle.std.proofs.Common.{◌≡◌, ℕ, ◌+◌, ◌-◌, ◌≤◌, [], length, sym, ap, ◌∙◌, subst}
 use Rattle.be_core.specs.declared.event.Phase.{Phase}
 use Rattle.be_core.specs.declared.event.Phase.TheVariants.{Idle, Looked, Announced, Pinned}
 use Rattle.be_core.specs.Machine.{InTime}
 use Rattle.be_table.specs.declared.pass.Knowledge.{Knowledge}
-use Rattle.be_table.specs.Rule.{pass_of}
+use Rattle.be_table.specs.Rule.{alone, pass_of}
 use Rattle.be_table.specs.Seats.{IsTold}
 use Rattle.be_table.proofs.PinMarks.{any}
-use Rattle.be_table.specs.Steps.{IsPass, announces, finds_held, unpins, without_lock, AnnounceMoves, UnpinMoves}
-use Rattle.be_table.specs.Trace.{with_history}
+use Rattle.be_table.specs.Steps.{IsPass, announces, finds_held, unpins, without_lock, AnnounceMoves, UnpinMoves, with_history}
 use Rattle.be_table.proofs.Traces.{told_history}
 use Rattle.be_table.proofs.Frames.{Me1}
 
@@ -31,7 +30,7 @@ pub told_as : (c : Knowledge) (r : Me1) (number seen : ℕ) → pass_of r.0 ≡ 
 told_as c r number seen e t = subst (λ x. IsTold x number seen) (sym e) t
 
 -- after an announcement
-pub announced_told : (me r : Me1) (a : Knowledge) (n x number seen : ℕ) → me ≡ (a ∷ [], []) → a.phase ≡ Looked x → n - 1 ≡ x → AnnounceMoves any me n r → IsTold a number seen → IsTold (pass_of r.0) number seen
+pub announced_told : (me r : Me1) (a : Knowledge) (n x number seen : ℕ) → me ≡ (alone a, []) → a.phase ≡ Looked x → n - 1 ≡ x → AnnounceMoves any me n r → IsTold a number seen → IsTold (pass_of r.0) number seen
 announced_told me r a0 n x number seen e phase back moves before =
     let h = moves.0 in let a = with_history a0 h in let t = told_history a0 h number seen before in
     let low : InTime (length a.seen) (Looked x) = subst (InTime (length a.seen)) phase t.pass.pin in
@@ -39,7 +38,7 @@ announced_told me r a0 n x number seen e phase back moves before =
     (record { number_is = t.number_is; seen_is = t.seen_is; writes = t.writes; pass = phased a (Announced (n - 1)) (a.steps + 1) t.pass (subst (λ k. k ≤ length a.seen) (sym back) low) (λ y m z. cc) })
 
 -- after the announcement was taken back
-pub unpinned_told : (me r : Me1) (a : Knowledge) (number seen : ℕ) → me ≡ (a ∷ [], []) → UnpinMoves any me 0 r → IsTold a number seen → IsTold (pass_of r.0) number seen
+pub unpinned_told : (me r : Me1) (a : Knowledge) (number seen : ℕ) → me ≡ (alone a, []) → UnpinMoves any me 0 r → IsTold a number seen → IsTold (pass_of r.0) number seen
 unpinned_told me r a0 number seen e moves before =
     let h = moves.0 in let a = with_history a0 h in let t = told_history a0 h number seen before in
     told_as (unpins a) r number seen (ap (λ (m : Me1). pass_of m.0) moves.3 ∙ ap (λ (m : Me1). unpins (with_history (pass_of m.0) h)) e)

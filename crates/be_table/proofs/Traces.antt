@@ -1,5 +1,6 @@
 -- The trace goes on by the move of a step.
 use Rattle.std.proofs.Common.{◌≡◌, ◌≢◌, ℕ, zero, suc, List, [], ◌∷◌, ◌++◌, map, set, Option, refl, sym, ap, ◌∙◌, subst, ⊎_elim, arith, append_assoc, slice_index}
+use Rattle.be_table.specs.declared.pass.View.{View}
 use Rattle.std.proofs.lemmas.List.{append-nil, set-set}
 use mathlib.Core.Option.{some, some-ne-none}
 use lib.ListN.{get_elem?}
@@ -11,10 +12,11 @@ use Rattle.be_table.specs.declared.limits.Limits.{Limits}
 use Rattle.be_table.specs.declared.pass.Knowledge.{Knowledge}
 use Rattle.be_table.specs.declared.pass.Move.{Move}
 use Rattle.be_table.specs.Laws.{AllowsBy}
-use Rattle.be_table.specs.Rule.{Board, Fits, AllFit, Stands, Shows, IsAt, Reaches, StoodBefore, pass_of, one_step_on}
+use Rattle.be_table.specs.Rule.{alone, ViewFits, Board, Fits, AllFit, Stands, Shows, IsAt, Reaches, StoodBefore, pass_of, one_step_on}
 use Rattle.be_table.specs.Seats.{IsTold}
-use Rattle.be_table.specs.Steps.{IsPass}
-use Rattle.be_table.specs.Trace.{mover, after_move, Run, RunsTo, NoneBy, Makes, Rests, AllRest, with_history}
+use Rattle.be_table.specs.Steps.{IsPass, with_history}
+use Rattle.be_table.specs.Trace.{mover, after_move, Run, RunsTo, NoneBy, Makes, Rests, AllRest}
+use Rattle.be_table.proofs.Histories.{starts_itself}
 use Rattle.be_table.proofs.Frames.{Table, Me1, apart, views_step, longer_seen}
 
 -- ## Lists of moves
@@ -72,13 +74,13 @@ fits_history limits b i a h f = record { number = f.number; limits_are = f.limit
 
 -- the table where the pass of a seat has this history
 abbrev pub dated : Table → ℕ → Knowledge → List Move → Table
-dated s i a h = record { words = s.words; homes = s.homes; views = set s.views i (with_history a h ∷ []) }
+dated s i a h = record { words = s.words; homes = s.homes; views = set s.views i (alone (with_history a h)) }
 
-pub stands_dated : (limits : Limits) (s : Table) (b : Board) (i : ℕ) (a : Knowledge) (h : List Move) → Stands limits s b → get_elem? s.views i ≡ some (a ∷ []) → Stands limits (dated s i a h) b
+pub stands_dated : (limits : Limits) (s : Table) (b : Board) (i : ℕ) (a : Knowledge) (h : List Move) → Stands limits s b → get_elem? s.views i ≡ some (alone a) → Stands limits (dated s i a h) b
 stands_dated limits s b i a h st at = record {
   table = record { words = st.table.words; home = st.table.home; version = st.table.version };
   sound = st.sound;
-  views = views_step limits b b s.views i a (with_history a h) st.views at (λ j x _ f. f) (fits_history limits b i a h (st.views i (a ∷ []) at).0);
+  views = views_step limits b b s.views i a (with_history a h) st.views at (starts_itself b.log) (λ j x _ f. f) (fits_history limits b i a h (st.views i (alone a) at).0.0);
 }
 
 -- what the machine is to a pass that fits
@@ -87,18 +89,18 @@ is_at limits s d i c st f = record { phase = f.phase; writes = f.writes; holds =
 
 -- what a step owes
 abbrev pub Goes : Limits → Table → Board → ℕ → ℕ → ℕ → List (ℕ × Option Ledger) → (World → World → Type 0) → (Me1 → Type 0) → Type 0
-Goes limits s b word n i carried event then = (w : List Knowledge) × (x : Act (Option Ledger)) × Valid s.homes carried x × ((d : Board) × Stands limits (stepped s word n i carried w x) d × event b.world d.world) × then (w, carried_after carried x)
+Goes limits s b word n i carried event then = (w : View) × (x : Act (Option Ledger)) × Valid s.homes carried x × ((d : Board) × Stands limits (stepped s word n i carried w x) d × event b.world d.world) × then (w, carried_after carried x)
 
 -- what a step owes with its trace
 abbrev pub Follows : Limits → Table → ℕ → ℕ → ℕ → List (ℕ × Option Ledger) → (Me1 → Type 0) → Type 0
-Follows limits s word n i carried then = (w : List Knowledge) × (x : Act (Option Ledger)) × Valid s.homes carried x × Shows limits (stepped s word n i carried w x) × then (w, carried_after carried x)
+Follows limits s word n i carried then = (w : View) × (x : Act (Option Ledger)) × Valid s.homes carried x × Shows limits (stepped s word n i carried w x) × then (w, carried_after carried x)
 
 -- the seat has one pass, with this number and this history
 abbrev pub IsOne : Knowledge → List Move → Me1 → Type 0
-IsOne a h r = (c : Knowledge) × (r.0 ≡ c ∷ []) × (c.number ≡ a.number) × (c.history ≡ h)
+IsOne a h r = (c : Knowledge) × (r.0 ≡ alone c) × (c.number ≡ a.number) × (c.history ≡ h)
 
 -- a step that is a move of the machine
-module _ (limits : Limits) (s : Table) (h : Shows limits s) (word n i : ℕ) (a : Knowledge) (carried : List (ℕ × Option Ledger)) (at : get_elem? s.views i ≡ some (a ∷ [])) (m : Move) (is : mover m ≡ a.number) where
+module _ (limits : Limits) (s : Table) (h : Shows limits s) (word n i : ℕ) (a : Knowledge) (carried : List (ℕ × Option Ledger)) (at : get_elem? s.views i ≡ some (alone a)) (m : Move) (is : mover m ≡ a.number) where
   abbrev pub later : List Move
   later = h.2.0 ++ m ∷ []
 
@@ -106,8 +108,8 @@ module _ (limits : Limits) (s : Table) (h : Shows limits s) (word n i : ℕ) (a 
   pub stood : StoodBefore a m later
   stood =
       let tr = h.2.1 in
-      let fa = (h.1.views i (a ∷ []) at).0 in
-      let r = (tr.rests i (a ∷ []) at).0 in record {
+      let fa = (h.1.views i (alone a) at).0.0 in
+      let r = (tr.rests i (alone a) at).0 in record {
         others = r.0;
         none = r.1;
         ends = ap (λ l. l ++ m ∷ []) r.2;
@@ -124,13 +126,13 @@ module _ (limits : Limits) (s : Table) (h : Shows limits s) (word n i : ℕ) (a 
       let b = h.0 in let t = h.2.0 in let tr = h.2.1 in
       let d = y.3.0 in
       let c = shape (y.0, carried_after carried y.1) y.4 in
-      let fa = (h.1.views i (a ∷ []) at).0 in
+      let fa = (h.1.views i (alone a) at).0.0 in
       let run = goes b.world d.world y.3.2 in
       let stands : Stands limits (stepped s word n i carried y.0 y.1) d = subst
-      (λ (vs : List (List Knowledge)). Stands limits (record { words = set s.words word n; homes = homes_after s.homes carried y.1; views = vs }) d)
-      (set-set s.views i (with_history a later ∷ []) y.0) y.3.1 in
+      (λ (vs : List View). Stands limits (record { words = set s.words word n; homes = homes_after s.homes carried y.1; views = vs }) d)
+      (set-set s.views i (alone (with_history a later)) y.0) y.3.1 in
       let runs : RunsTo limits tr.words later d.world = run-append _ b.world d.world t (m ∷ []) tr.runs run.0 in
-      let fits : Fits limits d i c.0 = (subst (AllFit limits d i) c.1 (stands.views i y.0 (set_at s.views i (a ∷ []) y.0 at))).0 in (
+      let fits : Fits limits d i c.0 = (subst (ViewFits limits d i) c.1 (stands.views i y.0 (set_at s.views i (alone a) y.0 at))).0.0 in (
         y.0,
         y.1,
         y.2,
@@ -143,16 +145,16 @@ module _ (limits : Limits) (s : Table) (h : Shows limits s) (word n i : ℕ) (a 
               words = tr.words;
               runs = runs;
               rests = λ j u e. ⊎_elim
-                  (λ (q : (j ≡ i) × (y.0 ≡ u)). subst (AllRest later) (sym c.1 ∙ q.1) (subst (λ l. Rests c.0.number l later) (sym c.3) (rests_now c.0.number later), tt))
-                  (λ (q : (j ≢ i) × (get_elem? s.views j ≡ some u)). all_rest_on limits b i j a t m u q.0 fa is (h.1.views j u q.1) (tr.rests j u q.1))
+                  (λ (q : (j ≡ i) × (y.0 ≡ u)). subst (λ (u : View). AllRest later u.passes) (sym c.1 ∙ q.1) (subst (λ l. Rests c.0.number l later) (sym c.3) (rests_now c.0.number later), tt))
+                  (λ (q : (j ≢ i) × (get_elem? s.views j ≡ some u)). all_rest_on limits b i j a t m u.passes q.0 fa is (h.1.views j u q.1).0 (tr.rests j u q.1))
                   (at_set s.views i j y.0 u e);
             },
           ),
         ),
         (
           later,
-          makes_one a.number a.history t m (tr.rests i (a ∷ []) at).0,
-          subst (λ (u : List Knowledge). Reaches (pass_of u) so) (sym c.1)
+          makes_one a.number a.history t m (tr.rests i (alone a) at).0,
+          subst (λ (u : View). Reaches (pass_of u) so) (sym c.1)
               (record {
                 words = tr.words;
                 world = d.world;
@@ -166,30 +168,30 @@ module _ (limits : Limits) (s : Table) (h : Shows limits s) (word n i : ℕ) (a 
 
 -- the same of each table
 pub moving : (limits : Limits) (slots i : ℕ) (a : Knowledge) (carried : List (ℕ × Option Ledger)) (word : ℕ) (f : ℕ → ℕ) (move : ℕ → Move) (event : ℕ → World → World → Type 0) (then : List Move → ℕ → Me1 → Type 0) (so : ℕ → World → Type 0)
-    → ((n : ℕ) → mover (move n) ≡ a.number) → ((hist : List Move) → AllowsBy limits slots i (with_history a hist ∷ [], carried) word f event (then hist))
+    → ((n : ℕ) → mover (move n) ≡ a.number) → ((hist : List Move) → AllowsBy limits slots i (alone (with_history a hist), carried) word f event (then hist))
     → ((n : ℕ) (v w : World) → event n v w → Run v (move n ∷ []) w × so n w) → ((hist : List Move) (n : ℕ) (r : Me1) → then hist n r → IsOne a hist r)
-    → Allows (Shows limits) slots i (a ∷ [], carried) word f (λ n r. (hist : List Move) × Makes a.number a.history (move n ∷ []) hist × Reaches (pass_of r.0) (so n) × then hist n r)
+    → Allows (Shows limits) slots i (alone a, carried) word f (λ n r. (hist : List Move) × Makes a.number a.history (move n ∷ []) hist × Reaches (pass_of r.0) (so n) × then hist n r)
 moving limits slots i a carried word f move event then so is by goes shape s h sized at fits =
     let n = slice_index s.words word in
     let hist = h.2.0 ++ move n ∷ [] in
     moved limits s h word (f n) i a carried at (move n) (is n) (event n) (λ hist r. then hist n r) (so n)
-    (by hist (dated s i a hist) h.0 (stands_dated limits s h.0 i a hist h.1 at) sized (set_at s.views i (a ∷ []) (with_history a hist ∷ []) at) fits) (goes n) (shape hist n)
+    (by hist (dated s i a hist) h.0 (stands_dated limits s h.0 i a hist h.1 at) sized (set_at s.views i (alone a) (alone (with_history a hist)) at) fits) (goes n) (shape hist n)
 
 -- the same, with what the machine was before
 pub moving_from : (limits : Limits) (slots i : ℕ) (a : Knowledge) (carried : List (ℕ × Option Ledger)) (word : ℕ) (f : ℕ → ℕ) (move : ℕ → Move) (event : ℕ → World → World → Type 0) (then : List Move → ℕ → Me1 → Type 0) (so : ℕ → World → Type 0)
-    → ((n : ℕ) → mover (move n) ≡ a.number) → ((hist : List Move) → AllowsBy limits slots i (with_history a hist ∷ [], carried) word f event (then hist))
+    → ((n : ℕ) → mover (move n) ≡ a.number) → ((hist : List Move) → AllowsBy limits slots i (alone (with_history a hist), carried) word f event (then hist))
     → ((n : ℕ) (v w : World) → event n v w → Run v (move n ∷ []) w × so n w) → ((hist : List Move) (n : ℕ) (r : Me1) → then hist n r → IsOne a hist r)
-    → Allows (Shows limits) slots i (a ∷ [], carried) word f (λ n r. (hist : List Move) × Makes a.number a.history (move n ∷ []) hist × Reaches (pass_of r.0) (so n) × (then hist n r × StoodBefore a (move n) hist))
+    → Allows (Shows limits) slots i (alone a, carried) word f (λ n r. (hist : List Move) × Makes a.number a.history (move n ∷ []) hist × Reaches (pass_of r.0) (so n) × (then hist n r × StoodBefore a (move n) hist))
 moving_from limits slots i a carried word f move event then so is by goes shape s h sized at fits =
     let n = slice_index s.words word in
     let hist = h.2.0 ++ move n ∷ [] in
-    let y = by hist (dated s i a hist) h.0 (stands_dated limits s h.0 i a hist h.1 at) sized (set_at s.views i (a ∷ []) (with_history a hist ∷ []) at) fits in
+    let y = by hist (dated s i a hist) h.0 (stands_dated limits s h.0 i a hist h.1 at) sized (set_at s.views i (alone a) (alone (with_history a hist)) at) fits in
     moved limits s h word (f n) i a carried at (move n) (is n) (event n) (λ hist r. then hist n r × StoodBefore a (move n) hist) (so n)
     (y.0, y.1, y.2, y.3, (y.4, stood limits s h word (f n) i a carried at (move n) (is n))) (goes n) (λ r t. shape hist n r t.0)
 
 -- a step that is none
-pub rested : (limits : Limits) (s : Table) (h : Shows limits s) (word n i : ℕ) (v : List Knowledge) (carried : List (ℕ × Option Ledger)) → get_elem? s.views i ≡ some v → (event : World → World → Type 0) (then : Me1 → Type 0) → Goes limits s h.0 word n i carried event then
-    → ((x w : World) → event x w → w ≡ x) → ((r : Me1) → then r → (t : List Move) → AllRest t v → AllRest t r.0) → Follows limits s word n i carried then
+pub rested : (limits : Limits) (s : Table) (h : Shows limits s) (word n i : ℕ) (v : View) (carried : List (ℕ × Option Ledger)) → get_elem? s.views i ≡ some v → (event : World → World → Type 0) (then : Me1 → Type 0) → Goes limits s h.0 word n i carried event then
+    → ((x w : World) → event x w → w ≡ x) → ((r : Me1) → then r → (t : List Move) → AllRest t v.passes → AllRest t r.0.passes) → Follows limits s word n i carried then
 rested limits s h word n i v carried at event then y same rest =
     let t = h.2.0 in let tr = h.2.1 in
     let d = y.3.0 in (
@@ -205,7 +207,7 @@ rested limits s h word n i v carried at event then y same rest =
             words = tr.words;
             runs = subst (λ (w : World). RunsTo limits tr.words t w) (sym (same h.0.world d.world y.3.2)) tr.runs;
             rests = λ j u e. ⊎_elim
-                (λ (q : (j ≡ i) × (y.0 ≡ u)). subst (AllRest t) q.1 (rest (y.0, carried_after carried y.1) y.4 t (tr.rests i v at)))
+                (λ (q : (j ≡ i) × (y.0 ≡ u)). subst (λ (x : View). AllRest t x.passes) q.1 (rest (y.0, carried_after carried y.1) y.4 t (tr.rests i v at)))
                 (λ (q : (j ≢ i) × (get_elem? s.views j ≡ some u)). tr.rests j u q.1)
                 (at_set s.views i j y.0 u e);
           },
@@ -214,8 +216,8 @@ rested limits s h word n i v carried at event then y same rest =
       y.4,
     )
 
-pub resting : (limits : Limits) (slots i : ℕ) (v : List Knowledge) (carried : List (ℕ × Option Ledger)) (word : ℕ) (f : ℕ → ℕ) (event : ℕ → World → World → Type 0) (then : ℕ → Me1 → Type 0) → AllowsBy limits slots i (v, carried) word f event then
-    → ((n : ℕ) (x w : World) → event n x w → w ≡ x) → ((n : ℕ) (r : Me1) → then n r → (t : List Move) → AllRest t v → AllRest t r.0) → Allows (Shows limits) slots i (v, carried) word f then
+pub resting : (limits : Limits) (slots i : ℕ) (v : View) (carried : List (ℕ × Option Ledger)) (word : ℕ) (f : ℕ → ℕ) (event : ℕ → World → World → Type 0) (then : ℕ → Me1 → Type 0) → AllowsBy limits slots i (v, carried) word f event then
+    → ((n : ℕ) (x w : World) → event n x w → w ≡ x) → ((n : ℕ) (r : Me1) → then n r → (t : List Move) → AllRest t v.passes → AllRest t r.0.passes) → Allows (Shows limits) slots i (v, carried) word f then
 resting limits slots i v carried word f event then by same rest s h sized at fits =
     let n = slice_index s.words word in rested limits s h word (f n) i v carried at (event n) (then n) (by s h.0 h.1 sized at fits) (same n) (rest n)
 
@@ -224,9 +226,9 @@ pub retold : (limits : Limits) (slots i : ℕ) (me : Me1) (word : ℕ) (f : ℕ 
 retold limits slots i me word f then more g x s h sized at fits = let r = x s h sized at fits in (r.0, r.1, r.2, r.3, g (slice_index s.words word) _ r.4)
 
 -- the step at a seat whose pass is known
-pub as_me : (limits : Limits) (slots i : ℕ) (a : Knowledge) (carried : List (ℕ × Option Ledger)) (me : Me1) (word : ℕ) (f : ℕ → ℕ) (then : Me1 → ℕ → Me1 → Type 0) → me ≡ (a ∷ [], carried) → Allows (Shows limits) slots i (a ∷ [], carried) word f (then (a ∷ [], carried)) → Allows (Shows limits) slots i me word f (then me)
+pub as_me : (limits : Limits) (slots i : ℕ) (a : Knowledge) (carried : List (ℕ × Option Ledger)) (me : Me1) (word : ℕ) (f : ℕ → ℕ) (then : Me1 → ℕ → Me1 → Type 0) → me ≡ (alone a, carried) → Allows (Shows limits) slots i (alone a, carried) word f (then (alone a, carried)) → Allows (Shows limits) slots i me word f (then me)
 as_me limits slots i a carried me word f then e x = subst (λ (m : Me1). Allows (Shows limits) slots i m word f (then m)) (sym e) x
 
 -- the pass of a seat that was told
-pub one_of : (a c : Knowledge) (h : List Move) (l : List (ℕ × Option Ledger)) (r : Me1) → r ≡ (c ∷ [], l) → c.number ≡ a.number → c.history ≡ h → IsOne a h r
+pub one_of : (a c : Knowledge) (h : List Move) (l : List (ℕ × Option Ledger)) (r : Me1) → r ≡ (alone c, l) → c.number ≡ a.number → c.history ≡ h → IsOne a h r
 one_of a c h l r e number history = (c, ap (λ (m : Me1). m.0) e, number, history)

@@ -1,5 +1,5 @@
 -- The words for which the table has no use.
-use Rattle.std.proofs.Common.{◌≡◌, ◌+◌, ◌*◌, ◌<◌, sym, ◌∙◌, arith, length, slice_index, length-set, get_or-set_same, IsTrue, set}
+use Rattle.std.proofs.Common.{sym, ◌∙◌, arith, length-set, get_or-set_same}
 use Rattle.be_table.specs.Laws.{UnusedAreZero, UnusedStayZero}
 
 pub unused_are_zero : UnusedAreZero

@@ -11,13 +11,12 @@ use Rattle.be_pages.specs.Refusal.{IsFullOf}
 use Rattle.be_value.specs.declared.refusals.Refusal.{Refusal}
 use Rattle.be_table.specs.Place.{Work}
 use Rattle.be_table.specs.Reading.{open_of}
-use Rattle.be_table.specs.Steps.{fill_moves, fills_word, given_moves, gives_up, take_moves, scans_of}
-use Rattle.be_table.specs.Trace.{mover, NoneBy, Makes, is_lock_of, upto_lock, IsWork, AreWork, with_history}
+use Rattle.be_table.specs.Steps.{fill_moves, fills_word, given_moves, gives_up, take_moves, scans_of, with_history}
+use Rattle.be_table.specs.Trace.{mover, NoneBy, Makes, is_lock_of, upto_lock, IsWork, AreWork}
 use Rattle.be_table.specs.History.{StartsWith}
 use Rattle.be_table.specs.Working.{HasReason, MakesForReason, HasWorked, WorksOn}
 use Rattle.be_table.specs.Works.{FindsNone, MakesScan, TakesPage}
 use Rattle.be_table.proofs.Scans.{makes_starts}
-use Rattle.be_table.proofs.Traces.{makes_more}
 
 -- ## The moves up to the last lock
 

@@ -1,5 +1,6 @@
 -- What a reader of pages sees of an open write, and of a pinned version.
-use Rattle.std.specs.Prelude.{◌≢◌, ℕ, ◌<◌, ◌^◌, ◌&&◌, Bool, nat_lt, if◌then◌else◌, List, [], slice_index, slice_index_or}
+use Rattle.std.specs.Prelude.{◌≢◌, ℕ, ◌<◌, ◌^◌, ◌&&◌, Bool, nat_lt, if◌then◌else◌, List, []}
+use Rattle.std.specs.Prelude.{slice_index, slice_index_or}
 use Rattle.std.proofs.Common.{inl, inr, arith, refl}
 use Rattle.std.proofs.lemmas.Bool.{cases_lt}
 use borrow.Author.Tests.{le-ltb}
@@ -7,9 +8,12 @@ use Rattle.be_core.specs.declared.event.Phase.{Phase}
 use Rattle.be_core.specs.declared.event.Phase.TheVariants.{Idle, Looked, Announced, Pinned}
 use Rattle.be_core.specs.Machine.{has}
 use Rattle.be_pages.specs.declared.room.Standing.{Standing}
-use Rattle.be_pages.specs.declared.room.Standing.TheVariants.{Free as Nowhere, Old, GivenUp as Given, Taken, Filled as Full}
+use Rattle.be_pages.specs.declared.room.Standing.TheVariants.{Free as Nowhere, Old}
+use Rattle.be_pages.specs.declared.room.Standing.TheVariants.{GivenUp as Given, Taken}
+use Rattle.be_pages.specs.declared.room.Standing.TheVariants.{Filled as Full}
 use Rattle.be_pages.specs.declared.page_pool.Place.{Place}
-use Rattle.be_pages.specs.declared.page_pool.Place.TheVariants.{Free, Reserved, Filled, Current, GivenUp, Retired}
+use Rattle.be_pages.specs.declared.page_pool.Place.TheVariants.{Free, Reserved, Filled, Current}
+use Rattle.be_pages.specs.declared.page_pool.Place.TheVariants.{GivenUp, Retired}
 use Rattle.be_table.specs.declared.limits.Limits.{Limits}
 use Rattle.be_table.specs.declared.pass.Commit.{Commit}
 use Rattle.be_table.specs.declared.pass.Knowledge.{Knowledge}
@@ -26,15 +30,16 @@ standing_at Current = Old
 standing_at GivenUp = Given
 standing_at (Retired r) = Nowhere
 
--- where a page stands in a write with these places
+-- the state of a page in a write with these places
 abbrev pub standing_among : List Place → ℕ → Standing
-standing_among places q = if nat_lt q 16384 then standing_at (slice_index_or places q Free) else Nowhere
+standing_among places q = if nat_lt q 16384 then standing_at (slice_index_or places q Free)
+    else Nowhere
 
 -- word i of the page q
 abbrev pub word_of_page : List ℕ → ℕ → ℕ → ℕ
 word_of_page words q i = if nat_lt i 512 then slice_index words (word_place q i) else 0
 
--- where the pages of an open write stand, and their words
+-- the states of the pages in an open write, and their words
 abbrev pub standing_in_work : Work → ℕ → Standing
 standing_in_work w q = standing_among w.knows.places q
 
@@ -52,7 +57,15 @@ pub record StaysOpen : Type 0 where
   pub begun : List Move
 
 abbrev pub open_of : Work → StaysOpen
-open_of w = record { table = w.table; number = w.knows.number; limits = w.knows.limits; phase = w.knows.phase; seen = w.knows.seen; published = w.knows.published; begun = upto_lock w.knows.number w.knows.history }
+open_of w = record {
+  table = w.table;
+  number = w.knows.number;
+  limits = w.knows.limits;
+  phase = w.knows.phase;
+  seen = w.knows.seen;
+  published = w.knows.published;
+  begun = upto_lock w.knows.number w.knows.history;
+}
 
 -- the pages of the pinned version
 abbrev pub reach_of : Phase → List Commit → List ℕ

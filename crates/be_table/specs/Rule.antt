@@ -1,5 +1,7 @@
 -- The fact that holds of the table between any two steps.
-use Rattle.std.specs.Prelude.{◌≡◌, ◌≢◌, ℕ, zero, suc, ◌+◌, ◌*◌, ◌<◌, ◌≤◌, ◌==◌, Bool, true, false, List, [], ◌∷◌, ◌++◌, length, take, drop, map, Option, Some, None, slice_index, slice_index_or, IsTrue, count_by}
+use Rattle.std.specs.Prelude.{◌≡◌, ◌≢◌, ℕ, zero, suc, ◌+◌, ◌*◌, ◌<◌, ◌≤◌, ◌==◌, Bool, true, false}
+use Rattle.std.specs.Prelude.{List, [], ◌∷◌, ◌++◌, length, take, drop, map, Option, Some, None}
+use Rattle.std.specs.Prelude.{slice_index, slice_index_or, IsTrue, count_by}
 use mathlib.Core.Option.{Option as Maybe, some, none}
 use lib.ListN.{get_elem?}
 use Rattle.atomic_table.specs.Table.{State}
@@ -14,6 +16,7 @@ use Rattle.be_table.specs.declared.limits.Limits.{Limits}
 use Rattle.be_table.specs.declared.pass.Commit.{Commit}
 use Rattle.be_table.specs.declared.pass.Knowledge.{Knowledge}
 use Rattle.be_table.specs.declared.pass.Move.{Move}
+use Rattle.be_table.specs.declared.pass.View.{View}
 use Rattle.be_pages.specs.Place.{is_retired, undone_place}
 use Rattle.be_table.specs.Ledger.{ShowsPlaces}
 use Rattle.be_journal.specs.Journal.{by_pass, replay}
@@ -66,7 +69,8 @@ word_place p i = 528 + 512 * p + i
 
 -- on any one page and place, the list has the word
 abbrev pub PagesAgree : ℕ → (ℕ → ℕ → ℕ) → List ℕ → Type 0
-PagesAgree pages words ws = (p i : ℕ) → p < pages → i < 512 → slice_index ws (word_place p i) ≡ words p i
+PagesAgree pages words ws = (p i : ℕ) → p < pages → i < 512 → slice_index ws (word_place p i)
+    ≡ words p i
 
 -- where each page is
 abbrev pub ledger_places : Ledger → List Place
@@ -80,7 +84,7 @@ abbrev pub is_holder : Option Holder → ℕ → Bool
 is_holder None k = false
 is_holder (Some h) k = h.pass == k
 
--- a ledger at home: the journal, the version page, and where each page is
+-- a writer state that fits the table: the journal, the version page, and where each page is
 pub record AtHome (w : World) (log : List Commit) (ledger : Ledger) : Type 0 where
   pub journal : ledger.journal.entries ≡ entries log
   pub limit : ledger.journal.limit ≡ w.commits
@@ -90,14 +94,16 @@ pub record AtHome (w : World) (log : List Commit) (ledger : Ledger) : Type 0 whe
   pub idle : map undone_place (ledger_places ledger) ≡ (ledger_places ledger)
   pub left : LeftAreRetired ledger
 
--- the ledger is at home while nobody holds the lock
+-- the writer state lies in its slot while nobody holds the lock, and fits the table
 abbrev pub IsHome : Option Holder → World → List Commit → List (Maybe (Option Ledger)) → Type 0
-IsHome None w log homes = (ledger : Ledger) × (homes ≡ some (Some ledger) ∷ []) × AtHome w log ledger
+IsHome None w log homes = (ledger : Ledger) × (homes ≡ some (Some ledger) ∷ [])
+    × AtHome w log ledger
 IsHome (Some h) w log homes = homes ≡ none ∷ []
 
 -- ## The first part: the table shows the state
 
--- a word before the pages that is neither the lock, nor the current version, nor the announcement of one of so many passes
+-- a word before the pages that is neither the lock, nor the current version, nor the announcement
+-- of one of so many passes
 abbrev pub IsUnused : (passes k : ℕ) → Type 0
 IsUnused passes k = (k < 528) × (k ≢ 0) × (k ≢ 8) × ((j : ℕ) → j < passes → k ≢ 16 + 8 * j)
 
@@ -105,17 +111,18 @@ pub record WordsAgree (w : World) (page : ℕ) (words : List ℕ) : Type 0 where
   pub size : length words ≡ 528 + 512 * w.pages
   pub lock : slice_index words 0 ≡ lock_word w.holder
   pub current : slice_index words 8 ≡ current_word w.current page
-  pub announced : (k : ℕ) → k < w.passes → slice_index words (16 + 8 * k) ≡ announce_word (w.phases k)
+  pub announced : (k : ℕ) → k < w.passes → slice_index words (16 + 8 * k)
+      ≡ announce_word (w.phases k)
   pub pages : PagesAgree w.pages w.words words
   pub unused : (k : ℕ) → IsUnused w.passes k → slice_index words k ≡ 0
 
 -- the words, the slot and the journal's length are those of the machine
-pub record ShowsBoard (b : Board) (s : State (Option Ledger) (List Knowledge)) : Type 0 where
+pub record ShowsBoard (b : Board) (s : State (Option Ledger) View) : Type 0 where
   pub words : WordsAgree b.world (page_at b.log (length b.log)) s.words
   pub home : IsHome b.world.holder b.world b.log s.homes
   pub version : b.world.current ≡ length b.log
 
--- ## The second part: the journal's and the machine's invariants, and what each version spells
+-- ## The second part: the journal's and the machine's invariants, and what each version encodes
 
 -- limits that a table may have
 abbrev pub IsWithin : Limits → Type 0
@@ -125,7 +132,7 @@ IsWithin limits = AreLimits 8 limits.pages limits.passes limits.commits
 abbrev pub AreBad : Limits → Type 0
 AreBad limits = ¬ (IsWithin limits)
 
--- the pages of each version are those that its commit tells
+-- the pages of each version are those that its commit lists
 abbrev pub ReachesAgree : World → List Commit → Type 0
 ReachesAgree w log = (n p : ℕ) → n ≤ w.current → w.reach n p ≡ has (reach_at log n) p
 
@@ -151,13 +158,20 @@ pub record IsSoundBoard (limits : Limits) (b : Board) : Type 0 where
   pub holder : (h : Holder) → b.world.holder ≡ Some h → h.pass < limits.passes
   pub reaches : ReachesAgree b.world b.log
   pub machine : Sound b.world
-  pub spelt : (n : ℕ) → n ≤ length b.log → SpellsVolume (reach_at b.log n) (in_pages (b.world.image n)) (page_at b.log n) (replay (take n (entries b.log)))
+  pub spelt : (n : ℕ) → n ≤ length b.log
+      → SpellsVolume (reach_at b.log n) (in_pages (b.world.image n)) (page_at b.log n)
+      (replay (take n (entries b.log)))
 
 -- ## The third part: what each pass knows is so
 
 -- the machine's holder, as a pass that holds the lock knows it
 abbrev pub known_holder : Knowledge → Holder
-known_holder a = record { pass = a.number; scanned = a.scanned; least = a.least; published = a.published }
+known_holder a = record {
+  pass = a.number;
+  scanned = a.scanned;
+  least = a.least;
+  published = a.published;
+}
 
 -- what the holder knows
 pub record Holds (b : Board) (a : Knowledge) : Type 0 where
@@ -171,7 +185,8 @@ pub record Holds (b : Board) (a : Knowledge) : Type 0 where
 
 -- the image of a pinned version, on each of its pages
 abbrev pub ImageIs : World → Phase → List ℕ → Type 0
-ImageIs w phase image = (x n p i : ℕ) → phase ≡ Pinned x n → IsTrue (w.reach n p) → i < 512 → slice_index image (word_place p i) ≡ w.image n p i
+ImageIs w phase image = (x n p i : ℕ) → phase ≡ Pinned x n → IsTrue (w.reach n p) → i < 512
+    → slice_index image (word_place p i) ≡ w.image n p i
 
 pub record Fits (limits : Limits) (b : Board) (seat : ℕ) (a : Knowledge) : Type 0 where
   pub number : a.number < limits.passes
@@ -196,26 +211,38 @@ abbrev pub AllFit : Limits → Board → ℕ → List Knowledge → Type 0
 AllFit limits b seat [] = Unit {0}
 AllFit limits b seat (a ∷ v) = Fits limits b seat a × IsAbsent a.number v × AllFit limits b seat v
 
-abbrev pub ViewsFit : Limits → Board → List (List Knowledge) → Type 0
-ViewsFit limits b views = (seat : ℕ) (v : List Knowledge) → get_elem? views seat ≡ some v → AllFit limits b seat v
+-- the journal begins with each of these
+abbrev pub AreFronts : List Commit → List (List Commit) → Type 0
+AreFronts log [] = Unit {0}
+AreFronts log (front ∷ fronts) = StartsWith log front × AreFronts log fronts
+
+-- what a seat knows is so
+abbrev pub ViewFits : Limits → Board → ℕ → View → Type 0
+ViewFits limits b seat v = AllFit limits b seat v.passes × AreFronts b.log v.fronts
+
+abbrev pub ViewsFit : Limits → Board → List View → Type 0
+ViewsFit limits b views = (seat : ℕ) (v : View) → get_elem? views seat ≡ some v
+    → ViewFits limits b seat v
 
 -- ## The fourth part: the trace
 
 -- The moves lead from the first state to this one, and none after the history of a pass is by it.
-pub record IsTrace (limits : Limits) (w : World) (views : List (List Knowledge)) (trace : List Move) : Type 0 where
-  pub words : ℕ → ℕ → ℕ
-  pub runs : RunsTo limits words trace w
-  pub rests : (seat : ℕ) (v : List Knowledge) → get_elem? views seat ≡ some v → AllRest trace v
+pub record IsTrace (limits : Limits) (w : World) (views : List View) (trace : List Move) : Type 0
+  where
+    pub words : ℕ → ℕ → ℕ
+    pub runs : RunsTo limits words trace w
+    pub rests : (seat : ℕ) (v : View) → get_elem? views seat ≡ some v → AllRest trace v.passes
 
-pub record Stands (limits : Limits) (s : State (Option Ledger) (List Knowledge)) (b : Board) : Type 0 where
+pub record Stands (limits : Limits) (s : State (Option Ledger) View) (b : Board) : Type 0 where
   pub table : ShowsBoard b s
   pub sound : IsSoundBoard limits b
   pub views : ViewsFit limits b s.views
 
-abbrev pub Shows : Limits → State (Option Ledger) (List Knowledge) → Type 0
-Shows limits s = (b : Board) × Stands limits s b × ((trace : List Move) × IsTrace limits b.world s.views trace)
+abbrev pub Shows : Limits → State (Option Ledger) View → Type 0
+Shows limits s = (b : Board) × Stands limits s b
+    × ((trace : List Move) × IsTrace limits b.world s.views trace)
 
--- ## What a history tells
+-- ## What a history says
 
 -- the machine is as the pass knows it
 pub record IsAt (a : Knowledge) (w : World) : Type 0 where
@@ -246,33 +273,96 @@ pub record StoodBefore (a : Knowledge) (move : Move) (history : List Move) : Typ
 
 -- a pass that has seen nothing
 abbrev pub newcomer : Limits → ℕ → ℕ → Knowledge
-newcomer limits steps k = record { number = k; limits = limits; seen = []; mine = []; phase = Idle; image = []; writes = false; scanned = 0; least = 0; published = false; places = []; words = []; held = []; holders = []; steps = steps; history = [] }
+newcomer limits steps k = record {
+  number = k;
+  limits = limits;
+  seen = [];
+  mine = [];
+  phase = Idle;
+  image = [];
+  writes = false;
+  scanned = 0;
+  least = 0;
+  published = false;
+  places = [];
+  words = [];
+  held = [];
+  holders = [];
+  steps = steps;
+  history = [];
+}
 
 -- the passes from k on, so many
 unfoldable pub newcomers : Limits → ℕ → ℕ → ℕ → List Knowledge
 newcomers limits steps k zero = []
 newcomers limits steps k (suc n) = newcomer limits steps k ∷ newcomers limits steps (suc k) n
 
-abbrev pub everyone : Limits → List Knowledge
-everyone limits = newcomers limits 0 0 limits.passes
+-- the view of a seat with this pass, with these two, with none
+abbrev pub alone : Knowledge → View
+alone a = record { passes = a ∷ []; fronts = [] }
+
+abbrev pub beside : Knowledge → Knowledge → View
+beside a c = record { passes = a ∷ c ∷ []; fronts = [] }
+
+abbrev pub empty_view : View
+empty_view = record { passes = []; fronts = [] }
+
+-- that of the seat which has the passes from k on, so many, before they are dealt
+abbrev pub undealt : Limits → ℕ → ℕ → ℕ → View
+undealt limits steps k n = record { passes = newcomers limits steps k n; fronts = [] }
+
+abbrev pub everyone : Limits → View
+everyone limits = undealt limits 0 0 limits.passes
 
 abbrev pub one_step_on : Knowledge → Knowledge
 one_step_on a = record a { steps = a.steps + 1 }
 
 -- the first pass gets a seat of its own
-abbrev pub first_seat : List Knowledge → List Knowledge
-first_seat v = map one_step_on (take 1 v)
+abbrev pub first_seat : View → View
+first_seat v = record { passes = map one_step_on (take 1 v.passes); fronts = [] }
 
-abbrev pub other_seats : List Knowledge → List Knowledge
-other_seats v = map one_step_on (drop 1 v)
+abbrev pub other_seats : View → View
+other_seats v = record { passes = map one_step_on (drop 1 v.passes); fronts = v.fronts }
 
-abbrev pub seats_together : List Knowledge → List Knowledge → List Knowledge
-seats_together v w = map one_step_on v ++ map one_step_on w
+abbrev pub seats_together : View → View → View
+seats_together v w = record {
+  passes = map one_step_on v.passes
+      ++ map one_step_on w.passes;
+  fronts = v.fronts ++ w.fronts;
+}
 
 abbrev pub nobody : Knowledge
 nobody = newcomer (record { pages = 0; passes = 0; commits = 0 }) 0 0
 
--- the pass of a seat that has one
-abbrev pub pass_of : List Knowledge → Knowledge
-pass_of [] = nobody
-pass_of (a ∷ v) = a
+-- the first of these passes, if there is one
+abbrev pub first_of : List Knowledge → Knowledge
+first_of [] = nobody
+first_of (a ∷ v) = a
+
+-- the pass of a seat that has one, and the second if it has two
+abbrev pub pass_of : View → Knowledge
+pass_of v = first_of v.passes
+
+abbrev pub second_of : View → Knowledge
+second_of v = first_of (drop 1 v.passes)
+
+-- ## Witnesses
+
+-- the view of a witness that the journal began so
+abbrev pub witnessing : List Commit → View
+witnessing front = record { passes = []; fronts = front ∷ [] }
+
+-- that of a pass that has taken in a witness's seat
+abbrev pub informed : Knowledge → List Commit → View
+informed a front = record { passes = a ∷ []; fronts = front ∷ [] }
+
+-- the front of a seat that has one
+abbrev pub front_of : View → List Commit
+front_of v = slice_index_or v.fronts 0 []
+
+-- a seat keeps its passes, and a new one has what the first of them has seen
+abbrev pub kept_seat : View → View
+kept_seat v = record v { passes = map one_step_on v.passes }
+
+abbrev pub front_seat : View → View
+front_seat v = witnessing (pass_of v).seen

@@ -1,5 +1,8 @@
--- What each step tells the pass that makes it.
-use Rattle.std.specs.Prelude.{◌≡◌, ◌≢◌, ◌⊎◌, ℕ, zero, suc, ◌+◌, ◌*◌, ◌<◌, ◌≤◌, ◌==◌, true, false, Bool, List, [], ◌∷◌, ◌++◌, length, map, MatchBool, Option, Some, drop, take, min, ◌-◌, if◌then◌else◌, slice_index, slice_set, IsTrue, IsFalse, ◌||◌, Contains}
+-- What the pass that makes a step knows by it.
+use Rattle.std.specs.Prelude.{◌≡◌, ◌≢◌, ◌⊎◌, ℕ, zero, suc, ◌+◌, ◌*◌, ◌<◌, ◌≤◌, ◌==◌, true, false}
+use Rattle.std.specs.Prelude.{Bool, List, [], ◌∷◌, ◌++◌, length, map, MatchBool, Option, Some, take}
+use Rattle.std.specs.Prelude.{min, ◌-◌, if◌then◌else◌, slice_index, slice_set, IsTrue, IsFalse}
+use Rattle.std.specs.Prelude.{◌||◌, Contains}
 use lib.Dec.{ltb}
 use Rattle.atomic_table.specs.Table.{Me, Step}
 use Rattle.be_core.specs.declared.event.Phase.TheVariants.{Idle, Announced, Pinned}
@@ -14,15 +17,21 @@ use Rattle.be_table.specs.declared.limits.Limits.{Limits}
 use Rattle.be_table.specs.declared.pass.Commit.{Commit}
 use Rattle.be_table.specs.declared.pass.Knowledge.{Knowledge}
 use Rattle.be_table.specs.declared.pass.Move.{Move}
-use Rattle.be_table.specs.declared.pass.Move.TheVariants.{Look, Announce, LookAgain, Unpin, Lock, Scan, Fill, Publish, Unlock, Return}
-use Rattle.be_pages.specs.Place.{retired_at, swept_place, is_in_hand, given_place, published_place, place_of, undone_place}
+use Rattle.be_table.specs.declared.pass.View.{View}
+use Rattle.be_table.specs.declared.pass.Move.TheVariants.{Look, Announce, LookAgain, Unpin, Lock}
+use Rattle.be_table.specs.declared.pass.Move.TheVariants.{Scan, Fill, Publish, Unlock, Return}
+use Rattle.be_pages.specs.Place.{retired_at, swept_place, is_in_hand, given_place, published_place}
+use Rattle.be_pages.specs.Place.{place_of, undone_place}
 use Rattle.be_table.specs.Ledger.{shows_taken, shows_free, is_of_next, is_given}
 use Rattle.be_journal.specs.Journal.{HasOperations, Agrees, by_pass, replay}
 use Rattle.be_table.specs.History.{StartsWith, AreOfPasses, IsHistory}
 use Rattle.be_table.specs.Reading.{standing_among, word_of_page}
 use Rattle.be_table.specs.Versions.{at_start, CanSpellEach, SpellsVolume}
-use Rattle.be_table.specs.Trace.{RunsTo, Makes, HasTrace, with_history}
-use Rattle.be_table.specs.Rule.{Reaches, StoodBefore, HasCurrent, announce_word, ledger_places, LeftAreRetired, IsWithin, AreInside, OwnPages, pass_of, one_step_on, current_word, page_at, reach_at, entries, word_place}
+use Rattle.be_table.specs.Trace.{RunsTo, Makes, HasTrace}
+use Rattle.be_table.specs.Rule.{Reaches, StoodBefore, HasCurrent, announce_word, ledger_places}
+use Rattle.be_table.specs.Rule.{LeftAreRetired, IsWithin, AreInside, OwnPages, alone, beside}
+use Rattle.be_table.specs.Rule.{empty_view, front_of, pass_of, second_of, one_step_on, current_word}
+use Rattle.be_table.specs.Rule.{page_at, reach_at, entries, word_place}
 
 -- what is always so of a pass
 pub record IsPass (a : Knowledge) : Type 0 where
@@ -36,24 +45,50 @@ pub record IsPass (a : Knowledge) : Type 0 where
   pub volumes : CanSpellEach a.limits.pages (entries a.seen)
   pub pin : InTime (length a.seen) a.phase
   pub mine : by_pass a.number (entries a.seen) ≡ a.mine
-  pub spelt : (x n : ℕ) → a.phase ≡ Pinned x n → SpellsVolume (reach_at a.seen n) (word_of_page a.image) (page_at a.seen n) (replay (take n (entries a.seen)))
+  pub spelt : (x n : ℕ) → a.phase ≡ Pinned x n
+      → SpellsVolume (reach_at a.seen n) (word_of_page a.image) (page_at a.seen n)
+      (replay (take n (entries a.seen)))
 
 -- a pass after a look that found this journal
 abbrev pub looks : Knowledge → List Commit → Knowledge
-looks a log = record a { seen = log; phase = phase_after_look a.phase (length log); steps = a.steps + 1 }
+looks a log = record a {
+  seen = log;
+  phase = phase_after_look a.phase (length log);
+  steps = a.steps
+      + 1;
+}
 
--- a pass that has the lock now, with the ledger's places and the table's words
+-- a pass that has the lock now, with the places of the writer state and the table's words
 abbrev pub takes_lock : Knowledge → List Commit → List Place → List ℕ → Knowledge
-takes_lock a log places words = record a { seen = log; writes = true; scanned = 0; least = length log; published = false; places = places; words = words; held = []; steps = a.steps + 1 }
+takes_lock a log places words = record a {
+  seen = log;
+  writes = true;
+  scanned = 0;
+  least = length log;
+  published = false;
+  places = places;
+  words = words;
+  held = [];
+  steps = a.steps + 1;
+}
 
 abbrev pub announces : Knowledge → ℕ → Knowledge
 announces a x = record a { phase = Announced x; steps = a.steps + 1 }
 
 abbrev pub pins : Knowledge → ℕ → List Commit → List ℕ → Knowledge
-pins a x log image = record a { seen = log; phase = Pinned x (length log); image = image; steps = a.steps + 1 }
+pins a x log image = record a {
+  seen = log;
+  phase = Pinned x (length log);
+  image = image;
+  steps = a.steps + 1;
+}
 
 abbrev pub unpins : Knowledge → Knowledge
 unpins a = record a { phase = Idle; steps = a.steps + 1 }
+
+-- the pass with this history
+abbrev pub with_history : Knowledge → List Move → Knowledge
+with_history a history = record a { history = history }
 
 -- the least, after an announcement was found
 abbrev pub least_found : ℕ → ℕ → ℕ
@@ -82,7 +117,13 @@ abbrev pub scans_on : Knowledge → ℕ → Knowledge
 scans_on a n = record a { scanned = suc a.scanned; least = least_then a n; steps = a.steps + 1 }
 
 abbrev pub scans_out : Knowledge → ℕ → Knowledge
-scans_out a n = record a { scanned = 0; least = least_then a n; places = map (swept_place (least_then a n)) a.places; held = pages_from is_in_hand 0 a.places; steps = a.steps + 1 }
+scans_out a n = record a {
+  scanned = 0;
+  least = least_then a n;
+  places = map (swept_place (least_then a n)) a.places;
+  held = pages_from is_in_hand 0 a.places;
+  steps = a.steps + 1;
+}
 
 -- the page is in no version from l to the last that was seen
 abbrev pub NoCommitReaches : List Commit → ℕ → ℕ → Type 0
@@ -90,7 +131,8 @@ NoCommitReaches seen l p = (n : ℕ) → l ≤ n → n ≤ length seen → IsFal
 
 -- each page that no version from the least on reaches is free or taken
 abbrev pub UnreachedAreFree : Knowledge → Type 0
-UnreachedAreFree a = (p : ℕ) → p < length a.places → NoCommitReaches a.seen a.least p → IsTrue (shows_free (place_of a.places p) || shows_taken (place_of a.places p))
+UnreachedAreFree a = (p : ℕ) → p < length a.places → NoCommitReaches a.seen a.least p
+    → IsTrue (shows_free (place_of a.places p) || shows_taken (place_of a.places p))
 
 abbrev pub scans : Knowledge → ℕ → Knowledge
 scans a n = if suc a.scanned == a.limits.passes then scans_out a n else scans_on a n
@@ -102,9 +144,14 @@ scans_all a (n ∷ ns) = scans_all (scans a n) ns
 
 -- a word of a page is stored
 abbrev pub fills : Knowledge → ℕ → ℕ → ℕ → Knowledge
-fills a p i x = record a { places = slice_set a.places p Filled; words = slice_set a.words (word_place p i) x; steps = a.steps + 1 }
+fills a p i x = record a {
+  places = slice_set a.places p Filled;
+  words = slice_set a.words (word_place p i) x;
+  steps = a.steps + 1;
+}
 
--- A word of a page is filled: a load tells whether it is there already, and is the fill then; else a store follows.
+-- A word of a page is filled. A load reads whether the word is there already; if so, the load is
+-- the fill. Otherwise a store follows.
 abbrev pub fill_steps : Knowledge → ℕ → ℕ → ℕ → ℕ
 fill_steps a p i x = if slice_index a.words (word_place p i) == x then 1 else 2
 
@@ -117,7 +164,10 @@ takes_page a p = record a { places = slice_set a.places p Reserved; steps = a.st
 
 -- a page is given up. One that the write has taken is free at once
 abbrev pub gives_up : Knowledge → ℕ → Knowledge
-gives_up a p = record a { places = slice_set a.places p (given_place (place_of a.places p)); steps = a.steps + 1 }
+gives_up a p = record a {
+  places = slice_set a.places p (given_place (place_of a.places p));
+  steps = a.steps + 1;
+}
 
 -- a write by this pass
 abbrev pub entry_by : Knowledge → List Op → List Done → Entry
@@ -129,7 +179,15 @@ commit_of a e v = record { entry = e; page = v; reach = pages_from is_of_next 0 
 
 -- a pass with one more entry of its own
 abbrev pub publishes : Knowledge → Entry → ℕ → Knowledge
-publishes a e v = record a { seen = a.seen ++ commit_of a e v ∷ []; mine = a.mine ++ e ∷ []; published = true; places = map (published_place (length a.seen)) a.places; steps = a.steps + 1 }
+publishes a e v = record a {
+  seen = a.seen ++ commit_of a e v ∷ [];
+  mine = a.mine ++ e
+      ∷ [];
+  published = true;
+  places = map (published_place (length a.seen)) a.places;
+  steps = a.steps
+      + 1;
+}
 
 -- a pass that holds the lock may publish this entry, with this version page
 pub record MayPublish (limits : Limits) (a : Knowledge) (e : Entry) (v : ℕ) : Type 0 where
@@ -142,22 +200,28 @@ pub record MayPublish (limits : Limits) (a : Knowledge) (e : Entry) (v : ℕ) : 
   pub inside : v < length a.places
   pub filled : place_of a.places v ≡ Filled
   pub none_reserved : (q : ℕ) → place_of a.places q ≢ Reserved
-  pub spelt : SpellsVolume (pages_from is_of_next 0 a.places) (word_of_page a.words) v (replay (entries a.seen ++ e ∷ []))
+  pub spelt : SpellsVolume (pages_from is_of_next 0 a.places) (word_of_page a.words) v
+      (replay (entries a.seen ++ e ∷ []))
 
 -- a pass that holds the lock may read the announcement of the pass j
-abbrev pub MayReadAnnouncement : Limits → Me (Option Ledger) (List Knowledge) → ℕ → Type 0
-MayReadAnnouncement limits m j = let a = pass_of m.0 in (m.0 ≡ a ∷ []) × (a.writes ≡ true) × (a.published ≡ false) × (a.scanned ≡ j) × (j < limits.passes)
+abbrev pub MayReadAnnouncement : Limits → Me (Option Ledger) View → ℕ → Type 0
+MayReadAnnouncement limits m j = let a = pass_of m.0 in (m.0 ≡ alone a) × (a.writes ≡ true)
+    × (a.published ≡ false) × (a.scanned ≡ j) × (j < limits.passes)
 
 abbrev pub MayBeFilled : List Place → ℕ → Type 0
-MayBeFilled places p = (p < length places) × IsTrue (shows_taken (place_of places p) || shows_free (place_of places p))
+MayBeFilled places p = (p < length places)
+    × IsTrue (shows_taken (place_of places p) || shows_free (place_of places p))
 
 -- the current number was found
-abbrev pub LookTold : Step (Option Ledger) → Me (Option Ledger) (List Knowledge) → ℕ → Me (Option Ledger) (List Knowledge) → Type 0
+abbrev pub LookTold : Step (Option Ledger) → Me (Option Ledger) View → ℕ → Me (Option Ledger) View
+    → Type 0
 LookTold st m n r =
     (log : List Commit) × let a = pass_of m.0 in let c = looks a log in
-    (r ≡ (c ∷ [], m.1)) × StartsWith log a.seen × IsPass c × (n ≡ current_word (length log) (page_at log (length log))) × (page_at log (length log) < 4294967296)
+    (r ≡ (alone c, m.1)) × StartsWith log a.seen × IsPass c
+    × (n ≡ current_word (length log) (page_at log (length log)))
+    × (page_at log (length log) < 4294967296)
 
--- the ledger, as a pass finds it that takes the lock
+-- the writer state, as a pass that takes the lock finds it
 pub record IsFound (ledger : Ledger) (c : Knowledge) : Type 0 where
   pub journal : ledger.journal.entries ≡ entries c.seen
   pub limit : ledger.journal.limit ≡ c.limits.commits
@@ -167,24 +231,29 @@ pub record IsFound (ledger : Ledger) (c : Knowledge) : Type 0 where
   pub left : LeftAreRetired ledger
   pub count : length c.places ≡ c.limits.pages
   pub size : length c.words ≡ 528 + 512 * c.limits.pages
-  pub begun : (q : ℕ) → standing_among c.places q ≡ at_start (has (reach_at c.seen (length c.seen)) q)
-  pub spelt : SpellsVolume (reach_at c.seen (length c.seen)) (word_of_page c.words) (page_at c.seen (length c.seen)) (replay (entries c.seen))
+  pub begun : (q : ℕ) → standing_among c.places q
+      ≡ at_start (has (reach_at c.seen (length c.seen)) q)
+  pub spelt : SpellsVolume (reach_at c.seen (length c.seen)) (word_of_page c.words)
+      (page_at c.seen (length c.seen)) (replay (entries c.seen))
 
 -- the lock was free: the slot is out with the pass, which has seen the journal in it
-abbrev pub Gets : Me (Option Ledger) (List Knowledge) → Me (Option Ledger) (List Knowledge) → Type 0
+abbrev pub Gets : Me (Option Ledger) View → Me (Option Ledger) View → Type 0
 Gets m r =
-    (ledger : Ledger) × (log : List Commit) × (words : List ℕ) × let a = pass_of m.0 in let c = takes_lock a log (ledger_places ledger) words in
-    (r ≡ (c ∷ [], (0, Some ledger) ∷ m.1)) × StartsWith log a.seen × IsPass c × IsFound ledger c
+    (ledger : Ledger) × (log : List Commit) × (words : List ℕ) × let a = pass_of m.0
+    in let c = takes_lock a log (ledger_places ledger) words in
+    (r ≡ (alone c, (0, Some ledger) ∷ m.1)) × StartsWith log a.seen × IsPass c × IsFound ledger c
 
 -- a pass whose try found the pass b holding the lock
 abbrev pub finds_held : Knowledge → ℕ → Knowledge
 finds_held a b = record a { holders = b ∷ a.holders; steps = a.steps + 1 }
 
 -- another pass holds the lock, of whose number the word has one more
-abbrev pub LockIsHeld : Me (Option Ledger) (List Knowledge) → ℕ → Me (Option Ledger) (List Knowledge) → Type 0
-LockIsHeld m n r = let a = pass_of m.0 in (r ≡ (finds_held a (n - 1) ∷ [], m.1)) × (n ≢ a.number + 1) × (n < a.limits.passes + 1)
+abbrev pub LockIsHeld : Me (Option Ledger) View → ℕ → Me (Option Ledger) View → Type 0
+LockIsHeld m n r = let a = pass_of m.0 in (r ≡ (alone (finds_held a (n - 1)), m.1))
+    × (n ≢ a.number + 1) × (n < a.limits.passes + 1)
 
-abbrev pub Locked : Step (Option Ledger) → Me (Option Ledger) (List Knowledge) → ℕ → Me (Option Ledger) (List Knowledge) → Type 0
+abbrev pub Locked : Step (Option Ledger) → Me (Option Ledger) View → ℕ → Me (Option Ledger) View
+    → Type 0
 Locked st m n r = MatchBool (n == 0) (Gets m r) (LockIsHeld m n r)
 
 -- a pass without the lock
@@ -203,14 +272,26 @@ abbrev pub longer : List Commit → List Commit → List Commit
 longer p q = if ltb (length p) (length q) then q else p
 
 -- the two passes of a seat have seen the longer of two journals, which contains the other
-abbrev pub Compared : Step (Option Ledger) → Me (Option Ledger) (List Knowledge) → ℕ → Me (Option Ledger) (List Knowledge) → Type 0
+abbrev pub Compared : Step (Option Ledger) → Me (Option Ledger) View → ℕ → Me (Option Ledger) View
+    → Type 0
 Compared st m n r =
-    let a = pass_of m.0 in let c = pass_of (drop 1 m.0) in let log = longer a.seen c.seen in
-    (r ≡ (having_seen a log ∷ having_seen c log ∷ [], m.1)) × StartsWith log a.seen × StartsWith log c.seen × IsPass (having_seen a log) × IsPass (having_seen c log)
+    let a = pass_of m.0 in let c = second_of m.0 in let log = longer a.seen c.seen in
+    (r ≡ (beside (having_seen a log) (having_seen c log), m.1)) × StartsWith log a.seen
+    × StartsWith log c.seen × IsPass (having_seen a log) × IsPass (having_seen c log)
+
+-- the pass of a seat has seen the longer of what it had seen and the front of its seat, which
+-- contains the other; the seat has no front any more
+abbrev pub Learned : Step (Option Ledger) → Me (Option Ledger) View → ℕ → Me (Option Ledger) View
+    → Type 0
+Learned st m n r =
+    let a = pass_of m.0 in let front = front_of m.0 in let log = longer a.seen front in
+    (r ≡ (alone (having_seen a log), m.1)) × StartsWith log a.seen × StartsWith log front
+    × IsPass (having_seen a log)
 
 -- a new seat has no pass
-abbrev pub Arrived : Step (Option Ledger) → Me (Option Ledger) (List Knowledge) → ℕ → Me (Option Ledger) (List Knowledge) → Type 0
-Arrived st m n r = r ≡ ([], [])
+abbrev pub Arrived : Step (Option Ledger) → Me (Option Ledger) View → ℕ → Me (Option Ledger) View
+    → Type 0
+Arrived st m n r = r ≡ (empty_view, [])
 
 -- one of these passes has the number k
 abbrev pub Has : List Knowledge → ℕ → Type 0
@@ -225,57 +306,90 @@ AllIdle (a ∷ v) = (a.writes ≡ false) × AllIdle v
 -- the journal contains what each has seen, and has of each the entries that it knows
 abbrev pub KeepsSeen : List Entry → List Knowledge → Type 0
 KeepsSeen log [] = Unit {0}
-KeepsSeen log (a ∷ v) = StartsWith log (entries a.seen) × (by_pass a.number log ≡ a.mine) × KeepsSeen log v
+KeepsSeen log (a ∷ v) = StartsWith log (entries a.seen) × (by_pass a.number log ≡ a.mine)
+    × KeepsSeen log v
 
--- the ledger is at home
-abbrev pub Unlocked : Step (Option Ledger) → Me (Option Ledger) (List Knowledge) → ℕ → Me (Option Ledger) (List Knowledge) → Type 0
-Unlocked st m n r = let a = pass_of m.0 in r ≡ (without_lock a ∷ [], [])
+-- the writer state lies in its slot
+abbrev pub Unlocked : Step (Option Ledger) → Me (Option Ledger) View → ℕ → Me (Option Ledger) View
+    → Type 0
+Unlocked st m n r = let a = pass_of m.0 in r ≡ (alone (without_lock a), [])
 
--- the announcement stands
-abbrev pub Told : Step (Option Ledger) → Me (Option Ledger) (List Knowledge) → ℕ → Me (Option Ledger) (List Knowledge) → Type 0
-Told st m n r = let a = pass_of m.0 in r ≡ (announces a (n - 1) ∷ [], m.1)
+-- the announcement is made
+abbrev pub Told : Step (Option Ledger) → Me (Option Ledger) View → ℕ → Me (Option Ledger) View
+    → Type 0
+Told st m n r = let a = pass_of m.0 in r ≡ (alone (announces a (n - 1)), m.1)
 
 -- the pass is pinned at the current number, and has seen the journal up to there
-abbrev pub PinnedAt : Step (Option Ledger) → Me (Option Ledger) (List Knowledge) → ℕ → Me (Option Ledger) (List Knowledge) → Type 0
+abbrev pub PinnedAt : Step (Option Ledger) → Me (Option Ledger) View → ℕ → Me (Option Ledger) View
+    → Type 0
 PinnedAt st m n r =
-    (log : List Commit) × (x : ℕ) × (image : List ℕ) × let a = pass_of m.0 in let c = pins a x log image in
-    (a.phase ≡ Announced x) × (r ≡ (c ∷ [], m.1)) × StartsWith log a.seen × IsPass c × (n ≡ current_word (length log) (page_at log (length log))) × (page_at log (length log) < 4294967296)
+    (log : List Commit) × (x : ℕ) × (image : List ℕ) × let a = pass_of m.0
+    in let c = pins a x log image in
+    (a.phase ≡ Announced x) × (r ≡ (alone c, m.1)) × StartsWith log a.seen × IsPass c
+    × (n ≡ current_word (length log) (page_at log (length log)))
+    × (page_at log (length log) < 4294967296)
 
-abbrev pub Unpinned : Step (Option Ledger) → Me (Option Ledger) (List Knowledge) → ℕ → Me (Option Ledger) (List Knowledge) → Type 0
-Unpinned st m n r = let a = pass_of m.0 in r ≡ (unpins a ∷ [], m.1)
+abbrev pub Unpinned : Step (Option Ledger) → Me (Option Ledger) View → ℕ → Me (Option Ledger) View
+    → Type 0
+Unpinned st m n r = let a = pass_of m.0 in r ≡ (alone (unpins a), m.1)
 
 -- one announcement was found, and of its own the pass finds what it has announced
-abbrev pub Scanned : Step (Option Ledger) → Me (Option Ledger) (List Knowledge) → ℕ → Me (Option Ledger) (List Knowledge) → Type 0
-Scanned st m n r = let a = pass_of m.0 in (r ≡ (scans a n ∷ [], m.1)) × (suc a.scanned ≡ a.limits.passes → UnreachedAreFree (scans_out a n)) × (a.scanned ≡ a.number → n ≡ announce_word a.phase)
+abbrev pub Scanned : Step (Option Ledger) → Me (Option Ledger) View → ℕ → Me (Option Ledger) View
+    → Type 0
+Scanned st m n r = let a = pass_of m.0 in (r ≡ (alone (scans a n), m.1))
+    × (suc a.scanned ≡ a.limits.passes → UnreachedAreFree (scans_out a n))
+    × (a.scanned ≡ a.number → n ≡ announce_word a.phase)
 
 -- a word of the pinned version was found
-abbrev pub PinnedRead : Step (Option Ledger) → Me (Option Ledger) (List Knowledge) → ℕ → Me (Option Ledger) (List Knowledge) → Type 0
-PinnedRead st m n r = let a = pass_of m.0 in (r ≡ (one_step_on a ∷ [], m.1)) × (n ≡ slice_index a.image st.word)
+abbrev pub PinnedRead : Step (Option Ledger) → Me (Option Ledger) View → ℕ → Me (Option Ledger) View
+    → Type 0
+PinnedRead st m n r = let a = pass_of m.0 in (r ≡ (alone (one_step_on a), m.1))
+    × (n ≡ slice_index a.image st.word)
 
 -- a word of a page was found by the holder
-abbrev pub OwnRead : Step (Option Ledger) → Me (Option Ledger) (List Knowledge) → ℕ → Me (Option Ledger) (List Knowledge) → Type 0
-OwnRead st m n r = let a = pass_of m.0 in (r ≡ (one_step_on a ∷ [], m.1)) × (n ≡ slice_index a.words st.word)
+abbrev pub OwnRead : Step (Option Ledger) → Me (Option Ledger) View → ℕ → Me (Option Ledger) View
+    → Type 0
+OwnRead st m n r = let a = pass_of m.0 in (r ≡ (alone (one_step_on a), m.1))
+    × (n ≡ slice_index a.words st.word)
 
-abbrev pub FilledAt : Step (Option Ledger) → Me (Option Ledger) (List Knowledge) → ℕ → Me (Option Ledger) (List Knowledge) → Type 0
-FilledAt st m n r = let a = pass_of m.0 in (p i : ℕ) → st.word ≡ word_place p i → i < 512 → r ≡ (fills a p i n ∷ [], m.1)
+abbrev pub FilledAt : Step (Option Ledger) → Me (Option Ledger) View → ℕ → Me (Option Ledger) View
+    → Type 0
+FilledAt st m n r = let a = pass_of m.0 in (p i : ℕ) → st.word ≡ word_place p i → i < 512 → r
+    ≡ (alone (fills a p i n), m.1)
 
 -- a word of a page was found there, and the page is filled with it
-abbrev pub FilledFound : Step (Option Ledger) → Me (Option Ledger) (List Knowledge) → ℕ → Me (Option Ledger) (List Knowledge) → Type 0
-FilledFound st m n r = let a = pass_of m.0 in ((p i : ℕ) → st.word ≡ word_place p i → i < 512 → r ≡ (fills a p i n ∷ [], m.1)) × (n ≡ slice_index a.words st.word)
+abbrev pub FilledFound : Step (Option Ledger) → Me (Option Ledger) View → ℕ
+    → Me (Option Ledger) View → Type 0
+FilledFound st m n r = let a = pass_of m.0
+    in ((p i : ℕ) → st.word ≡ word_place p i → i < 512 → r ≡ (alone (fills a p i n), m.1))
+    × (n ≡ slice_index a.words st.word)
 
 -- the page is taken or given up, at its first word
-abbrev pub PageTaken : Step (Option Ledger) → Me (Option Ledger) (List Knowledge) → ℕ → Me (Option Ledger) (List Knowledge) → Type 0
-PageTaken st m n r = let a = pass_of m.0 in ((p : ℕ) → st.word ≡ word_place p 0 → r ≡ (takes_page a p ∷ [], m.1)) × (n ≡ slice_index a.words st.word)
+abbrev pub PageTaken : Step (Option Ledger) → Me (Option Ledger) View → ℕ → Me (Option Ledger) View
+    → Type 0
+PageTaken st m n r = let a = pass_of m.0
+    in ((p : ℕ) → st.word ≡ word_place p 0 → r ≡ (alone (takes_page a p), m.1))
+    × (n ≡ slice_index a.words st.word)
 
-abbrev pub PageGivenUp : Step (Option Ledger) → Me (Option Ledger) (List Knowledge) → ℕ → Me (Option Ledger) (List Knowledge) → Type 0
-PageGivenUp st m n r = let a = pass_of m.0 in (p : ℕ) → st.word ≡ word_place p 0 → r ≡ (gives_up a p ∷ [], m.1)
+abbrev pub PageGivenUp : Step (Option Ledger) → Me (Option Ledger) View → ℕ
+    → Me (Option Ledger) View → Type 0
+PageGivenUp st m n r = let a = pass_of m.0 in (p : ℕ) → st.word ≡ word_place p 0 → r
+    ≡ (alone (gives_up a p), m.1)
 
 -- the pass s is what a became by j announcements of a scan, of which this is the least
 pub record IsPart (passes : ℕ) (a s : Knowledge) (j least : ℕ) : Type 0 where
-  pub same : s ≡ record a { scanned = s.scanned; least = s.least; places = s.places; held = s.held; steps = s.steps; history = s.history }
+  pub same : s ≡ record a {
+    scanned = s.scanned;
+    least = s.least;
+    places = s.places;
+    held = s.held;
+    steps = s.steps;
+    history = s.history;
+  }
   pub turn : j < passes → s.scanned ≡ j
   pub waits : j < passes → s.places ≡ a.places
-  pub whole : j ≡ passes → (s.scanned ≡ 0) × (s.places ≡ map (swept_place least) a.places) × (s.held ≡ pages_from is_in_hand 0 a.places) × UnreachedAreFree s
+  pub whole : j ≡ passes → (s.scanned ≡ 0) × (s.places ≡ map (swept_place least) a.places)
+      × (s.held ≡ pages_from is_in_hand 0 a.places) × UnreachedAreFree s
   pub begins : j ≡ 0 → least ≡ length a.seen
   pub so_far : 0 < j → s.least ≡ least
 
@@ -291,88 +405,125 @@ IsOwnLeast a least = (least ≤ own_least a) × (a.limits.passes ≡ 1 → least
 abbrev pub NoneRetiredLater : Knowledge → Type 0
 NoneRetiredLater a = (q : ℕ) → retired_at a.places q ≤ length a.seen
 
-abbrev pub Published : Entry → ℕ → Step (Option Ledger) → Me (Option Ledger) (List Knowledge) → ℕ → Me (Option Ledger) (List Knowledge) → Type 0
-Published e v st m n r = let a = pass_of m.0 in (r ≡ (publishes a e v ∷ [], m.1)) × IsPass (publishes a e v) × NoneRetiredLater a
+abbrev pub Published : Entry → ℕ → Step (Option Ledger) → Me (Option Ledger) View → ℕ
+    → Me (Option Ledger) View → Type 0
+Published e v st m n r = let a = pass_of m.0 in (r ≡ (alone (publishes a e v), m.1))
+    × IsPass (publishes a e v) × NoneRetiredLater a
 
 -- ## The moves of the steps
 
--- A step makes this move: the history of the pass ends with it, the machine is then as the pass knows it, and the rest is told of the pass with this history
-abbrev pub Moving : Move → (World → Type 0) → (Me (Option Ledger) (List Knowledge) → Me (Option Ledger) (List Knowledge) → Type 0) → Me (Option Ledger) (List Knowledge) → Me (Option Ledger) (List Knowledge) → Type 0
+-- A step makes this move: the history of the pass ends with it, the machine is then as the pass
+-- knows it, and the other facts hold of the pass with this history
+abbrev pub Moving : Move → (World → Type 0)
+    → (Me (Option Ledger) View → Me (Option Ledger) View → Type 0) → Me (Option Ledger) View
+    → Me (Option Ledger) View → Type 0
 Moving move so told m r =
-    let a = pass_of m.0 in (h : List Move) × Makes a.number a.history (move ∷ []) h × Reaches (pass_of r.0) so × told (with_history a h ∷ [], m.1) r
+    let a = pass_of m.0 in (h : List Move) × Makes a.number a.history (move ∷ []) h
+    × Reaches (pass_of r.0) so × told (alone (with_history a h), m.1) r
 
-abbrev pub LookMoves : Step (Option Ledger) → Me (Option Ledger) (List Knowledge) → ℕ → Me (Option Ledger) (List Knowledge) → Type 0
-LookMoves st m n r = Moving (Look (pass_of m.0).number) (HasCurrent n) (λ m r. LookTold st m n r) m r
+abbrev pub LookMoves : Step (Option Ledger) → Me (Option Ledger) View → ℕ → Me (Option Ledger) View
+    → Type 0
+LookMoves st m n r = Moving (Look (pass_of m.0).number) (HasCurrent n) (λ m r. LookTold st m n r) m
+    r
 
-abbrev pub AnnounceMoves : Step (Option Ledger) → Me (Option Ledger) (List Knowledge) → ℕ → Me (Option Ledger) (List Knowledge) → Type 0
-AnnounceMoves st m n r = Moving (Announce (pass_of m.0).number) (λ w. Unit {0}) (λ m r. Told st m n r) m r
+abbrev pub AnnounceMoves : Step (Option Ledger) → Me (Option Ledger) View → ℕ
+    → Me (Option Ledger) View → Type 0
+AnnounceMoves st m n r = Moving (Announce (pass_of m.0).number) (λ w. Unit {0})
+    (λ m r. Told st m n r) m r
 
-abbrev pub LookAgainMoves : Step (Option Ledger) → Me (Option Ledger) (List Knowledge) → ℕ → Me (Option Ledger) (List Knowledge) → Type 0
-LookAgainMoves st m n r = Moving (LookAgain (pass_of m.0).number) (HasCurrent n) (λ m r. PinnedAt st m n r) m r
+abbrev pub LookAgainMoves : Step (Option Ledger) → Me (Option Ledger) View → ℕ
+    → Me (Option Ledger) View → Type 0
+LookAgainMoves st m n r = Moving (LookAgain (pass_of m.0).number) (HasCurrent n)
+    (λ m r. PinnedAt st m n r) m r
 
-abbrev pub UnpinMoves : Step (Option Ledger) → Me (Option Ledger) (List Knowledge) → ℕ → Me (Option Ledger) (List Knowledge) → Type 0
-UnpinMoves st m n r = Moving (Unpin (pass_of m.0).number) (λ w. Unit {0}) (λ m r. Unpinned st m n r) m r
+abbrev pub UnpinMoves : Step (Option Ledger) → Me (Option Ledger) View → ℕ → Me (Option Ledger) View
+    → Type 0
+UnpinMoves st m n r = Moving (Unpin (pass_of m.0).number) (λ w. Unit {0}) (λ m r. Unpinned st m n r)
+    m r
 
 -- a try that finds the lock held is no move
-abbrev pub LockMoves : Step (Option Ledger) → Me (Option Ledger) (List Knowledge) → ℕ → Me (Option Ledger) (List Knowledge) → Type 0
-LockMoves st m n r = MatchBool (n == 0) (Moving (Lock (pass_of m.0).number) (λ w. Unit {0}) Gets m r) (LockIsHeld m n r)
+abbrev pub LockMoves : Step (Option Ledger) → Me (Option Ledger) View → ℕ → Me (Option Ledger) View
+    → Type 0
+LockMoves st m n r = MatchBool (n == 0)
+    (Moving (Lock (pass_of m.0).number) (λ w. Unit {0}) Gets m r) (LockIsHeld m n r)
 
 -- two passes of one seat compare what they have seen, and their histories are fronts of one trace
-abbrev pub CompareMoves : Step (Option Ledger) → Me (Option Ledger) (List Knowledge) → ℕ → Me (Option Ledger) (List Knowledge) → Type 0
-CompareMoves st m n r = let a = pass_of m.0 in let c = pass_of (drop 1 m.0) in Compared st m n r × HasTrace a.limits (a ∷ c ∷ [])
+abbrev pub CompareMoves : Step (Option Ledger) → Me (Option Ledger) View → ℕ
+    → Me (Option Ledger) View → Type 0
+CompareMoves st m n r = let a = pass_of m.0 in let c = second_of m.0 in Compared st m n r
+    × HasTrace a.limits (a ∷ c ∷ [])
 
--- the number found is the announcement of the pass whose turn it is, and just before the machine was as the pass knew it
-abbrev pub ScanMoves : Step (Option Ledger) → Me (Option Ledger) (List Knowledge) → ℕ → Me (Option Ledger) (List Knowledge) → Type 0
+-- the number found is the announcement of the pass whose turn it is, and just before the machine
+-- was as the pass knew it
+abbrev pub ScanMoves : Step (Option Ledger) → Me (Option Ledger) View → ℕ → Me (Option Ledger) View
+    → Type 0
 ScanMoves st m n r =
-    let a = pass_of m.0 in (h : List Move) × Makes a.number a.history (Scan a.number a.scanned ∷ []) h × Reaches (pass_of r.0) (λ w. n ≡ announce_word (w.phases a.scanned))
-    × (Scanned st (with_history a h ∷ [], m.1) n r × StoodBefore a (Scan a.number a.scanned) h)
+    let a = pass_of m.0 in (h : List Move)
+    × Makes a.number a.history (Scan a.number a.scanned ∷ []) h
+    × Reaches (pass_of r.0) (λ w. n ≡ announce_word (w.phases a.scanned))
+    × (Scanned st (alone (with_history a h), m.1) n r × StoodBefore a (Scan a.number a.scanned) h)
 
-abbrev pub FillMoves : Step (Option Ledger) → Me (Option Ledger) (List Knowledge) → ℕ → Me (Option Ledger) (List Knowledge) → Type 0
+abbrev pub FillMoves : Step (Option Ledger) → Me (Option Ledger) View → ℕ → Me (Option Ledger) View
+    → Type 0
 FillMoves st m n r =
     let a = pass_of m.0 in (p i : ℕ) → st.word ≡ word_place p i → i < 512
-    → (h : List Move) × Makes a.number a.history (Fill a.number p i n ∷ []) h × (r ≡ (fills (with_history a h) p i n ∷ [], m.1))
+    → (h : List Move) × Makes a.number a.history (Fill a.number p i n ∷ []) h
+    × (r ≡ (alone (fills (with_history a h) p i n), m.1))
 
-abbrev pub FoundFillMoves : Step (Option Ledger) → Me (Option Ledger) (List Knowledge) → ℕ → Me (Option Ledger) (List Knowledge) → Type 0
+abbrev pub FoundFillMoves : Step (Option Ledger) → Me (Option Ledger) View → ℕ
+    → Me (Option Ledger) View → Type 0
 FoundFillMoves st m n r = FillMoves st m n r × (n ≡ slice_index (pass_of m.0).words st.word)
 
 -- a page is taken by a load of its first word, which is the fill of the word that is there
 abbrev pub take_moves : Knowledge → ℕ → List Move
 take_moves a p = Fill a.number p 0 (slice_index a.words (word_place p 0)) ∷ []
 
-abbrev pub TakeMoves : Step (Option Ledger) → Me (Option Ledger) (List Knowledge) → ℕ → Me (Option Ledger) (List Knowledge) → Type 0
+abbrev pub TakeMoves : Step (Option Ledger) → Me (Option Ledger) View → ℕ → Me (Option Ledger) View
+    → Type 0
 TakeMoves st m n r =
-    let a = pass_of m.0 in ((p : ℕ) → st.word ≡ word_place p 0 → (h : List Move) × Makes a.number a.history (Fill a.number p 0 n ∷ []) h × (r ≡ (takes_page (with_history a h) p ∷ [], m.1)))
+    let a = pass_of m.0 in ((p : ℕ) → st.word ≡ word_place p 0 → (h : List Move)
+    × Makes a.number a.history (Fill a.number p 0 n ∷ []) h
+    × (r ≡ (alone (takes_page (with_history a h) p), m.1)))
     × (n ≡ slice_index a.words st.word)
 
--- a word of a page is filled with what is there, and then with x where that is another
+-- a word of a page is filled with what is there, and then with x if that is another
 abbrev pub fill_moves : Knowledge → ℕ → ℕ → ℕ → List Move
-fill_moves a p i x = let found = slice_index a.words (word_place p i) in Fill a.number p i found ∷ (if found == x then [] else Fill a.number p i x ∷ [])
+fill_moves a p i x = let found = slice_index a.words (word_place p i) in Fill a.number p i found
+    ∷ (if found == x then [] else Fill a.number p i x ∷ [])
 
--- a page that the write had taken goes back to the free ones, and of another that is given up the machine knows nothing yet
+-- a page that the write had taken goes back to the free ones, and of another that is given up the
+-- machine knows nothing yet
 abbrev pub given_moves : Knowledge → ℕ → List Move
 given_moves a p = if shows_taken (place_of a.places p) then Return a.number p ∷ [] else []
 
-abbrev pub GiveUpMoves : Step (Option Ledger) → Me (Option Ledger) (List Knowledge) → ℕ → Me (Option Ledger) (List Knowledge) → Type 0
+abbrev pub GiveUpMoves : Step (Option Ledger) → Me (Option Ledger) View → ℕ
+    → Me (Option Ledger) View → Type 0
 GiveUpMoves st m n r =
     let a = pass_of m.0 in (p : ℕ) → st.word ≡ word_place p 0
-    → (h : List Move) × Makes a.number a.history (given_moves a p) h × (r ≡ (gives_up (with_history a h) p ∷ [], m.1))
+    → (h : List Move) × Makes a.number a.history (given_moves a p) h
+    × (r ≡ (alone (gives_up (with_history a h) p), m.1))
 
 -- the pages that the write gives up
 abbrev pub given_of : Knowledge → List ℕ
 given_of a = pages_from is_given 0 a.places
 
-abbrev pub PublishMoves : Entry → ℕ → Step (Option Ledger) → Me (Option Ledger) (List Knowledge) → ℕ → Me (Option Ledger) (List Knowledge) → Type 0
-PublishMoves e v st m n r = let a = pass_of m.0 in Moving (Publish a.number v (given_of a)) (λ w. Unit {0}) (λ m r. Published e v st m n r) m r
+abbrev pub PublishMoves : Entry → ℕ → Step (Option Ledger) → Me (Option Ledger) View → ℕ
+    → Me (Option Ledger) View → Type 0
+PublishMoves e v st m n r = let a = pass_of m.0
+    in Moving (Publish a.number v (given_of a)) (λ w. Unit {0}) (λ m r. Published e v st m n r) m r
 
-abbrev pub UnlockMoves : Step (Option Ledger) → Me (Option Ledger) (List Knowledge) → ℕ → Me (Option Ledger) (List Knowledge) → Type 0
-UnlockMoves st m n r = Moving (Unlock (pass_of m.0).number) (λ w. Unit {0}) (λ m r. Unlocked st m n r) m r
+abbrev pub UnlockMoves : Step (Option Ledger) → Me (Option Ledger) View → ℕ
+    → Me (Option Ledger) View → Type 0
+UnlockMoves st m n r = Moving (Unlock (pass_of m.0).number) (λ w. Unit {0})
+    (λ m r. Unlocked st m n r) m r
 
 -- the scans of the pass k, up to the announcement before the j-th
 abbrev pub scans_of : ℕ → ℕ → List Move
 scans_of k zero = []
 scans_of k (suc j) = scans_of k j ++ Scan k j ∷ []
 
--- The j-th of the scans that the pass k made after `before` finds this word: it is the announcement of the pass j in the machine after the moves up to that scan.
+-- The j-th of the scans that the pass k made after `before` finds this word: it is the announcement
+-- of the pass j in the machine after the moves up to that scan.
 pub record FoundAt (limits : Limits) (k : ℕ) (before after : List Move) (j word : ℕ) : Type 0 where
   pub upto : List Move
   pub front : StartsWith after upto
@@ -384,4 +535,5 @@ pub record FoundAt (limits : Limits) (k : ℕ) (before after : List Move) (j wor
 
 -- each of these words is found by its scan
 abbrev pub AreFound : Limits → ℕ → List Move → List Move → List ℕ → Type 0
-AreFound limits k before after found = (j : ℕ) → j < length found → FoundAt limits k before after j (slice_index found j)
+AreFound limits k before after found = (j : ℕ) → j < length found
+    → FoundAt limits k before after j (slice_index found j)

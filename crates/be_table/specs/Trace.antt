@@ -1,11 +1,17 @@
 -- The trace of a table: the moves that its machine has made so far.
-use Rattle.std.specs.Prelude.{◌≡◌, ◌≢◌, ◌==◌, if◌then◌else◌, ℕ, Bool, false, List, [], ◌∷◌, ◌++◌, Some, IsTrue}
+use Rattle.std.specs.Prelude.{◌≡◌, ◌≢◌, ◌==◌, if◌then◌else◌, ℕ, Bool, false, List, [], ◌∷◌, ◌++◌}
+use Rattle.std.specs.Prelude.{Some, IsTrue}
 use Rattle.std.specs.List.{list_any}
-use Rattle.be_core.specs.Machine.{World, Holder, first_state, MayLook, MayAnnounce, MayLookAgain, MayUnpin, MayLock, MayScan, MayFill, MayPublish, MayUnlock, after_look, after_announce, after_look_again, after_unpin, after_lock, after_scan, after_fill, after_publish, after_unlock, after_return}
+use Rattle.be_core.specs.Machine.{World, Holder, first_state, MayLook, MayAnnounce, MayLookAgain}
+use Rattle.be_core.specs.Machine.{MayUnpin, MayLock, MayScan, MayFill, MayPublish, MayUnlock}
+use Rattle.be_core.specs.Machine.{after_look, after_announce, after_look_again, after_unpin}
+use Rattle.be_core.specs.Machine.{after_lock, after_scan, after_fill, after_publish, after_unlock}
+use Rattle.be_core.specs.Machine.{after_return}
 use Rattle.be_table.specs.declared.limits.Limits.{Limits}
 use Rattle.be_table.specs.declared.pass.Knowledge.{Knowledge}
 use Rattle.be_table.specs.declared.pass.Move.{Move}
-use Rattle.be_table.specs.declared.pass.Move.TheVariants.{Look, Announce, LookAgain, Unpin, Lock, Scan, Fill, Publish, Unlock, Return}
+use Rattle.be_table.specs.declared.pass.Move.TheVariants.{Look, Announce, LookAgain, Unpin, Lock}
+use Rattle.be_table.specs.declared.pass.Move.TheVariants.{Scan, Fill, Publish, Unlock, Return}
 
 -- the pass that makes the move
 abbrev pub mover : Move → ℕ
@@ -48,14 +54,15 @@ after_move w (Publish k page given) = after_publish w given
 after_move w (Unlock k) = after_unlock w
 after_move w (Return k p) = after_return w p
 
--- the moves, one after another, lead from w to w', and each is allowed where it stands
+-- the moves, one after another, lead from w to w', and each is allowed when it is made
 abbrev pub Run : World → List Move → World → Type 0
 Run w [] w' = w' ≡ w
 Run w (m ∷ ms) w' = MayMove w m × Run (after_move w m) ms w'
 
 -- from the start of a table with these words in its pages
 abbrev pub RunsTo : Limits → (ℕ → ℕ → ℕ) → List Move → World → Type 0
-RunsTo limits words moves w = Run (first_state limits.pages limits.passes limits.commits words) moves w
+RunsTo limits words moves w = Run (first_state limits.pages limits.passes limits.commits words)
+    moves w
 
 -- a list of moves that the machine makes from its first state, whatever words the pages then have
 abbrev pub IsRun : Limits → List Move → Type 0
@@ -66,10 +73,12 @@ abbrev pub NoneBy : ℕ → List Move → Type 0
 NoneBy k [] = Unit {0}
 NoneBy k (m ∷ ms) = (mover m ≢ k) × NoneBy k ms
 
--- The pass k makes these moves one after another, each after moves of others, and so its history goes from `old` to `new`.
+-- The pass k makes these moves one after another, each after moves of others, and so its history
+-- goes from `old` to `new`.
 abbrev pub Makes : ℕ → List Move → List Move → List Move → Type 0
 Makes k old [] new = new ≡ old
-Makes k old (m ∷ ms) new = (others : List Move) × NoneBy k others × Makes k ((old ++ others) ++ m ∷ []) ms new
+Makes k old (m ∷ ms) new = (others : List Move) × NoneBy k others
+    × Makes k ((old ++ others) ++ m ∷ []) ms new
 
 -- since its history the pass k has made no move
 abbrev pub Rests : ℕ → List Move → List Move → Type 0
@@ -80,15 +89,12 @@ abbrev pub AllRest : List Move → List Knowledge → Type 0
 AllRest trace [] = Unit {0}
 AllRest trace (a ∷ v) = Rests a.number a.history trace × AllRest trace v
 
--- One list of moves, of which the history of each of these passes is a front with no move of that pass after it.
+-- One list of moves, of which the history of each of these passes is a front with no move of that
+-- pass after it.
 pub record HasTrace (limits : Limits) (passes : List Knowledge) : Type 0 where
   pub trace : List Move
   pub runs : IsRun limits trace
   pub rests : AllRest trace passes
-
--- the pass with this history
-abbrev pub with_history : Knowledge → List Move → Knowledge
-with_history a history = record a { history = history }
 
 -- ## Between a lock and its unlock
 

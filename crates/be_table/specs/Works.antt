@@ -1,5 +1,6 @@
 -- What is true of each table and of each open write, and what calls promise.
-use Rattle.std.specs.Prelude.{◌≡◌, ◌≢◌, ◌⊎◌, ℕ, ◌+◌, ◌<◌, false, List, [], ◌∷◌, length, map, count_by, IsTrue}
+use Rattle.std.specs.Prelude.{◌≡◌, ◌≢◌, ◌⊎◌, ℕ, ◌+◌, ◌<◌, false, List, [], ◌∷◌, length, map}
+use Rattle.std.specs.Prelude.{count_by, IsTrue}
 use Rattle.atomic_table.specs.Seated.{TableId}
 use Rattle.be_journal.specs.declared.entries.Entry.{Entry}
 use Rattle.be_table.specs.declared.limits.Limits.{Limits}
@@ -9,26 +10,35 @@ use Rattle.be_table.specs.declared.pass.Move.TheVariants.{Look, LookAgain, Lock}
 use Rattle.be_core.specs.Machine.{has}
 use Rattle.be_core.specs.declared.event.Phase.TheVariants.{Announced}
 use Rattle.be_value.specs.declared.refusals.Refusal.{Refusal}
-use Rattle.be_value.specs.declared.refusals.Refusal.TheVariants.{Busy, CommitsSpent, OutOfMemory, BadLimits}
+use Rattle.be_value.specs.declared.refusals.Refusal.TheVariants.{Busy, CommitsSpent, OutOfMemory}
+use Rattle.be_value.specs.declared.refusals.Refusal.TheVariants.{BadLimits}
 use Rattle.be_table.specs.History.{StartsWith}
 use Rattle.be_pages.specs.declared.page_pool.Place.TheVariants.{Free}
 use Rattle.be_pages.specs.Place.{undone_place, swept_place, place_of, is_in_hand, is_retired}
-use Rattle.be_table.specs.Place.{SeatFacts, Opened, Work}
+use Rattle.be_table.specs.Place.{SeatFacts, WitnessFacts, Opened, Work}
 use Rattle.be_table.specs.Reading.{standing_among, word_of_page}
 use Rattle.be_table.specs.Versions.{at_start, SpellsVolume}
 use Rattle.be_journal.specs.Journal.{replay}
-use Rattle.be_table.specs.Trace.{AllRest, Makes, upto_lock, with_history}
+use Rattle.be_table.specs.Trace.{AllRest, Makes, upto_lock}
 use Rattle.be_table.specs.Rule.{Reaches, AreBad, IsWithin, entries, page_at, reach_at, newcomer}
-use Rattle.be_table.specs.Steps.{Has, AllIdle, KeepsSeen, IsPass, looks, finds_held, takes_lock, pins, takes_page, take_moves, scans_all, IsLeastAnnounced, IsOwnLeast, pages_from, UnreachedAreFree, NoCommitReaches, AreFound, scans_of}
+use Rattle.be_table.specs.Steps.{Has, AllIdle, KeepsSeen, IsPass, looks, finds_held, takes_lock}
+use Rattle.be_table.specs.Steps.{pins, takes_page, take_moves, scans_all, IsLeastAnnounced}
+use Rattle.be_table.specs.Steps.{IsOwnLeast, pages_from, UnreachedAreFree, NoCommitReaches}
+use Rattle.be_table.specs.Steps.{AreFound, scans_of, with_history}
 
 -- a seat of this table
 abbrev pub IsSeatOf : Opened → SeatFacts → Type 0
 IsSeatOf t s = (s.blank ≡ false) × (s.table ≡ t.id) × (s.knows.limits ≡ t.limits)
 
+-- a witness of this table
+abbrev pub IsWitnessOf : Opened → WitnessFacts → Type 0
+IsWitnessOf t w = (w.blank ≡ false) × (w.table ≡ t.id)
+
 -- seats of this table, of passes that have seen nothing, from the pass k on
 abbrev pub AreNewAt : TableId → Limits → ℕ → List SeatFacts → Type 0
 AreNewAt id limits k [] = Unit {0}
-AreNewAt id limits k (s ∷ ss) = ((s.blank ≡ false) × (s.table ≡ id) × (s.knows ≡ newcomer limits (k + 1) k)) × AreNewAt id limits (k + 1) ss
+AreNewAt id limits k (s ∷ ss) = ((s.blank ≡ false) × (s.table ≡ id)
+    × (s.knows ≡ newcomer limits (k + 1) k)) × AreNewAt id limits (k + 1) ss
 
 abbrev pub AreNew : Opened → ℕ → List SeatFacts → Type 0
 AreNew t k ss = AreNewAt t.id t.limits k ss
@@ -46,7 +56,7 @@ pub record Moves (a : Knowledge) (own : List Move) (c : Knowledge) : Type 0 wher
   pub made : Makes a.number a.history own c.history
   pub at : Reaches c (λ w. Unit {0})
 
--- the same, where the pass has seen the journal up to the current number
+-- the same, if the pass has seen the journal up to the current number
 pub record MovesNow (a : Knowledge) (own : List Move) (c : Knowledge) : Type 0 where
   pub made : Makes a.number a.history own c.history
   pub at : Reaches c (λ w. w.current ≡ length c.seen)
@@ -65,37 +75,56 @@ pub record TakesLock (a c : Knowledge) : Type 0 where
   pub moves : Moves a (Lock a.number ∷ []) c
   pub same : c ≡ takes_lock (with_history a c.history) c.seen c.places c.words
   pub idle : map undone_place c.places ≡ c.places
-  pub begun : (q : ℕ) → standing_among c.places q ≡ at_start (has (reach_at c.seen (length c.seen)) q)
-  pub spelt : SpellsVolume (reach_at c.seen (length c.seen)) (word_of_page c.words) (page_at c.seen (length c.seen)) (replay (entries c.seen))
+  pub begun : (q : ℕ) → standing_among c.places q
+      ≡ at_start (has (reach_at c.seen (length c.seen)) q)
+  pub spelt : SpellsVolume (reach_at c.seen (length c.seen)) (word_of_page c.words)
+      (page_at c.seen (length c.seen)) (replay (entries c.seen))
   pub pass : IsPass c
 
 -- the pass, which had announced x, is pinned at the current number
 pub record PinsCurrent (a c : Knowledge) : Type 0 where
   pub more : StartsWith c.seen a.seen
   pub moves : MovesNow a (LookAgain a.number ∷ []) c
-  pub same : (x : ℕ) × (a.phase ≡ Announced x) × (c ≡ pins (with_history a c.history) x c.seen c.image)
+  pub same : (x : ℕ) × (a.phase ≡ Announced x)
+      × (c ≡ pins (with_history a c.history) x c.seen c.image)
   pub pass : IsPass c
 
--- the pass made one try, which found that another pass of the table holds the lock; the refusal names that pass
+-- the pass made one try, which found that another pass of the table holds the lock; the refusal
+-- names that pass
 abbrev pub FoundHeld : Refusal → Knowledge → Knowledge → Type 0
-FoundHeld r a c = (b : ℕ) × (r ≡ Busy b) × (b < a.limits.passes) × (b ≢ a.number) × (c ≡ finds_held a b)
+FoundHeld r a c = (b : ℕ) × (r ≡ Busy b) × (b < a.limits.passes) × (b ≢ a.number)
+    × (c ≡ finds_held a b)
 
 -- why an entry has no room
 abbrev pub HasNoRoom : Refusal → Knowledge → Type 0
-HasNoRoom r a = ((r ≡ CommitsSpent) × (length a.seen ≡ a.limits.commits)) ⊎ ((r ≡ OutOfMemory) × (length a.seen < a.limits.commits))
+HasNoRoom r a = ((r ≡ CommitsSpent) × (length a.seen ≡ a.limits.commits))
+    ⊎ ((r ≡ OutOfMemory) × (length a.seen < a.limits.commits))
 
 -- the write has made a whole scan, with this least
 pub record MakesScan (old new : Work) (least : ℕ) : Type 0 where
-  pub by : (found : List ℕ) × (length found ≡ old.knows.limits.passes) × (new.knows ≡ with_history (scans_all old.knows found) new.knows.history) × IsLeastAnnounced (length old.knows.seen) found least
+  pub by : (found : List ℕ) × (length found ≡ old.knows.limits.passes)
+      × (new.knows ≡ with_history (scans_all old.knows found) new.knows.history)
+      × IsLeastAnnounced (length old.knows.seen) found least
       × AreFound old.knows.limits old.knows.number old.knows.history new.knows.history found
-  pub moves : Makes old.knows.number old.knows.history (scans_of old.knows.number old.knows.limits.passes) new.knows.history
+  pub moves : Makes old.knows.number old.knows.history
+      (scans_of old.knows.number old.knows.limits.passes) new.knows.history
   pub least_is : new.knows.least ≡ least
   pub own : IsOwnLeast old.knows least
   pub places : new.knows.places ≡ map (swept_place least) old.knows.places
   pub held : new.knows.held ≡ pages_from is_in_hand 0 old.knows.places
   pub leaves : UnreachedAreFree new.knows
   pub left : new.left ≡ count_by is_retired new.knows.places
-  pub same : new ≡ record old { knows = record old.knows { scanned = 0; least = least; places = new.knows.places; held = new.knows.held; steps = new.knows.steps; history = new.knows.history }; left = new.left }
+  pub same : new ≡ record old {
+    knows = record old.knows {
+      scanned = 0;
+      least = least;
+      places = new.knows.places;
+      held = new.knows.held;
+      steps = new.knows.steps;
+      history = new.knows.history;
+    };
+    left = new.left;
+  }
 
 -- no page is free
 abbrev pub HasNoFree : Work → Type 0
@@ -105,7 +134,7 @@ HasNoFree w = (p : ℕ) → p < length w.knows.places → place_of w.knows.place
 abbrev pub HasReasonToScan : Work → Type 0
 HasReasonToScan w = HasNoFree w ⊎ (upto_lock w.knows.number w.knows.history ≡ w.knows.history)
 
--- a free page is taken, and a whole scan comes before that only where none was free
+-- a free page is taken, and a whole scan comes before that only if none was free
 pub record TakesPage (old new : Work) (page : ℕ) : Type 0 where
   pub between : Work
   pub scan : (between ≡ old) ⊎ ((least : ℕ) × MakesScan old between least)
@@ -113,14 +142,21 @@ pub record TakesPage (old new : Work) (page : ℕ) : Type 0 where
   pub inside : page < length between.knows.places
   pub small : page < 16384
   pub free : place_of between.knows.places page ≡ Free
-  pub taken : new ≡ record between { knows = takes_page (with_history between.knows new.knows.history) page }
-  pub moves : Makes between.knows.number between.knows.history (take_moves between.knows page) new.knows.history
+  pub taken : new ≡ record between {
+    knows = takes_page
+        (with_history between.knows new.knows.history) page;
+  }
+  pub moves : Makes between.knows.number between.knows.history (take_moves between.knows page)
+      new.knows.history
 
 -- of the pages that no version from the least on reaches, each is held by the write
 abbrev pub HoldsUnreached : Knowledge → ℕ → Type 0
-HoldsUnreached a least = (p : ℕ) → p < a.limits.pages → NoCommitReaches a.seen least p → IsTrue (has a.held p)
+HoldsUnreached a least = (p : ℕ) → p < a.limits.pages → NoCommitReaches a.seen least p
+    → IsTrue (has a.held p)
 
--- This is the least of the write's last whole scan, and of the pages that no version from there on reaches the write held each. It is no more than the current number and what the pass has announced; and of the only pass it is the least of the two.
+-- This is the least of the write's last whole scan, and of the pages that no version from there on
+-- reaches the write held each. It is no more than the current number and what the pass has
+-- announced; and of the only pass it is the least of the two.
 abbrev pub IsSpent : Knowledge → ℕ → Type 0
 IsSpent a least = (least ≡ a.least) × HoldsUnreached a least × IsOwnLeast a least
 

@@ -2,18 +2,24 @@
 use Rattle.std.specs.Prelude.{◌≡◌, ◌+◌, ◌*◌, ◌<◌, true, false, [], ◌∷◌, None, length}
 use Rattle.be_table.specs.declared.writing.Writing.TheInside.{Inside}
 use Rattle.be_table.specs.Place.{Work}
-use Rattle.be_table.specs.Rule.{pass_of, entries, page_at, ledger_places, LeftAreRetired}
+use Rattle.be_table.specs.Rule.{alone, pass_of, entries, page_at, ledger_places, LeftAreRetired}
 use Rattle.be_table.specs.Seats.{pin_of}
 use Rattle.be_table.specs.Steps.{IsPass}
 use Rattle.be_table.specs.Working.{HasWorked}
 
 abbrev pub work_of : Inside → Work
-work_of w = record { table = w.table.now; knows = pass_of w.base.me.0; reserved = w.reserved; left = w.ledger.left }
+work_of w = record {
+  table = w.table.now;
+  knows = pass_of w.base.me.0;
+  reserved = w.reserved;
+  left = w.ledger.left;
+}
 
--- the seat is at the table with the slot, the ledger has what the pass has seen, and until it publishes, the pass has only worked
+-- the seat is at the table with the slot, the writer state has what the pass has seen, and until it
+-- publishes, the pass has only worked
 pub record IsOpen (w : Inside) : Type 0 where
   pub table_is : w.base.table_id ≡ w.table.now.id
-  pub me_is : w.base.me ≡ (pass_of w.base.me.0 ∷ [], (0, None) ∷ [])
+  pub me_is : w.base.me ≡ (alone (pass_of w.base.me.0), (0, None) ∷ [])
   pub number_is : (pass_of w.base.me.0).number ≡ w.marks.number
   pub limits_are : (pass_of w.base.me.0).limits ≡ w.table.now.limits
   pub small : w.marks.number < 64
@@ -28,5 +34,8 @@ pub record IsOpen (w : Inside) : Type 0 where
   pub pass : IsPass (pass_of w.base.me.0)
   pub limit : w.ledger.journal.limit ≡ w.table.now.limits.commits
   pub left : LeftAreRetired w.ledger
-  pub room : 0 < w.reserved → (w.ledger.journal.reserved ≡ w.reserved) × (length (pass_of w.base.me.0).seen < w.table.now.limits.commits)
-  pub worked : (pass_of w.base.me.0).published ≡ false → HasWorked (pass_of w.base.me.0).limits (pass_of w.base.me.0).number (pass_of w.base.me.0).history
+  pub room : 0 < w.reserved → (w.ledger.journal.reserved ≡ w.reserved)
+      × (length (pass_of w.base.me.0).seen < w.table.now.limits.commits)
+  pub worked : (pass_of w.base.me.0).published ≡ false
+      → HasWorked (pass_of w.base.me.0).limits (pass_of w.base.me.0).number
+      (pass_of w.base.me.0).history

@@ -1,6 +1,7 @@
 //! Seats are dealt when a table opens, and gathered when it closes.
-ghost use Rattle.std.specs.Prelude.{◌≡◌, ◌≤◌, ◌<◌, ℕ, slice_index, [], length, map, vec_capacity, vec_len, ◌+◌};
-ghost use Rattle.be_table.specs.Rule.{IsWithin, everyone};
+ghost use Rattle.std.specs.Prelude.{◌≡◌, ◌≤◌, ◌<◌, ℕ, slice_index, [], length, map, vec_capacity};
+ghost use Rattle.std.specs.Prelude.{vec_len, ◌+◌};
+ghost use Rattle.be_table.specs.Rule.{IsWithin, empty_view, everyone};
 ghost use Rattle.be_table.specs.Works.{AreNewAt, AllAt, Gathered, knows_of};
 
 use crate::limits::Limits;
@@ -12,11 +13,15 @@ use be_pages::PAGE_WORDS;
 
 /// Each pass gets a seat.
 pub(crate) fn deal(table: &Inner, rest: &mut Base, limits: Limits, seats: &mut Vec<Seat>)
-    requires table { (0 < table.now.shared.table_id.words) × (table.now.shared.key ≡ limits) × IsWithin limits }
-    requires rest { (rest.old.table_id ≡ table.now.shared.table_id) × (rest.old.me ≡ (everyone limits, [])) }
+    requires table { (0 < table.now.shared.table_id.words) × (table.now.shared.key ≡ limits)
+        × IsWithin limits }
+    requires rest { (rest.old.table_id ≡ table.now.shared.table_id)
+        × (rest.old.me ≡ (everyone limits, [])) }
     requires seats { (seats.old.items ≡ []) × (limits.passes ≤ vec_capacity seats.old) }
-    ensures rest { (rest.new.table_id ≡ table.now.shared.table_id) × (rest.new.me ≡ ([], [])) }
-    ensures seats { (length seats.new.items ≡ limits.passes) × AreNewAt table.now.shared.table_id limits 0 seats.new.items }
+    ensures rest { (rest.new.table_id ≡ table.now.shared.table_id)
+        × (rest.new.me ≡ (empty_view, [])) }
+    ensures seats { (length seats.new.items ≡ limits.passes)
+        × AreNewAt table.now.shared.table_id limits 0 seats.new.items }
 {
     for number in 0..limits.passes {
         let base = table.shared.split_seat::<Deal>(rest);
@@ -44,10 +49,12 @@ pub(crate) fn lay_first(words: &mut Vec<u64>, first: &[u64; PAGE_WORDS])
 /// The seats' passes go to one seat.
 pub(crate) fn gather(table: &Inner, rest: &mut Base, mut seats: Vec<Seat>)
     requires table { 0 < table.now.shared.table_id.words }
-    requires rest { (rest.old.table_id ≡ table.now.shared.table_id) × (rest.old.me ≡ ([], [])) }
+    requires rest { (rest.old.table_id ≡ table.now.shared.table_id)
+        × (rest.old.me ≡ (empty_view, [])) }
     requires seats { AllAt table.now.shared.table_id seats.items }
-    ensures rest { (rest.new.table_id ≡ table.now.shared.table_id) × (rest.new.id ≡ rest.old.id) × (rest.new.me.1 ≡ []) }
-    ensures passes { Gathered (map knows_of seats.items) rest.new.me.0 }
+    ensures rest { (rest.new.table_id ≡ table.now.shared.table_id) × (rest.new.id ≡ rest.old.id)
+        × (rest.new.me.1 ≡ []) }
+    ensures passes { Gathered (map knows_of seats.items) rest.new.me.0.passes }
 {
     while let Some(seat) = seats.pop() {
         let (other, _) = seat.into_base();

@@ -1,101 +1,143 @@
 //! What each step on a word does to the reclamation machine.
 //!
-//! The rule of the table says that the words, the ledger and what the passes know show one state of the machine of
-//! be_core, in which the machine's invariant holds. The functions here do nothing: their contracts say, over the
-//! definitions alone, which event of the machine each step is. Whatever state the table is in, a pass that may step can
-//! step; the state that the table shows before allows the event, and the one that it shows afterwards is the event's. A
-//! step whose word has no event leaves the machine as it was. The calls of the table are proved from the same lemmas.
+//! The rule of the table says that the words, the writer state and what the passes know show one
+//! state of be_core's machine. The machine's invariant holds in it. The functions here do nothing:
+//! their contracts say, over the definitions alone, which event of the machine each step is. In
+//! every state of the table, a pass that may step can step. The state that the table shows before
+//! the step allows the event, and the state that it shows afterwards is the event's. A step whose
+//! word has no event leaves the machine as it was. The calls of the table are proved from the same
+//! lemmas.
 ghost use Rattle.std.specs.Prelude.{ℕ, List, Option};
-ghost use Rattle.be_table.specs.Laws.{GiveUpIsNoEvent, PublishIsItsEvent, UnlockIsItsEvent, CompareIsNoEvent, SplitIsNoEvent, JoinIsNoEvent, ArrivalIsNoEvent, EventsAreMoves, RunsAreSound, FrontsRun, UnusedAreZero, UnusedStayZero, LockIsItsEvent, ScanIsItsEvent, FillIsItsEvent, FoundFillIsItsEvent, OwnReadIsNoEvent, TakeIsItsEvent};
-ghost use Rattle.be_table.specs.Laws.{LookIsItsEvent, AnnounceIsItsEvent, LookAgainIsItsEvent, UnpinIsItsEvent, PinnedReadIsItsEvent};
+ghost use Rattle.be_table.specs.Laws.{GiveUpIsNoEvent, PublishIsItsEvent, UnlockIsItsEvent};
+ghost use Rattle.be_table.specs.Laws.{CompareIsNoEvent, LearnIsNoEvent, SplitIsNoEvent};
+ghost use Rattle.be_table.specs.Laws.{AttestIsNoEvent, JoinIsNoEvent, ArrivalIsNoEvent};
+ghost use Rattle.be_table.specs.Laws.{EventsAreMoves, RunsAreSound, FrontsRun, UnusedAreZero};
+ghost use Rattle.be_table.specs.Laws.{UnusedStayZero, LockIsItsEvent, ScanIsItsEvent};
+ghost use Rattle.be_table.specs.Laws.{FillIsItsEvent, FoundFillIsItsEvent, OwnReadIsNoEvent};
+ghost use Rattle.be_table.specs.Laws.{TakeIsItsEvent};
+ghost use Rattle.be_table.specs.Laws.{LookIsItsEvent, AnnounceIsItsEvent, LookAgainIsItsEvent};
+ghost use Rattle.be_table.specs.Laws.{UnpinIsItsEvent, PinnedReadIsItsEvent};
 ghost use Rattle.be_table.specs.declared.ledger.Ledger.{Ledger};
 ghost use Rattle.be_table.specs.declared.limits.Limits.{Limits};
+ghost use Rattle.be_table.specs.declared.pass.Commit.{Commit};
 ghost use Rattle.be_table.specs.declared.pass.Knowledge.{Knowledge};
+ghost use Rattle.be_table.specs.declared.pass.View.{View};
 
 /// A load of the current number is Look.
 pub fn look()
-    ensures { (limits : Limits) (slots id : ℕ) (a : Knowledge) (carried : List (ℕ × Option Ledger)) → LookIsItsEvent limits slots id a carried }
+    ensures { (limits : Limits) (slots id : ℕ) (a : Knowledge) (carried : List (ℕ × Option Ledger))
+        → LookIsItsEvent limits slots id a carried }
 {}
 
 /// The store of an announcement is Announce.
 pub fn announce()
-    ensures { (limits : Limits) (slots id : ℕ) (a : Knowledge) (carried : List (ℕ × Option Ledger)) → AnnounceIsItsEvent limits slots id a carried }
+    ensures { (limits : Limits) (slots id : ℕ) (a : Knowledge) (carried : List (ℕ × Option Ledger))
+        → AnnounceIsItsEvent limits slots id a carried }
 {}
 
 /// The second load of the current number is LookAgain.
 pub fn look_again()
-    ensures { (limits : Limits) (slots id : ℕ) (a : Knowledge) (carried : List (ℕ × Option Ledger)) → LookAgainIsItsEvent limits slots id a carried }
+    ensures { (limits : Limits) (slots id : ℕ) (a : Knowledge) (carried : List (ℕ × Option Ledger))
+        → LookAgainIsItsEvent limits slots id a carried }
 {}
 
 /// The store that takes an announcement back is Unpin.
 pub fn unpin()
-    ensures { (limits : Limits) (slots id : ℕ) (a : Knowledge) (carried : List (ℕ × Option Ledger)) → UnpinIsItsEvent limits slots id a carried }
+    ensures { (limits : Limits) (slots id : ℕ) (a : Knowledge) (carried : List (ℕ × Option Ledger))
+        → UnpinIsItsEvent limits slots id a carried }
 {}
 
-/// A load of a word of a pinned version is Read, and finds the word that the page had when the version was published.
+/// A load of a word of a pinned version is Read, and finds the word that the page had when the
+/// version was published.
 pub fn pinned_read()
-    ensures { (limits : Limits) (slots id : ℕ) (a : Knowledge) (carried : List (ℕ × Option Ledger)) → PinnedReadIsItsEvent limits slots id a carried }
+    ensures { (limits : Limits) (slots id : ℕ) (a : Knowledge) (carried : List (ℕ × Option Ledger))
+        → PinnedReadIsItsEvent limits slots id a carried }
 {}
 
-/// A compare-exchange of the lock that finds it free is Lock, and one that finds it held is no event.
+/// A compare-exchange of the lock that finds it free is Lock, and one that finds it held is no
+/// event.
 pub fn lock()
-    ensures { (limits : Limits) (slots id : ℕ) (a : Knowledge) (carried : List (ℕ × Option Ledger)) → LockIsItsEvent limits slots id a carried }
+    ensures { (limits : Limits) (slots id : ℕ) (a : Knowledge) (carried : List (ℕ × Option Ledger))
+        → LockIsItsEvent limits slots id a carried }
 {}
 
 /// A load of an announcement by the holder is Scan.
 pub fn scan()
-    ensures { (limits : Limits) (slots id : ℕ) (a : Knowledge) (carried : List (ℕ × Option Ledger)) → ScanIsItsEvent limits slots id a carried }
+    ensures { (limits : Limits) (slots id : ℕ) (a : Knowledge) (carried : List (ℕ × Option Ledger))
+        → ScanIsItsEvent limits slots id a carried }
 {}
 
 /// The store of a page word is Fill.
 pub fn fill()
-    ensures { (limits : Limits) (slots id : ℕ) (a : Knowledge) (carried : List (ℕ × Option Ledger)) → FillIsItsEvent limits slots id a carried }
+    ensures { (limits : Limits) (slots id : ℕ) (a : Knowledge) (carried : List (ℕ × Option Ledger))
+        → FillIsItsEvent limits slots id a carried }
 {}
 
 /// A load of a word of a page that the holder has in hand is Fill, of the word that is there.
 pub fn found_fill()
-    ensures { (limits : Limits) (slots id : ℕ) (a : Knowledge) (carried : List (ℕ × Option Ledger)) → FoundFillIsItsEvent limits slots id a carried }
+    ensures { (limits : Limits) (slots id : ℕ) (a : Knowledge) (carried : List (ℕ × Option Ledger))
+        → FoundFillIsItsEvent limits slots id a carried }
 {}
 
 /// A load of a page word by the holder is no event.
 pub fn own_read()
-    ensures { (limits : Limits) (slots id : ℕ) (a : Knowledge) (carried : List (ℕ × Option Ledger)) → OwnReadIsNoEvent limits slots id a carried }
+    ensures { (limits : Limits) (slots id : ℕ) (a : Knowledge) (carried : List (ℕ × Option Ledger))
+        → OwnReadIsNoEvent limits slots id a carried }
 {}
 
 /// The load by which a page is taken is Fill, of the word that is there.
 pub fn take()
-    ensures { (limits : Limits) (slots id : ℕ) (a : Knowledge) (carried : List (ℕ × Option Ledger)) → TakeIsItsEvent limits slots id a carried }
+    ensures { (limits : Limits) (slots id : ℕ) (a : Knowledge) (carried : List (ℕ × Option Ledger))
+        → TakeIsItsEvent limits slots id a carried }
 {}
 
-/// The load by which a page is given up is no event: a page that the write had taken goes back to the free ones, which
-/// is the holder's bookkeeping.
+/// The load by which a page is given up is no event: a page that the write had taken goes back to
+/// the free ones, which is the holder's bookkeeping.
 pub fn give_up()
-    ensures { (limits : Limits) (slots id : ℕ) (a : Knowledge) (carried : List (ℕ × Option Ledger)) → GiveUpIsNoEvent limits slots id a carried }
+    ensures { (limits : Limits) (slots id : ℕ) (a : Knowledge) (carried : List (ℕ × Option Ledger))
+        → GiveUpIsNoEvent limits slots id a carried }
 {}
 
 /// The store of the current number is Publish, of the pages that the write has given up.
 pub fn publish()
-    ensures { (limits : Limits) (slots id : ℕ) (a : Knowledge) (carried : List (ℕ × Option Ledger)) → PublishIsItsEvent limits slots id a carried }
+    ensures { (limits : Limits) (slots id : ℕ) (a : Knowledge) (carried : List (ℕ × Option Ledger))
+        → PublishIsItsEvent limits slots id a carried }
 {}
 
 /// The store that frees the lock is Unlock.
 pub fn unlock()
-    ensures { (limits : Limits) (slots id : ℕ) (a : Knowledge) (ledger : Ledger) → UnlockIsItsEvent limits slots id a ledger }
+    ensures { (limits : Limits) (slots id : ℕ) (a : Knowledge) (ledger : Ledger)
+        → UnlockIsItsEvent limits slots id a ledger }
 {}
 
 /// The load by which two passes of one seat compare what they have seen is no event.
 pub fn compare()
-    ensures { (limits : Limits) (slots id : ℕ) (a c : Knowledge) (carried : List (ℕ × Option Ledger)) → CompareIsNoEvent limits slots id a c carried }
+    ensures { (limits : Limits) (slots id : ℕ) (a c : Knowledge)
+        (carried : List (ℕ × Option Ledger)) → CompareIsNoEvent limits slots id a c carried }
+{}
+
+/// The load by which a witness is made is no event: what a pass has seen gets a seat with no pass.
+pub fn attest()
+    ensures { (limits : Limits) (id : ℕ) (a : Knowledge) → AttestIsNoEvent limits id a }
+{}
+
+/// The load by which a pass takes in what a witness has seen is no event.
+pub fn learn()
+    ensures { (limits : Limits) (slots id : ℕ) (a : Knowledge) (front : List Commit)
+        (carried : List (ℕ × Option Ledger)) → LearnIsNoEvent limits slots id a front carried }
 {}
 
 /// The load by which a seat is cut in two is no event: its first pass gets a new seat.
 pub fn split()
-    ensures { (limits : Limits) (id : ℕ) (a : Knowledge) (v : List Knowledge) → SplitIsNoEvent limits id a v }
+    ensures { (limits : Limits) (id : ℕ) (a : Knowledge) (v : List Knowledge)
+        (fronts : List (List Commit)) → SplitIsNoEvent limits id a v fronts }
 {}
 
-/// The load by which two seats are joined is no event: one has the passes of both, and the other has none.
+/// The load by which two seats are joined is no event: one has what both had, and the other has
+/// nothing.
 pub fn join()
-    ensures { (limits : Limits) (id : ℕ) (v : List Knowledge) (other : ℕ) (w : List Knowledge) → JoinIsNoEvent limits id v other w }
+    ensures { (limits : Limits) (id : ℕ) (v : View) (other : ℕ) (w : View)
+        → JoinIsNoEvent limits id v other w }
 {}
 
 /// The load by which a seat with no pass is made is no event.
@@ -103,20 +145,21 @@ pub fn arrive()
     ensures { (limits : Limits) → ArrivalIsNoEvent limits }
 {}
 
-/// The moves of a trace are the events of the machine, but for a read, which changes nothing and isn't among them.
+/// The moves of a trace are the events of the machine, but for a read, which changes nothing and
+/// isn't among them.
 pub fn events_are_moves()
     ensures { EventsAreMoves }
 {}
 
-/// Wherever the moves of a trace lead, no page of a pinned version is free, taken or changed; and each beginning of them
-/// led somewhere.
+/// Wherever the moves of a trace lead, no page of a pinned version is free, taken or changed; and
+/// each beginning of them led somewhere.
 pub fn runs()
     ensures sound { RunsAreSound }
     ensures fronts { FrontsRun }
 {}
 
-/// The words of the first 528 that are neither the lock, nor the current version, nor a pass's announcement are 0
-/// between any two steps. So no call can have a lock of its own there.
+/// The words of the first 528 that are neither the lock, nor the current version, nor a pass's
+/// announcement are 0 between any two steps. So no call can have a lock of its own there.
 pub fn unused_words()
     ensures zero { UnusedAreZero }
     ensures stay { UnusedStayZero }

@@ -1,10 +1,11 @@
-//! What lies in the slot while nobody holds the lock.
+//! The writer state, which lies in the slot while nobody holds the lock.
 //!
-//! Who holds the lock has the ledger in hand and changes it as plain data. It keeps no volume: the pages are the
-//! volume.
+//! The pass that holds the lock has the writer state and changes it as plain data. It keeps no
+//! volume: the pages are the volume.
 ghost use Rattle.std.specs.Prelude.{◌≡◌, ◌≤◌, ℕ, count_by, map, length};
 ghost use Rattle.be_pages.specs.PagePool.{places};
-ghost use Rattle.be_pages.specs.Place.{is_retired, retired_at, undone_place, swept_place, published_place};
+ghost use Rattle.be_pages.specs.Place.{is_retired, retired_at, undone_place, swept_place};
+ghost use Rattle.be_pages.specs.Place.{published_place};
 ghost use Rattle.be_journal.specs.Journal.{Grows, extended, with_room};
 
 use be_journal::Journal;
@@ -28,8 +29,10 @@ impl Ledger {
     /// Makes room for one entry of so many operations.
     pub fn reserve(&mut self, count: usize) -> Result<(), Refusal>
         requires { (1 ≤ count) × (count ≤ 64) }
-        ensures journal { Grows self.old.journal (with_room self.old.journal count) result self.new.journal }
-        ensures others { (self.new.page ≡ self.old.page) × (self.new.pool ≡ self.old.pool) × (self.new.left ≡ self.old.left) }
+        ensures journal { Grows self.old.journal (with_room self.old.journal count) result
+            self.new.journal }
+        ensures others { (self.new.page ≡ self.old.page) × (self.new.pool ≡ self.old.pool)
+            × (self.new.left ≡ self.old.left) }
     {
         self.journal.reserve(count)
     }
@@ -37,7 +40,8 @@ impl Ledger {
     /// What the write has taken is free, and what it has given up stays.
     pub fn rest(&mut self)
         ensures { (self.new.journal ≡ self.old.journal) × (self.new.page ≡ self.old.page)
-            × (places self.new.pool ≡ map undone_place (places self.old.pool)) × (self.new.left ≡ self.old.left) }
+            × (places self.new.pool ≡ map undone_place (places self.old.pool))
+            × (self.new.left ≡ self.old.left) }
     {
         self.pool.undo();
     }
@@ -52,16 +56,20 @@ impl Ledger {
         self.left = self.pool.retired();
     }
 
-    /// The entry comes last, with this version page. What was filled is of the current version, and what was given up
-    /// is retired. There is room for the entry.
+    /// The entry comes last, with this version page. What was filled is of the current version, and
+    /// what was given up is retired. There is room for the entry.
     pub fn append(&mut self, by: u64, ops: &[Op], dones: &[Done], page: u64)
         requires some { (1 ≤ length ops.now) × (length ops.now ≤ 64) }
-        requires room { (length ops.now ≡ self.old.journal.reserved) × (length dones.now ≡ self.old.journal.reserved) }
-        requires newest { (q : ℕ) → retired_at (places self.old.pool) q ≤ length self.old.journal.entries }
-        ensures journal { self.new.journal ≡ extended self.old.journal (record { by = by; ops = ops.now; dones = dones.now }) }
+        requires room { (length ops.now ≡ self.old.journal.reserved)
+            × (length dones.now ≡ self.old.journal.reserved) }
+        requires newest { (q : ℕ) → retired_at (places self.old.pool) q
+            ≤ length self.old.journal.entries }
+        ensures journal { self.new.journal
+            ≡ extended self.old.journal (record { by = by; ops = ops.now; dones = dones.now }) }
         ensures page { self.new.page ≡ page }
         ensures left { self.new.left ≡ self.old.left }
-        ensures places { places self.new.pool ≡ map (published_place (length self.old.journal.entries)) (places self.old.pool) }
+        ensures places { places self.new.pool
+            ≡ map (published_place (length self.old.journal.entries)) (places self.old.pool) }
     {
         let version = self.journal.len();
         self.pool.publish(version);
@@ -69,6 +77,7 @@ impl Ledger {
         self.page = page;
     }
 
+    /// The journal alone; the pool and the version page are dropped.
     pub fn into_journal(self) -> Journal
         ensures { result ≡ self.journal }
     {

@@ -1,4 +1,4 @@
-//! What a table is told once, when it is made.
+//! The limits of a table, which are given once, when it is made.
 ghost use Rattle.std.specs.Prelude.{◌≡◌, true, false};
 ghost use Rattle.be_table.specs.Rule.{AreBad, IsWithin};
 

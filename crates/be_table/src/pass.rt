@@ -1,23 +1,25 @@
 //! What a pass knows, for contracts alone: no value of these types is ever made.
 //!
-//! A seat carries the knowledge of its pass as ghost data. Each step changes the knowledge of the pass that steps, and
-//! of no other. What a pass knows stays so whatever the others do: a beginning of the journal, its own entries, the
-//! image of the version that it is pinned to; and, while it holds the lock, where each page is and all page words.
+//! A seat carries the knowledge of its pass as ghost data. Each step changes the knowledge of the
+//! pass that steps, and of no other. What a pass knows stays so whatever the others do: a beginning
+//! of the journal, its own entries, the image of the version that it is pinned to; and, while it
+//! holds the lock, where each page is and all page words.
 use crate::limits::Limits;
 use be_core::Phase;
 use be_journal::Entry;
 use be_pages::Place;
 use std::collections::LinkedList;
 
-/// An entry of the journal, with the version that it published: its version page, and all its pages.
+/// An entry of the journal, with the version that it published: its version page, and all its
+/// pages.
 pub struct Commit {
     pub entry: Entry,
     pub page: u64,
     pub reach: LinkedList<u64>,
 }
 
-/// A move of the reclamation machine, by the pass that is its first number: one of its events, or the holder's return of
-/// a page. A read changes nothing there, so it isn't among them.
+/// A move of the reclamation machine, by the pass that is its first number: one of its events, or
+/// the holder's return of a page. A read changes nothing there, so it isn't among them.
 pub enum Move {
     Look(u64),
     Announce(u64),
@@ -49,12 +51,14 @@ pub struct Knowledge {
     pub image: LinkedList<u64>,
     /// It holds the lock.
     pub writes: bool,
-    /// How many announcements its scan has read, and the least so far. Once a scan is whole the count is 0 again.
+    /// How many announcements its scan has read, and the least so far. Once a scan is whole the
+    /// count is 0 again.
     pub scanned: u64,
     pub least: u64,
     /// It has entered its write.
     pub published: bool,
-    /// While it holds the lock, where each page is, and the table's words, of which those of the pages stay.
+    /// While it holds the lock, where each page is, and the table's words, of which those of the
+    /// pages stay.
     pub places: LinkedList<Place>,
     pub words: LinkedList<u64>,
     /// The pages that its write had taken and not given back when its last whole scan ended.
@@ -67,5 +71,10 @@ pub struct Knowledge {
     pub history: LinkedList<Move>,
 }
 
-/// The knowledge of one pass, of several while seats are cut or joined, or of none.
-pub type View = LinkedList<Knowledge>;
+/// What a seat knows: the knowledge of one pass, of several while seats are cut or joined, or of
+/// none; and the beginnings of the journal that it has in place of a pass, as the seat of a witness
+/// does.
+pub struct View {
+    pub passes: LinkedList<Knowledge>,
+    pub fronts: LinkedList<LinkedList<Commit>>,
+}

@@ -1,7 +1,7 @@
 //! A reader of the version that a pass is pinned to.
 //!
-//! Its readable pages are those of the version, with the words that they had when it was published. Each read is one
-//! load, and no other call is a step.
+//! Its readable pages are those of the version, with the words that they had when it was published.
+//! Each read is one load, and no other call is a step.
 ghost use Rattle.std.specs.Prelude.{◌≡◌, ◌<◌, IsTrue, slice_index};
 ghost use Rattle.be_pages.specs.Pages.{is_readable};
 ghost use Rattle.be_table.specs.Reading.{pinned_standing};

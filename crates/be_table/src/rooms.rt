@@ -1,8 +1,9 @@
 //! An open write as a reader and a room of pages.
 //!
-//! Trees are built over the traits of be_pages. What an open write has in common with a room in memory is stated here:
-//! where each page stands, its words, and what no call changes (the table, the pass with its limits, its phase, what it
-//! has seen, that it isn't published, and the history up to its lock).
+//! Trees are built over the traits of be_pages. What an open write has in common with a room in
+//! memory is stated here: the state of each page, its words, and what no call changes. No call
+//! changes the table, the pass with its limits, its phase, what it has seen, that it isn't
+//! published, and the history up to its lock.
 
 use crate::writing::Writing;
 use be_pages::{Look, Room};
@@ -10,7 +11,8 @@ use be_value::Refusal;
 
 impl<'a> Look for Writing<'a> {
     ghost use Rattle.std.specs.Prelude.{not};
-    ghost use Rattle.be_table.specs.Reading.{StaysOpen, open_of, standing_in_work, words_of, small_open};
+    ghost use Rattle.be_table.specs.Reading.{StaysOpen, open_of, standing_in_work, words_of};
+    ghost use Rattle.be_table.specs.Reading.{small_open};
 
     ghost Kept = { StaysOpen };
 
@@ -34,7 +36,7 @@ impl<'a> Room for Writing<'a> {
 
     ghost full = { λ w least. IsSpent w.knows least };
 
-    #[tactic(auto, using(crate::proofs::Standings::readable_inside, crate::proofs::Standings::taken_among))]
+    #[tactic(auto, using(crate::proofs::Standings::taken))]
     fn is_taken(&self, page: u64) -> bool {
         Writing::is_taken(self, page)
     }

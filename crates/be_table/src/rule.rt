@@ -1,10 +1,14 @@
 //! The rule of the table, and the names of its steps.
 //!
-//! A step on a word is allowed where, whatever the table is then, the rule still holds after it. What the step tells
-//! its pass is the definition that its name carries.
+//! A step on a word is allowed if, in every state of the table, the rule still holds after it. The
+//! definition that the step's name carries says what the pass learns from it.
 ghost use Rattle.std.specs.Prelude.{[]};
 ghost use Rattle.be_table.specs.Rule.{Shows, everyone, first_seat, other_seats, seats_together};
-ghost use Rattle.be_table.specs.Steps.{LookMoves, LockMoves, UnlockMoves, CompareMoves, Arrived, AnnounceMoves, LookAgainMoves, UnpinMoves, ScanMoves, PinnedRead, OwnRead, FillMoves, FoundFillMoves, TakeMoves, GiveUpMoves, PublishMoves};
+ghost use Rattle.be_table.specs.Rule.{empty_view, kept_seat, front_seat};
+ghost use Rattle.be_table.specs.Steps.{LookMoves, LockMoves, UnlockMoves, CompareMoves, Learned};
+ghost use Rattle.be_table.specs.Steps.{Arrived, AnnounceMoves, LookAgainMoves, UnpinMoves};
+ghost use Rattle.be_table.specs.Steps.{ScanMoves, PinnedRead, OwnRead, FillMoves, FoundFillMoves};
+ghost use Rattle.be_table.specs.Steps.{TakeMoves, GiveUpMoves, PublishMoves};
 
 use crate::ledger::Ledger;
 use crate::limits::Limits;
@@ -50,7 +54,7 @@ impl Split<View> for Deal {
 impl Join<View> for Deal {
     ghost both = { seats_together };
 
-    ghost spent = { [] };
+    ghost spent = { empty_view };
 }
 
 /// Two passes of one seat compare what they have seen.
@@ -58,6 +62,22 @@ pub(crate) struct Compare;
 
 impl Play<Option<Ledger>, View> for Compare {
     ghost then = { CompareMoves };
+}
+
+/// What the pass of the view has seen gets a seat of its own, with no pass.
+pub(crate) struct Attest;
+
+impl Split<View> for Attest {
+    ghost left = { kept_seat };
+
+    ghost right = { front_seat };
+}
+
+/// The pass of a seat learns the front that its seat has.
+pub(crate) struct Learn;
+
+impl Play<Option<Ledger>, View> for Learn {
+    ghost then = { Learned };
 }
 
 /// A seat with no pass.
@@ -128,7 +148,7 @@ impl Play<Option<Ledger>, View> for GiveUp {
     ghost then = { GiveUpMoves };
 }
 
-/// The entry and the version page that a publishing step tells. Each call picks them.
+/// The entry and the version page of a publishing step. Each call picks them.
 pub(crate) trait NextVersion {
     ghost use Rattle.std.specs.Prelude.{ℕ};
     ghost use Rattle.be_journal.specs.declared.entries.Entry.{Entry};

@@ -1,12 +1,12 @@
 //! A pass's seat at the table.
 //!
-//! A seat is the right to step for one pass: no two seats have the same pass, so what a pass knows is known to one
-//! holder alone. Beside that right it carries three numbers which its steps told: the number of the pass, how much of
-//! the journal the pass has seen, and its pin.
-ghost use Rattle.std.specs.Prelude.{◌≡◌, ℕ, ◌<◌, true, false, [], ◌∷◌, length, IsTrue};
+//! A seat is the right to step for one pass: no two seats have the same pass, so only one holder
+//! has what a pass knows. Beside that right it carries three numbers from its steps: the number of
+//! the pass, how much of the journal the pass has seen, and its pin.
+ghost use Rattle.std.specs.Prelude.{◌≡◌, ℕ, ◌<◌, true, false, [], length, IsTrue};
 ghost use Rattle.be_core.specs.Machine.{has};
 ghost use Rattle.be_core.specs.declared.event.Phase.TheVariants.{Pinned};
-ghost use Rattle.be_table.specs.Rule.{pass_of, page_at, reach_at};
+ghost use Rattle.be_table.specs.Rule.{alone, pass_of, page_at, reach_at};
 
 use crate::ledger::Ledger;
 use crate::marks::Marks;
@@ -47,10 +47,11 @@ impl Seat {
 
     pub(crate) fn of(base: Base, marks: Marks) -> Seat
         requires number { marks.number < 64 }
-        requires pass { base.me ≡ (pass_of base.me.0 ∷ [], []) }
+        requires pass { base.me ≡ (alone (pass_of base.me.0), []) }
         requires told { IsTold (pass_of base.me.0) marks.number marks.seen }
         requires pin { marks.pin ≡ pin_of (pass_of base.me.0).phase (pass_of base.me.0).seen }
-        ensures { (result.blank ≡ false) × (result.table ≡ base.table_id) × (result.knows ≡ pass_of base.me.0) }
+        ensures { (result.blank ≡ false) × (result.table ≡ base.table_id)
+            × (result.knows ≡ pass_of base.me.0) }
     {
         Seat {
             badge: base.into_badge(),
@@ -58,10 +59,10 @@ impl Seat {
         }
     }
 
-    /// The base's seat, with what it tells of the pass.
+    /// The base's seat, with the marks of the pass.
     pub(crate) fn into_base(self) -> (Base, Marks)
         requires { self.blank ≡ false }
-        ensures pass { (result.0.table_id ≡ self.table) × (result.0.me ≡ (self.knows ∷ [], [])) }
+        ensures pass { (result.0.table_id ≡ self.table) × (result.0.me ≡ (alone self.knows, [])) }
         ensures told { (result.1.number < 64) × IsTold self.knows result.1.number result.1.seen }
         ensures pin { result.1.pin ≡ pin_of self.knows.phase self.knows.seen }
     {
@@ -96,15 +97,19 @@ impl Seat {
         }
     }
 
-    /// The version page of the version to which the pass is pinned. From there the version's pages, with the words that
-    /// they had when it was published, spell the volume after so many entries as its number says.
+    /// The version page of the version to which the pass is pinned. From there the version's pages,
+    /// with the words that they had when it was published, encode the volume after so many entries
+    /// as its number says.
     pub fn version_page(&self) -> u64
         requires seat { self.now.blank ≡ false }
         requires pinned { (x : ℕ) × (n : ℕ) × (self.now.knows.phase ≡ Pinned x n) }
-        ensures page { (x n : ℕ) → self.now.knows.phase ≡ Pinned x n → result ≡ page_at self.now.knows.seen n }
-        ensures readable { (x n : ℕ) → self.now.knows.phase ≡ Pinned x n → IsTrue (has (reach_at self.now.knows.seen n) result) }
+        ensures page { (x n : ℕ) → self.now.knows.phase ≡ Pinned x n → result
+            ≡ page_at self.now.knows.seen n }
+        ensures readable { (x n : ℕ) → self.now.knows.phase ≡ Pinned x n
+            → IsTrue (has (reach_at self.now.knows.seen n) result) }
         ensures spelt { (x n : ℕ) → self.now.knows.phase ≡ Pinned x n
-            → SpellsVolume (reach_at self.now.knows.seen n) (word_of_page self.now.knows.image) (page_at self.now.knows.seen n)
+            → SpellsVolume (reach_at self.now.knows.seen n) (word_of_page self.now.knows.image)
+            (page_at self.now.knows.seen n)
             (replay (take n (entries self.now.knows.seen))) }
     {
         self.is_pass();
@@ -114,8 +119,8 @@ impl Seat {
         }
     }
 
-    /// A law of one seat: what is always so of a pass is so of this one, as a contract can't tell of a seat that it is
-    /// lent. It does nothing.
+    /// A law of one seat: what is always so of a pass is so of this one, as a contract can't tell
+    /// of a seat that it is lent. It does nothing.
     pub fn is_pass(&self)
         requires { self.now.blank ≡ false }
         ensures { IsPass self.now.knows }

@@ -1,4 +1,4 @@
-//! What a table tells of itself: how full it is, and who is pinned.
+//! What a table reports of itself: how full it is, and who is pinned.
 ghost use Rattle.std.specs.Prelude.{◌≡◌, ◌++◌, ◌∷◌, [], ℕ, List, length};
 ghost use Rattle.be_table.specs.Statuses.{IsOldest};
 
@@ -18,17 +18,20 @@ pub struct Status {
     pub pages: u64,
     /// The pages that a write may take.
     pub free: u64,
-    /// The pages of older versions that no write may take, since a pass has announced such a version or an older one.
+    /// The pages of older versions that no write may take, since a pass has announced such a
+    /// version or an older one.
     pub retired: u64,
     /// The entries of the journal.
     pub entries: u64,
     /// The most entries that it may have.
     pub commits: u64,
-    /// The least announced number, and the first of the passes that have announced it. None where none has.
+    /// The least announced number, and the first of the passes that have announced it. None if none
+    /// has.
     pub oldest: Option<Announcement>,
 }
 
-/// What a scan found: the least of the current number and of the announcements, and the oldest announcement.
+/// What a scan found: the least of the current number and of the announcements, and the oldest
+/// announcement.
 #[derive(Clone, Copy)]
 pub(crate) struct Found {
     pub least: u64,
@@ -37,7 +40,8 @@ pub(crate) struct Found {
 
 /// The oldest of some announcements, and of one pass more, whose word is this.
 pub(crate) fn older(oldest: Option<Announcement>, found: u64, pass: u64) -> Option<Announcement>
-    ensures { (words : List ℕ) → length words ≡ pass → IsOldest words oldest → IsOldest (words ++ found ∷ []) result }
+    ensures { (words : List ℕ) → length words ≡ pass → IsOldest words oldest
+        → IsOldest (words ++ found ∷ []) result }
 {
     if found == 0 {
         return oldest;

@@ -1,9 +1,10 @@
 //! The table that the passes share, and the steps of readers.
 //!
-//! Word 0 is LOCK: 0 when free, else the holder's number + 1. Word 8 is CURRENT: the version's number times 2^32, plus
-//! its version page. Word 16 + 8 k is the announcement of pass k: 0 for none, else the number + 1. Word i of page p is
-//! word 528 + 512 p + i.
-ghost use Rattle.std.specs.Prelude.{◌≡◌, ℕ, ◌<◌, false, length, map, MatchResult, IsTrue, slice_index};
+//! Word 0 is LOCK: 0 when free, otherwise the holder's number + 1. Word 8 is CURRENT: the version's
+//! number times 2^32, plus its version page. Word 16 + 8 k is the announcement of pass k: 0 for
+//! none, otherwise the number + 1. Word i of page p is word 528 + 512 p + i.
+ghost use Rattle.std.specs.Prelude.{◌≡◌, ℕ, ◌<◌, false, length, map, MatchResult, IsTrue};
+ghost use Rattle.std.specs.Prelude.{slice_index};
 ghost use Rattle.be_core.specs.Machine.{has};
 ghost use Rattle.be_table.specs.Rule.{one_step_on, reach_at, word_place, page_at};
 
@@ -13,8 +14,11 @@ use crate::limits::Limits;
 use crate::marks::PinnedVersion;
 use crate::pass::View;
 use crate::pinned::PinnedLook;
-use crate::rule::{Announce, Arrive, Compare, Deal, Law, Lock, Look, LookAgain, PinnedWord, Unpin};
+use crate::rule::{
+    Announce, Arrive, Attest, Compare, Deal, Law, Learn, Lock, Look, LookAgain, PinnedWord, Unpin,
+};
 use crate::seat::Seat;
+use crate::witness::Witness;
 use crate::writing::Writing;
 use atomic_table::Table;
 use be_core::Phase;
@@ -24,7 +28,7 @@ use be_value::Refusal;
 use std::alloc::Global;
 use std::marker::Model;
 
-/// 0 while no pass holds the lock, else the holder's number + 1.
+/// 0 while no pass holds the lock, otherwise the holder's number + 1.
 pub(crate) const LOCK: usize = 0;
 
 /// The current version: its number times 2^32, plus its version page.
@@ -54,7 +58,8 @@ impl Model for VersionTable {
 
     ghost view = { λ t. record { id = t.table.shared.table_id; limits = t.table.shared.key } };
 
-    ghost invariant = { λ t. (t.table.shared.table_id.words ≡ 528 + 512 * t.limits.pages) × (t.table.shared.table_id.slots ≡ 1)
+    ghost invariant = { λ t. (t.table.shared.table_id.words ≡ 528 + 512 * t.limits.pages)
+        × (t.table.shared.table_id.slots ≡ 1)
         × (t.limits ≡ t.table.shared.key) × IsWithin t.limits };
 }
 
@@ -68,24 +73,30 @@ impl VersionTable {
     ghost use Rattle.be_table.specs.Reading.{pinned_standing, word_of_page};
     ghost use Rattle.be_table.specs.Rule.{IsWithin, entries};
     ghost use Rattle.be_table.specs.Steps.{announces, unpins, met, longer, Has, KeepsSeen};
-    ghost use Rattle.be_table.specs.Trace.{HasTrace, with_history};
+    ghost use Rattle.be_table.specs.Steps.{with_history};
+    ghost use Rattle.be_table.specs.Trace.{HasTrace};
     ghost use Rattle.be_table.specs.Versions.{at_start, CanSpellEach};
-    ghost use Rattle.be_table.specs.Works.{IsSeatOf, SeesMore, TakesLock, FoundHeld, PinsCurrent, Moves, AreNew, IsOpenRefused, AllAt, knows_of};
+    ghost use Rattle.be_table.specs.Works.{IsSeatOf, IsWitnessOf, SeesMore, TakesLock, FoundHeld};
+    ghost use Rattle.be_table.specs.Works.{PinsCurrent, Moves, AreNew, IsOpenRefused, AllAt};
+    ghost use Rattle.be_table.specs.Works.{knows_of};
     ghost use Rattle.be_table.specs.declared.pass.Move.TheVariants as moves;
 
-    /// A table with an empty journal, and the seats of its passes in the order of their numbers. Version 0 is the page
-    /// `first`, which spells the empty volume, at page 0; the other pages are free.
+    /// A table with an empty journal, and the seats of its passes in the order of their numbers.
+    /// Version 0 is the page `first`, which encodes the empty volume, at page 0; the other pages
+    /// are free.
     ///
-    /// BadLimits exactly where a limit is out of its range, and OutOfMemory where a growth was refused. No later call
-    /// but `reserve` takes memory.
+    /// BadLimits exactly if a limit is out of its range, and OutOfMemory if a growth was refused.
+    /// No later call but `reserve` takes memory.
     pub fn open(
         alloc: Global,
         limits: Limits,
         first: &[u64; PAGE_WORDS],
     ) -> Result<(VersionTable, Vec<Seat>), Refusal>
-        requires { IsVersion (λ q. at_start (has (0 ∷ []) q)) (λ q i. slice_index first.now i) 0 empty }
+        requires { IsVersion (λ q. at_start (has (0 ∷ []) q)) (λ q i. slice_index first.now i) 0
+            empty }
         ensures { MatchResult result
-            (λ r. (r.0.limits ≡ limits) × (length r.1.items ≡ limits.passes) × AreNew r.0 0 r.1.items × IsWithin limits)
+            (λ r. (r.0.limits ≡ limits) × (length r.1.items ≡ limits.passes)
+            × AreNew r.0 0 r.1.items × IsWithin limits)
             (λ r. IsOpenRefused limits r) }
     {
         if !limits.are_within() {
@@ -129,7 +140,7 @@ impl VersionTable {
         self.limits
     }
 
-    /// Sees the journal up to now, and answers its length. One load.
+    /// Sees the journal up to now, and returns its length. One load.
     pub fn look(&self, seat: &mut Seat) -> u64
         requires { IsSeatOf self.now seat.old }
         ensures seat { IsSeatOf self.now seat.new }
@@ -143,14 +154,16 @@ impl VersionTable {
         version
     }
 
-    /// Announces the number that the pass looked at. From then on no write that scans frees a page of that version or
-    /// of a later one. One store.
+    /// Announces the number that the pass looked at. From then on no write that scans frees a page
+    /// of that version or of a later one. One store.
     pub fn announce(&self, seat: &mut Seat, number: u64)
         requires seat { IsSeatOf self.now seat.old }
         requires looked { seat.old.knows.phase ≡ Phase.Looked number }
         ensures seat { IsSeatOf self.now seat.new }
-        ensures pass { seat.new.knows ≡ announces (with_history seat.old.knows seat.new.knows.history) number }
-        ensures moves { Moves seat.old.knows (moves.Announce seat.old.knows.number ∷ []) seat.new.knows }
+        ensures pass { seat.new.knows ≡ announces
+            (with_history seat.old.knows seat.new.knows.history) number }
+        ensures moves { Moves seat.old.knows (moves.Announce seat.old.knows.number ∷ [])
+            seat.new.knows }
     {
         let (mut base, marks) = seat.move_out().into_base();
         let word = ANNOUNCE + 8 * marks.number as usize;
@@ -160,8 +173,8 @@ impl VersionTable {
         *seat = Seat::of(base, marks);
     }
 
-    /// Pins the version that is current once the announcement stands, which may be later than the announced one.
-    /// Answers its number and its version page. One load.
+    /// Pins the version that is current once the announcement is made, which may be later than the
+    /// announced one. Returns its number and its version page. One load.
     pub fn look_again(&self, seat: &mut Seat) -> (u64, u64)
         requires seat { IsSeatOf self.now seat.old }
         requires announced { (x : ℕ) × (seat.old.knows.phase ≡ Phase.Announced x) }
@@ -185,8 +198,10 @@ impl VersionTable {
         requires seat { IsSeatOf self.now seat.old }
         requires pinned { (x : ℕ) × (n : ℕ) × (seat.old.knows.phase ≡ Phase.Pinned x n) }
         ensures seat { IsSeatOf self.now seat.new }
-        ensures pass { seat.new.knows ≡ unpins (with_history seat.old.knows seat.new.knows.history) }
-        ensures moves { Moves seat.old.knows (moves.Unpin seat.old.knows.number ∷ []) seat.new.knows }
+        ensures pass { seat.new.knows ≡ unpins
+            (with_history seat.old.knows seat.new.knows.history) }
+        ensures moves { Moves seat.old.knows (moves.Unpin seat.old.knows.number ∷ [])
+            seat.new.knows }
     {
         let (mut base, mut marks) = seat.move_out().into_base();
         let word = ANNOUNCE + 8 * marks.number as usize;
@@ -195,8 +210,8 @@ impl VersionTable {
         *seat = Seat::of(base, marks);
     }
 
-    /// Takes the lock, or answers Busy with the pass that this try found holding it, which is another one. One
-    /// compare-exchange.
+    /// Takes the lock. If a pass holds it, the error is Busy with the pass that this try found
+    /// holding it, which is another one. One compare-exchange.
     pub fn lock(&self, seat: Seat) -> Result<Writing<'_>, (Seat, Refusal)>
         requires { IsSeatOf self.now seat }
         ensures { MatchResult result
@@ -217,7 +232,8 @@ impl VersionTable {
     /// Word i of a page of the pinned version, as it was when that version was published. One load.
     pub fn pinned_word(&self, seat: &mut Seat, page: u64, i: usize) -> u64
         requires seat { IsSeatOf self.now seat.old }
-        requires pinned { (x : ℕ) × (n : ℕ) × (seat.old.knows.phase ≡ Phase.Pinned x n) × IsTrue (has (reach_at seat.old.knows.seen n) page) }
+        requires pinned { (x : ℕ) × (n : ℕ) × (seat.old.knows.phase ≡ Phase.Pinned x n)
+            × IsTrue (has (reach_at seat.old.knows.seen n) page) }
         requires place { i < 512 }
         ensures seat { IsSeatOf self.now seat.new }
         ensures pass { seat.new.knows ≡ one_step_on seat.old.knows }
@@ -230,24 +246,25 @@ impl VersionTable {
         found
     }
 
-    /// A reader of the pages of the pinned version, which spell the volume after the journal's entries up to the
-    /// version's number. No step.
+    /// A reader of the pages of the pinned version, which encode the volume after the journal's
+    /// entries up to the version's number. No step.
     pub fn pinned_look(&self, seat: Seat) -> PinnedLook<'_>
         requires seat { IsSeatOf self.now seat }
         requires pinned { (x : ℕ) × (n : ℕ) × (seat.knows.phase ≡ Phase.Pinned x n) }
         ensures look { (result.table ≡ self.now) × (result.knows ≡ seat.knows) }
         ensures version { (x n : ℕ) → seat.knows.phase ≡ Pinned x n
-            → IsVersion (pinned_standing result.knows) (word_of_page result.knows.image) (page_at result.knows.seen n)
+            → IsVersion (pinned_standing result.knows) (word_of_page result.knows.image)
+            (page_at result.knows.seen n)
             (replay (take n (entries result.knows.seen))) }
     {
         seat.is_pass();
         PinnedLook::of(self, seat)
     }
 
-    /// Two passes tell each other what they have seen, in three steps: their seats are joined, a load compares what
-    /// they have seen, and the seats are cut apart again. Both passes have then seen what either had: of two beginnings
-    /// of one journal the longer. Answers its length. What the two have done so far lies in one trace, and a meeting adds
-    /// nothing to it.
+    /// Two passes share what they have seen, in three steps: their seats are joined, a load
+    /// compares what they have seen, and the seats are cut apart again. Both passes have then seen
+    /// the longer of their two beginnings of the journal. Returns its length. What the two have
+    /// done so far lies in one trace, and a meeting adds nothing to it.
     pub fn meet(&self, left: Seat, right: Seat) -> (Seat, Seat, u64)
         requires { IsSeatOf self.now left × IsSeatOf self.now right }
         ensures seats { IsSeatOf self.now result.0 × IsSeatOf self.now result.1 }
@@ -272,6 +289,43 @@ impl VersionTable {
         marks.seen = both;
         other_marks.seen = both;
         (Seat::of(first, marks), Seat::of(base, other_marks), both)
+    }
+
+    /// A witness of all that the pass has seen of the journal, for any thread. One load.
+    pub fn witness(&self, seat: &mut Seat) -> Witness
+        requires { IsSeatOf self.now seat.old }
+        ensures seat { IsSeatOf self.now seat.new × (seat.new.knows ≡ one_step_on seat.old.knows) }
+        ensures witness { IsWitnessOf self.now result × (result.seen ≡ seat.old.knows.seen) }
+    {
+        let (mut base, marks) = seat.move_out().into_base();
+        let front = self.table.shared.split_seat::<Attest>(&mut base);
+        *seat = Seat::of(base, marks);
+        Witness::of(front, marks.seen)
+    }
+
+    /// The pass and the witness share what they have seen, in three steps, as two passes do that
+    /// meet: the seats are joined, a load compares, and the witness gets a seat again. Both have
+    /// then seen the longer of their two beginnings of the journal. Returns its length. No move.
+    pub fn join(&self, seat: &mut Seat, witness: &mut Witness) -> u64
+        requires { IsSeatOf self.now seat.old × IsWitnessOf self.now witness.old }
+        ensures of { IsSeatOf self.now seat.new × IsWitnessOf self.now witness.new }
+        ensures pass { StartsWith (longer seat.old.knows.seen witness.old.seen) seat.old.knows.seen
+            × (seat.new.knows ≡ met seat.old.knows (longer seat.old.knows.seen witness.old.seen)) }
+        ensures witness { StartsWith (longer seat.old.knows.seen witness.old.seen) witness.old.seen
+            × (witness.new.seen ≡ longer seat.old.knows.seen witness.old.seen) }
+        ensures length { result ≡ length (longer seat.old.knows.seen witness.old.seen) }
+    {
+        let (mut base, mut marks) = seat.move_out().into_base();
+        let (other, seen) = witness.move_out().into_base();
+        let shared = &self.table.shared;
+        shared.join_seat::<Deal>(&mut base, other);
+        shared.load::<Learn>(&mut base, LOCK);
+        let front = shared.split_seat::<Attest>(&mut base);
+        let both = if marks.seen < seen { seen } else { marks.seen };
+        marks.seen = both;
+        *seat = Seat::of(base, marks);
+        *witness = Witness::of(front, both);
+        both
     }
 
     /// The journal, once all seats are back. Their passes may be pinned.

@@ -1,18 +1,26 @@
-//! An open write: the lock is held, and the ledger is in hand.
+//! An open write: the pass holds the lock and has the writer state.
 //!
-//! A write takes pages, fills them, gives pages up, and publishes. Until it publishes, nothing of it can be seen by
-//! others, and `unlock` undoes it. It is never let go of but by `unlock`, since it has no `Drop`: so the ledger always
-//! comes back.
-ghost use Rattle.std.specs.Prelude.{map, get_or, slice_index, IsTrue, List, IfOk, IfErr, IfSome, IfNone, ◌≢◌, Ok, string_bytes, ◌≡◌, ◌≤◌, All, suc, ◌+◌, ◌*◌, ◌^◌, ◌<◌, true, false, [], ◌∷◌, length, count_by, None, MatchResult, ℕ};
+//! A write takes pages, fills them, gives pages up, and publishes. Until it publishes, others see
+//! nothing of it, and `unlock` undoes it. It has no `Drop`, so it can end by `unlock` alone, and
+//! the writer state always comes back.
+ghost use Rattle.std.specs.Prelude.{map, get_or, slice_index, IsTrue, List, IfOk, IfErr, IfSome};
+ghost use Rattle.std.specs.Prelude.{IfNone, ◌≢◌, Ok, string_bytes, ◌≡◌, ◌≤◌, All, suc, ◌+◌, ◌*◌};
+ghost use Rattle.std.specs.Prelude.{◌^◌, ◌<◌, true, false, [], ◌∷◌, length, count_by, None};
+ghost use Rattle.std.specs.Prelude.{MatchResult, ℕ};
 ghost use Rattle.be_pages.specs.Place.{is_in_hand, is_held_page, is_retired, place_of, given_place};
 ghost use Rattle.be_pages.specs.declared.room.Standing.TheVariants.{Taken, Filled as Full};
 ghost use Rattle.be_volume.specs.Sound.{IsOperation};
 ghost use Rattle.be_table.specs.Reading.{standing_among};
-ghost use Rattle.be_table.specs.Rule.{Reaches, announce_word, pass_of, one_step_on, word_place, current_word};
+ghost use Rattle.be_table.specs.Rule.{Reaches, alone, announce_word, pass_of, one_step_on};
+ghost use Rattle.be_table.specs.Rule.{word_place, current_word};
 ghost use Rattle.be_table.specs.Statuses.{FindsOldest, LieAt, Tells};
-ghost use Rattle.be_table.specs.Steps.{AreFound, take_moves, fill_moves, given_moves, given_of, scans_of, NoneRetiredLater, IsPass, IsFound, MayPublish, publishes, MayBeFilled, MayReadAnnouncement, IsPart, fills_word};
-ghost use Rattle.be_table.specs.Steps.{takes_page, gives_up, scans, scans_out, scans_all, least_found, IsLeastAnnounced, IsOwnLeast, UnreachedAreFree};
-ghost use Rattle.be_table.specs.Trace.{Makes, upto_lock, with_history};
+ghost use Rattle.be_table.specs.Steps.{AreFound, take_moves, fill_moves, given_moves, given_of};
+ghost use Rattle.be_table.specs.Steps.{scans_of, NoneRetiredLater, IsPass, IsFound, MayPublish};
+ghost use Rattle.be_table.specs.Steps.{publishes, MayBeFilled, MayReadAnnouncement, IsPart};
+ghost use Rattle.be_table.specs.Steps.{fills_word, with_history};
+ghost use Rattle.be_table.specs.Steps.{takes_page, gives_up, scans, scans_out, scans_all};
+ghost use Rattle.be_table.specs.Steps.{least_found, IsLeastAnnounced, IsOwnLeast, UnreachedAreFree};
+ghost use Rattle.be_table.specs.Trace.{Makes, upto_lock};
 ghost use Rattle.be_table.specs.Working.{HasWorked, MakesForReason};
 ghost use Rattle.be_table.specs.Works.{HasReasonToScan, Moves};
 ghost use Rattle.be_table.specs.declared.pass.Move.TheVariants as moves;
@@ -30,10 +38,11 @@ use be_value::Refusal;
 use be_volume::{Done, Op};
 use std::marker::{Brand, Model};
 
-/// A retired page is used again only once a scan has freed it. A write that lets the pool run empty first goes through
-/// the memory of every page, where those that were given up last are still near. A write gives up 6 to 16, all of which use
-/// the same few lines of the cache, so those of two or three writes are still in its nearest levels. A scan a write
-/// would find no more of them there, and costs a load for each pass.
+/// A retired page is used again only once a scan has freed it. A write that lets the pool run empty
+/// first goes through the memory of every page, where those that were given up last are still near.
+/// A write gives up 6 to 16, all of which use the same few lines of the cache. So those of two or
+/// three writes are still in its nearest levels. A scan a write would find no more of them there,
+/// and costs a load for each pass.
 const EARLY: usize = 32;
 
 /// The lock is held by this pass. It has no `Drop`, so it ends in `unlock`.
@@ -80,14 +89,19 @@ impl<'a> Writing<'a> {
         marks: Marks,
         ledger: Ledger,
     ) -> Writing<'a>
-        requires seat { (base.table_id ≡ table.now.id) × (base.me ≡ (pass_of base.me.0 ∷ [], (0, None) ∷ [])) }
-        requires pass { ((pass_of base.me.0).number ≡ marks.number) × ((pass_of base.me.0).limits ≡ table.now.limits)
-            × (marks.number < 64) × ((pass_of base.me.0).writes ≡ true) × IsPass (pass_of base.me.0) }
+        requires seat { (base.table_id ≡ table.now.id)
+            × (base.me ≡ (alone (pass_of base.me.0), (0, None) ∷ [])) }
+        requires pass { ((pass_of base.me.0).number ≡ marks.number)
+            × ((pass_of base.me.0).limits ≡ table.now.limits)
+            × (marks.number < 64) × ((pass_of base.me.0).writes ≡ true)
+            × IsPass (pass_of base.me.0) }
         requires ledger { IsFound ledger (pass_of base.me.0) }
         requires turn { (pass_of base.me.0).scanned ≡ 0 }
         requires pin { marks.pin ≡ pin_of (pass_of base.me.0).phase (pass_of base.me.0).seen }
-        requires begun { upto_lock (pass_of base.me.0).number (pass_of base.me.0).history ≡ (pass_of base.me.0).history }
-        ensures { (result.table ≡ table.now) × (result.knows ≡ pass_of base.me.0) × (result.reserved ≡ 0) }
+        requires begun { upto_lock (pass_of base.me.0).number (pass_of base.me.0).history
+            ≡ (pass_of base.me.0).history }
+        ensures { (result.table ≡ table.now) × (result.knows ≡ pass_of base.me.0)
+            × (result.reserved ≡ 0) }
     {
         Writing {
             table,
@@ -98,10 +112,11 @@ impl<'a> Writing<'a> {
         }
     }
 
-    /// The length of the journal, and the version page. The volume has 64 node numbers left, however long the journal
-    /// is. No step.
+    /// The length of the journal, and the version page. The volume has 64 node numbers left,
+    /// however long the journal is. No step.
     pub fn current(&self) -> (u64, u64)
-        ensures version { (result.0 ≡ length self.now.knows.seen) × (result.1 ≡ page_at self.now.knows.seen (length self.now.knows.seen)) }
+        ensures version { (result.0 ≡ length self.now.knows.seen)
+            × (result.1 ≡ page_at self.now.knows.seen (length self.now.knows.seen)) }
         ensures next { (replay (entries self.now.knows.seen)).next + 64 < 2 ^ 64 }
     {
         (self.ledger.journal.len(), self.ledger.page)
@@ -120,7 +135,7 @@ impl<'a> Writing<'a> {
         ensures ok { IfOk result (λ entry. entry ≡ get_or (entries self.now.knows.seen) i entry) }
         ensures err { IfErr result (λ e. e ≡ OutOfMemory) }
     {
-        self.ledger.journal.get(i)
+        Ok(self.ledger.journal.get(i).to_entry()?)
     }
 
     /// Word i of a page, as the current version has it or as this write filled it. One load.
@@ -142,29 +157,38 @@ impl<'a> Writing<'a> {
         self.ledger.pool.is_in_hand(page)
     }
 
-    /// Writes word i of a page that was taken in this write. One load, and one store where the word isn't there yet: a
-    /// page that is used again has many of its words, and a store costs far more than a load.
+    /// Writes word i of a page that was taken in this write. One load, and one store if the word
+    /// isn't there yet: a page that is used again has many of its words, and a store costs far more
+    /// than a load.
     pub fn fill(&mut self, page: u64, i: usize, word: u64)
         requires open { self.old.knows.published ≡ false }
-        requires taken { (page < length self.old.knows.places) × IsTrue (is_in_hand (place_of self.old.knows.places page)) }
+        requires taken { (page < length self.old.knows.places)
+            × IsTrue (is_in_hand (place_of self.old.knows.places page)) }
         requires place { i < 512 }
-        ensures write { self.new ≡ record self.old { knows = fills_word (with_history self.old.knows self.new.knows.history) page i word } }
-        ensures moves { Makes self.old.knows.number self.old.knows.history (fill_moves self.old.knows page i word) self.new.knows.history }
+        ensures write { self.new ≡ record self.old {
+          knows = fills_word (with_history self.old.knows self.new.knows.history) page i
+              word;
+        } }
+        ensures moves { Makes self.old.knows.number self.old.knows.history
+            (fill_moves self.old.knows page i word) self.new.knows.history }
         ensures inside { word_place page i < length self.old.knows.words }
     {
         fill_word(self.table, &mut self.base, page, i, word);
         self.ledger.pool.fill(page);
     }
 
-    /// Gives a page up. One that was taken in this write is free at once; one of the current version keeps its words
-    /// until a scan frees it. One load.
+    /// Gives a page up. One that was taken in this write is free at once; one of the current
+    /// version keeps its words until a scan frees it. One load.
     pub fn give_up(&mut self, page: u64)
         requires open { self.old.knows.published ≡ false }
-        requires held { (page < length self.old.knows.places) × IsTrue (is_held_page (place_of self.old.knows.places page)) }
-        ensures write { self.new ≡ record self.old { knows = gives_up (with_history self.old.knows self.new.knows.history) page } }
-        ensures moves { Makes self.old.knows.number self.old.knows.history (given_moves self.old.knows page) self.new.knows.history }
+        requires held { (page < length self.old.knows.places)
+            × IsTrue (is_held_page (place_of self.old.knows.places page)) }
+        ensures write { self.new ≡ record self.old
+            { knows = gives_up (with_history self.old.knows self.new.knows.history) page } }
+        ensures moves { Makes self.old.knows.number self.old.knows.history
+            (given_moves self.old.knows page) self.new.knows.history }
     {
-        // The load tells that the page is given up.
+        // The load records that the page is given up.
         let table = self.table;
         table
             .table
@@ -176,11 +200,18 @@ impl<'a> Writing<'a> {
     /// Takes the page that was freed last, if one is free.
     fn take_free(&mut self) -> Option<u64>
         requires open { self.old.knows.published ≡ false }
-        ensures some { IfSome result (λ page. (page < length self.old.knows.places) × (place_of self.old.knows.places page ≡ Place.Free)) }
+        ensures some { IfSome result (λ page. (page < length self.old.knows.places)
+            × (place_of self.old.knows.places page ≡ Place.Free)) }
         ensures small { IfSome result (λ page. page < 16384) }
-        ensures taken { IfSome result (λ page. self.new ≡ record self.old { knows = takes_page (with_history self.old.knows self.new.knows.history) page }) }
-        ensures moves { IfSome result (λ page. Makes self.old.knows.number self.old.knows.history (take_moves self.old.knows page) self.new.knows.history) }
-        ensures none { IfNone result ((p : ℕ) → p < length self.old.knows.places → place_of self.old.knows.places p ≢ Place.Free) }
+        ensures taken { IfSome result (λ page. self.new
+            ≡ record self.old {
+              knows = takes_page
+                  (with_history self.old.knows self.new.knows.history) page;
+            }) }
+        ensures moves { IfSome result (λ page. Makes self.old.knows.number self.old.knows.history
+            (take_moves self.old.knows page) self.new.knows.history) }
+        ensures none { IfNone result ((p : ℕ) → p < length self.old.knows.places
+            → place_of self.old.knows.places p ≢ Place.Free) }
         ensures count { IfNone result (length self.old.knows.places ≡ self.old.knows.limits.pages) }
         ensures same { IfNone result (self.new ≡ self.old) }
     {
@@ -189,9 +220,10 @@ impl<'a> Writing<'a> {
         Some(page)
     }
 
-    /// Takes a free page, the one that was freed last. Where none is free it scans, and answers Full with the least
-    /// that it found where none is free even then: each page that no version from the least on has is then held by this
-    /// write. One load, and a scan's where it scans.
+    /// Takes a free page, the one that was freed last. If none is free, it scans. If none is free
+    /// after the scan either, the error is Full with the least number that the scan found: this
+    /// write then holds each page that no version from that number on has. One load; with a scan,
+    /// the scan's loads too.
     pub fn take(&mut self) -> Result<u64, Refusal>
         requires open { self.old.knows.published ≡ false }
         ensures ok { IfOk result (λ page. TakesPage self.old self.new page) }
@@ -207,19 +239,22 @@ impl<'a> Writing<'a> {
         }
     }
 
-    /// Whether a scan pays though pages may be free: 32 or more pages are retired beyond those that the last whole scan
-    /// had to leave for readers, which are no more than are retired now. No step.
+    /// Whether a scan pays though pages may be free: 32 or more pages are retired beyond those that
+    /// the last whole scan had to leave for readers, which are no more than are retired now. No
+    /// step.
     pub fn is_scan_due(&self) -> bool
-        ensures due { result ≡ true → self.now.left + 32 ≤ count_by is_retired self.now.knows.places }
-        ensures not_yet { result ≡ false → count_by is_retired self.now.knows.places < self.now.left + 32 }
+        ensures due { result ≡ true → self.now.left + 32
+            ≤ count_by is_retired self.now.knows.places }
+        ensures not_yet { result ≡ false → count_by is_retired self.now.knows.places < self.now.left
+            + 32 }
         ensures left { self.now.left ≤ count_by is_retired self.now.knows.places }
     {
         self.ledger.pool.retired().saturating_sub(self.ledger.left) >= EARLY
     }
 
-    /// Reads every announcement once. Answers the least of them and of the current number; the pages that were retired
-    /// with a smaller number are free. A load for each pass, and work for each page that becomes free. It is called right
-    /// after the lock, or where no page is free.
+    /// Reads every announcement once. Returns the least of them and of the current number; the
+    /// pages that were retired with a smaller number are then free. A load for each pass, and work
+    /// for each page that becomes free. It is called right after the lock, or if no page is free.
     pub fn scan(&mut self) -> u64
         requires open { self.old.knows.published ≡ false }
         requires reason { HasReasonToScan self.old }
@@ -233,7 +268,8 @@ impl<'a> Writing<'a> {
         requires open { self.old.knows.published ≡ false }
         requires reason { HasReasonToScan self.old }
         ensures scan { MakesScan self.old self.new result.least }
-        ensures oldest { FindsOldest self.old.knows.limits self.old.knows.number self.old.knows.history self.new.knows.history result.oldest }
+        ensures oldest { FindsOldest self.old.knows.limits self.old.knows.number
+            self.old.knows.history self.new.knows.history result.oldest }
         ensures places { LieAt self.old.knows.limits self.new.knows.history self.new.knows.places }
     {
         let current = self.ledger.journal.len();
@@ -258,13 +294,14 @@ impl<'a> Writing<'a> {
         }
     }
 
-    /// Scans, and tells how full the table is then, and the oldest of the announcements that the scan found. It costs what
-    /// `scan` does.
+    /// Scans, and returns how full the table is then, and the oldest of the announcements that the
+    /// scan found. It costs what `scan` does.
     pub fn status(&mut self) -> Status
         requires open { self.old.knows.published ≡ false }
         requires reason { HasReasonToScan self.old }
         ensures scan { (least : ℕ) × MakesScan self.old self.new least }
-        ensures oldest { FindsOldest self.old.knows.limits self.old.knows.number self.old.knows.history self.new.knows.history result.oldest }
+        ensures oldest { FindsOldest self.old.knows.limits self.old.knows.number
+            self.old.knows.history self.new.knows.history result.oldest }
         ensures places { LieAt self.old.knows.limits self.new.knows.history self.new.knows.places }
         ensures tells { Tells self.new.knows result }
     {
@@ -272,14 +309,15 @@ impl<'a> Writing<'a> {
         self.count(found.oldest)
     }
 
-    /// Makes room for one entry of so many operations. CommitsSpent where the journal is as long as the limit, and
-    /// OutOfMemory where a growth was refused; either leaves the write as it was.
+    /// Makes room for one entry of so many operations. CommitsSpent if the journal is as long as
+    /// the limit, and OutOfMemory if a growth was refused; either leaves the write as it was.
     #[tactic(auto, using(crate::proofs::Opened::no_room, crate::proofs::Opened::has_room))]
     pub fn reserve(&mut self, count: usize) -> Result<(), Refusal>
         requires open { self.old.knows.published ≡ false }
         requires count { (1 ≤ count) × (count ≤ 64) }
         ensures { MatchResult result
-            (λ _. (self.new ≡ record self.old { reserved = count }) × (length self.old.knows.seen < self.old.knows.limits.commits))
+            (λ _. (self.new ≡ record self.old { reserved = count })
+            × (length self.old.knows.seen < self.old.knows.limits.commits))
             (λ r. (self.new ≡ self.old) × HasNoRoom r self.old.knows) }
     {
         self.ledger.reserve(count)?;
@@ -287,31 +325,40 @@ impl<'a> Writing<'a> {
         Ok(())
     }
 
-    /// A page that stands filled is one of the table. It does nothing.
+    /// A page whose state is filled is one of the table. It does nothing.
     fn is_filled(&self, page: u64)
         requires { standing_among self.now.knows.places page ≡ Full }
-        ensures { (page < length self.now.knows.places) × (place_of self.now.knows.places page ≡ Place.Filled) }
+        ensures { (page < length self.now.knows.places)
+            × (place_of self.now.knows.places page ≡ Place.Filled) }
     {}
 
-    /// Enters a write into the journal, with the version of the pages that the write keeps, which spells the volume
-    /// after the entry and reaches just these pages. Answers the journal's length, which is the new version's number.
-    /// One store, which takes no memory, and work for each page that the write took or gave up.
+    /// Enters a write into the journal, with the version of the pages that the write keeps. The
+    /// version encodes the volume after the entry and reaches exactly these pages. Returns the
+    /// journal's length, which is the new version's number. One store, which takes no memory, and
+    /// work for each page that the write took or gave up.
     pub fn publish(&mut self, page: u64, ops: &[Op], dones: &[Done]) -> u64
         requires open { self.old.knows.published ≡ false }
         requires count { (1 ≤ length ops.now) × (length ops.now ≤ 64) }
         requires reserved { length ops.now ≡ self.old.reserved }
-        requires entry { Agrees (replay (entries self.old.knows.seen)) (entry_by self.old.knows ops.now dones.now) }
+        requires entry { Agrees (replay (entries self.old.knows.seen))
+            (entry_by self.old.knows ops.now dones.now) }
         requires page { standing_among self.old.knows.places page ≡ Full }
         requires filled { (q : ℕ) → standing_among self.old.knows.places q ≢ Taken }
-        requires volume { IsVersion (standing_among self.old.knows.places) (word_of_page self.old.knows.words)
+        requires volume { IsVersion (standing_among self.old.knows.places)
+            (word_of_page self.old.knows.words)
             page (state_after (replay (entries self.old.knows.seen)) ops.now) }
-        requires exact { (q : ℕ) → times q (reach (word_of_page self.old.knows.words) page) ≡ bit (is_kept (standing_among self.old.knows.places q)) }
+        requires exact { (q : ℕ) → times q (reach (word_of_page self.old.knows.words) page)
+            ≡ bit (is_kept (standing_among self.old.knows.places q)) }
         ensures write { self.new ≡ record self.old {
-          knows = publishes (with_history self.old.knows self.new.knows.history) (entry_by self.old.knows ops.now dones.now) page;
+          knows = publishes (with_history self.old.knows self.new.knows.history)
+              (entry_by self.old.knows ops.now dones.now) page;
           reserved = 0;
         } }
-        ensures moves { Moves self.old.knows (moves.Publish self.old.knows.number page (given_of self.old.knows) ∷ []) self.new.knows }
-        ensures worked { HasWorked self.old.knows.limits self.old.knows.number self.old.knows.history }
+        ensures moves { Moves self.old.knows
+            (moves.Publish self.old.knows.number page (given_of self.old.knows) ∷ [])
+            self.new.knows }
+        ensures worked { HasWorked self.old.knows.limits self.old.knows.number
+            self.old.knows.history }
         ensures result { result ≡ length self.new.knows.seen }
     {
         all_valid(ops);
@@ -326,12 +373,15 @@ impl<'a> Writing<'a> {
         version
     }
 
-    /// Gives the ledger and the lock back. What wasn't published is undone. One store.
+    /// Gives the writer state and the lock back. What wasn't published is undone. One store.
     pub fn unlock(self) -> Seat
         ensures seat { IsSeatOf self.entry.table result }
-        ensures pass { result.knows ≡ without_lock (with_history self.entry.knows result.knows.history) }
-        ensures moves { Moves self.entry.knows (moves.Unlock self.entry.knows.number ∷ []) result.knows }
-        ensures worked { self.entry.knows.published ≡ false → HasWorked self.entry.knows.limits self.entry.knows.number self.entry.knows.history }
+        ensures pass { result.knows ≡ without_lock
+            (with_history self.entry.knows result.knows.history) }
+        ensures moves { Moves self.entry.knows (moves.Unlock self.entry.knows.number ∷ [])
+            result.knows }
+        ensures worked { self.entry.knows.published ≡ false
+            → HasWorked self.entry.knows.limits self.entry.knows.number self.entry.knows.history }
     {
         let Writing {
             table,
@@ -368,13 +418,20 @@ fn store_version<E: NextVersion>(
     page: u64,
     word: u64,
 )
-    requires told { (E.entry ≡ record { by = by; ops = ops.now; dones = dones.now }) × (page ≡ E.page) }
+    requires told { (E.entry ≡ record { by = by; ops = ops.now; dones = dones.now })
+        × (page ≡ E.page) }
     requires seat { base.old.table_id ≡ table.now.id }
-    requires pass { (base.old.me.0 ≡ pass_of base.old.me.0 ∷ []) × MayPublish table.now.limits (pass_of base.old.me.0) E.entry page }
+    requires pass { (base.old.me.0 ≡ alone (pass_of base.old.me.0))
+        × MayPublish table.now.limits (pass_of base.old.me.0) E.entry page }
     requires word { word ≡ current_word (length (pass_of base.old.me.0).seen + 1) page }
     ensures seat { (base.new.table_id ≡ base.old.table_id) × (base.new.id ≡ base.old.id) }
-    ensures me { base.new.me ≡ (publishes (with_history (pass_of base.old.me.0) (pass_of base.new.me.0).history) E.entry page ∷ [], base.old.me.1) }
-    ensures moves { Moves (pass_of base.old.me.0) (moves.Publish (pass_of base.old.me.0).number page (given_of (pass_of base.old.me.0)) ∷ [])
+    ensures me { base.new.me ≡ (
+      alone (publishes
+          (with_history (pass_of base.old.me.0) (pass_of base.new.me.0).history) E.entry page),
+      base.old.me.1,
+    ) }
+    ensures moves { Moves (pass_of base.old.me.0)
+        (moves.Publish (pass_of base.old.me.0).number page (given_of (pass_of base.old.me.0)) ∷ [])
         (pass_of base.new.me.0) }
     ensures pass { IsPass (pass_of base.new.me.0) }
     ensures newest { NoneRetiredLater (pass_of base.old.me.0) }
@@ -385,28 +442,41 @@ fn store_version<E: NextVersion>(
 /// The load by which a page is taken.
 fn tell_taken(table: &VersionTable, base: &mut Base, page: u64)
     requires seat { base.old.table_id ≡ table.now.id }
-    requires pass { (base.old.me.0 ≡ pass_of base.old.me.0 ∷ []) × ((pass_of base.old.me.0).writes ≡ true) × ((pass_of base.old.me.0).published ≡ false) }
+    requires pass { (base.old.me.0 ≡ alone (pass_of base.old.me.0))
+        × ((pass_of base.old.me.0).writes ≡ true) × ((pass_of base.old.me.0).published ≡ false) }
     requires small { page < 16384 }
     requires page { (page < table.now.limits.pages) × (page < length (pass_of base.old.me.0).places)
         × (place_of (pass_of base.old.me.0).places page ≡ Place.Free) }
     ensures seat { (base.new.table_id ≡ base.old.table_id) × (base.new.id ≡ base.old.id) }
-    ensures me { base.new.me ≡ (takes_page (with_history (pass_of base.old.me.0) (pass_of base.new.me.0).history) page ∷ [], base.old.me.1) }
-    ensures moves { Makes (pass_of base.old.me.0).number (pass_of base.old.me.0).history (take_moves (pass_of base.old.me.0) page) (pass_of base.new.me.0).history }
+    ensures me { base.new.me ≡ (
+      alone (takes_page
+          (with_history (pass_of base.old.me.0) (pass_of base.new.me.0).history) page),
+      base.old.me.1,
+    ) }
+    ensures moves { Makes (pass_of base.old.me.0).number (pass_of base.old.me.0).history
+        (take_moves (pass_of base.old.me.0) page) (pass_of base.new.me.0).history }
 {
     let at = PAGES + PAGE_WORDS * page as usize;
     table.table.shared.load::<TakePage>(base, at);
 }
 
-/// Stores a word of a page in hand, where it isn't there.
+/// Stores a word of a page in hand, if it isn't there already.
 fn fill_word(table: &VersionTable, base: &mut Base, page: u64, i: usize, word: u64)
     requires seat { base.old.table_id ≡ table.now.id }
-    requires pass { (base.old.me.0 ≡ pass_of base.old.me.0 ∷ []) × ((pass_of base.old.me.0).writes ≡ true) × ((pass_of base.old.me.0).published ≡ false) }
+    requires pass { (base.old.me.0 ≡ alone (pass_of base.old.me.0))
+        × ((pass_of base.old.me.0).writes ≡ true) × ((pass_of base.old.me.0).published ≡ false) }
     requires small { page < 16384 }
-    requires page { (page < table.now.limits.pages) × MayBeFilled (pass_of base.old.me.0).places page }
+    requires page { (page < table.now.limits.pages)
+        × MayBeFilled (pass_of base.old.me.0).places page }
     requires place { i < 512 }
     ensures seat { (base.new.table_id ≡ base.old.table_id) × (base.new.id ≡ base.old.id) }
-    ensures me { base.new.me ≡ (fills_word (with_history (pass_of base.old.me.0) (pass_of base.new.me.0).history) page i word ∷ [], base.old.me.1) }
-    ensures moves { Makes (pass_of base.old.me.0).number (pass_of base.old.me.0).history (fill_moves (pass_of base.old.me.0) page i word)
+    ensures me { base.new.me ≡ (
+      alone (fills_word
+          (with_history (pass_of base.old.me.0) (pass_of base.new.me.0).history) page i word),
+      base.old.me.1,
+    ) }
+    ensures moves { Makes (pass_of base.old.me.0).number (pass_of base.old.me.0).history
+        (fill_moves (pass_of base.old.me.0) page i word)
         (pass_of base.new.me.0).history }
 {
     let shared = &table.table.shared;
@@ -422,15 +492,25 @@ fn read_announcement(table: &VersionTable, base: &mut Base, pass: u64) -> u64
     requires seat { base.old.table_id ≡ table.now.id }
     requires pass { MayReadAnnouncement table.now.limits base.old.me pass }
     ensures seat { (base.new.table_id ≡ base.old.table_id) × (base.new.id ≡ base.old.id) }
-    ensures me { base.new.me ≡ (scans (with_history (pass_of base.old.me.0) (pass_of base.new.me.0).history) result ∷ [], base.old.me.1) }
+    ensures me { base.new.me ≡ (
+      alone (scans
+          (with_history (pass_of base.old.me.0) (pass_of base.new.me.0).history) result),
+      base.old.me.1,
+    ) }
     ensures moves { Makes (pass_of base.old.me.0).number (pass_of base.old.me.0).history
-        (moves.Scan (pass_of base.old.me.0).number (pass_of base.old.me.0).scanned ∷ []) (pass_of base.new.me.0).history }
-    ensures found { Reaches (pass_of base.new.me.0) (λ w. result ≡ announce_word (w.phases (pass_of base.old.me.0).scanned)) }
-    ensures leaves { suc (pass_of base.old.me.0).scanned ≡ (pass_of base.old.me.0).limits.passes → UnreachedAreFree (scans_out (pass_of base.old.me.0) result) }
-    ensures own { (pass_of base.old.me.0).scanned ≡ (pass_of base.old.me.0).number → result ≡ announce_word (pass_of base.old.me.0).phase }
+        (moves.Scan (pass_of base.old.me.0).number (pass_of base.old.me.0).scanned ∷ [])
+        (pass_of base.new.me.0).history }
+    ensures found { Reaches (pass_of base.new.me.0)
+        (λ w. result ≡ announce_word (w.phases (pass_of base.old.me.0).scanned)) }
+    ensures leaves { suc (pass_of base.old.me.0).scanned ≡ (pass_of base.old.me.0).limits.passes
+        → UnreachedAreFree (scans_out (pass_of base.old.me.0) result) }
+    ensures own { (pass_of base.old.me.0).scanned ≡ (pass_of base.old.me.0).number → result
+        ≡ announce_word (pass_of base.old.me.0).phase }
     ensures reason { ((p : ℕ) → place_of (pass_of base.old.me.0).places p ≢ Place.Free)
-        → MakesForReason (pass_of base.old.me.0).limits (pass_of base.old.me.0).number (pass_of base.old.me.0).history
-        (moves.Scan (pass_of base.old.me.0).number (pass_of base.old.me.0).scanned ∷ []) (pass_of base.new.me.0).history }
+        → MakesForReason (pass_of base.old.me.0).limits (pass_of base.old.me.0).number
+        (pass_of base.old.me.0).history
+        (moves.Scan (pass_of base.old.me.0).number (pass_of base.old.me.0).scanned ∷ [])
+        (pass_of base.new.me.0).history }
 {
     table
         .table
@@ -452,21 +532,33 @@ fn read_all(table: &VersionTable, base: &mut Base, current: u64) -> Found
     requires seat { base.old.table_id ≡ table.now.id }
     requires pass { MayReadAnnouncement table.now.limits base.old.me 0 }
     requires number { (pass_of base.old.me.0).number < table.now.limits.passes }
-    requires current { ((pass_of base.old.me.0).limits ≡ table.now.limits) × (current ≡ length (pass_of base.old.me.0).seen) }
+    requires current { ((pass_of base.old.me.0).limits ≡ table.now.limits)
+        × (current ≡ length (pass_of base.old.me.0).seen) }
     ensures seat { (base.new.table_id ≡ base.old.table_id) × (base.new.id ≡ base.old.id) }
     ensures me { (found : List ℕ) × (length found ≡ table.now.limits.passes)
-        × (base.new.me ≡ (with_history (scans_all (pass_of base.old.me.0) found) (pass_of base.new.me.0).history ∷ [], base.old.me.1))
+        × (base.new.me ≡ (
+          alone (with_history (scans_all (pass_of base.old.me.0) found)
+              (pass_of base.new.me.0).history),
+          base.old.me.1,
+        ))
         × IsLeastAnnounced current found result.least
-        × AreFound (pass_of base.old.me.0).limits (pass_of base.old.me.0).number (pass_of base.old.me.0).history (pass_of base.new.me.0).history found }
+        × AreFound (pass_of base.old.me.0).limits (pass_of base.old.me.0).number
+        (pass_of base.old.me.0).history (pass_of base.new.me.0).history found }
     ensures moves { Makes (pass_of base.old.me.0).number (pass_of base.old.me.0).history
-        (scans_of (pass_of base.old.me.0).number table.now.limits.passes) (pass_of base.new.me.0).history }
+        (scans_of (pass_of base.old.me.0).number table.now.limits.passes)
+        (pass_of base.new.me.0).history }
     ensures reasons { ((p : ℕ) → place_of (pass_of base.old.me.0).places p ≢ Place.Free)
-        → MakesForReason (pass_of base.old.me.0).limits (pass_of base.old.me.0).number (pass_of base.old.me.0).history
-        (scans_of (pass_of base.old.me.0).number table.now.limits.passes) (pass_of base.new.me.0).history }
-    ensures part { IsPart table.now.limits.passes (pass_of base.old.me.0) (pass_of base.new.me.0) table.now.limits.passes result.least }
+        → MakesForReason (pass_of base.old.me.0).limits (pass_of base.old.me.0).number
+        (pass_of base.old.me.0).history
+        (scans_of (pass_of base.old.me.0).number table.now.limits.passes)
+        (pass_of base.new.me.0).history }
+    ensures part { IsPart table.now.limits.passes (pass_of base.old.me.0) (pass_of base.new.me.0)
+        table.now.limits.passes result.least }
     ensures own { IsOwnLeast (pass_of base.old.me.0) result.least }
-    ensures oldest { FindsOldest (pass_of base.old.me.0).limits (pass_of base.old.me.0).number (pass_of base.old.me.0).history (pass_of base.new.me.0).history result.oldest }
-    ensures places { LieAt (pass_of base.old.me.0).limits (pass_of base.new.me.0).history (pass_of base.new.me.0).places }
+    ensures oldest { FindsOldest (pass_of base.old.me.0).limits (pass_of base.old.me.0).number
+        (pass_of base.old.me.0).history (pass_of base.new.me.0).history result.oldest }
+    ensures places { LieAt (pass_of base.old.me.0).limits (pass_of base.new.me.0).history
+        (pass_of base.new.me.0).places }
 {
     let mut least = current;
     let mut oldest = None;

@@ -22,4 +22,5 @@ StaysSeat table old new = IsResting table new × (new.knows.number ≡ old.knows
 
 -- a seat of this table, and its pass is pinned
 abbrev pub IsPinnedSeat : Opened → SeatFacts → Type 0
-IsPinnedSeat table seat = IsSeatOf table seat × ((x : ℕ) × (n : ℕ) × (seat.knows.phase ≡ Pinned x n))
+IsPinnedSeat table seat = IsSeatOf table seat
+    × ((x : ℕ) × (n : ℕ) × (seat.knows.phase ≡ Pinned x n))

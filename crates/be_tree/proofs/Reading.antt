@@ -2,3 +2,4 @@
 pub mod Cursors
 pub mod LastBytes
 pub mod Leaves
+pub mod Starts

@@ -10,3 +10,4 @@ pub mod Range
 pub mod Cursor
 pub mod Forest
 pub mod Words
+pub mod Places

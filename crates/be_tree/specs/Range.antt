@@ -1,5 +1,6 @@
 -- The pairs of a list from a key on.
-use Rattle.std.specs.Prelude.{◌≡◌, ◌-◌, ◌≤◌, ℕ, List, [], ◌∷◌, ◌++◌, Option, None, Some, Bool, true, false, if◌then◌else◌, length, drop, map, All}
+use Rattle.std.specs.Prelude.{◌≡◌, ◌-◌, ◌≤◌, ℕ, List, [], ◌∷◌, ◌++◌, Option, None, Some, Bool, true}
+use Rattle.std.specs.Prelude.{false, if◌then◌else◌, length, drop, map, All}
 use Rattle.std.specs.Int.{from_be_bytes, w64}
 use Rattle.std.specs.List.{filter, find}
 use Rattle.std.specs.Ordering.{is_ge, is_gt}

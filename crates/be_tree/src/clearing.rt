@@ -7,12 +7,14 @@ ghost use Rattle.be_tree.specs.Tree.{IsTree, IsTreeAt, pages, pages_at, pages_be
 use crate::page::{HEADER_WORDS, ITEM_WORDS, child_at};
 use be_pages::Room;
 
-/// Gives up each page of a tree. A page that was there when the write began keeps its words until the write is kept, so
-/// the tree stands again once the room is undone. It gives each page up once, reads the inner ones, and takes none.
+/// Gives up each page of a tree. A page that was there when the write began keeps its words until
+/// the write is kept, so undoing the room brings the tree back. It gives each page up once, reads
+/// the inner ones, and takes none.
 pub fn clear<R: Room>(room: &mut R, root: u64)
     requires tree { IsTree (R.standing room.old) (R.words room.old) root }
     requires open { IsTrue (R.is_open (R.kept room.old)) }
-    ensures pages { Swaps R.kept R.standing R.words (pages (R.words room.old) root) [] room.old room.new }
+    ensures pages { Swaps R.kept R.standing R.words (pages (R.words room.old) root) [] room.old
+        room.new }
     ensures words { R.words room.new ≡ R.words room.old }
 {
     if root == 0 {
@@ -28,7 +30,8 @@ pub fn clear<R: Room>(room: &mut R, root: u64)
 fn clear_page<R: Room>(room: &mut R, level: u64, page: u64)
     requires tree { IsTreeAt level 1 (R.standing room.old) (R.words room.old) page }
     requires open { IsTrue (R.is_open (R.kept room.old)) }
-    ensures pages { Swaps R.kept R.standing R.words (pages_at level (R.words room.old) page) [] room.old room.new }
+    ensures pages { Swaps R.kept R.standing R.words (pages_at level (R.words room.old) page) []
+        room.old room.new }
     ensures words { R.words room.new ≡ R.words room.old }
 {
     clear_below(room, level, page);
@@ -40,7 +43,9 @@ fn clear_page<R: Room>(room: &mut R, level: u64, page: u64)
 fn clear_below<R: Room>(room: &mut R, level: u64, page: u64)
     requires tree { IsTreeAt level 1 (R.standing room.old) (R.words room.old) page }
     requires open { IsTrue (R.is_open (R.kept room.old)) }
-    ensures pages { Swaps R.kept R.standing R.words (pages_below level (R.words room.old) (items_of (R.words room.old page))) [] room.old room.new }
+    ensures pages { Swaps R.kept R.standing R.words
+        (pages_below level (R.words room.old) (items_of (R.words room.old page))) [] room.old
+        room.new }
     ensures words { R.words room.new ≡ R.words room.old }
 {
     if level == 0 {

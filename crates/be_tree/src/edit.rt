@@ -1,11 +1,13 @@
 //! A pair is put into a tree.
 //!
 //! # Full pages
-//! On the way down a full child whose left neighbour has room is written anew together with it: the neighbour takes all
-//! the items that it can hold. A full child with a full neighbour, or with none, is split, and the first of the two pages
-//! takes as many items as leave six for the second. So keys that rise leave full pages behind them. An insertion writes
-//! two pages a level at most, and three at the root; `writing` says which pages those are.
-ghost use Rattle.std.specs.Prelude.{◌≡◌, ℕ, suc, ◌+◌, ◌-◌, ◌^◌, ◌<◌, ◌≤◌, List, [], ◌∷◌, ◌++◌, length, take, drop, All, IfOk, OnOk, OnErr, IfErr, IsTrue};
+//! On the way down a full child whose left neighbour has room is written anew together with it: the
+//! neighbour takes all the items that it can hold. A full child with a full neighbour, or with
+//! none, is split. The first of the two pages takes as many items as leave six for the second. So
+//! ascending keys leave full pages. An insertion writes up to two pages a level, and three at the
+//! root; `writing` says which pages those are.
+ghost use Rattle.std.specs.Prelude.{◌≡◌, ℕ, suc, ◌+◌, ◌-◌, ◌^◌, ◌<◌, ◌≤◌, List, [], ◌∷◌, ◌++◌};
+ghost use Rattle.std.specs.Prelude.{length, take, drop, All, IfOk, OnOk, OnErr, IfErr, IsTrue};
 ghost use Rattle.std.specs.Prelude.{◌≢◌, ◌⊎◌, true};
 ghost use Rattle.std.specs.declared.cmp.Ordering.TheVariants.{Greater};
 ghost use Rattle.be_pages.specs.Pages.{IsUnchanged, is_readable, times, KeepsStart};
@@ -14,7 +16,8 @@ ghost use Rattle.be_pages.specs.Refusal.{IsFullOf};
 ghost use Rattle.be_tree.specs.Key.{IsRising, key_cmp, put};
 ghost use Rattle.be_tree.specs.Page.{IsItem, item_at, items_of};
 ghost use Rattle.be_tree.specs.Slot.{IsReady, pairs_of};
-ghost use Rattle.be_tree.specs.Tree.{AreNeighbours, IsBelow, IsTreeAt, Becomes, BecomesTree, IsTree, pairs, pages};
+ghost use Rattle.be_tree.specs.Tree.{AreNeighbours, IsBelow, IsTreeAt, Becomes, BecomesTree};
+ghost use Rattle.be_tree.specs.Tree.{IsTree, pairs, pages};
 ghost use Rattle.be_tree.specs.Tree.{pairs_at, pairs_below, pages_below};
 ghost use Rattle.be_tree.specs.Writing.{Changes};
 
@@ -34,7 +37,8 @@ fn put_beside<L: Look>(look: &mut L, page: u64, place: usize, pair: &Item) -> Ar
     requires readable { IsTrue (is_readable (L.standing look.old page)) }
     requires in_page { place + 42 ≤ 512 }
     requires item { IsItem (L.words look.old page) place }
-    ensures items { pairs_of (L.words look.old) pair.now result.items ≡ put pair.now (item_at (L.words look.old page) place ∷ []) }
+    ensures items { pairs_of (L.words look.old) pair.now result.items
+        ≡ put pair.now (item_at (L.words look.old page) place ∷ []) }
     ensures ready { All (IsReady (L.standing look.old) (L.words look.old)) result.items }
     ensures some { (0 < length result.items) × (length result.items ≤ 2) }
     ensures unchanged { IsUnchanged L.kept L.standing L.words look.old look.new }
@@ -66,11 +70,13 @@ fn insert_all(slots: &mut ArrayVec<Slot, 24>, at: usize, mut more: ArrayVec<Slot
     }
 }
 
-/// Puts slots in the place of the one at a number. Where one replaces one, as mostly, no other is moved.
+/// Puts slots in the place of the one at a number. If one replaces one, as mostly, no other is
+/// moved.
 pub(crate) fn replace_at(slots: &mut ArrayVec<Slot, 24>, at: usize, mut more: ArrayVec<Slot, 2>)
     requires in_range { at < length slots.old.items }
     requires room { length slots.old.items + length more.items ≤ 25 }
-    ensures { slots.new.items ≡ take at slots.old.items ++ (more.items ++ drop (suc at) slots.old.items) }
+    ensures { slots.new.items ≡ take at slots.old.items
+        ++ (more.items ++ drop (suc at) slots.old.items) }
 {
     match more.pop() {
         Some(last) => {
@@ -83,9 +89,9 @@ pub(crate) fn replace_at(slots: &mut ArrayVec<Slot, 24>, at: usize, mut more: Ar
     }
 }
 
-/// What stands in the place of an inner node's item, once its child was written as these branches: the item itself, where it
-/// isn't the first one and the child was written over where it is. A key that goes below such an item is no less than the
-/// item's, so its least key is the same.
+/// What comes in the place of an inner node's item, once its child was written as these branches.
+/// It is the item itself, if it isn't the first one and the child was written over in place. A key
+/// that goes below such an item is no less than the item's, so its least key is the same.
 #[tactic(auto, using(crate::proofs::Putting::Stays::one_slot))]
 fn settled(
     page: u64,
@@ -96,7 +102,8 @@ fn settled(
 ) -> ArrayVec<Slot, 2>
     requires in_page { place + 42 ≤ 512 }
     requires small { page < 2 ^ 32 }
-    ensures { (result.items ≡ branches.items) ⊎ ((0 < at) × (branches.items ≡ Branch child ∷ []) × (result.items ≡ At place page ∷ [])) }
+    ensures { (result.items ≡ branches.items)
+        ⊎ ((0 < at) × (branches.items ≡ Branch child ∷ []) × (result.items ≡ At place page ∷ [])) }
 {
     if at == 0 {
         return branches;
@@ -124,7 +131,8 @@ pub(crate) fn is_branch_to(page: u64, slot: Slot) -> bool
     }
 }
 
-/// Puts a pair below the item at a place, which is the one of this number, and gives the items that stand in its place.
+/// Puts a pair below the item at a place, which is the one of this number, and returns the items
+/// that come in its place.
 #[cycle(put)]
 fn put_below<R: Room>(
     room: &mut R,
@@ -137,16 +145,21 @@ fn put_below<R: Room>(
     requires readable { IsTrue (is_readable (R.standing room.old page)) }
     requires in_page { place + 42 ≤ 512 }
     requires item { IsItem (R.words room.old page) place }
-    requires below { IsBelow level (R.standing room.old) (R.words room.old) (item_at (R.words room.old page) place ∷ []) }
-    requires apart { times page (pages_below level (R.words room.old) (item_at (R.words room.old page) place ∷ [])) ≡ 0 }
-    requires behind { 0 < at → key_cmp (item_at (R.words room.old page) place).key pair.now.key ≢ Greater }
+    requires below { IsBelow level (R.standing room.old) (R.words room.old)
+        (item_at (R.words room.old page) place ∷ []) }
+    requires apart { times page (pages_below level (R.words room.old)
+        (item_at (R.words room.old page) place ∷ [])) ≡ 0 }
+    requires behind { 0 < at → key_cmp (item_at (R.words room.old page) place).key pair.now.key
+        ≢ Greater }
     requires key_fits { length pair.now.key ≤ 264 }
     requires open { IsTrue (R.is_open (R.kept room.old)) }
     ensures ok { IfOk result (λ slots. Becomes R.kept R.standing R.words
         (pages_below level (R.words room.old) (item_at (R.words room.old page) place ∷ []))
-        (put pair.now (pairs_below level (R.words room.old) (item_at (R.words room.old page) place ∷ []))) level
+        (put pair.now (pairs_below level (R.words room.old)
+        (item_at (R.words room.old page) place ∷ []))) level
         (pairs_of (R.words room.new) pair.now slots.items) room.old room.new) }
-    ensures ready { IfOk result (λ slots. All (IsReady (R.standing room.new) (R.words room.new)) slots.items) }
+    ensures ready { IfOk result (λ slots. All (IsReady (R.standing room.new) (R.words room.new))
+        slots.items) }
     ensures some { IfOk result (λ slots. (0 < length slots.items) × (length slots.items ≤ 2)) }
     ensures err { OnErr result (KeepsStart R.kept R.standing R.words room.old room.new) }
     ensures full { IfErr result (IsFullOf (R.full room.new)) }
@@ -166,9 +179,9 @@ fn put_below<R: Room>(
     Ok(settled(page, place, at, child, branches))
 }
 
-/// Puts a pair below a page, and the page's items with the pair put, still to be written, into an empty list. The page is
-/// not written over nor given up yet, since some of them stand there. A full child first gives items to its left
-/// neighbour, and is split only where that one is full too.
+/// Puts a pair below a page. The page's items with the pair put, still to be written, enter an
+/// empty list. The page is not written over nor given up yet, since some of the items lie there. A
+/// full child first gives items to its left neighbour, and is split only if that one is full too.
 #[cycle(put)]
 fn put_at<R: Room>(
     room: &mut R,
@@ -181,9 +194,12 @@ fn put_at<R: Room>(
     requires key_fits { length pair.now.key ≤ 264 }
     requires empty { slots.old.items ≡ [] }
     requires open { IsTrue (R.is_open (R.kept room.old)) }
-    ensures ok { OnOk result (Changes R.kept R.standing R.words level page (put pair.now) pair.now slots.new.items room.old room.new) }
-    ensures ready { OnOk result (All (IsReady (R.standing room.new) (R.words room.new)) slots.new.items) }
-    ensures some { OnOk result ((length (items_of (R.words room.old page)) ≤ length slots.new.items) × (length slots.new.items ≤ 13)) }
+    ensures ok { OnOk result (Changes R.kept R.standing R.words level page (put pair.now) pair.now
+        slots.new.items room.old room.new) }
+    ensures ready { OnOk result (All (IsReady (R.standing room.new) (R.words room.new))
+        slots.new.items) }
+    ensures some { OnOk result ((length (items_of (R.words room.old page)) ≤ length slots.new.items)
+        × (length slots.new.items ≤ 13)) }
     ensures err { OnErr result (KeepsStart R.kept R.standing R.words room.old room.new) }
     ensures full { IfErr result (IsFullOf (R.full room.new)) }
 {
@@ -199,8 +215,8 @@ fn put_at<R: Room>(
     Ok(())
 }
 
-/// Puts a pair below the second of two neighbours, which is full, and writes both anew: the first one takes all the items
-/// that it can hold.
+/// Puts a pair below the second of two neighbours, which is full, and writes both anew: the first
+/// one takes all the items that it can hold.
 #[cycle(put)]
 fn put_shared<R: Room>(
     room: &mut R,
@@ -212,14 +228,18 @@ fn put_shared<R: Room>(
     requires neighbours { AreNeighbours level (R.standing room.old) (R.words room.old) left right }
     requires roomy { R.words room.old left 1 < 12 }
     requires crowded { R.words room.old right 1 ≡ 12 }
-    requires rising { IsRising (pairs_at level (R.words room.old) left ++ put pair.now (pairs_at level (R.words room.old) right)) }
+    requires rising { IsRising (pairs_at level (R.words room.old) left
+        ++ put pair.now (pairs_at level (R.words room.old) right)) }
     requires key_fits { length pair.now.key ≤ 264 }
     requires open { IsTrue (R.is_open (R.kept room.old)) }
     ensures ok { IfOk result (λ slots. Becomes R.kept R.standing R.words
-        (left ∷ right ∷ pages_below level (R.words room.old) (items_of (R.words room.old left) ++ items_of (R.words room.old right)))
-        (pairs_at level (R.words room.old) left ++ put pair.now (pairs_at level (R.words room.old) right)) (suc level)
+        (left ∷ right ∷ pages_below level (R.words room.old)
+        (items_of (R.words room.old left) ++ items_of (R.words room.old right)))
+        (pairs_at level (R.words room.old) left
+        ++ put pair.now (pairs_at level (R.words room.old) right)) (suc level)
         (pairs_of (R.words room.new) pair.now slots.items) room.old room.new) }
-    ensures ready { IfOk result (λ slots. All (IsReady (R.standing room.new) (R.words room.new)) slots.items) }
+    ensures ready { IfOk result (λ slots. All (IsReady (R.standing room.new) (R.words room.new))
+        slots.items) }
     ensures two { IfOk result (λ slots. length slots.items ≡ 2) }
     ensures err { OnErr result (KeepsStart R.kept R.standing R.words room.old room.new) }
     ensures full { IfErr result (IsFullOf (R.full room.new)) }
@@ -238,16 +258,18 @@ fn put_shared<R: Room>(
     Ok(branches)
 }
 
-/// Puts a pair into a tree, in place of any pair of its key, and gives the new root. The old tree's pages that the new
-/// one has not are given up; those that this write had taken before may be written over. After an error the tree stands
-/// again once the room is undone.
+/// Puts a pair into a tree, in place of any pair of its key, and returns the new root. The old
+/// tree's pages that the new one has not are given up; those that this write had taken before may
+/// be written over. After an error, undoing the room brings the tree back.
 pub fn insert<R: Room>(room: &mut R, root: u64, key: &[u8], payload: &[u8]) -> Result<u64, Refusal>
     requires tree { IsTree (R.standing room.old) (R.words room.old) root }
     requires key_fits { length key.now ≤ 264 }
     requires fits { length key.now + length payload.now ≤ 328 }
     requires open { IsTrue (R.is_open (R.kept room.old)) }
-    ensures ok { IfOk result (λ new. BecomesTree R.kept R.standing R.words (pages (R.words room.old) root)
-        (put (record { key = key.now; payload = payload.now }) (pairs (R.words room.old) root)) new room.old room.new) }
+    ensures ok { IfOk result (λ new. BecomesTree R.kept R.standing R.words
+        (pages (R.words room.old) root)
+        (put (record { key = key.now; payload = payload.now }) (pairs (R.words room.old) root)) new
+        room.old room.new) }
     ensures err { OnErr result (KeepsStart R.kept R.standing R.words room.old room.new) }
     ensures full { IfErr result (IsFullOf (R.full room.new)) }
 {

@@ -18,7 +18,10 @@ impl Model for Item {
 
     ghost Value = { Pair };
 
-    ghost view = { λ a. record { key = take a.key_len a.bytes.items; payload = drop a.key_len a.bytes.items } };
+    ghost view = { λ a. record {
+      key = take a.key_len a.bytes.items;
+      payload = drop a.key_len a.bytes.items;
+    } };
 
     ghost invariant = { λ a. (a.key_len ≤ length a.bytes.items) × (length a.bytes.items ≤ 328) };
 }
@@ -54,7 +57,7 @@ impl Item {
         &self.bytes[self.key_len..]
     }
 
-    /// The key, and the payload behind it.
+    /// The key, and the payload after it.
     pub(crate) fn bytes(&self) -> &[u8]
         ensures value { result.now ≡ self.now.key ++ self.now.payload }
         ensures fits { length result.now ≤ 328 }

@@ -1,31 +1,33 @@
 //! Look-ups of a key.
 //!
-//! On each level the items of one page are asked one after the other, where they stand, up to the first whose key is
-//! greater, or in a leaf up to the one that has the key. A page has 12 at most, and a processor reads ahead along them, while
-//! the steps of a binary search wait for each other. Mostly the first word behind an item's lengths decides. Where it is less
-//! than the first word of the key, the item's key is less, however short it is: what stands behind a short key counts for
-//! nothing, and the key has zeros there. Where it is greater, the item's key may be short, so its length is read too.
-ghost use Rattle.std.specs.Prelude.{◌≡◌, [], ◌+◌, ◌-◌, ◌<◌, ◌≤◌, true, false, length, option_map, is_some, IfNone, IfSome, IfOk, IfErr, None, Some};
+//! On each level the items of one page are compared in place, one after the other. This ends at the
+//! first item whose key is greater, or in a leaf at the one that has the key. A page has up to 12
+//! items, and a processor reads ahead along them, while the steps of a binary search wait for each
+//! other. Mostly the first word after an item's lengths decides. If it is less than the first word
+//! of the key, the item's key is less, however short it is: the bytes after a short key count for
+//! nothing, and the key has zeros there. If it is greater, the item's key may be short, so its
+//! length is read too.
+ghost use Rattle.std.specs.Prelude.{◌≡◌, [], ◌+◌, ◌-◌, ◌<◌, ◌≤◌, true, false, length, option_map};
+ghost use Rattle.std.specs.Prelude.{is_some, IfNone, IfSome, IfOk, IfErr, None, Some};
 ghost use Rattle.std.specs.Prelude.{IsTrue};
 ghost use Rattle.std.specs.Ordering.{is_eq, is_gt};
 ghost use Rattle.be_pages.specs.Pages.{IsUnchanged, is_readable};
 ghost use Rattle.std.specs.declared.cmp.Ordering.TheVariants.{Equal};
 ghost use Rattle.be_tree.specs.Page.{IsItem, IsPage, item_at, item_place, items_of};
-ghost use Rattle.be_tree.specs.Key.{IsBranchFor, IsGap, IsRank, key_cmp, payload_at};
+ghost use Rattle.be_tree.specs.Key.{IsRank, key_cmp, payload_at};
+ghost use Rattle.be_tree.specs.Places.{IsBranchAt, IsFoundAt, IsGapAt};
 ghost use Rattle.be_tree.specs.Words.{IsFirst};
 ghost use Rattle.be_tree.specs.Tree.{IsTree, pairs};
 
-use crate::page::{
-    HEADER_WORDS, ITEM_WORDS, LENGTH_BITS, child_at, cmp_at, cmp_second, first_word,
-};
+use crate::page::{HEADER_WORDS, ITEM_WORDS, LENGTH_BITS, child_at, cmp_at, cmp_from, first_word};
 use crate::payload::fill_payload;
 use arrayvec::ArrayVec;
 use be_pages::Look;
 use std::cmp::Ordering;
 
-/// Puts the payload of a key into an empty vector, and tells whether the tree has the key; where it hasn't, the vector stays
-/// empty. It is filled where it stands, since a vector that is given by value costs its whole capacity at each move. It costs
-/// one descent.
+/// Writes the payload of a key into an empty vector, and returns whether the tree has the key; if
+/// it hasn't, the vector stays empty. It is filled in place, since a vector that is passed by value
+/// costs its whole capacity at each move. It costs one descent.
 pub fn find_into<L: Look>(
     look: &mut L,
     root: u64,
@@ -34,7 +36,8 @@ pub fn find_into<L: Look>(
 ) -> bool
     requires tree { IsTree (L.standing look.old) (L.words look.old) root }
     requires empty { payload.old.items ≡ [] }
-    ensures found { result ≡ true → payload_at (pairs (L.words look.old) root) key.now ≡ Some payload.new.items }
+    ensures found { result ≡ true → payload_at (pairs (L.words look.old) root) key.now
+        ≡ Some payload.new.items }
     ensures absent { result ≡ false → payload_at (pairs (L.words look.old) root) key.now ≡ None }
     ensures empty { result ≡ false → payload.new.items ≡ [] }
     ensures unchanged { IsUnchanged L.kept L.standing L.words look.old look.new }
@@ -49,7 +52,8 @@ pub fn find_into<L: Look>(
 /// The same, with the payload in a vector of its own.
 pub fn find<L: Look>(look: &mut L, root: u64, key: &[u8]) -> Option<ArrayVec<u8, 328>>
     requires tree { IsTree (L.standing look.old) (L.words look.old) root }
-    ensures payload { option_map (λ payload. payload.items) result ≡ payload_at (pairs (L.words look.old) root) key.now }
+    ensures payload { option_map (λ payload. payload.items) result
+        ≡ payload_at (pairs (L.words look.old) root) key.now }
     ensures unchanged { IsUnchanged L.kept L.standing L.words look.old look.new }
 {
     let mut payload = ArrayVec::new();
@@ -68,12 +72,13 @@ pub fn has_key<L: Look>(look: &mut L, root: u64, key: &[u8]) -> bool
     find_place(look, root, key).is_some()
 }
 
-/// The page and the place of the item that has this key, for those who read its payload where it stands (`payload_number_at` and
-/// its like). It costs one descent.
+/// The page and the place of the item that has this key, for callers that read its payload in place
+/// (`payload_number_at` and its like). It costs one descent.
 pub fn find_place<L: Look>(look: &mut L, root: u64, key: &[u8]) -> Option<(u64, usize)>
     requires tree { IsTree (L.standing look.old) (L.words look.old) root }
     ensures none { IfNone result (payload_at (pairs (L.words look.old) root) key.now ≡ None) }
-    ensures some { IfSome result (λ at. payload_at (pairs (L.words look.old) root) key.now ≡ Some (item_at (L.words look.old at.0) at.1).payload) }
+    ensures some { IfSome result (λ at. payload_at (pairs (L.words look.old) root) key.now
+        ≡ Some (item_at (L.words look.old at.0) at.1).payload) }
     ensures readable { IfSome result (λ at. IsTrue (is_readable (L.standing look.old at.0))) }
     ensures in_page { IfSome result (λ at. at.1 + 42 ≤ 512) }
     ensures fits { IfSome result (λ at. IsItem (L.words look.old at.0) at.1) }
@@ -86,17 +91,19 @@ pub fn find_place<L: Look>(look: &mut L, root: u64, key: &[u8]) -> Option<(u64, 
     let mut page = root - 1;
     let mut level = look.word(page, 0);
     while level > 0 {
-        let at = branch_for(look, page, key, first);
-        page = child_at(look, page, HEADER_WORDS + ITEM_WORDS * at);
+        let end = end_of(look, page);
+        let at = branch_for(look, page, end, key, first);
+        page = child_at(look, page, at);
         level -= 1;
     }
     match search(look, page, key, first) {
-        Ok(at) => Some((page, HEADER_WORDS + ITEM_WORDS * at)),
+        Ok(at) => Some((page, at)),
         Err(_) => None,
     }
 }
 
-/// Whether the item at a place of a page, as `Cursor::step` tells it, has this key. They are compared where the item stands.
+/// Whether the item at a place of a page, which `Cursor::step` returned, has this key. They are
+/// compared in place.
 pub fn is_key_at<L: Look>(look: &mut L, page: u64, at: usize, key: &[u8]) -> bool
     requires readable { IsTrue (is_readable (L.standing look.old page)) }
     requires in_page { at + 42 ≤ 512 }
@@ -107,7 +114,8 @@ pub fn is_key_at<L: Look>(look: &mut L, page: u64, at: usize, key: &[u8]) -> boo
     cmp_at(look, page, at, key).is_eq()
 }
 
-/// How many of a page's items have keys that are not greater than a key. Of most items it reads one word.
+/// How many of a page's items have keys that are not greater than a key. Of most items it reads one
+/// word.
 pub(crate) fn rank<L: Look>(look: &mut L, page: u64, key: &[u8]) -> usize
     requires readable { IsTrue (is_readable (L.standing look.old page)) }
     requires page { IsPage (L.words look.old page) }
@@ -124,27 +132,47 @@ pub(crate) fn rank<L: Look>(look: &mut L, page: u64, key: &[u8]) -> usize
     count
 }
 
-/// The number of the branch below which a key stands: the last one whose key is not greater, or the first one. So the first
-/// one's key isn't asked.
+/// The end of a page's items.
 #[inline(always)]
-pub(crate) fn branch_for<L: Look>(look: &mut L, page: u64, key: &[u8], first: u64) -> usize
+pub(crate) fn end_of<L: Look>(look: &mut L, page: u64) -> usize
+    requires readable { IsTrue (is_readable (L.standing look.old page)) }
+    requires page { IsPage (L.words look.old page) }
+    ensures end { result ≡ item_place (L.words look.old page 1) }
+    ensures unchanged { IsUnchanged L.kept L.standing L.words look.old look.new }
+{
+    HEADER_WORDS + ITEM_WORDS * look.word(page, 1) as usize
+}
+
+/// The place of the branch below which a key belongs: the last one whose key is not greater, or the
+/// first one. So the first one's key isn't read.
+#[inline(always)]
+pub(crate) fn branch_for<L: Look>(
+    look: &mut L,
+    page: u64,
+    end: usize,
+    key: &[u8],
+    first: u64,
+) -> usize
     requires readable { IsTrue (is_readable (L.standing look.old page)) }
     requires page { IsPage (L.words look.old page) }
     requires some { 0 < L.words look.old page 1 }
+    requires end { end ≡ item_place (L.words look.old page 1) }
     requires first { IsFirst key.now first }
-    ensures branch { IsBranchFor key.now (items_of (L.words look.old page)) result }
+    ensures branch { IsBranchAt key.now (items_of (L.words look.old page)) result }
     ensures unchanged { IsUnchanged L.kept L.standing L.words look.old look.new }
 {
-    let count = look.word(page, 1) as usize;
-    for at in 1..count {
-        if is_above(look, page, HEADER_WORDS + ITEM_WORDS * at, key, first) {
-            return at - 1;
+    let mut at = HEADER_WORDS + ITEM_WORDS;
+    while at < end {
+        if is_above(look, page, at, key, first) {
+            return at - ITEM_WORDS;
         }
+        at += ITEM_WORDS;
     }
-    count - 1
+    at - ITEM_WORDS
 }
 
-/// Where a key stands among a page's items: the number of the item that has it, or how many have lesser keys.
+/// The place of a key among a page's items: that of the item that has it, or the one after those
+/// with lesser keys.
 #[inline(always)]
 pub(crate) fn search<L: Look>(
     look: &mut L,
@@ -155,25 +183,27 @@ pub(crate) fn search<L: Look>(
     requires readable { IsTrue (is_readable (L.standing look.old page)) }
     requires page { IsPage (L.words look.old page) }
     requires first { IsFirst key.now first }
-    ensures found { IfOk result (λ at. at < L.words look.old page 1) }
-    ensures same { IfOk result (λ at. key_cmp (item_at (L.words look.old page) (item_place at)).key key.now ≡ Equal) }
-    ensures absent { IfErr result (IsGap key.now (items_of (L.words look.old page))) }
+    ensures found { IfOk result (IsFoundAt key.now (L.words look.old page)) }
+    ensures absent { IfErr result (IsGapAt key.now (L.words look.old page)) }
     ensures unchanged { IsUnchanged L.kept L.standing L.words look.old look.new }
 {
-    let count = look.word(page, 1) as usize;
-    for at in 0..count {
-        let order = order_at(look, page, HEADER_WORDS + ITEM_WORDS * at, key, first);
+    let end = end_of(look, page);
+    let mut at = HEADER_WORDS;
+    while at < end {
+        let order = order_at(look, page, at, key, first);
         if order.is_eq() {
             return Ok(at);
         }
         if order.is_gt() {
             return Err(at);
         }
+        at += ITEM_WORDS;
     }
-    Err(count)
+    Err(at)
 }
 
 /// Whether the key of the item at a place is greater than a key whose first word is at hand.
+#[inline(always)]
 pub(crate) fn is_above<L: Look>(look: &mut L, page: u64, at: usize, key: &[u8], first: u64) -> bool
     requires readable { IsTrue (is_readable (L.standing look.old page)) }
     requires in_page { at + 42 ≤ 512 }
@@ -185,8 +215,9 @@ pub(crate) fn is_above<L: Look>(look: &mut L, page: u64, at: usize, key: &[u8], 
     order_at(look, page, at, key, first).is_gt()
 }
 
-/// How the key of the item at a place compares with a key whose first word is at hand: mostly this decides. Of a key of no
-/// more than two words, as those of numbers and of most names, the second does.
+/// How the key of the item at a place compares with a key whose first word is at hand: mostly this
+/// decides. If it is the same, the second words are next. Keys of less than a word are compared
+/// elsewhere.
 #[inline(always)]
 fn order_at<L: Look>(look: &mut L, page: u64, at: usize, key: &[u8], first: u64) -> Ordering
     requires readable { IsTrue (is_readable (L.standing look.old page)) }
@@ -200,11 +231,12 @@ fn order_at<L: Look>(look: &mut L, page: u64, at: usize, key: &[u8], first: u64)
     if mine < first {
         return Ordering::Less;
     }
-    if mine == first && key.len() >= 8 && key.len() <= 16 {
-        return cmp_second(look, page, at, key, first);
-    }
-    if mine > first && look.word(page, at) >> LENGTH_BITS >= 8 {
+    let len = (look.word(page, at) >> LENGTH_BITS) as usize;
+    if mine > first && len >= 8 {
         return Ordering::Greater;
+    }
+    if mine == first && len >= 8 && key.len() >= 8 {
+        return cmp_from(look, page, at, len, key, 1);
     }
     cmp_at(look, page, at, key)
 }

@@ -1,15 +1,18 @@
 //! Items read from a page and written to it.
-ghost use Rattle.std.specs.Prelude.{◌≡◌, ◌≢◌, ℕ, [], ◌+◌, ◌-◌, ◌*◌, ◌/◌, ◌%◌, ◌<◌, ◌≤◌, ◌++◌, All, IsTrue, length, take, drop, map, slice_index};
+ghost use Rattle.std.specs.Prelude.{◌≡◌, ◌≢◌, ℕ, [], ◌+◌, ◌-◌, ◌*◌, ◌/◌, ◌%◌, ◌<◌, ◌≤◌, ◌++◌, All};
+ghost use Rattle.std.specs.Prelude.{IsTrue, length, take, drop, map, slice_index};
 ghost use Rattle.std.specs.List.{range_with_len};
 ghost use Rattle.std.specs.Int.{from_be_bytes, to_be_bytes, w64};
 ghost use Rattle.be_pages.specs.Pages.{is_readable, is_taken, IsUnchanged, OnlyWrites, StandsAt};
 ghost use Rattle.be_pages.specs.declared.room.Standing.TheVariants.{Filled};
-ghost use Rattle.be_tree.specs.Page.{IsItem, IsPadded, IsPage, item_at, bytes_at, key_len, level_of, items_of, words_for};
+ghost use Rattle.be_tree.specs.Page.{IsItem, IsPadded, IsPage, item_at, bytes_at, key_len};
+ghost use Rattle.be_tree.specs.Page.{level_of, items_of, words_for};
 ghost use Rattle.be_tree.specs.Page.{item_place};
 ghost use Rattle.std.specs.Prelude.{◌^◌, ◌⊎◌, true};
 ghost use Rattle.be_tree.specs.declared.slot.Slot.TheVariants.{At};
 ghost use Rattle.be_tree.specs.Pair.{Pair};
-ghost use Rattle.be_tree.specs.Slot.{IsReady, MayMove, MoveDown, MoveUp, StandsFrom, StandsTo, StandsWhole, branch_to, pair_of, pairs_of};
+ghost use Rattle.be_tree.specs.Slot.{IsReady, MayMove, MoveDown, MoveUp, StandsFrom, StandsTo};
+ghost use Rattle.be_tree.specs.Slot.{StandsWhole, branch_to, pair_of, pairs_of};
 ghost use Rattle.be_tree.specs.Key.{key_cmp};
 ghost use Rattle.be_tree.specs.Words.{IsFirst};
 ghost use Rattle.be_tree.specs.Tree.{child};
@@ -20,13 +23,14 @@ use arrayvec::ArrayVec;
 use be_pages::{Look, Room};
 use std::cmp::Ordering;
 
-/// How many words stand before a page's items: its level, and how many items it has.
+/// How many words come before a page's items: its level, and how many items it has.
 pub(crate) const HEADER_WORDS: usize = 2;
 
 /// How many words an item has: one for its lengths, and 41 for at most 328 bytes.
 pub(crate) const ITEM_WORDS: usize = 42;
 
-/// An item's first word tells how long its key is in the bits above these, and in these how long its payload is.
+/// An item's first word has the length of its key in the bits from this one on, and the length of
+/// its payload in those below.
 pub const LENGTH_BITS: usize = 32;
 
 /// How many items a page has at most.
@@ -48,12 +52,14 @@ pub(crate) fn child_at<L: Look>(look: &mut L, page: u64, at: usize) -> u64
     number_behind(look, page, at + 1 + key_len / 8, key_len % 8)
 }
 
-/// The number in the eight bytes that stand `skip` bytes behind the start of a word: in that word alone, or in it and the next.
+/// The number in the eight bytes that begin `skip` bytes after the start of a word: in that word
+/// alone, or in it and the next.
 pub(crate) fn number_behind<L: Look>(look: &mut L, page: u64, at: usize, skip: usize) -> u64
     requires readable { IsTrue (is_readable (L.standing look.old page)) }
     requires skips { skip < 8 }
     requires in_page { at + words_for (skip + 8) ≤ 512 }
-    ensures number { result ≡ from_be_bytes w64 (drop skip (bytes_at (L.words look.old page) at (skip + 8))) }
+    ensures number { result ≡ from_be_bytes w64
+        (drop skip (bytes_at (L.words look.old page) at (skip + 8))) }
     ensures unchanged { IsUnchanged L.kept L.standing L.words look.old look.new }
 {
     let first = look.word(page, at);
@@ -64,7 +70,7 @@ pub(crate) fn number_behind<L: Look>(look: &mut L, page: u64, at: usize, skip: u
     straddled(first, second, skip)
 }
 
-/// The number whose eight bytes stand in two words, from a byte of the first one on.
+/// The number whose eight bytes lie in two words, from a byte of the first one on.
 pub(crate) fn straddled(first: u64, second: u64, skip: usize) -> u64
     requires { (0 < skip) × (skip < 8) }
     ensures { result ≡ first * 2 ^ (8 * skip) % 2 ^ 64 + second / 2 ^ (64 - 8 * skip) }
@@ -72,8 +78,8 @@ pub(crate) fn straddled(first: u64, second: u64, skip: usize) -> u64
     (first << (8 * skip)) + (second >> (64 - 8 * skip))
 }
 
-/// How the key of the item at a place compares with a key: word by word, where the item stands. Look-ups come here seldom, so
-/// it isn't put into their loops.
+/// How the key of the item at a place compares with a key: word by word, where the item is.
+/// Look-ups come here only with short keys, so it isn't put into their loops.
 #[inline(never)]
 pub(crate) fn cmp_at<L: Look>(look: &mut L, page: u64, at: usize, key: &[u8]) -> Ordering
     requires readable { IsTrue (is_readable (L.standing look.old page)) }
@@ -83,8 +89,33 @@ pub(crate) fn cmp_at<L: Look>(look: &mut L, page: u64, at: usize, key: &[u8]) ->
     ensures unchanged { IsUnchanged L.kept L.standing L.words look.old look.new }
 {
     let len = (look.word(page, at) >> LENGTH_BITS) as usize;
+    cmp_from(look, page, at, len, key, 0)
+}
+
+/// How the key of the item at a place compares with a key, if they have the same words before one
+/// of a number.
+#[inline(always)]
+pub(crate) fn cmp_from<L: Look>(
+    look: &mut L,
+    page: u64,
+    at: usize,
+    len: usize,
+    key: &[u8],
+    from: usize,
+) -> Ordering
+    requires readable { IsTrue (is_readable (L.standing look.old page)) }
+    requires in_page { at + 42 ≤ 512 }
+    requires item { IsItem (L.words look.old page) at }
+    requires len { len ≡ key_len (L.words look.old page) at }
+    requires long { (8 * from ≤ len) × (8 * from ≤ length key.now) }
+    requires so_far { key_cmp (drop (8 * from) (item_at (L.words look.old page) at).key)
+        (drop (8 * from) key.now)
+        ≡ key_cmp (item_at (L.words look.old page) at).key key.now }
+    ensures order { result ≡ key_cmp (item_at (L.words look.old page) at).key key.now }
+    ensures unchanged { IsUnchanged L.kept L.standing L.words look.old look.new }
+{
     let common = least_of(len, key.len());
-    for i in 0..common / 8 {
+    for i in from..common / 8 {
         let mine = look.word(page, at + 1 + i);
         let other = whole_word(key, 8 * i);
         if mine != other {
@@ -96,43 +127,8 @@ pub(crate) fn cmp_at<L: Look>(look: &mut L, page: u64, at: usize, key: &[u8]) ->
         return len.cmp(&key.len());
     }
     let mine = look.word(page, at + 1 + common / 8);
-    let other = word_from(key, 8 * (common / 8));
+    let other = word_within(key, 8 * (common / 8));
     let shift = 64 - 8 * rest;
-    let mine_first = mine >> shift;
-    let other_first = other >> shift;
-    if mine_first != other_first {
-        return mine_first.cmp(&other_first);
-    }
-    len.cmp(&key.len())
-}
-
-/// How the key of the item at a place compares with a key of no more than two words that begins with the same word: by what the
-/// second words have of both.
-#[inline(never)]
-pub(crate) fn cmp_second<L: Look>(
-    look: &mut L,
-    page: u64,
-    at: usize,
-    key: &[u8],
-    first: u64,
-) -> Ordering
-    requires readable { IsTrue (is_readable (L.standing look.old page)) }
-    requires in_page { at + 42 ≤ 512 }
-    requires item { IsItem (L.words look.old page) at }
-    requires two_words { (8 ≤ length key.now) × (length key.now ≤ 16) }
-    requires first { IsFirst key.now first }
-    requires same { first ≡ L.words look.old page (at + 1) }
-    ensures order { result ≡ key_cmp (item_at (L.words look.old page) at).key key.now }
-    ensures unchanged { IsUnchanged L.kept L.standing L.words look.old look.new }
-{
-    let len = (look.word(page, at) >> LENGTH_BITS) as usize;
-    let common = least_of(len, key.len());
-    if common <= 8 {
-        return len.cmp(&key.len());
-    }
-    let mine = look.word(page, at + 2);
-    let other = word_from(key, 8);
-    let shift = 64 - 8 * (common - 8);
     let mine_first = mine >> shift;
     let other_first = other >> shift;
     if mine_first != other_first {
@@ -149,8 +145,8 @@ fn least_of(a: usize, b: usize) -> usize
     if a < b { a } else { b }
 }
 
-/// Puts the `n` bytes that stand `skip` bytes behind the start of a word into an empty vector. It is filled where it
-/// stands, since a vector that is given by value costs its whole capacity.
+/// Writes the `n` bytes that begin `skip` bytes after the start of a word into an empty vector. It
+/// is filled in place, since a vector that is passed by value costs its whole capacity.
 pub(crate) fn fill_bytes<L: Look, const N: usize>(
     look: &mut L,
     page: u64,
@@ -212,7 +208,8 @@ fn whole_word(bytes: &[u8], from: usize) -> u64
     ])
 }
 
-/// The bytes from one of the last seven on, as a word, with zeros past the end: the last eight in one load, moved up.
+/// The bytes from one of the last seven on, as a word, with zeros past the end: the last eight in
+/// one load, moved up.
 fn last_word(bytes: &[u8], from: usize) -> u64
     requires some { 8 ≤ length bytes.now }
     requires within { from < length bytes.now }
@@ -229,12 +226,33 @@ pub fn word_from(bytes: &[u8], from: usize) -> u64
     requires { from ≤ 328 }
     ensures { to_be_bytes w64 result ≡ map (λ k. slice_index bytes.now k) (range_with_len from 8) }
 {
+    if from < bytes.len() {
+        return word_within(bytes, from);
+    }
+    padded_word(bytes, from)
+}
+
+/// The same from a byte on that there is.
+#[inline(always)]
+fn word_within(bytes: &[u8], from: usize) -> u64
+    requires small { from ≤ 328 }
+    requires within { from < length bytes.now }
+    ensures { to_be_bytes w64 result ≡ map (λ k. slice_index bytes.now k) (range_with_len from 8) }
+{
     if from + 8 <= bytes.len() {
         return whole_word(bytes, from);
     }
-    if bytes.len() >= 8 && from < bytes.len() {
+    if bytes.len() >= 8 {
         return last_word(bytes, from);
     }
+    padded_word(bytes, from)
+}
+
+/// The same, byte by byte.
+fn padded_word(bytes: &[u8], from: usize) -> u64
+    requires { from ≤ 328 }
+    ensures { to_be_bytes w64 result ≡ map (λ k. slice_index bytes.now k) (range_with_len from 8) }
+{
     u64::from_be_bytes([
         byte_or_zero(bytes, from),
         byte_or_zero(bytes, from + 1),
@@ -247,15 +265,15 @@ pub fn word_from(bytes: &[u8], from: usize) -> u64
     ])
 }
 
-/// The first word of a key, with zeros behind a short one. A descent makes it once.
+/// The first word of a key, with zeros after a short one. A descent makes it once.
 pub(crate) fn first_word(key: &[u8]) -> u64
     ensures { IsFirst key.now result }
 {
     word_from(key, 0)
 }
 
-/// Writes bytes into the words from a place on, of a page that has a word filled, eight in a word, and zeros after the
-/// last.
+/// Writes bytes into the words from a place on, of a page that has a word filled, eight in a word,
+/// and zeros after the last.
 pub(crate) fn store_bytes<R: Room>(room: &mut R, page: u64, at: usize, bytes: &[u8])
     requires filled { R.standing room.old page ≡ Filled }
     requires in_page { at + words_for (length bytes.now) ≤ 512 }
@@ -263,7 +281,8 @@ pub(crate) fn store_bytes<R: Room>(room: &mut R, page: u64, at: usize, bytes: &[
     requires open { IsTrue (R.is_open (R.kept room.old)) }
     ensures bytes { bytes_at (R.words room.new page) at (length bytes.now) ≡ bytes.now }
     ensures padded { IsPadded (R.words room.new page) at (length bytes.now) }
-    ensures only { OnlyWrites R.kept R.standing R.words page at (at + words_for (length bytes.now)) room.old room.new }
+    ensures only { OnlyWrites R.kept R.standing R.words page at (at + words_for (length bytes.now))
+        room.old room.new }
 {
     for i in 0..(bytes.len() + 7) / 8 {
         room.fill(page, at + i, word_from(bytes, 8 * i));
@@ -290,7 +309,8 @@ pub(crate) fn store_item<R: Room>(room: &mut R, page: u64, at: usize, item: &Ite
     store_bytes(room, page, at + 1, bytes);
 }
 
-/// Copies the words of an item to a place of a page that has a word filled. An item that stands there is left alone.
+/// Copies the words of an item to a place of a page that has a word filled. An item that lies there
+/// already is left alone.
 fn copy_item<R: Room>(room: &mut R, page: u64, at: usize, from: u64, place: usize)
     requires filled { R.standing room.old page ≡ Filled }
     requires in_page { at + 42 ≤ 512 }
@@ -315,8 +335,8 @@ fn copy_item<R: Room>(room: &mut R, page: u64, at: usize, from: u64, place: usiz
     }
 }
 
-/// Writes the branch to another page at a place of a page that has a word filled. The whole words of its key are copied
-/// as words.
+/// Writes the branch to another page at a place of a page that has a word filled. The whole words
+/// of its key are copied as words.
 fn store_branch<R: Room>(room: &mut R, page: u64, at: usize, child: u64)
     requires filled { R.standing room.old page ≡ Filled }
     requires in_page { at + 42 ≤ 512 }
@@ -360,12 +380,13 @@ fn store_slot<R: Room>(room: &mut R, page: u64, at: usize, slot: Slot, pair: &It
     }
 }
 
-/// Puts the slots of a page's items into an empty list.
+/// Writes the slots of a page's items into an empty list.
 pub(crate) fn fill_slots<L: Look>(look: &mut L, page: u64, slots: &mut ArrayVec<Slot, 24>)
     requires readable { IsTrue (is_readable (L.standing look.old page)) }
     requires page { IsPage (L.words look.old page) }
     requires empty { slots.old.items ≡ [] }
-    ensures slots { slots.new.items ≡ map (λ j. At (item_place j) page) (range_with_len 0 (L.words look.old page 1)) }
+    ensures slots { slots.new.items ≡ map (λ j. At (item_place j) page)
+        (range_with_len 0 (L.words look.old page 1)) }
     ensures len { length slots.new.items ≡ L.words look.old page 1 }
     ensures few { length slots.new.items ≤ 12 }
     ensures unchanged { IsUnchanged L.kept L.standing L.words look.old look.new }
@@ -376,8 +397,8 @@ pub(crate) fn fill_slots<L: Look>(look: &mut L, page: u64, slots: &mut ArrayVec<
     }
 }
 
-/// Writes a node to a page that was taken, from its first item on. Those of its items that stand on the page move down or
-/// stay.
+/// Writes a node to a page that was taken, from its first item on. Those of its items that are on
+/// the page move down or stay.
 pub(crate) fn store_node<R: Room>(room: &mut R, page: u64, level: u64, slots: &[Slot], pair: &Item)
     requires taken { IsTrue (is_taken (R.standing room.old page)) }
     requires few { length slots.now ≤ 12 }
@@ -386,9 +407,11 @@ pub(crate) fn store_node<R: Room>(room: &mut R, page: u64, level: u64, slots: &[
     requires key_fits { length pair.now.key ≤ 264 }
     requires open { IsTrue (R.is_open (R.kept room.old)) }
     ensures level { level_of (R.words room.new page) ≡ level }
-    ensures items { items_of (R.words room.new page) ≡ pairs_of (R.words room.old) pair.now slots.now }
+    ensures items { items_of (R.words room.new page)
+        ≡ pairs_of (R.words room.old) pair.now slots.now }
     ensures page { IsPage (R.words room.new page) }
-    ensures behind { (i : ℕ) → item_place (length slots.now) ≤ i → R.words room.new page i ≡ R.words room.old page i }
+    ensures behind { (i : ℕ) → item_place (length slots.now) ≤ i → R.words room.new page i
+        ≡ R.words room.old page i }
     ensures standing { StandsAt (R.standing room.old) (R.standing room.new) page Filled }
     ensures others { (q : ℕ) → q ≢ page → R.words room.new q ≡ R.words room.old q }
     ensures kept { R.kept room.new ≡ R.kept room.old }
@@ -400,7 +423,7 @@ pub(crate) fn store_node<R: Room>(room: &mut R, page: u64, level: u64, slots: &[
     }
 }
 
-/// The same from its last item on. Those of its items that stand on the page move up or stay.
+/// The same from its last item on. Those of its items that are on the page move up or stay.
 pub(crate) fn store_from_last<R: Room>(
     room: &mut R,
     page: u64,
@@ -415,9 +438,11 @@ pub(crate) fn store_from_last<R: Room>(
     requires key_fits { length pair.now.key ≤ 264 }
     requires open { IsTrue (R.is_open (R.kept room.old)) }
     ensures level { level_of (R.words room.new page) ≡ level }
-    ensures items { items_of (R.words room.new page) ≡ pairs_of (R.words room.old) pair.now slots.now }
+    ensures items { items_of (R.words room.new page)
+        ≡ pairs_of (R.words room.old) pair.now slots.now }
     ensures page { IsPage (R.words room.new page) }
-    ensures behind { (i : ℕ) → item_place (length slots.now) ≤ i → R.words room.new page i ≡ R.words room.old page i }
+    ensures behind { (i : ℕ) → item_place (length slots.now) ≤ i → R.words room.new page i
+        ≡ R.words room.old page i }
     ensures standing { StandsAt (R.standing room.old) (R.standing room.new) page Filled }
     ensures others { (q : ℕ) → q ≢ page → R.words room.new q ≡ R.words room.old q }
     ensures kept { R.kept room.new ≡ R.kept room.old }
@@ -441,7 +466,7 @@ pub(crate) fn stands_from(page: u64, place: usize, slot: Slot) -> bool
     }
 }
 
-/// Whether nothing behind the item at a place of a page is a slot's item.
+/// Whether the slot's item, if it is on this page, lies at the place or wholly before it.
 fn stands_to(page: u64, place: usize, slot: Slot) -> bool
     ensures { result ≡ true → StandsTo page place slot }
 {
@@ -478,14 +503,15 @@ fn all_stand_at(page: u64, slots: &[Slot]) -> bool
     true
 }
 
-/// Whether a node is what stands on this page already.
+/// Whether this page has the node already.
 pub(crate) fn is_whole<L: Look>(look: &mut L, level: u64, page: u64, slots: &[Slot]) -> bool
     requires readable { IsTrue (is_readable (L.standing look.old page)) }
     requires few { length slots.now ≤ 12 }
     requires ready { All (IsReady (L.standing look.old) (L.words look.old)) slots.now }
     ensures page { result ≡ true → IsPage (L.words look.old page) }
     ensures level { result ≡ true → level_of (L.words look.old page) ≡ level }
-    ensures items { result ≡ true → (given : Pair) → items_of (L.words look.old page) ≡ pairs_of (L.words look.old) given slots.now }
+    ensures items { result ≡ true → (given : Pair) → items_of (L.words look.old page)
+        ≡ pairs_of (L.words look.old) given slots.now }
     ensures unchanged { IsUnchanged L.kept L.standing L.words look.old look.new }
 {
     let count = look.word(page, 1) as usize;
@@ -500,7 +526,7 @@ pub(crate) fn is_whole<L: Look>(look: &mut L, level: u64, page: u64, slots: &[Sl
     all_stand_at(page, slots)
 }
 
-/// Whether those of a node's items that stand on a page move down there, or stay.
+/// Whether those of a node's items that are on a page move down there, or stay.
 pub(crate) fn move_down(page: u64, slots: &[Slot]) -> bool
     requires { length slots.now ≤ 12 }
     ensures { result ≡ true → MoveDown page slots.now }

@@ -1,7 +1,9 @@
-//! Payloads read where they stand.
+//! Payloads read in place.
 //!
-//! Who knows the form of a payload needs no copy of it: a number in it is read from the one or two words that have its bytes.
-ghost use Rattle.std.specs.Prelude.{◌≡◌, [], ◌+◌, ◌<◌, ◌≤◌, IsTrue, length, take, drop, slice_index};
+//! A caller that knows the form of a payload needs no copy of it: a number in it is read from the
+//! one or two words that have its bytes.
+ghost use Rattle.std.specs.Prelude.{◌≡◌, [], ◌+◌, ◌<◌, ◌≤◌, IsTrue, length, take, drop};
+ghost use Rattle.std.specs.Prelude.{slice_index};
 ghost use Rattle.std.specs.Int.{from_be_bytes, w32, w64};
 ghost use Rattle.be_pages.specs.Pages.{IsUnchanged, is_readable};
 ghost use Rattle.be_tree.specs.Page.{IsItem, bytes_at, item_at, words_for};
@@ -43,7 +45,8 @@ pub fn payload_number_at<L: Look>(look: &mut L, page: u64, at: usize, from: usiz
     requires in_page { at + 42 ≤ 512 }
     requires item { IsItem (L.words look.old page) at }
     requires within { from + 8 ≤ length (item_at (L.words look.old page) at).payload }
-    ensures number { result ≡ from_be_bytes w64 (take 8 (drop from (item_at (L.words look.old page) at).payload)) }
+    ensures number { result ≡ from_be_bytes w64
+        (take 8 (drop from (item_at (L.words look.old page) at).payload)) }
     ensures unchanged { IsUnchanged L.kept L.standing L.words look.old look.new }
 {
     let key_len = (look.word(page, at) >> LENGTH_BITS) as usize;
@@ -57,7 +60,8 @@ pub fn payload_number32_at<L: Look>(look: &mut L, page: u64, at: usize, from: us
     requires in_page { at + 42 ≤ 512 }
     requires item { IsItem (L.words look.old page) at }
     requires within { from + 4 ≤ length (item_at (L.words look.old page) at).payload }
-    ensures number { result ≡ from_be_bytes w32 (take 4 (drop from (item_at (L.words look.old page) at).payload)) }
+    ensures number { result ≡ from_be_bytes w32
+        (take 4 (drop from (item_at (L.words look.old page) at).payload)) }
     ensures unchanged { IsUnchanged L.kept L.standing L.words look.old look.new }
 {
     let key_len = (look.word(page, at) >> LENGTH_BITS) as usize;
@@ -65,12 +69,14 @@ pub fn payload_number32_at<L: Look>(look: &mut L, page: u64, at: usize, from: us
     number32_behind(look, page, at + 1 + place / 8, place % 8)
 }
 
-/// The number in the four bytes that stand `skip` bytes behind the start of a word: in that word alone, or in it and the next.
+/// The number in the four bytes that begin `skip` bytes after the start of a word: in that word
+/// alone, or in it and the next.
 fn number32_behind<L: Look>(look: &mut L, page: u64, at: usize, skip: usize) -> u32
     requires readable { IsTrue (is_readable (L.standing look.old page)) }
     requires skips { skip < 8 }
     requires in_page { at + words_for (skip + 4) ≤ 512 }
-    ensures number { result ≡ from_be_bytes w32 (drop skip (bytes_at (L.words look.old page) at (skip + 4))) }
+    ensures number { result ≡ from_be_bytes w32
+        (drop skip (bytes_at (L.words look.old page) at (skip + 4))) }
     ensures unchanged { IsUnchanged L.kept L.standing L.words look.old look.new }
 {
     let first = look.word(page, at);
@@ -81,7 +87,7 @@ fn number32_behind<L: Look>(look: &mut L, page: u64, at: usize, skip: usize) -> 
     (straddled(first, second, skip) >> 32) as u32
 }
 
-/// Puts the payload at a place of a page into an empty vector.
+/// Writes the payload at a place of a page into an empty vector.
 pub fn fill_payload<L: Look>(look: &mut L, page: u64, at: usize, payload: &mut ArrayVec<u8, 328>)
     requires readable { IsTrue (is_readable (L.standing look.old page)) }
     requires in_page { at + 42 ≤ 512 }

@@ -1,5 +1,6 @@
 //! Two neighbours among the children of a node.
-ghost use Rattle.std.specs.Prelude.{◌≡◌, ℕ, suc, ◌+◌, ◌-◌, ◌<◌, ◌≤◌, [], ◌∷◌, ◌++◌, length, map, take, drop, All, IfSome, IsTrue};
+ghost use Rattle.std.specs.Prelude.{◌≡◌, ℕ, suc, ◌+◌, ◌-◌, ◌<◌, ◌≤◌, [], ◌∷◌, ◌++◌, length, map};
+ghost use Rattle.std.specs.Prelude.{take, drop, All, IfSome, IsTrue};
 ghost use Rattle.std.specs.List.{range_with_len};
 ghost use Rattle.be_pages.specs.Pages.{IsUnchanged, is_readable};
 ghost use Rattle.be_tree.specs.Page.{IsPage, item_at, items_of, item_place};
@@ -15,14 +16,14 @@ use crate::slot::Slot;
 use arrayvec::ArrayVec;
 use be_pages::Look;
 
-/// On which side of its neighbour a page stands.
+/// On which side of its neighbour a page is.
 #[derive(Clone, Copy)]
 pub(crate) enum Side {
     Left,
     Right,
 }
 
-/// Of two neighbours the left one and the right one, where the first of these pages stands on this side.
+/// Of two neighbours the left one and the right one, if the first of these pages is on this side.
 pub(crate) fn pages_in_order(side: Side, one: u64, other: u64) -> (u64, u64)
     ensures left { result.0 ≡ left_of side one other }
     ensures right { result.1 ≡ right_of side one other }
@@ -40,7 +41,8 @@ pub(crate) fn two_children<L: Look>(look: &mut L, level: u64, page: u64, at: usi
     requires in_page { at + 2 ≤ L.words look.old page 1 }
     ensures left { result.0 ≡ child (item_at (L.words look.old page) (item_place at)) }
     ensures right { result.1 ≡ child (item_at (L.words look.old page) (item_place (at + 1))) }
-    ensures neighbours { AreNeighbours (level - 1) (L.standing look.old) (L.words look.old) result.0 result.1 }
+    ensures neighbours { AreNeighbours (level - 1) (L.standing look.old) (L.words look.old) result.0
+        result.1 }
     ensures unchanged { IsUnchanged L.kept L.standing L.words look.old look.new }
 {
     let left = child_at(look, page, HEADER_WORDS + ITEM_WORDS * at);
@@ -48,13 +50,15 @@ pub(crate) fn two_children<L: Look>(look: &mut L, level: u64, page: u64, at: usi
     (left, right)
 }
 
-/// The child at a number of an inner node, where it has more than six items, so that it can lose one.
+/// The child at a number of an inner node, if it has more than six items, so that it can lose one.
 pub(crate) fn spare_child<L: Look>(look: &mut L, level: u64, page: u64, at: usize) -> Option<u64>
     requires tree { IsTreeAt level 1 (L.standing look.old) (L.words look.old) page }
     requires inner { 0 < level }
     requires in_page { at < L.words look.old page 1 }
-    ensures child { IfSome result (λ below. below ≡ child (item_at (L.words look.old page) (item_place at))) }
-    ensures tree { IfSome result (λ below. IsTreeAt (level - 1) 6 (L.standing look.old) (L.words look.old) below) }
+    ensures child { IfSome result (λ below. below
+        ≡ child (item_at (L.words look.old page) (item_place at))) }
+    ensures tree { IfSome result (λ below. IsTreeAt (level - 1) 6 (L.standing look.old)
+        (L.words look.old) below) }
     ensures spare { IfSome result (λ below. 6 < L.words look.old below 1) }
     ensures unchanged { IsUnchanged L.kept L.standing L.words look.old look.new }
 {
@@ -65,7 +69,8 @@ pub(crate) fn spare_child<L: Look>(look: &mut L, level: u64, page: u64, at: usiz
     Some(below)
 }
 
-/// The child at a number with its left neighbour before it, where the child is full and the neighbour is not.
+/// The child at a number with its left neighbour before it, if the child is full and the neighbour
+/// is not.
 pub(crate) fn sharing_children<L: Look>(
     look: &mut L,
     level: u64,
@@ -75,9 +80,12 @@ pub(crate) fn sharing_children<L: Look>(
     requires tree { IsTreeAt level 1 (L.standing look.old) (L.words look.old) page }
     requires in_page { at < L.words look.old page 1 }
     ensures inner { IfSome result (λ both. (0 < level) × (0 < at)) }
-    ensures left { IfSome result (λ both. both.0 ≡ child (item_at (L.words look.old page) (item_place (at - 1)))) }
-    ensures right { IfSome result (λ both. both.1 ≡ child (item_at (L.words look.old page) (item_place (at - 1 + 1)))) }
-    ensures neighbours { IfSome result (λ both. AreNeighbours (level - 1) (L.standing look.old) (L.words look.old) both.0 both.1) }
+    ensures left { IfSome result (λ both. both.0
+        ≡ child (item_at (L.words look.old page) (item_place (at - 1)))) }
+    ensures right { IfSome result (λ both. both.1
+        ≡ child (item_at (L.words look.old page) (item_place (at - 1 + 1)))) }
+    ensures neighbours { IfSome result
+        (λ both. AreNeighbours (level - 1) (L.standing look.old) (L.words look.old) both.0 both.1) }
     ensures roomy { IfSome result (λ both. L.words look.old both.0 1 < 12) }
     ensures crowded { IfSome result (λ both. L.words look.old both.1 1 ≡ 12) }
     ensures unchanged { IsUnchanged L.kept L.standing L.words look.old look.new }
@@ -92,7 +100,8 @@ pub(crate) fn sharing_children<L: Look>(
     Some((left, right))
 }
 
-/// Puts the slots of a node's items, with others in the place of two neighbours, into an empty list.
+/// Writes the slots of a node's items, with others in the place of two neighbours, into an empty
+/// list.
 pub(crate) fn slots_with<L: Look>(
     look: &mut L,
     page: u64,
@@ -106,7 +115,9 @@ pub(crate) fn slots_with<L: Look>(
     requires ready { All (IsReady (L.standing look.old) (L.words look.old)) two.items }
     requires empty { slots.old.items ≡ [] }
     ensures items { (given : Pair) → pairs_of (L.words look.old) given slots.new.items
-        ≡ take at (items_of (L.words look.old page)) ++ (pairs_of (L.words look.old) given two.items ++ drop (at + 2) (items_of (L.words look.old page))) }
+        ≡ take at (items_of (L.words look.old page))
+        ++ (pairs_of (L.words look.old) given two.items
+        ++ drop (at + 2) (items_of (L.words look.old page))) }
     ensures ready { All (IsReady (L.standing look.old) (L.words look.old)) slots.new.items }
     ensures len { length slots.new.items + 2 ≡ L.words look.old page 1 + length two.items }
     ensures unchanged { IsUnchanged L.kept L.standing L.words look.old look.new }
@@ -116,7 +127,7 @@ pub(crate) fn slots_with<L: Look>(
     replace_at(slots, at, two);
 }
 
-/// Puts the slots of a node's items, with another in the place of one, into an empty list.
+/// Writes the slots of a node's items, with another in the place of one, into an empty list.
 pub(crate) fn slots_with_one<L: Look>(
     look: &mut L,
     page: u64,
@@ -130,7 +141,9 @@ pub(crate) fn slots_with_one<L: Look>(
     requires ready { IsReady (L.standing look.old) (L.words look.old) slot }
     requires empty { slots.old.items ≡ [] }
     ensures items { (given : Pair) → pairs_of (L.words look.old) given slots.new.items
-        ≡ take at (items_of (L.words look.old page)) ++ (pair_of (L.words look.old) given slot ∷ drop (suc at) (items_of (L.words look.old page))) }
+        ≡ take at (items_of (L.words look.old page))
+        ++ (pair_of (L.words look.old) given slot
+        ∷ drop (suc at) (items_of (L.words look.old page))) }
     ensures ready { All (IsReady (L.standing look.old) (L.words look.old)) slots.new.items }
     ensures len { length slots.new.items ≡ L.words look.old page 1 }
     ensures unchanged { IsUnchanged L.kept L.standing L.words look.old look.new }
@@ -139,7 +152,7 @@ pub(crate) fn slots_with_one<L: Look>(
     slots[at] = slot;
 }
 
-/// Slots of two neighbours from left to right, where the first ones are of the page on this side.
+/// Slots of two neighbours from left to right, if the first ones are of the page on this side.
 fn slots_in_order(
     side: Side,
     mut one: ArrayVec<Slot, 24>,
@@ -160,7 +173,8 @@ fn slots_in_order(
     }
 }
 
-/// The slots of what the page on this side has now, and of the items of the other one, from left to right.
+/// The slots of what the page on this side has now, and of the items of the other one, from left to
+/// right.
 pub(crate) fn slots_beside<L: Look>(
     look: &mut L,
     side: Side,
@@ -170,7 +184,8 @@ pub(crate) fn slots_beside<L: Look>(
     requires readable { IsTrue (is_readable (L.standing look.old other)) }
     requires page { IsPage (L.words look.old other) }
     requires few { length one.items ≤ 12 }
-    ensures slots { result.items ≡ in_order side one.items (map (λ j. At (item_place j) other) (range_with_len 0 (L.words look.old other 1))) }
+    ensures slots { result.items ≡ in_order side one.items
+        (map (λ j. At (item_place j) other) (range_with_len 0 (L.words look.old other 1))) }
     ensures unchanged { IsUnchanged L.kept L.standing L.words look.old look.new }
 {
     let mut others = ArrayVec::new();

@@ -5,7 +5,8 @@ use Rattle.std.specs.declared.cmp.Ordering.{Ordering}
 use Rattle.std.specs.declared.cmp.Ordering.TheVariants.{Equal}
 use Rattle.std.specs.Cmp.Lexicographic.{slice_cmp}
 use Rattle.be_value.specs.declared.values.Value.{Value}
-use Rattle.be_value.specs.declared.values.Value.TheVariants.{Cstr, Long, Llng, Mims, Rawt, Ulng, Ullg}
+use Rattle.be_value.specs.declared.values.Value.TheVariants.{Cstr, Long, Llng, Mims, Rawt, Ulng}
+use Rattle.be_value.specs.declared.values.Value.TheVariants.{Ullg}
 use Rattle.be_value.specs.declared.values.Kind.{Kind}
 use Rattle.be_value.specs.declared.values.Kind.TheVariants as kinds
 
@@ -57,7 +58,8 @@ is_indexable kinds.Rawt = false
 is_indexable kinds.Ulng = true
 is_indexable kinds.Ullg = true
 
--- The order of two values of one kind: numbers by number, texts and raw bytes by bytes. Values of two kinds have none.
+-- The order of two values of one kind: numbers by number, texts and raw bytes by bytes. Values of
+-- two kinds have none.
 abbrev pub value_cmp : Value → Value → Ordering
 value_cmp (Cstr a) (Cstr b) = slice_cmp nat_cmp a b
 value_cmp (Long a) (Long b) = int_cmp a b

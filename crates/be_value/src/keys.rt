@@ -1,10 +1,12 @@
 //! Keys of an index.
 //!
-//! An index maps a value to the nodes that have it, and keeps its pairs in a tree of byte keys, as the Be File System
-//! does. A key is the value in bytes and then the node in eight, written so that the bytes of keys of one kind are in
-//! the order of their pairs: an integer is counted from the least of its kind and written high byte first, and a text
-//! ends with a zero byte, which no text has. So a range of values is a range of keys.
-ghost use Rattle.std.specs.Prelude.{◌≡◌, ◌<◌, ◌≤◌, ◌^◌, ◌↔◌, ℕ, IsTrue, IfSome, IfNone, length, Some, None, Ok, List, [], ◌∷◌, ◌++◌, IsUtf8};
+//! An index maps a value to the nodes that have it, and keeps its pairs in a tree of byte keys, as
+//! the Be File System does. A key is the value in bytes and then the node in eight, written so that
+//! the bytes of keys of one kind are in the order of their pairs: an integer is counted from the
+//! least of its kind and written high byte first, and a text ends with a zero byte, which no text
+//! has. So a range of values is a range of keys.
+ghost use Rattle.std.specs.Prelude.{◌≡◌, ◌<◌, ◌≤◌, ◌^◌, ◌↔◌, ℕ, IsTrue, IfSome, IfNone, length};
+ghost use Rattle.std.specs.Prelude.{Some, None, Ok, List, [], ◌∷◌, ◌++◌, IsUtf8};
 ghost use Rattle.std.specs.Int.{to_be_bytes, w32, w64};
 ghost use Rattle.be_value.specs.Name.{text_from};
 ghost use Rattle.std.specs.Ordering.{nat_cmp};
@@ -35,8 +37,8 @@ pub fn counted64(n: i64) -> u64
     }
 }
 
-/// The key of a value and a node: the value's bytes, and then eight of the node. At most 264 bytes: a text of 255,
-/// a zero byte, and the node.
+/// The key of a value and a node: the value's bytes, and then eight of the node. At most 264 bytes:
+/// a text of 255, a zero byte, and the node.
 pub fn key_of(value: &Value, node: u64) -> ArrayVec<u8, 264>
     requires { IsTrue (is_indexable (kind_of value.now)) }
     ensures { result.items ≡ key value.now node }
@@ -101,7 +103,8 @@ fn read32(bytes: &[u8]) -> u32
 fn read_text(bytes: &[u8]) -> Option<Value>
     ensures valid { IfSome result IsValue }
     ensures found { IfSome result (λ v. (kind_of v ≡ Kind.Cstr) × (bytes.now ≡ value_key v)) }
-    ensures none { IfNone result ((text : List ℕ) → text_from text ≡ Ok text → IsUtf8 text → bytes.now ≡ text ++ 0 ∷ [] → ⊥) }
+    ensures none { IfNone result ((text : List ℕ) → text_from text ≡ Ok text → IsUtf8 text
+        → bytes.now ≡ text ++ 0 ∷ [] → ⊥) }
 {
     let (end, text) = bytes.split_last()?;
     if *end != 0 {
@@ -115,7 +118,8 @@ fn read_text(bytes: &[u8]) -> Option<Value>
 fn read_value(kind: Kind, bytes: &[u8]) -> Option<Value>
     ensures valid { IfSome result IsValue }
     ensures found { IfSome result (λ v. (kind_of v ≡ kind) × (bytes.now ≡ value_key v)) }
-    ensures none { IfNone result ((v : AnyValue) → IsValue v → IsTrue (is_indexable kind) → kind_of v ≡ kind → bytes.now ≡ value_key v → ⊥) }
+    ensures none { IfNone result ((v : AnyValue) → IsValue v → IsTrue (is_indexable kind)
+        → kind_of v ≡ kind → bytes.now ≡ value_key v → ⊥) }
     ensures indexable { IfSome result (λ _. IsTrue (is_indexable kind)) }
 {
     match kind {
@@ -151,12 +155,15 @@ fn read_value(kind: Kind, bytes: &[u8]) -> Option<Value>
 /// The pair whose key these bytes are, if they are the key of a pair with a value of this kind:
 /// the exact inverse of `key_of`. It copies the value once and takes no memory.
 pub fn read_key(kind: Kind, bytes: &[u8]) -> Option<(Value, u64)>
-    ensures found { IfSome result (λ pair. (kind_of pair.0 ≡ kind) × (bytes.now ≡ key pair.0 pair.1)) }
-    ensures none { IfNone result ((v : AnyValue) (n : ℕ) → IsValue v → n < 2 ^ 64 → IsTrue (is_indexable kind) →
+    ensures found { IfSome result (λ pair. (kind_of pair.0 ≡ kind)
+        × (bytes.now ≡ key pair.0 pair.1)) }
+    ensures none { IfNone result ((v : AnyValue) (n : ℕ) → IsValue v → n < 2 ^ 64
+        → IsTrue (is_indexable kind) →
         kind_of v ≡ kind → bytes.now ≡ key v n → ⊥) }
 
     // No other pair has this key.
-    ensures only { IfSome result (λ pair. (v : AnyValue) (n : ℕ) → IsValue v → n < 2 ^ 64 → IsTrue (is_indexable kind) →
+    ensures only { IfSome result (λ pair. (v : AnyValue) (n : ℕ) → IsValue v → n < 2 ^ 64
+        → IsTrue (is_indexable kind) →
         kind_of v ≡ kind → bytes.now ≡ key v n → (pair.0 ≡ v) × (pair.1 ≡ n)) }
 
     // A kind that no index has gives no key.
@@ -171,7 +178,8 @@ pub fn read_key(kind: Kind, bytes: &[u8]) -> Option<(Value, u64)>
 /// The node that a key ends with. It reads eight bytes, whatever the value is.
 pub fn node_of(bytes: &[u8]) -> u64
     requires { 8 ≤ length bytes.now }
-    ensures { (front : List ℕ) (n : ℕ) → n < 2 ^ 64 → bytes.now ≡ front ++ to_be_bytes w64 n → result ≡ n }
+    ensures { (front : List ℕ) (n : ℕ) → n < 2 ^ 64 → bytes.now ≡ front ++ to_be_bytes w64 n
+        → result ≡ n }
 {
     let (_, last) = bytes.split_at(bytes.len() - 8);
     read64(last)
@@ -187,5 +195,6 @@ pub fn key_order()
 /// A law: each key is the key of one pair.
 pub fn keys_differ()
     ensures { (v w : AnyValue) (m n : ℕ) → IsValue v → IsValue w → m < 2 ^ 64 → n < 2 ^ 64 →
-        IsTrue (is_indexable (kind_of v)) → kind_of v ≡ kind_of w → key v m ≡ key w n → (v ≡ w) × (m ≡ n) }
+        IsTrue (is_indexable (kind_of v)) → kind_of v ≡ kind_of w → key v m ≡ key w n → (v ≡ w)
+        × (m ≡ n) }
 {}

@@ -1,23 +1,26 @@
 //! Names, values, their numbers and keys, and the refusals of every crate.
 //!
 //! # What an attribute has
-//! A name of 1 to 63 bytes and a value of one of seven kinds: a text, a MIME type, raw bytes, or an integer of 32 or 64
-//! bits, signed or unsigned. A text, a MIME type and raw bytes have at most 255 bytes. Names and values hold their bytes
-//! in themselves, so no call takes memory.
+//! A name of 1 to 63 bytes and a value of one of seven kinds: a text, a MIME type, raw bytes, or an
+//! integer of 32 or 64 bits, signed or unsigned. A text, a MIME type and raw bytes have at most 255
+//! bytes. Names and values hold their bytes in themselves, so no call takes memory.
 //!
 //! # How an index finds a value
-//! By a key: the value in bytes and then its node in eight. Keys of one kind are in the order of the values, and of the
-//! nodes where the values are equal. So a tree of byte keys is an index of any kind, and a range of values is a range of
-//! keys. MIME types and raw bytes have no key: no index has their kinds.
+//! By a key: the value in bytes and then its node in eight. Keys of one kind are in the order of
+//! the values, and of the nodes where the values are equal. So a tree of byte keys is an index of
+//! any kind, and a range of values is a range of keys. MIME types and raw bytes have no key: no
+//! index has their kinds.
 //!
 //! # Why there is one type of refusals
-//! A write passes through most crates, and each may refuse it. What is refused keeps its number and its words on the way
-//! up, so a script's reply and a program's error are those of the crate that said no.
+//! A write passes through most crates, and each may refuse it. A refusal keeps its number and its
+//! words on the way up. So a script's reply and a program's error are those of the crate that
+//! refused.
 //!
 //! # What is proved
-//! A name or a value is made of exactly the bytes within the limits (`specs/Name.antt`). `key_order` is the law of keys,
-//! `keys_differ` that a key is the key of one pair, and `read_key` reads that pair back (`specs/Key.antt`). `number_of`
-//! is the number that a text spells (`specs/Number.antt`).
+//! A name or a value is made of exactly the bytes within the limits (`specs/Name.antt`).
+//! `key_order` is the law of keys, `keys_differ` that a key is the key of one pair, and `read_key`
+//! reads that pair back (`specs/Key.antt`). `number_of` is the number that a text encodes
+//! (`specs/Number.antt`).
 #![tactic(auto)]
 
 mod keys;

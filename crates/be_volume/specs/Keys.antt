@@ -17,6 +17,6 @@ pub record IsKey (s : State) (name : List ℕ) (k : List ℕ) : Type 0 where
   pub paired : map.get index.pairs node ≡ Some value
   pub is : k ≡ key value node
 
--- the answer is the least key of the index from there on, or none where there is none
+-- the result is the least key of the index from there on, or none if there is none
 abbrev pub IsNextKey : State → List ℕ → List ℕ → Bool → Option (List ℕ) → Type 0
 IsNextKey s name = IsNext (IsKey s name)

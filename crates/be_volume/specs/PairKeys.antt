@@ -1,5 +1,6 @@
 -- The keys of the pairs of an index, in the order of their bytes.
-use Rattle.std.specs.Prelude.{◌≡◌, ◌<◌, ◌≤◌, ◌^◌, ℕ, Bool, true, false, not, List, length, Some, None, if◌then◌else◌}
+use Rattle.std.specs.Prelude.{◌≡◌, ◌<◌, ◌≤◌, ◌^◌, ℕ, Bool, true, false, not, List, length, Some}
+use Rattle.std.specs.Prelude.{None, if◌then◌else◌}
 use Rattle.std.specs.Ordering.{nat_cmp, is_lt, is_gt}
 use Rattle.std.specs.FinMap as map
 use Rattle.std.specs.declared.option.Option.{Option}
@@ -8,17 +9,21 @@ use Rattle.be_value.specs.Value.{kind_of, is_indexable}
 use Rattle.be_value.specs.declared.values.Value.{Value}
 use Rattle.be_volume.specs.Maps.{name_cmp}
 
--- k stands at `from` or after it; strictly after it where `after` is true. Keys are ordered by their bytes.
+-- k is at `from` or after it; strictly after it if `after` is true. Keys are ordered by their
+-- bytes.
 abbrev pub is_at_or_after : List ℕ → Bool → List ℕ → Bool
-is_at_or_after from after k = if after then is_gt (name_cmp k from) else not (is_lt (name_cmp k from))
+is_at_or_after from after k = if after then is_gt (name_cmp k from)
+    else not (is_lt (name_cmp k from))
 
--- the answer is the least of the keys from there on, or none where there is none
+-- the result is the least of the keys from there on, or none if there is none
 abbrev pub IsNext : (List ℕ → Type 0) → List ℕ → Bool → Option (List ℕ) → Type 0
 IsNext Is from after None = (k : List ℕ) → Is k → is_at_or_after from after k ≡ false
 IsNext Is from after (Some next) =
-    Is next × (is_at_or_after from after next ≡ true) × ((k : List ℕ) → Is k → is_at_or_after from after k ≡ true → is_lt (name_cmp k next) ≡ false)
+    Is next × (is_at_or_after from after next ≡ true)
+    × ((k : List ℕ) → Is k → is_at_or_after from after k ≡ true → is_lt (name_cmp k next)
+    ≡ false)
 
--- the key of a pair, none where the value can't stand in an index
+-- the key of a pair, none if the value can't be in an index
 abbrev pub own_key : Value → ℕ → Option (List ℕ)
 own_key value node = if is_indexable (kind_of value) then Some (key value node) else None
 

@@ -1,5 +1,6 @@
 -- What a query answers on a volume.
-use Rattle.std.specs.Prelude.{ℕ, Bool, false, not, ◌&&◌, ◌||◌, List, Some, None, pos, filter, if◌then◌else◌}
+use Rattle.std.specs.Prelude.{ℕ, Bool, false, not, ◌&&◌, ◌||◌, List, Some, None, pos, filter}
+use Rattle.std.specs.Prelude.{if◌then◌else◌}
 use Rattle.std.specs.Option.{option_map_or}
 use Rattle.std.specs.Ordering.{int_cmp, is_eq, is_lt, is_gt}
 use Rattle.std.specs.Str.{chars, encode_utf8_all}
@@ -13,7 +14,8 @@ use Rattle.be_value.specs.Number.{number_in}
 use Rattle.be_value.specs.declared.refusals.Refusal.{Refusal}
 use Rattle.be_value.specs.declared.refusals.Refusal.TheVariants.{NotCovered}
 use Rattle.be_value.specs.declared.values.Value.{Value}
-use Rattle.be_value.specs.declared.values.Value.TheVariants.{Cstr, Long, Llng, Mims, Rawt, Ulng, Ullg}
+use Rattle.be_value.specs.declared.values.Value.TheVariants.{Cstr, Long, Llng, Mims, Rawt, Ulng}
+use Rattle.be_value.specs.declared.values.Value.TheVariants.{Ullg}
 use Rattle.be_pattern.specs.Canonical.{is_plain, literal_prefix}
 use Rattle.be_pattern.specs.Match.{matches}
 use Rattle.be_query.specs.Grammar.{Formula, Leaf, And, Or, Literal, Wild, Exact}
@@ -42,14 +44,16 @@ is_true_of_match Le matched = not matched
 is_true_of_match Gt matched = not matched
 is_true_of_match Ge matched = not matched
 
--- whether a comparison is true of a text: a pattern matches its characters, and an exact literal is compared with its bytes
+-- whether a comparison is true of a text: a pattern matches its characters, and an exact literal is
+-- compared with its bytes
 abbrev pub holds_of_text : Cmp → List ℕ → Literal → Bool
 holds_of_text op text (Wild parts) = is_true_of_match op (matches parts (chars text))
 holds_of_text op text (Exact words) = is_true_of op (name_cmp text words)
 
--- the number that a literal spells; a pattern with a wildcard spells none
+-- the number that a literal encodes; a pattern with a wildcard encodes none
 abbrev pub literal_number : Literal → Option ℤ
-literal_number (Wild parts) = if is_plain parts then number_in (encode_utf8_all (literal_prefix parts)) else None
+literal_number (Wild parts) = if is_plain parts
+    then number_in (encode_utf8_all (literal_prefix parts)) else None
 literal_number (Exact words) = number_in words
 
 -- whether a comparison is true of a number: of none it is false, whatever the operator
@@ -71,17 +75,19 @@ abbrev pub seen_in : Option Index → Option Value → ℕ → Option Value
 seen_in None value node = value
 seen_in (Some index) value node = map.get index.pairs node
 
--- What a comparison on this name sees of the node: the value that the index of the name holds for it, and without an index its attribute.
+-- What a comparison on this name sees of the node: the value that the index of the name holds for
+-- it, and without an index its attribute.
 abbrev pub sees : State → ℕ → List ℕ → Option Value
 sees s node name = seen_in (map.get s.indices name) (attribute s node name) node
 
 -- whether a formula is true of a node
 abbrev pub sat : State → Formula → ℕ → Bool
-sat s (Leaf name op literal) node = option_map_or (λ value. holds op value literal) (sees s node name) false
+sat s (Leaf name op literal) node = option_map_or (λ value. holds op value literal)
+    (sees s node name) false
 sat s (And a b) node = sat s a node && sat s b node
 sat s (Or a b) node = sat s a node || sat s b node
 
--- whether a formula rests on indices, where this test tells which names have one
+-- whether a formula rests on indices; the test says which names have one
 abbrev pub rests : (List ℕ → Bool) → Formula → Bool
 rests indexed (Leaf name op literal) = indexed name
 rests indexed (And a b) = rests indexed a || rests indexed b

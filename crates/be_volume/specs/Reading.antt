@@ -13,11 +13,13 @@ use Rattle.be_volume.specs.Volume.{State}
 
 -- the node's attribute
 abbrev pub attribute : State → ℕ → List ℕ → Option Value
-attribute s node name = option_and_then (λ attributes. map.get attributes name) (map.get s.nodes node)
+attribute s node name = option_and_then (λ attributes. map.get attributes name)
+    (map.get s.nodes node)
 
 -- the node's attributes, by ascending names
 abbrev pub attributes_at : State → ℕ → Result (List (List ℕ × Value)) Refusal
-attributes_at s node = option_map_or (λ attributes. Ok (map.entries attributes)) (map.get s.nodes node) (Err NoNode)
+attributes_at s node = option_map_or (λ attributes. Ok (map.entries attributes))
+    (map.get s.nodes node) (Err NoNode)
 
 -- the kind of the index of that name
 abbrev pub index_kind : State → List ℕ → Option Kind

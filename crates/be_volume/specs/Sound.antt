@@ -26,22 +26,28 @@ IsOperation (Unset node name) = IsName name
 IsOperation (MkIndex name kind) = IsName name
 IsOperation (RmIndex name) = IsName name
 
--- what a pair (value, node) in an index of that name and kind tells: it is the node's attribute, and has the index's kind
-pub record IsPaired (s : State) (name : List ℕ) (kind : Kind) (node : ℕ) (value : Value) : Type 0 where
-  pub attribute_is : attribute s node name ≡ Some value
-  pub kind_is : kind_of value ≡ kind
-  pub is_value : IsValue value
-  pub node_fits : node < 2 ^ 64
-  pub node_below : node < s.next
+-- what a pair (value, node) in an index of that name and kind implies: it is the node's attribute,
+-- and has the index's kind
+pub record IsPaired (s : State) (name : List ℕ) (kind : Kind) (node : ℕ) (value : Value) : Type 0
+  where
+    pub attribute_is : attribute s node name ≡ Some value
+    pub kind_is : kind_of value ≡ kind
+    pub is_value : IsValue value
+    pub node_fits : node < 2 ^ 64
+    pub node_below : node < s.next
 
--- Each pair of an index is its node's attribute of that name and has the index's kind, which is indexable. Attributes have names
--- and values of the program, and each node is below the next. A node has at most 64 attributes, and there are at most 32 indices.
+-- Each pair of an index is its node's attribute of that name and has the index's kind, which is
+-- indexable. Attributes have names and values of the program, and each node is below the next. A
+-- node has at most 64 attributes, and there are at most 32 indices.
 pub record IsSound (s : State) : Type 0 where
-  pub pairs : (name : List ℕ) (index : Index) (node : ℕ) (value : Value) → map.get s.indices name ≡ Some index → map.get index.pairs node ≡ Some value →
+  pub pairs : (name : List ℕ) (index : Index) (node : ℕ) (value : Value) → map.get s.indices name
+      ≡ Some index → map.get index.pairs node ≡ Some value →
       IsPaired s name index.kind node value
-  pub kinds : (name : List ℕ) (index : Index) → map.get s.indices name ≡ Some index → IsTrue (is_indexable index.kind)
+  pub kinds : (name : List ℕ) (index : Index) → map.get s.indices name ≡ Some index
+      → IsTrue (is_indexable index.kind)
   pub names : (name : List ℕ) (index : Index) → map.get s.indices name ≡ Some index → IsName name
-  pub attributes : (node : ℕ) (name : List ℕ) (value : Value) → attribute s node name ≡ Some value → IsName name × IsValue value
+  pub attributes : (node : ℕ) (name : List ℕ) (value : Value) → attribute s node name ≡ Some value
+      → IsName name × IsValue value
   pub nodes : (node : ℕ) → map.contains_key s.nodes node ≡ true → node < s.next
   pub few_attributes : (node : ℕ) → map.len (attributes_of s.nodes node) ≤ 64
   pub few_indices : map.len s.indices ≤ 32

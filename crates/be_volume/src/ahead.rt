@@ -1,13 +1,16 @@
 //! The refusal of a list of operations, found ahead from the list and the facts of the old volume.
 //!
-//! Whether an operation is refused may rest on what the operations before it do. Each fact is asked of the old volume and
-//! then carried through those operations, so nothing is copied and no memory is taken. A list of n costs n steps a fact.
-//! The count of attributes would cost n looks for each of them, so it is made only for a new name, and where the old count
-//! and the sets of the node before it reach the limit together.
+//! Whether an operation is refused may depend on what the operations before it do. Each fact is
+//! asked of the old volume and then carried through those operations, so nothing is copied and no
+//! memory is taken. A list of n costs n steps a fact. The count of attributes would cost n looks
+//! for each of them, so it is made only for a new name, and only if the old count and the sets of
+//! the node before it reach the limit together.
 ghost use Rattle.std.specs.FinMap as map;
 ghost use Rattle.std.specs.Prelude.{◌≡◌, ◌≤◌, ◌<◌, ◌+◌, ◌^◌, IsOk, false, length, nat_le};
 ghost use Rattle.std.specs.Result.{result_err};
-ghost use Rattle.be_volume.specs.Ahead.{AreDone, StillAnswers, state_after, next_after, node_after, attribute_after, count_after, sets_after, index_after, indices_after, IsThere};
+ghost use Rattle.be_volume.specs.Ahead.{AreDone, StillAnswers, state_after, next_after, node_after};
+ghost use Rattle.be_volume.specs.Ahead.{attribute_after, count_after, sets_after, index_after};
+ghost use Rattle.be_volume.specs.Ahead.{indices_after, IsThere};
 ghost use Rattle.be_volume.specs.Maps.{attributes_of};
 ghost use Rattle.be_volume.specs.Volume.{State, step, steps};
 ghost use Rattle.be_volume.specs.declared.ops.Op.TheVariants as ops;
@@ -21,8 +24,9 @@ pub const MAX_ATTRIBUTES: usize = 64;
 /// The most indices that a volume has.
 pub const MAX_INDICES: usize = 32;
 
-/// The refusal, `NoNode` to `NotIndexable`, of the first operation of the list that is refused, or none where all are
-/// accepted. It takes no memory and changes nothing: a caller asks it before the first change.
+/// The refusal, `NoNode` to `NotIndexable`, of the first operation of the list that is refused, or
+/// none if all are accepted. It takes no memory and changes nothing: a caller asks it before the
+/// first change.
 pub fn first_refusal<F: Facts>(facts: &mut F, ops: &[Op]) -> Option<Refusal>
     ghost volume: { State }
     requires answers { F.answers_for facts.old volume }
@@ -81,7 +85,8 @@ fn set_refusal<F: Facts>(
     ghost volume: { State }
     requires answers { F.answers_for facts.old volume }
     requires before { AreDone volume before.now }
-    ensures answer { result ≡ result_err (step (state_after volume before.now) (ops.Set node name.now value.now)) }
+    ensures answer { result ≡ result_err
+        (step (state_after volume before.now) (ops.Set node name.now value.now)) }
     ensures reads { StillAnswers F.kept F.answers_for volume facts.old facts.new }
 {
     if has_attribute(facts, before, node, name) {
@@ -100,7 +105,8 @@ fn unset_refusal<F: Facts>(facts: &mut F, before: &[Op], node: u64, name: &Name)
     ghost volume: { State }
     requires answers { F.answers_for facts.old volume }
     requires before { AreDone volume before.now }
-    ensures answer { result ≡ result_err (step (state_after volume before.now) (ops.Unset node name.now)) }
+    ensures answer { result ≡ result_err
+        (step (state_after volume before.now) (ops.Unset node name.now)) }
     ensures reads { StillAnswers F.kept F.answers_for volume facts.old facts.new }
 {
     if has_attribute(facts, before, node, name) {
@@ -116,7 +122,8 @@ fn make_refusal<F: Facts>(facts: &mut F, before: &[Op], name: &Name, kind: Kind)
     ghost volume: { State }
     requires answers { F.answers_for facts.old volume }
     requires accepted { IsOk (steps volume before.now) }
-    ensures answer { result ≡ result_err (step (state_after volume before.now) (ops.MkIndex name.now kind)) }
+    ensures answer { result ≡ result_err
+        (step (state_after volume before.now) (ops.MkIndex name.now kind)) }
     ensures reads { StillAnswers F.kept F.answers_for volume facts.old facts.new }
 {
     if has_index(facts, before, name) {
@@ -134,7 +141,8 @@ fn remove_refusal<F: Facts>(facts: &mut F, before: &[Op], name: &Name) -> Option
     ghost volume: { State }
     requires answers { F.answers_for facts.old volume }
     requires accepted { IsOk (steps volume before.now) }
-    ensures answer { result ≡ result_err (step (state_after volume before.now) (ops.RmIndex name.now)) }
+    ensures answer { result ≡ result_err
+        (step (state_after volume before.now) (ops.RmIndex name.now)) }
     ensures reads { StillAnswers F.kept F.answers_for volume facts.old facts.new }
 {
     if has_index(facts, before, name) {
@@ -187,7 +195,8 @@ fn has_attribute<F: Facts>(facts: &mut F, before: &[Op], node: u64, name: &Name)
     ghost volume: { State }
     requires answers { F.answers_for facts.old volume }
     requires before { AreDone volume before.now }
-    ensures answer { result ≡ map.contains_key (attributes_of (state_after volume before.now).nodes node) name.now }
+    ensures answer { result ≡ map.contains_key
+        (attributes_of (state_after volume before.now).nodes node) name.now }
     ensures reads { StillAnswers F.kept F.answers_for volume facts.old facts.new }
 {
     let mut next = facts.next();
@@ -211,25 +220,27 @@ fn attribute_after(op: &Op, next: u64, there: bool, node: u64, name: &Name) -> b
     }
 }
 
-/// Whether the node has as many attributes after these operations as it may. They are counted only where they may be so
-/// many.
+/// Whether the node has as many attributes after these operations as it may. They are counted only
+/// if they may be that many.
 fn is_full<F: Facts>(facts: &mut F, before: &[Op], node: u64) -> bool
     ghost volume: { State }
     requires answers { F.answers_for facts.old volume }
     requires before { AreDone volume before.now }
-    ensures answer { result ≡ nat_le 64 (map.len (attributes_of (state_after volume before.now).nodes node)) }
+    ensures answer { result ≡ nat_le 64
+        (map.len (attributes_of (state_after volume before.now).nodes node)) }
     ensures reads { StillAnswers F.kept F.answers_for volume facts.old facts.new }
 {
     may_be_full(facts, before, node) && attribute_count(facts, before, node) >= MAX_ATTRIBUTES
 }
 
-/// Whether the old count and the sets of the node among these operations reach the limit together: each set adds one
-/// attribute at most.
+/// Whether the old count and the sets of the node among these operations reach the limit together:
+/// each set adds one attribute at most.
 fn may_be_full<F: Facts>(facts: &mut F, before: &[Op], node: u64) -> bool
     ghost volume: { State }
     requires answers { F.answers_for facts.old volume }
     requires before { AreDone volume before.now }
-    ensures few { result ≡ false → map.len (attributes_of (state_after volume before.now).nodes node) < 64 }
+    ensures few { result ≡ false → map.len
+        (attributes_of (state_after volume before.now).nodes node) < 64 }
     ensures reads { StillAnswers F.kept F.answers_for volume facts.old facts.new }
 {
     let old = facts.attribute_count(node);

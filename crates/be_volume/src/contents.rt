@@ -1,7 +1,8 @@
 //! What a volume holds, and what an accepted operation does to it.
 //!
-//! Refusals are found ahead, so here each operation only does its work. Where memory is refused in its midst, what is left
-//! is not said: the caller keeps equal contents beside these, or lets the volume go.
+//! Refusals are found ahead, so here each operation only does its work. If memory is refused
+//! midway, nothing is said of what is left: the caller keeps equal contents beside these, or drops
+//! the volume.
 ghost use Rattle.std.specs.FinMap as map;
 ghost use Rattle.std.specs.Prelude.{◌≡◌, ℕ, ◌<◌, ◌^◌, ◌+◌, IsOk, IfOk, Ok};
 ghost use Rattle.be_volume.specs.Maps.{attributes_of};
@@ -37,6 +38,7 @@ impl Model for Contents {
 }
 
 impl Contents {
+    /// Empty contents, whose next node is 1.
     pub fn new(alloc: Global) -> Contents
         ensures { result ≡ model.empty }
     {
@@ -48,18 +50,21 @@ impl Contents {
         }
     }
 
+    /// The number of the next new node.
     pub fn next(&self) -> u64
         ensures { result ≡ self.now.next }
     {
         self.next
     }
 
+    /// The nodes with their attributes.
     pub fn nodes(&self) -> &Nodes
         ensures { result.now ≡ self.now.nodes }
     {
         &self.nodes
     }
 
+    /// The indices by their names.
     pub fn indices(&self) -> &Indices
         ensures { result.now ≡ self.now.indices }
     {
@@ -80,7 +85,8 @@ impl Contents {
         })
     }
 
-    /// Performs an operation that is accepted. Where there is no memory, what is left is not said.
+    /// Performs an operation that is accepted. If there is no memory, nothing is said of what is
+    /// left.
     pub fn perform(&mut self, op: Op) -> Result<Done, AllocError>
         requires accepted { IsOk (step self.old op) }
         requires fits { self.old.next + 1 < 2 ^ 64 }
@@ -117,7 +123,8 @@ impl Contents {
 
     fn set(&mut self, node: u64, name: Name, value: Value) -> Result<Done, AllocError>
         requires { IsOk (step self.old (ops.Set node name value)) }
-        ensures { IfOk result (λ done. step self.old (ops.Set node name value) ≡ Ok (self.new, done)) }
+        ensures { IfOk result (λ done. step self.old (ops.Set node name value)
+            ≡ Ok (self.new, done)) }
     {
         self.indices.pair(&name, node, value.copy())?;
         self.nodes.put(node, name, value)?;
@@ -135,7 +142,8 @@ impl Contents {
 
     fn make_index(&mut self, name: Name, kind: Kind) -> Result<Done, AllocError>
         requires { IsOk (step self.old (ops.MkIndex name kind)) }
-        ensures { IfOk result (λ done. step self.old (ops.MkIndex name kind) ≡ Ok (self.new, done)) }
+        ensures { IfOk result (λ done. step self.old (ops.MkIndex name kind)
+            ≡ Ok (self.new, done)) }
     {
         let pairs = Pairs::new(self.alloc);
         self.indices.insert(name, Index { kind, pairs })?;

@@ -10,7 +10,8 @@ use std::collections::BTreeMap;
 
 /// The node left: its pair leaves each index. It visits each index once.
 pub fn unpair_each(indices: &mut BTreeMap<Name, Index>, node: u64)
-    ensures entries { indices.new.entries ≡ map (λ e. (e.0, unpaired e.1 node)) indices.old.entries }
+    ensures entries { indices.new.entries
+        ≡ map (λ e. (e.0, unpaired e.1 node)) indices.old.entries }
     ensures ordered { tree.IsOrdered name_cmp indices.new }
     ensures was_ordered { tree.IsOrdered name_cmp indices.old }
 {

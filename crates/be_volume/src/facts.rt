@@ -1,8 +1,9 @@
 //! What the refusals of operations rest on.
 //!
-//! Whether an operation is refused depends on a few facts about the volume: whether a node is there, how many attributes
-//! it has, which indices there are. A reader of these facts is all that is needed to refuse a list of operations before
-//! anything is changed, wherever the volume is kept.
+//! Whether an operation is refused depends on a few facts about the volume: whether a node is
+//! there, how many attributes it has, which indices there are. A reader of these facts is all that
+//! is needed to refuse a list of operations before anything is changed, wherever the volume is
+//! kept.
 ghost use Rattle.std.specs.FinMap as map;
 ghost use Rattle.std.specs.Prelude.{◌≡◌};
 ghost use Rattle.be_volume.specs.Maps.{attributes_of};
@@ -10,8 +11,8 @@ ghost use Rattle.be_volume.specs.Volume.{State};
 
 use be_value::Name;
 
-/// A reader of the facts of one volume on which refusals rest. Its calls may change the reader itself, but neither the
-/// volume nor what the reader keeps.
+/// A reader of the facts of one volume on which refusals rest. Its calls may change the reader
+/// itself, but neither the volume nor what the reader keeps.
 pub trait Facts {
     /// The facts of the reader that no call changes.
     ghost Kept: { Type 0 };
@@ -26,40 +27,51 @@ pub trait Facts {
         requires { (volume : State) × answers_for self.old volume }
         ensures answer { (volume : State) → answers_for self.old volume → result ≡ volume.next }
         ensures stays { kept self.new ≡ kept self.old }
-        ensures answers { (volume : State) → answers_for self.old volume → answers_for self.new volume };
+        ensures answers { (volume : State) → answers_for self.old volume
+            → answers_for self.new volume };
 
     /// Whether the node is there.
     fn has_node(&mut self, node: u64) -> bool
         requires { (volume : State) × answers_for self.old volume }
-        ensures answer { (volume : State) → answers_for self.old volume → result ≡ map.contains_key volume.nodes node }
+        ensures answer { (volume : State) → answers_for self.old volume → result
+            ≡ map.contains_key volume.nodes node }
         ensures stays { kept self.new ≡ kept self.old }
-        ensures answers { (volume : State) → answers_for self.old volume → answers_for self.new volume };
+        ensures answers { (volume : State) → answers_for self.old volume
+            → answers_for self.new volume };
 
     /// Whether the node has the attribute.
     fn has_attribute(&mut self, node: u64, name: &Name) -> bool
         requires { (volume : State) × answers_for self.old volume }
-        ensures answer { (volume : State) → answers_for self.old volume → result ≡ map.contains_key (attributes_of volume.nodes node) name.now }
+        ensures answer { (volume : State) → answers_for self.old volume → result
+            ≡ map.contains_key (attributes_of volume.nodes node) name.now }
         ensures stays { kept self.new ≡ kept self.old }
-        ensures answers { (volume : State) → answers_for self.old volume → answers_for self.new volume };
+        ensures answers { (volume : State) → answers_for self.old volume
+            → answers_for self.new volume };
 
     /// How many attributes the node has.
     fn attribute_count(&mut self, node: u64) -> usize
         requires { (volume : State) × answers_for self.old volume }
-        ensures answer { (volume : State) → answers_for self.old volume → result ≡ map.len (attributes_of volume.nodes node) }
+        ensures answer { (volume : State) → answers_for self.old volume → result
+            ≡ map.len (attributes_of volume.nodes node) }
         ensures stays { kept self.new ≡ kept self.old }
-        ensures answers { (volume : State) → answers_for self.old volume → answers_for self.new volume };
+        ensures answers { (volume : State) → answers_for self.old volume
+            → answers_for self.new volume };
 
     /// Whether there is an index of the name.
     fn has_index(&mut self, name: &Name) -> bool
         requires { (volume : State) × answers_for self.old volume }
-        ensures answer { (volume : State) → answers_for self.old volume → result ≡ map.contains_key volume.indices name.now }
+        ensures answer { (volume : State) → answers_for self.old volume → result
+            ≡ map.contains_key volume.indices name.now }
         ensures stays { kept self.new ≡ kept self.old }
-        ensures answers { (volume : State) → answers_for self.old volume → answers_for self.new volume };
+        ensures answers { (volume : State) → answers_for self.old volume
+            → answers_for self.new volume };
 
     /// How many indices there are.
     fn index_count(&mut self) -> usize
         requires { (volume : State) × answers_for self.old volume }
-        ensures answer { (volume : State) → answers_for self.old volume → result ≡ map.len volume.indices }
+        ensures answer { (volume : State) → answers_for self.old volume → result
+            ≡ map.len volume.indices }
         ensures stays { kept self.new ≡ kept self.old }
-        ensures answers { (volume : State) → answers_for self.old volume → answers_for self.new volume };
+        ensures answers { (volume : State) → answers_for self.old volume
+            → answers_for self.new volume };
 }

@@ -1,10 +1,11 @@
 //! Keys of an index, ordered by their bytes.
 //!
-//! A walk through an index asks for the least key from some bytes on. The bytes may be of any length, while no key has
-//! more than 264: a text of 255, a zero byte and a node.
+//! A walk through an index asks for the least key from some bytes on. The bytes may be of any
+//! length, while no key has more than 264: a text of 255, a zero byte and a node.
 ghost use Rattle.std.specs.BTreeMap.Range.{is_from_start};
 ghost use Rattle.std.specs.Cmp.{partial_equiv_from_equiv};
-ghost use Rattle.std.specs.Cmp.Lexicographic.{pointwise, slice_cmp, nat_list_eq_equiv, nat_list_cmp_total, texts_po, texts_ties};
+ghost use Rattle.std.specs.Cmp.Lexicographic.{pointwise, slice_cmp, nat_list_eq_equiv};
+ghost use Rattle.std.specs.Cmp.Lexicographic.{nat_list_cmp_total, texts_po, texts_ties};
 ghost use Rattle.std.specs.Ordering.{nat_cmp};
 ghost use Rattle.std.specs.Prelude.{◌≡◌, ◌≤◌, ◌<◌, ℕ, List, Some, IfSome, length, nat_eq, refl};
 ghost use Rattle.be_volume.specs.Maps.{name_cmp};
@@ -35,7 +36,7 @@ impl Model for IndexKey {
 }
 
 impl IndexKey {
-    /// The key of a pair, if its value can stand in an index.
+    /// The key of a pair, if its value can be in an index.
     pub fn of(value: &Value, node: u64) -> Option<IndexKey>
         ensures key { result ≡ own_key value.now node }
         ensures short { IfSome result (λ k. length k ≤ 264) }
@@ -68,12 +69,13 @@ impl IndexKey {
     }
 }
 
-/// Where the keys at `from` or after it begin, or those strictly after it.
+/// The bound from which the keys at `from` or after it begin, or those strictly after it.
 pub fn start_of(from: &[u8], after: bool) -> Bound<IndexKey>
-    ensures { (k : List ℕ) → length k ≤ 264 → is_from_start name_cmp result k ≡ is_at_or_after from.now after k }
+    ensures { (k : List ℕ) → length k ≤ 264 → is_from_start name_cmp result k
+        ≡ is_at_or_after from.now after k }
 {
     if from.len() > MAX_KEY {
-        // No key has so many bytes, so none stands at `from`.
+        // No key has so many bytes, so none is at `from`.
         return Bound::Excluded(IndexKey::new(&from[..MAX_KEY]));
     }
     let key = IndexKey::new(from);

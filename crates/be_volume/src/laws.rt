@@ -9,6 +9,7 @@ ghost use Rattle.be_volume.specs.declared.ops.Op.{Op as AnyOp};
 
 /// A law: accepted operations keep a volume sound.
 pub fn sound_steps()
-    ensures { (s t : State) (dones : List AnyDone) (ops : List AnyOp) → IsSound s → s.next + length ops < 2 ^ 64 → All IsOperation ops →
+    ensures { (s t : State) (dones : List AnyDone) (ops : List AnyOp) → IsSound s → s.next
+        + length ops < 2 ^ 64 → All IsOperation ops →
         steps s ops ≡ Ok (t, dones) → IsSound t }
 {}

@@ -1,7 +1,8 @@
 //! The plain volume: nodes with attributes, and indices that lead from values back to nodes.
 //!
-//! This is the sequential object with which everything else is compared: one thread, ordered maps, every call equal to
-//! its definition. A store over pages gives the same answers, and a journal is legal where this volume answers so.
+//! This is the sequential object with which everything else is compared: one thread, ordered maps,
+//! every call equal to its definition. A store over pages gives the same outcomes, and a journal is
+//! legal if this volume gives its outcomes.
 #![tactic(auto)]
 
 mod ahead;

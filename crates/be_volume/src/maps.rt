@@ -1,6 +1,7 @@
 //! The maps that a volume keeps, each seen as a finite map.
 //!
-//! Each wrapper has one exact clause a call, so that above this file nothing speaks of the trees that the maps are kept in.
+//! Each wrapper has one exact clause a call, so that above this file nothing speaks of the trees
+//! that the maps are kept in.
 ghost use Rattle.std.specs.BTreeMap as tree;
 ghost use Rattle.std.specs.FinMap as map;
 ghost use Rattle.std.specs.Option.{option_copied};
@@ -35,6 +36,7 @@ impl<V> Model for Named<V> {
 }
 
 impl<V: Drop> Named<V> {
+    /// A map without names.
     pub fn new(alloc: Global) -> Named<V>
         ensures { result ≡ map.empty }
     {
@@ -43,18 +45,21 @@ impl<V: Drop> Named<V> {
         }
     }
 
+    /// The number of names.
     pub fn len(&self) -> usize
         ensures { result ≡ map.len self.now }
     {
         self.named.len()
     }
 
+    /// The value of a name, if the map has it.
     pub fn get(&self, name: &Name) -> Option<&V>
         ensures { option_copied result ≡ map.get self.now name.now }
     {
         self.named.get(name)
     }
 
+    /// Sets the value of a name. `AllocError` if there is no memory.
     pub fn insert(&mut self, name: Name, value: V) -> Result<(), AllocError>
         ensures { OnOk result (self.new ≡ map.insert self.old name value) }
     {
@@ -62,6 +67,7 @@ impl<V: Drop> Named<V> {
         Ok(())
     }
 
+    /// Removes a name, if the map has it.
     pub fn remove(&mut self, name: &Name)
         ensures { self.new ≡ map.remove self.old name.now }
     {
@@ -119,6 +125,7 @@ fn numbers_of(alloc: Global, nodes: &BTreeMap<u64, Attributes>) -> Result<Vec<u6
 }
 
 impl Nodes {
+    /// A map without nodes.
     pub fn new(alloc: Global) -> Nodes
         ensures { result ≡ map.empty }
     {
@@ -127,6 +134,7 @@ impl Nodes {
         }
     }
 
+    /// The attributes of a node, if the node is there.
     pub fn get(&self, node: u64) -> Option<&Attributes>
         ensures { option_copied result ≡ map.get self.now node }
     {
@@ -140,6 +148,7 @@ impl Nodes {
         numbers_of(alloc, &self.nodes)
     }
 
+    /// Sets all attributes of a node. `AllocError` if there is no memory.
     pub fn insert(&mut self, node: u64, attributes: Attributes) -> Result<(), AllocError>
         ensures { OnOk result (self.new ≡ map.insert self.old node attributes) }
     {
@@ -147,6 +156,7 @@ impl Nodes {
         Ok(())
     }
 
+    /// Removes a node with its attributes, if the node is there.
     pub fn remove(&mut self, node: u64)
         ensures { self.new ≡ map.remove self.old node }
     {
@@ -167,7 +177,8 @@ impl Nodes {
     /// Takes an attribute away from a node that is there.
     pub fn take(&mut self, node: u64, name: &Name)
         requires { IsSome (map.get self.old node) }
-        ensures { self.new ≡ map.insert self.old node (map.remove (attributes_of self.old node) name.now) }
+        ensures { self.new ≡ map.insert self.old node
+            (map.remove (attributes_of self.old node) name.now) }
     {
         match self.nodes.get_mut(&node) {
             Some(attributes) => {
@@ -186,7 +197,8 @@ pub struct Index {
 }
 
 fn kinds_in(alloc: Global, indices: &BTreeMap<Name, Index>) -> Result<Vec<(Name, Kind)>, AllocError>
-    ensures list { IfOk result (λ list. list.items ≡ each (λ e. (e.0, e.1.kind)) indices.now.entries) }
+    ensures list { IfOk result (λ list. list.items
+        ≡ each (λ e. (e.0, e.1.kind)) indices.now.entries) }
     ensures ordered { tree.IsOrdered name_cmp indices.now }
 {
     indices
@@ -206,7 +218,8 @@ impl Named<Index> {
 
     /// The kinds of the indices, by ascending names.
     pub fn kinds(&self, alloc: Global) -> Result<Vec<(Name, Kind)>, AllocError>
-        ensures { IfOk result (λ list. list.items ≡ each (λ e. (e.0, e.1.kind)) (map.entries self.now)) }
+        ensures { IfOk result (λ list. list.items
+            ≡ each (λ e. (e.0, e.1.kind)) (map.entries self.now)) }
     {
         kinds_in(alloc, &self.named)
     }
@@ -228,7 +241,8 @@ impl Named<Index> {
         unpair_each(&mut self.named, node);
     }
 
-    /// The node has this value at the name: its old pair leaves the index of the name, and the new one enters if the kinds agree.
+    /// The node has this value at the name: its old pair leaves the index of the name, and the new
+    /// one enters if the kinds agree.
     pub fn pair(&mut self, name: &Name, node: u64, value: Value) -> Result<(), AllocError>
         ensures { OnOk result (self.new ≡ with_pair self.old name.now node value) }
     {

@@ -1,7 +1,7 @@
-//! The operations of a volume, and their answers.
+//! The operations of a volume, and their outcomes.
 //!
-//! A write is a list of operations, all or none. An operation holds its name and value in place, so a list of them may be
-//! copied without memory.
+//! A write is a batch of operations, all or none. An operation holds its name and value in place,
+//! so a list of them may be copied without memory.
 ghost use Rattle.std.specs.Prelude.{◌≡◌};
 ghost use Rattle.be_volume.specs.Sound.{IsOperation};
 
@@ -13,25 +13,27 @@ use std::alloc::AllocError;
 pub enum Op {
     /// Makes a node, with the next number. Numbers begin at 1 and are never used again.
     New,
-    /// Removes a node, its attributes and its pairs in all indices.
+    /// Removes a node, its attributes and its pairs in all indices. NoNode.
     Drop(u64),
-    /// Sets an attribute of a node, in place of any value that it has. The old pair leaves the index of the name, and the
-    /// new one enters if the kinds agree.
+    /// Sets an attribute of a node, in place of any value that it has. The old pair leaves the
+    /// index of the name, and the new one enters if the kinds agree. NoNode; TooManyAttrs at a new
+    /// name of a node with 64.
     Set(u64, Name, Value),
-    /// Removes an attribute of a node, and its pair.
+    /// Removes an attribute of a node, and its pair. NoNode, NoAttr.
     Unset(u64, Name),
-    /// Makes an index, which is empty at first.
+    /// Makes an index, which is empty at first. IndexExists; TooManyIndices at 32; NotIndexable of
+    /// MIMS and RAWT.
     MkIndex(Name, Kind),
-    /// Removes an index. If it is made again later, it is empty.
+    /// Removes an index. If it is made again later, it is empty. NoSuchIndex.
     RmIndex(Name),
 }
 
-/// What an accepted operation answers.
+/// The outcome of an accepted operation.
 #[derive(Clone, Copy, Debug, Default, PartialEq, Eq, Hash)]
 pub enum Done {
     /// The number of the new node.
     Node(u64),
-    /// Every other operation has nothing to tell.
+    /// Every other operation has nothing to return.
     #[default]
     Unit,
 }
@@ -51,8 +53,8 @@ impl Op {
         }
     }
 
-    /// A law of one operation: its names and values are such, as a contract can't tell of an operation that it is lent.
-    /// It does nothing.
+    /// A law of one operation: its names and values are such, as a contract can't tell of an
+    /// operation that it is lent. It does nothing.
     pub fn valid(&self)
         ensures { IsOperation self.now }
     {

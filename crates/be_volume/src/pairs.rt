@@ -1,8 +1,8 @@
 //! The pairs (value, node) of an index.
 //!
-//! A node has one pair at most, so the pairs are kept by their nodes, and that is what a contract sees. Beside them
-//! stand their keys in the order of their bytes, so a walk through the index finds each next key in one search of a
-//! tree and looks at no other pair.
+//! A node has one pair at most, so the pairs are kept by their nodes, and that is what a contract
+//! sees. Beside them the keys are kept in the order of their bytes, so a walk through the index
+//! finds each next key in one search of a tree and looks at no other pair.
 ghost use Rattle.std.specs.FinMap as map;
 ghost use Rattle.std.specs.Option.{option_copied, option_map};
 ghost use Rattle.std.specs.Prelude.{◌≡◌, OnOk, true};
@@ -37,10 +37,12 @@ impl Model for Pairs {
 
     ghost view = { λ p. map.from_entries p.values.entries };
 
-    ghost invariant = { λ p. AreKeysOf (map.from_entries p.values.entries) (contains maps.name_cmp p.keys) };
+    ghost invariant = { λ p. AreKeysOf (map.from_entries p.values.entries)
+        (contains maps.name_cmp p.keys) };
 }
 
 impl Pairs {
+    /// An index without pairs.
     pub fn new(alloc: Global) -> Pairs
         ensures { result ≡ map.empty }
     {
@@ -50,6 +52,7 @@ impl Pairs {
         }
     }
 
+    /// The value that a node's pair has, if the node has a pair.
     pub fn get(&self, node: u64) -> Option<&Value>
         ensures { option_copied result ≡ map.get self.now node }
     {
@@ -73,6 +76,8 @@ impl Pairs {
         Some(next.to_bytes())
     }
 
+    /// Sets the pair of a node, in place of the one that it had. `AllocError` if there is no
+    /// memory.
     pub fn insert(&mut self, node: u64, value: Value) -> Result<(), AllocError>
         ensures { OnOk result (self.new ≡ map.insert self.old node value) }
     {
@@ -89,6 +94,7 @@ impl Pairs {
         Ok(())
     }
 
+    /// Removes the pair of a node, if it has one.
     pub fn remove(&mut self, node: u64)
         ensures { self.new ≡ map.remove self.old node }
     {

@@ -1,12 +1,13 @@
 //! What a query sees of a volume, and of which nodes it is true.
 //!
-//! A comparison on a name that has an index sees what the index holds for a node, and else the node's attribute; of a
-//! node of which it sees nothing it is false, `!=` too. This is the definition, node by node; a plan that walks the
-//! indices has to give the same nodes.
+//! A comparison on a name that has an index sees what the index holds for a node, otherwise the
+//! node's attribute; of a node of which it sees nothing it is false, `!=` too. This is the
+//! definition, node by node; a plan that walks the indices has to give the same nodes.
 ghost use Rattle.std.specs.Option.{option_copied};
 ghost use Rattle.std.specs.Prelude.{◌≡◌};
 ghost use Rattle.be_query.specs.View.{formula, literal as literal_of};
-ghost use Rattle.be_volume.specs.Query.{sees, sat, covered, holds, holds_of_text, holds_of_number, literal_number, is_true_of, is_true_of_match};
+ghost use Rattle.be_volume.specs.Query.{sees, sat, covered, holds, holds_of_text, holds_of_number};
+ghost use Rattle.be_volume.specs.Query.{literal_number, is_true_of, is_true_of_match};
 
 use crate::contents::Contents;
 use be_query::{Cmp, Comparison, Literal, Tree};
@@ -48,9 +49,10 @@ fn seen<'a>(contents: &'a Contents, node: u64, name: &Name) -> Option<&'a Value>
     }
 }
 
-/// Whether a comparison is true of a value. Texts match a pattern by their characters and are compared with an exact
-/// literal by their bytes. Integers of every kind are compared by number with the number that the literal spells, and
-/// where it spells none the comparison is false, `!=` too. Of raw bytes every comparison is false.
+/// Whether a comparison is true of a value. Texts match a pattern by their characters and are
+/// compared with an exact literal by their bytes. Integers of every kind are compared by number
+/// with the number that the literal encodes. If it encodes none, the comparison is false, `!=` too.
+/// Of raw bytes every comparison is false.
 pub fn holds(comparison: &Comparison, value: &Value) -> bool
     ensures { result ≡ holds comparison.now.op value.now (literal_of comparison.now.literal) }
 {
@@ -88,8 +90,8 @@ fn holds_of_number(op: Cmp, n: i128, literal: &Literal) -> bool
     }
 }
 
-/// The number that a literal spells, if it spells one. A pattern with a wildcard spells none; the number of a plain one
-/// is read from its characters, after the backslashes went.
+/// The number that a literal encodes, if it encodes one. A pattern with a wildcard encodes none;
+/// the number of a plain one is read from its characters, after the backslashes are removed.
 pub fn literal_number(literal: &Literal) -> Option<i128>
     ensures { result ≡ literal_number (literal_of literal.now) }
 {

@@ -1,6 +1,6 @@
 //! The tests of be_volume: its public calls on worked examples.
 //!
-//! They stand apart, so that be_volume is proved once.
+//! They are a crate of their own, so that be_volume is proved once.
 #![tactic(auto)]
 
 #[cfg(test)]

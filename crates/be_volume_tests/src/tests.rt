@@ -1,14 +1,14 @@
-//! Worked examples, by calls. Most are written as lines `REQUEST => REPLY`, in the words of a script; a list of several
-//! operations has `;` between them.
+//! Worked examples, by calls. Most are written as lines `REQUEST => REPLY`, in the words of a
+//! script; a list of several operations has `;` between them.
 
-use be_language::{Reply, Request, read_line};
 use be_query::parse;
-use be_state::{Place, WholeVolume, next_list, whole_volume};
-use be_testing::{
+use be_script_language::{Reply, Request, read_line};
+use be_test_tools::{
     Answers, EQUAL_VALUES, EXAMPLES, LISTS, check_lines, done_lines, list_of, reply_lines,
 };
 use be_value::{Kind, Name, Refusal};
 use be_volume::{Op, Volume};
+use be_volume_state::{Place, WholeVolume, next_list, whole_volume};
 use std::alloc::Global;
 use std::test::Fail;
 
@@ -50,7 +50,8 @@ struct Plain {
     volume: Volume,
 }
 
-/// The lines of the reply to a request, and of its refusal where it is refused. OutOfMemory alone.
+/// The lines of the reply to a request, or of its refusal if it is refused. OutOfMemory alone is an
+/// error.
 fn lines_of(alloc: Global, volume: &mut Volume, request: &str) -> Result<String, Refusal> {
     match answer(alloc, volume, request) {
         Err(Refusal::OutOfMemory) => Err(Refusal::OutOfMemory),
@@ -65,7 +66,7 @@ impl Answers for Plain {
     }
 }
 
-/// Writes the next list of what makes a volume again; false where none is left.
+/// Writes the next list of what makes a volume again; false if none is left.
 fn write_next(
     alloc: Global,
     whole: &mut WholeVolume<'_>,
@@ -92,7 +93,7 @@ fn made_of(alloc: Global, volume: &Volume) -> Result<Volume, Refusal> {
     Ok(again)
 }
 
-/// A volume that is made again before it answers.
+/// A volume that is made again before each reply.
 #[derive(Drop)]
 struct MadeAgain {
     volume: Volume,
@@ -134,8 +135,8 @@ fn runs_made_again(alloc: Global, lines: &str) -> Result<(), Fail> {
     check_lines(alloc, &mut made, lines)
 }
 
-/// A volume that is made again gives the same replies, with attributes that stand outside of an index and dropped nodes
-/// among them.
+/// A volume that is made again gives the same replies, with attributes that are in no index and
+/// dropped nodes among them.
 #[test]
 fn made_again(rt: HostRuntime) -> Result<(), Fail> {
     for lines in EXAMPLES {
@@ -144,7 +145,7 @@ fn made_again(rt: HostRuntime) -> Result<(), Fail> {
     runs_made_again(rt.alloc(), LISTS)
 }
 
-/// An equal volume, copied again where memory is refused.
+/// An equal volume, copied again if memory is refused.
 fn copy_of(volume: &Volume) -> Result<Volume, Refusal> {
     match volume.copy() {
         Err(Refusal::OutOfMemory) => volume.copy(),
@@ -162,7 +163,7 @@ fn volume_copy(rt: HostRuntime) -> Result<(), Fail> {
     Ok(())
 }
 
-/// Whether the key at these bytes or after them is this one, or none where this has no bytes.
+/// Whether the key at these bytes or after them is this one, or none if this has no bytes.
 fn is_next(volume: &Volume, index: &str, from: &[u8], after: bool, key: &[u8]) -> bool {
     let Ok(name) = Name::new(index) else {
         return false;
@@ -222,7 +223,8 @@ fn longer_than_keys(alloc: Global, text: &str) -> Result<String, Refusal> {
     }
 }
 
-/// Whether bytes below all keys stand before the first one, those above them before none, and neither are a key.
+/// Whether bytes below all keys lie before the first one, those above them before none, and neither
+/// are a key.
 fn lie_between(volume: &Volume, below: &[u8], above: &[u8]) -> bool {
     is_next(volume, "k", below, false, &FIRST)
         && is_next(volume, "k", above, false, &[])
@@ -247,7 +249,7 @@ fn numbered(alloc: Global, before: &str, i: u64, after: &str) -> Result<String, 
     }
 }
 
-/// Runs so many requests with a number from 0 on.
+/// Runs that many requests with a number from 0 on.
 fn runs_numbered(
     alloc: Global,
     volume: Volume,

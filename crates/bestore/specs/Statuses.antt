@@ -1,7 +1,8 @@
 -- The exit status of each outcome, as bestore(1) has it.
 use Rattle.std.specs.Prelude.{ℕ}
 use Rattle.bestore.specs.declared.outcomes.Outcome.{Outcome}
-use Rattle.bestore.specs.declared.outcomes.Outcome.TheVariants.{Done, Refused, Wrong, Failed, Misused}
+use Rattle.bestore.specs.declared.outcomes.Outcome.TheVariants.{Done, Refused, Wrong, Failed}
+use Rattle.bestore.specs.declared.outcomes.Outcome.TheVariants.{Misused}
 
 abbrev pub status_of : Outcome → ℕ
 status_of Done = 0

@@ -1,12 +1,14 @@
-//! `bestore`: runs a script and writes the reply to each of its lines to standard output, races scripts against one
-//! another and writes the replies of each and their journal, or answers the lines of standard input as they come. It also
-//! checks a journal that was written, and writes the script that makes it again, or its last state alone.
+//! `bestore`: runs a script and writes the reply to each of its lines to standard output, races
+//! scripts against one another and writes the replies of each and their journal, or answers the
+//! lines of standard input as they come. It also checks a journal that was written, and writes the
+//! script that makes it again, or its last state alone.
 //!
-//! The status is 0 for a run, a race or a shell to its end, for a journal that is right and for a request for help or for the
-//! version, 2 for a command line that says nothing that can be done, and 1, with one line on standard error, where it stopped
-//! before its end; so does a strict run at the first line that is refused. It is 1 too where a journal is wrong; the line that is
-//! stands on standard output.
-//! Replies go through a buffer, which is written before the program ends; a shell writes each reply when it has it.
+//! The status is 0 for a run, a race or a shell to its end, for a journal that is right and for a
+//! request for help or for the version. It is 2 for a command line that asks for nothing that can
+//! be done. It is 1, with one line on standard error, if the program stopped before its end, as a
+//! strict run does at the first line that is refused. It is 1 too if a journal is wrong; the first
+//! wrong line is written to standard output. Replies go through a buffer, which is written before
+//! the program ends; a shell writes each reply when it has it.
 #![tactic(auto)]
 
 ghost use Rattle.std.specs.Prelude.{◌≡◌, IfOk, IfSome};
@@ -68,7 +70,8 @@ fn reason(fault: RunFault) -> &'static str {
 /// The name that stands for standard input.
 const STANDARD_INPUT: &str = "-";
 
-/// Writes what the buffer still has, however the work ended. A failure is one only of work that went well.
+/// Writes what the buffer still has, however the work ended. A failure is one only of work that
+/// went well.
 fn finish<W: Write + Drop>(
     mut writer: BufWriter<W>,
     worked: Result<(), RunFault>,
@@ -83,7 +86,7 @@ fn finish<W: Write + Drop>(
 #[derive(Clone, Copy)]
 enum Running {
     Plainly,
-    /// Its journal is told behind the replies.
+    /// Its journal is written after the replies.
     Telling,
     /// It ends at the first line that is refused.
     Strictly,
@@ -91,7 +94,7 @@ enum Running {
     StrictlyTelling,
 }
 
-/// Runs a script up to the first line that is refused, and tells its journal where that is asked for.
+/// Runs a script up to the first line that is refused, and writes its journal if that is asked for.
 fn run_strictly_into<I: Read, W: Write>(
     alloc: Global,
     script: &mut I,
@@ -142,7 +145,7 @@ fn run_strictly_from<R: Runtime + AllocGlobal, I: Read>(
     }
 }
 
-/// Runs a script that comes from a reader to its end, and tells its journal where that is asked for.
+/// Runs a script that comes from a reader to its end, and writes its journal if that is asked for.
 fn run_whole_from<R: Runtime + AllocGlobal, I: Read>(
     rt: &R,
     file: &str,
@@ -285,7 +288,7 @@ fn open_for_journal<R: Files>(rt: &R, file: &str) -> Result<R::File, Unopened> {
     }
 }
 
-/// How a talk ended, and the journal of its store, where there is one.
+/// How a talk ended, and the journal of its store, if there is one.
 type Talk = (Result<(), RunFault>, Option<Journal>);
 
 /// Which sides of a shell are a terminal.
@@ -295,8 +298,8 @@ struct Sides {
     is_shown: bool,
 }
 
-/// Greets and talks with a terminal, behind a first peer. Control characters are shown by their codes if replies go to a
-/// terminal too.
+/// Greets and talks with a terminal, after a first peer. Control characters are shown by their
+/// codes if replies go to a terminal too.
 fn talk_at_terminal<R: Runtime + AllocGlobal, F: Peer, I: Read + Drop>(
     rt: &R,
     first: &mut F,
@@ -307,7 +310,8 @@ fn talk_at_terminal<R: Runtime + AllocGlobal, F: Peer, I: Read + Drop>(
     ensures { IfSome result.1 (λ journal. IsLegal journal.entries) }
 {
     let _ = eprintln!(rt;
-        "bestore: a line is answered when it comes; the end of input ends it; help lists the commands"
+        "bestore: a line is answered when it comes; the end of input ends it; help lists the \
+         commands"
     );
     let ends = Ends::new(Breaking::new(reader), io::writer(rt));
     if is_shown {
@@ -319,7 +323,7 @@ fn talk_at_terminal<R: Runtime + AllocGlobal, F: Peer, I: Read + Drop>(
     }
 }
 
-/// Talks with standard input, behind a first peer. At a terminal it greets and prompts.
+/// Talks with standard input, after a first peer. At a terminal it greets and prompts.
 fn talk<R: Runtime + AllocGlobal, F: Peer>(
     rt: &R,
     first: &mut F,
@@ -347,8 +351,8 @@ fn end_talk(rt: &impl Eprint, talked: Result<(), RunFault>) -> io::Result<Outcom
     }
 }
 
-/// Talks behind a first peer, and writes the journal into a file at the end, however the talk ended. A fault of the talk is
-/// the one that is told.
+/// Talks after a first peer, and writes the journal into a file at the end, however the talk ended.
+/// If both fail, the fault of the talk is the one that is reported.
 fn talk_for_journal<R: Runtime + AllocGlobal, F: Peer>(
     rt: &R,
     first: &mut F,
@@ -375,7 +379,7 @@ fn talk_for_journal<R: Runtime + AllocGlobal, F: Peer>(
     }
 }
 
-/// Talks with standard input, behind a first peer, and writes the journal where a file for it is named.
+/// Talks with standard input, after a first peer, and writes the journal if a file for it is named.
 fn talk_behind<R: Runtime + AllocGlobal, F: Peer>(
     rt: &R,
     first: &mut F,
@@ -389,7 +393,7 @@ fn talk_behind<R: Runtime + AllocGlobal, F: Peer>(
     }
 }
 
-/// Talks with standard input, behind the lines of a file where one is named.
+/// Talks with standard input, after the lines of a file if one is named.
 fn open_shell<R: Runtime + AllocGlobal>(
     rt: &R,
     file: &Option<String>,
@@ -451,7 +455,7 @@ fn print_text<R: Runtime>(rt: &R, text: &str, outcome: Outcome) -> io::Result<Ou
     }
 }
 
-/// Prints what a check found, and tells on standard error how many entries it read.
+/// Prints what a check found, and reports on standard error how many entries it read.
 fn print_finding<R: Runtime>(
     rt: &R,
     text: &str,
@@ -466,7 +470,7 @@ fn print_finding<R: Runtime>(
     Ok(outcome)
 }
 
-/// Checks the journal that a text tells, and prints that it is right, or the first line that isn't.
+/// Checks the journal of a text, and prints that it is right, or the first line that isn't.
 fn check_text<R: Runtime + AllocGlobal>(rt: &R, file: &str, text: &[u8]) -> io::Result<Outcome> {
     match check(rt.alloc(), text) {
         Ok(Finding::Right(count)) => print_finding(rt, "replay ok\n", count, Outcome::Done),
@@ -478,7 +482,7 @@ fn check_text<R: Runtime + AllocGlobal>(rt: &R, file: &str, text: &[u8]) -> io::
     }
 }
 
-/// Prints the script that makes the writes of the journal again that a text tells.
+/// Prints the script that makes the writes of a text's journal again.
 fn dump_text<R: Runtime + AllocGlobal>(rt: &R, file: &str, text: &[u8]) -> io::Result<Outcome> {
     let entries = match journal_told(rt.alloc(), text) {
         Ok(Some(entries)) => entries,
@@ -491,7 +495,7 @@ fn dump_text<R: Runtime + AllocGlobal>(rt: &R, file: &str, text: &[u8]) -> io::R
     }
 }
 
-/// Prints the script that makes the last state of the journal again that a text tells.
+/// Prints the script that makes the last state of a text's journal again.
 fn dump_state_of_text<R: Runtime + AllocGlobal>(
     rt: &R,
     file: &str,
@@ -504,7 +508,7 @@ fn dump_state_of_text<R: Runtime + AllocGlobal>(
     }
 }
 
-/// What is to be told of a journal.
+/// What is to be printed about a journal.
 #[derive(Clone, Copy)]
 enum Telling {
     Check,
@@ -512,7 +516,7 @@ enum Telling {
     DumpState,
 }
 
-/// Tells it of the journal in a file.
+/// Prints it of the journal in a file.
 fn tell_of_file<R: Runtime + AllocGlobal>(
     rt: &R,
     file: &str,
@@ -529,6 +533,7 @@ fn tell_of_file<R: Runtime + AllocGlobal>(
     }
 }
 
+/// Does what the command line asks for.
 fn run_task<R: Runtime + AllocGlobal + Threads + Wait + Sync>(
     rt: &R,
     task: &Task,
@@ -561,6 +566,8 @@ fn tell<R: Print + Eprint>(rt: &R, error: &Error) -> io::Result<Outcome> {
     }
 }
 
+/// Reads the words of the command line and does what they ask for. If memory runs out, a line on
+/// standard error says so.
 fn obey<R: Runtime + AllocGlobal + Threads + Wait + Sync>(
     rt: &R,
     given: &[String],
@@ -584,6 +591,7 @@ fn read_words(rt: &HostRuntime) -> io::Result<Vec<String>> {
     Ok(env::args(rt)?.collect(rt.alloc())?)
 }
 
+/// Runs the program and returns its status.
 fn main(rt: HostRuntime) -> io::Result<ExitCode> {
     let outcome = match read_words(&rt) {
         Ok(given) => {

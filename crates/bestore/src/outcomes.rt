@@ -7,14 +7,15 @@ use std::process::ExitCode;
 
 #[derive(Clone, Copy)]
 pub(crate) enum Outcome {
-    /// The command reached the end of its input, whatever the replies were, or a strict run reached it and no line was refused; or a
-    /// journal was right; or help or the version was printed.
+    /// The command reached the end of its input, whatever the replies were, or a strict run reached
+    /// it and no line was refused; or a journal was right; or help or the version was printed.
     Done,
     /// A strict run ended at a line that was refused.
     Refused,
     /// A journal is wrong.
     Wrong,
-    /// Something couldn't be read or written, has no journal, or is too long, or memory ran out. One line on standard error says which.
+    /// Something couldn't be read or written, has no journal, or is too long, or memory ran out.
+    /// One line on standard error says which.
     Failed,
     /// The command line can't be understood, or a word of it isn't UTF-8.
     Misused,

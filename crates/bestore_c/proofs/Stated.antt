@@ -10,7 +10,7 @@ use Rattle.be_session.specs.declared.faults.Fault.{Fault}
 use Rattle.be_session.specs.declared.faults.Fault.TheVariants.{Refused}
 use Rattle.be_session.specs.declared.lists.Operation.{Operation}
 use Rattle.be_session.specs.declared.states.StatePlace.{StatePlace}
-use Rattle.be_state.specs.Rebuilding.{state_ops}
+use Rattle.be_volume_state.specs.Rebuilding.{state_ops}
 use Rattle.be_value.specs.declared.refusals.Refusal.TheVariants.{OutOfMemory}
 use Rattle.be_volume.specs.Volume.{State}
 use Rattle.be_volume.specs.declared.ops.Op.{Op}

@@ -1,15 +1,14 @@
-//! What a query answered, or what is said of it, put out; and queries that are prepared.
-ghost use Rattle.std.specs.Prelude.{◌≡◌, ◌⊎◌, ℕ, List, IfErr, IfOk, false, length, string_bytes, true};
+//! Results of queries and their explanations, written to C's places; and prepared queries.
+ghost use Rattle.std.specs.Prelude.{◌≡◌, ◌⊎◌, ℕ, List, IfErr, IfOk, false, length, string_bytes};
+ghost use Rattle.std.specs.Prelude.{true};
 ghost use Rattle.std.specs.declared.option.Option.{Option as AnyOption};
 ghost use Rattle.std.specs.declared.result.Result.{Result as AnyResult};
 ghost use Rattle.be_query.specs.Grammar.{IsTextOf};
 ghost use Rattle.be_session.specs.Sitting.{AtPin, IsNoQuery, ReadAnswers};
 ghost use Rattle.be_session.specs.declared.faults.Fault.{Fault as AnyFault};
-ghost use Rattle.be_store.specs.Passes.{HasRead, volume_pinned};
-ghost use Rattle.be_table.specs.Seats.{pinned_number};
+ghost use Rattle.be_store.specs.Passes.{HasRead};
 ghost use Rattle.be_value.specs.declared.refusals.Refusal.{Refusal as AnyRefusal};
-ghost use Rattle.be_volume.specs.Query.{scan};
-ghost use Rattle.bestore_c.specs.Calls.{IsClosed, PutsOutAtPin, Refreshed, Refuses};
+ghost use Rattle.bestore_c.specs.Calls.{Asked, IsClosed, PutsOutAtPin, Refreshed, Refuses};
 ghost use Rattle.bestore_c.specs.Places.{over};
 
 use crate::CLOSED;
@@ -20,7 +19,8 @@ use be_query::Query;
 use be_session::{Fault, Prepared, Session, query_of};
 use std::alloc::Global;
 
-/// The query of this text, for a handle that is open; else what a call answers that did nothing, and the number that it puts out.
+/// The query of this text, if the handle is open. Otherwise returns the code of a call that did
+/// nothing, and writes the number that goes with it.
 pub(crate) fn query_for(
     alloc: Global,
     live: bool,
@@ -30,7 +30,8 @@ pub(crate) fn query_for(
     ensures live { IfOk result (λ _. live ≡ true) }
     ensures query { IfOk result (λ query. IsTextOf text.now query) }
     ensures closed { IfErr result (λ code. live ≡ false → IsClosed number.new code) }
-    ensures refused { IfErr result (λ code. live ≡ true → (e : AnyFault) × Refuses e number.new code × IsNoQuery text.now e) }
+    ensures refused { IfErr result (λ code. live ≡ true → (e : AnyFault) × Refuses e number.new code
+        × IsNoQuery text.now e) }
 {
     if !live {
         *number = 0;
@@ -42,8 +43,8 @@ pub(crate) fn query_for(
     }
 }
 
-/// Puts out how many nodes a session found, and as many of them as there is room for; or what its fault carries. What that says of
-/// the version is known of what the session told.
+/// Writes how many nodes a session found, and as many of them as there is room for; or the number
+/// that its error carries. What this says of the version follows from the session's own contract.
 pub(crate) fn tell(answer: Result<Vec<u64>, Fault>, nodes: &mut [u64], count: &mut u64) -> u32
     ensures found { (pin : AnyOption ℕ) (meant : AnyResult (List ℕ) AnyRefusal)
         → AtPin pin answer (ReadAnswers (λ found. found.items) answer meant)
@@ -60,7 +61,7 @@ pub(crate) fn tell(answer: Result<Vec<u64>, Fault>, nodes: &mut [u64], count: &m
     }
 }
 
-/// Puts out how many bytes a text has, and as many of them as there is room for.
+/// Writes how many bytes a text has, and as many of them as there is room for.
 pub(crate) fn put_text(text: &str, bytes: &mut [u8], count: &mut u64)
     ensures count { count.new ≡ length text.now }
     ensures bytes { bytes.new ≡ over text.now bytes.old }
@@ -69,7 +70,8 @@ pub(crate) fn put_text(text: &str, bytes: &mut [u8], count: &mut u64)
     put(bytes, text.as_bytes());
 }
 
-/// Puts out how many bytes a text of a session's has, and as many of them as there is room for; else as `tell`.
+/// Writes how many bytes a session's text has, and as many of them as there is room for. Otherwise
+/// as `tell`.
 pub(crate) fn tell_text(answer: Result<String, Fault>, bytes: &mut [u8], count: &mut u64) -> u32
     ensures found { (pin : AnyOption ℕ) (meant : AnyResult (List ℕ) AnyRefusal)
         → AtPin pin answer (ReadAnswers string_bytes answer meant)
@@ -85,31 +87,41 @@ pub(crate) fn tell_text(answer: Result<String, Fault>, bytes: &mut [u8], count: 
     }
 }
 
-/// Asks a prepared query in the session's pinned version, and puts out what `tell` does.
+/// Asks a prepared query in the session's pinned version, and returns what `tell` returns of what
+/// it found.
 pub(crate) fn find_prepared(
-    alloc: Global,
     session: &mut Session,
-    prepared: &Prepared,
+    prepared: &mut Prepared,
     nodes: &mut [u64],
     count: &mut u64,
 ) -> u32
-    ensures store { (session.new.store ≡ session.old.store) × (session.new.spare ≡ session.old.spare) }
+    ensures store { (session.new.store ≡ session.old.store)
+        × (session.new.spare ≡ session.old.spare) }
     ensures read { HasRead session.old.knows session.new.knows }
-    ensures found { PutsOutAtPin (pinned_number session.old.knows.phase) (scan (volume_pinned session.old.knows) prepared.now.live.query)
-        nodes.old nodes.new count.new result }
+    ensures asked { Asked session.old prepared.old prepared.new nodes.old nodes.new count.new
+        result }
     ensures kept { (result ≡ 0) ⊎ (nodes.new ≡ nodes.old) }
 {
-    let answer = prepared.find(alloc, session);
-    tell(answer, nodes, count)
+    match prepared.find(session) {
+        Ok(()) => {
+            let kept = prepared.found();
+            *count = kept.len() as u64;
+            put(nodes, kept);
+            0
+        }
+        Err(fault) => refuse(fault, count),
+    }
 }
 
-/// Refreshes a prepared query in the session's pinned version, and puts out how many nodes came and how many went.
+/// Refreshes a prepared query in the session's pinned version, and writes how many nodes came and
+/// how many went.
 pub(crate) fn refresh_prepared(
     session: &mut Session,
     prepared: &mut Prepared,
     counts: &mut UpdateCounts,
 ) -> u32
-    ensures store { (session.new.store ≡ session.old.store) × (session.new.spare ≡ session.old.spare) }
+    ensures store { (session.new.store ≡ session.old.store)
+        × (session.new.spare ≡ session.old.spare) }
     ensures read { HasRead session.old.knows session.new.knows }
     ensures refreshed { Refreshed session.old prepared.old prepared.new counts.new result }
     ensures kept { (result ≡ 0) ⊎ ((counts.new ≡ counts.old) × (prepared.new ≡ prepared.old)) }

@@ -14,8 +14,8 @@ use be_session::{Fault, Operation, Session, entry_spelled};
 use be_store::Entry;
 use std::alloc::Global;
 
-/// Writes an entry for the caller, as far as there is room: its pass, and its operations, each that made a node with that node;
-/// or that there is none.
+/// Writes an entry for the caller, as far as there is room: its pass, and its operations, each that
+/// made a node with that node; or that there is none.
 fn put_entry(
     alloc: Global,
     entry: Option<&Entry>,
@@ -24,9 +24,11 @@ fn put_entry(
     operations: &mut [Operation],
     bytes: &mut [u8],
 ) -> Result<(), Fault>
-    ensures told { OnOk result (IsEntryPutOut (option_copied entry.entry) by.new counts.new operations.old operations.new bytes.old bytes.new) }
+    ensures told { OnOk result (IsEntryPutOut (option_copied entry.entry) by.new counts.new
+        operations.old operations.new bytes.old bytes.new) }
     ensures err { IfErr result (λ e. e ≡ Refused OutOfMemory) }
-    ensures kept { OnErr result ((by.new ≡ by.old) × (counts.new ≡ counts.old) × (operations.new ≡ operations.old) × (bytes.new ≡ bytes.old)) }
+    ensures kept { OnErr result ((by.new ≡ by.old) × (counts.new ≡ counts.old)
+        × (operations.new ≡ operations.old) × (bytes.new ≡ bytes.old)) }
 {
     let Some(entry) = entry else {
         *by = 0;
@@ -42,7 +44,8 @@ fn put_entry(
     Ok(())
 }
 
-/// Writes the journal's entry of an index for the caller, if there is one, as far as there is room. Returns the journal's length.
+/// Writes the journal's entry of an index for the caller, if there is one, as far as there is room.
+/// Returns the journal's length.
 pub(crate) fn tell_entry(
     alloc: Global,
     session: &mut Session,
@@ -52,13 +55,17 @@ pub(crate) fn tell_entry(
     operations: &mut [Operation],
     bytes: &mut [u8],
 ) -> Result<u64, Fault>
-    ensures store { (session.new.store ≡ session.old.store) × (session.new.spare ≡ session.old.spare) }
+    ensures store { (session.new.store ≡ session.old.store)
+        × (session.new.spare ≡ session.old.spare) }
     ensures learns { Learns session.old.knows session.new.knows }
     ensures length { IfOk result (λ n. n ≡ length session.new.knows.seen) }
-    ensures told { OnOk result (IsEntryPutOut (slice_get (entries session.new.knows.seen) from) by.new counts.new operations.old operations.new bytes.old bytes.new) }
+    ensures told { OnOk result (IsEntryPutOut (slice_get (entries session.new.knows.seen) from)
+        by.new counts.new operations.old operations.new bytes.old bytes.new) }
     ensures moves { OnOk result (LocksAndUnlocks session.old.knows session.new.knows) }
-    ensures err { IfErr result (λ e. (why : AnyRefusal) × (e ≡ Refused why) × IsUntold session.old.knows session.new.knows why) }
-    ensures kept { OnErr result ((by.new ≡ by.old) × (counts.new ≡ counts.old) × (operations.new ≡ operations.old) × (bytes.new ≡ bytes.old)) }
+    ensures err { IfErr result (λ e. (why : AnyRefusal) × (e ≡ Refused why)
+        × IsUntold session.old.knows session.new.knows why) }
+    ensures kept { OnErr result ((by.new ≡ by.old) × (counts.new ≡ counts.old)
+        × (operations.new ≡ operations.old) × (bytes.new ≡ bytes.old)) }
 {
     let list = session.journal_from(alloc, from, 1)?;
     put_entry(alloc, list.first(), by, counts, operations, bytes)?;

@@ -1,7 +1,8 @@
 //! The store for programs in C: `include/bestore.h` declares what is exported here.
 //!
-//! Each export takes a handle that its caller owns, asks the session in it, and answers a number: 0, that of a refusal or
-//! of a fault, or 64 and 65, which are the handle's own. None has a `requires`.
+//! Each export takes a handle that its caller owns, calls the session in it, and returns a number:
+//! 0, the number of a refusal or of another error, or 64 and 65, which are the handle's own. Only
+//! `bes_join` has a `requires`: its witness is one of the pass's store.
 #![tactic(auto)]
 
 ghost use Rattle.std.specs.Prelude.{◌≡◌, ◌⊎◌, ◌+◌, None, Ok, length, map};
@@ -15,14 +16,18 @@ ghost use Rattle.be_session.specs.declared.faults.Fault.TheVariants.{AlreadyPinn
 ghost use Rattle.be_store.specs.History.{Pins};
 ghost use Rattle.be_store.specs.Passes.{HasRead, volume_pinned};
 ghost use Rattle.be_table.specs.Seats.{pinned_number};
-ghost use Rattle.be_table.specs.Steps.{unpins};
-ghost use Rattle.be_table.specs.Trace.{with_history};
+ghost use Rattle.be_table.specs.Steps.{unpins, with_history};
 ghost use Rattle.be_volume.specs.Reading.{attributes_at, index_kinds};
-ghost use Rattle.bestore_c.specs.Calls.{AnswersWhetherOpen, Calls, Explains, Finds, FindsBuilt, FindsPrepared, GivesAnother, IsClosed};
-ghost use Rattle.bestore_c.specs.Calls.{IsTextFault, Listed, MovesHandle, Opens, Prepares, PrintsPrepared, PutsOutAtPin, Reads, RefreshesPrepared, Refuses};
-ghost use Rattle.bestore_c.specs.Calls.{HoldsName, ReadsHeld, ShowsChanges, TellsAtPin, TellsEntry, TellsJournal, TellsNumber, WritesSpelled, WritesSpelledIf};
+ghost use Rattle.bestore_c.specs.Calls.{AnswersWhetherOpen, AsksPrepared, Calls, Explains, Finds};
+ghost use Rattle.bestore_c.specs.Calls.{FindsBuilt, GivesAnother, IsClosed};
+ghost use Rattle.bestore_c.specs.Calls.{IsTextFault, Listed, MovesHandle, Opens, Prepares};
+ghost use Rattle.bestore_c.specs.Calls.{PrintsPrepared, PutsOutAtPin, Reads, RefreshesPrepared};
+ghost use Rattle.bestore_c.specs.Calls.{Refuses, ShowsFound};
+ghost use Rattle.bestore_c.specs.Calls.{HoldsName, ReadsHeld, ShowsChanges, TellsAtPin, TellsEntry};
+ghost use Rattle.bestore_c.specs.Calls.{TellsJournal, TellsNumber, WritesSpelled, WritesSpelledIf};
 ghost use Rattle.bestore_c.specs.States.{TellsState, untold_at};
 ghost use Rattle.bestore_c.specs.Usage.{TellsUsage};
+ghost use Rattle.bestore_c.specs.Witnesses.{AreOfOneStore, JoinsWitness, Vouches};
 
 mod asking;
 mod entries;
@@ -32,6 +37,7 @@ mod loose;
 mod owned;
 mod owned_place;
 mod owned_query;
+mod owned_witness;
 mod places;
 mod reading;
 mod refusing;
@@ -45,12 +51,15 @@ use be_session::{
 };
 use be_store::{ArrayVec, Cell, HeldName, Limits};
 use entries::tell_entry;
-use handle::{Attribute, Counts, Handle, PlaceHandle, PreparedHandle, UpdateCounts, Usage};
+use handle::{
+    Attribute, Counts, Handle, PlaceHandle, PreparedHandle, UpdateCounts, Usage, WitnessHandle,
+};
 use listing::{tell_attributes, tell_indices};
 use owned::Owned;
 use owned_place::OwnedPlace;
 use owned_query::OwnedQuery;
-use places::{put, put_nodes};
+use owned_witness::OwnedWitness;
+use places::{from_on, put, put_nodes};
 use reading::read;
 use refusing::{refuse, refuse_list};
 use states::{begin, tell_state};
@@ -58,18 +67,19 @@ use std::alloc::Global;
 use std::mem;
 use telling::usage_of;
 
-/// The number that says that a call did what it should.
+/// The number of a call without an error.
 const DONE: u32 = 0;
 
 const NO_MEMORY: u32 = 10;
 
-/// The handle holds nothing.
+/// The handle is closed.
 pub(crate) const CLOSED: u32 = 64;
 
 /// The handle that is to be opened is open.
 const OPEN: u32 = 65;
 
-/// The version of the library: of 0.2.0 it is 2,000, a million for each first number and a thousand for each second.
+/// The version of the library: 2,000 for 0.2.0, a million for each first number and a thousand for
+/// each second.
 #[unsafe(no_mangle)]
 pub extern "C" fn bes_version() -> u32
     ensures { result ≡ 2000 }
@@ -86,7 +96,8 @@ pub extern "C" fn bes_open(
     commits: u64,
     pass: &mut Handle,
 ) -> u32
-    ensures { Opens (record { pages = pages; passes = passes; commits = commits }) pass.old.owned.value pass.new.owned.value result }
+    ensures { Opens (record { pages = pages; passes = passes; commits = commits })
+        pass.old.owned.value pass.new.owned.value result }
 {
     if pass.live {
         return OPEN;
@@ -114,7 +125,8 @@ pub extern "C" fn bes_open(
 /// Opens a second handle, for another pass of the same store.
 #[unsafe(no_mangle)]
 pub extern "C" fn bes_another(alloc: Global, pass: &mut Handle, other: &mut Handle) -> u32
-    ensures { GivesAnother pass.old.owned.value pass.new.owned.value other.old.owned.value other.new.owned.value result }
+    ensures { GivesAnother pass.old.owned.value pass.new.owned.value other.old.owned.value
+        other.new.owned.value result }
 {
     if !pass.live {
         return CLOSED;
@@ -137,7 +149,8 @@ pub extern "C" fn bes_another(alloc: Global, pass: &mut Handle, other: &mut Hand
 /// Moves what the handle holds into a handle that is closed, and closes it.
 #[unsafe(no_mangle)]
 pub extern "C" fn bes_move(alloc: Global, pass: &mut Handle, other: &mut Handle) -> u32
-    ensures { MovesHandle pass.old.owned.value other.old.owned.value pass.new.owned.value other.new.owned.value result }
+    ensures { MovesHandle pass.old.owned.value other.old.owned.value pass.new.owned.value
+        other.new.owned.value result }
 {
     if !pass.live {
         return CLOSED;
@@ -153,7 +166,8 @@ pub extern "C" fn bes_move(alloc: Global, pass: &mut Handle, other: &mut Handle)
     DONE
 }
 
-/// Closes the handle. Its pass goes back to the store with the pin given up, and the store goes with its last handle.
+/// Closes the handle. It releases the pin and gives the pass back to the store. The store goes with
+/// its last handle.
 #[unsafe(no_mangle)]
 pub extern "C" fn bes_close(alloc: Global, pass: &mut Handle) -> u32
     ensures closed { pass.new.owned.value ≡ None }
@@ -168,11 +182,13 @@ pub extern "C" fn bes_close(alloc: Global, pass: &mut Handle) -> u32
     DONE
 }
 
-/// Meets a pass that was given back: both have then seen what either had. Puts out how much that is.
+/// Meets a pass that was given back: both have then seen what either had. Returns the length of
+/// that.
 #[unsafe(no_mangle)]
 pub extern "C" fn bes_meet(pass: &mut Handle, seen: &mut u64) -> u32
     ensures pass { Calls pass.old.owned.value pass.new.owned.value (IsClosed seen.new result)
-        (λ s t. ((result ≡ 0) × HasMet s.store s.knows t.knows seen.new) ⊎ (Refuses NoPass seen.new result × (t ≡ s))) }
+        (λ s t. ((result ≡ 0) × HasMet s.store s.knows t.knows seen.new)
+        ⊎ (Refuses NoPass seen.new result × (t ≡ s))) }
 {
     if !pass.live {
         *seen = 0;
@@ -187,11 +203,99 @@ pub extern "C" fn bes_meet(pass: &mut Handle, seen: &mut u64) -> u32
     }
 }
 
-/// Pins the current version, and puts out its number.
+/// Opens the handle with a witness of what the pass has seen.
+#[unsafe(no_mangle)]
+pub extern "C" fn bes_witness_of(
+    alloc: Global,
+    pass: &mut Handle,
+    witness: &mut WitnessHandle,
+) -> u32
+    ensures pass { Calls pass.old.owned.value pass.new.owned.value
+        ((result ≡ 64) × (witness.new.owned.value ≡ witness.old.owned.value))
+        (λ s t. Vouches s t witness.old.owned.value witness.new.owned.value result) }
+{
+    if !pass.live {
+        return CLOSED;
+    }
+    if witness.live {
+        return OPEN;
+    }
+    match Box::new(alloc, pass.owned.lent().witness()) {
+        Ok(made) => {
+            *witness = WitnessHandle {
+                live: true,
+                owned: OwnedWitness::of(made),
+            };
+            DONE
+        }
+        Err(_) => NO_MEMORY,
+    }
+}
+
+/// The pass and the witness have then both seen what either had. Returns the length of that.
+#[unsafe(no_mangle)]
+pub extern "C" fn bes_join(pass: &mut Handle, witness: &mut WitnessHandle, seen: &mut u64) -> u32
+    requires { AreOfOneStore pass.old.owned.value witness.old.owned.value }
+    ensures pass { Calls pass.old.owned.value pass.new.owned.value
+        (IsClosed seen.new result × (witness.new.owned.value ≡ witness.old.owned.value))
+        (λ s t. JoinsWitness s t witness.old.owned.value witness.new.owned.value seen.new result) }
+{
+    *seen = 0;
+    if !pass.live {
+        return CLOSED;
+    }
+    if !witness.live {
+        return CLOSED;
+    }
+    *seen = pass.owned.lent().join(witness.owned.lent());
+    DONE
+}
+
+/// Moves what the handle of a witness holds into one that is closed, and closes it.
+#[unsafe(no_mangle)]
+pub extern "C" fn bes_move_witness(
+    alloc: Global,
+    witness: &mut WitnessHandle,
+    other: &mut WitnessHandle,
+) -> u32
+    ensures { MovesHandle witness.old.owned.value other.old.owned.value witness.new.owned.value
+        other.new.owned.value result }
+{
+    if !witness.live {
+        return CLOSED;
+    }
+    if other.live {
+        return OPEN;
+    }
+    let closed = WitnessHandle {
+        live: false,
+        owned: OwnedWitness::none(alloc),
+    };
+    *other = mem::replace(witness, closed);
+    DONE
+}
+
+/// Closes the handle of a witness.
+#[unsafe(no_mangle)]
+pub extern "C" fn bes_dismiss(alloc: Global, witness: &mut WitnessHandle) -> u32
+    ensures closed { witness.new.owned.value ≡ None }
+    ensures answer { AnswersWhetherOpen witness.old.owned.value result }
+{
+    if !witness.live {
+        return CLOSED;
+    }
+    let dismissed = mem::replace(&mut witness.owned, OwnedWitness::none(alloc)).into_box();
+    witness.live = false;
+    drop(dismissed);
+    DONE
+}
+
+/// Pins the current version, and returns its number.
 #[unsafe(no_mangle)]
 pub extern "C" fn bes_pin(pass: &mut Handle, number: &mut u64) -> u32
     ensures pass { Calls pass.old.owned.value pass.new.owned.value (IsClosed number.new result)
-        (λ s t. ((result ≡ 0) × Pins s.knows t.knows number.new) ⊎ (Refuses AlreadyPinned number.new result × (t ≡ s) × IsPinned s.knows)) }
+        (λ s t. ((result ≡ 0) × Pins s.knows t.knows number.new)
+        ⊎ (Refuses AlreadyPinned number.new result × (t ≡ s) × IsPinned s.knows)) }
 {
     if !pass.live {
         *number = 0;
@@ -206,11 +310,12 @@ pub extern "C" fn bes_pin(pass: &mut Handle, number: &mut u64) -> u32
     }
 }
 
-/// Gives the pin up.
+/// Releases the pin.
 #[unsafe(no_mangle)]
 pub extern "C" fn bes_unpin(pass: &mut Handle) -> u32
     ensures pass { Calls pass.old.owned.value pass.new.owned.value (result ≡ 64)
-        (λ s t. ((result ≡ 0) × (t.knows ≡ unpins (with_history s.knows t.knows.history))) ⊎ ((result ≡ 66) × (t ≡ s) × (pinned_number s.knows.phase ≡ None))) }
+        (λ s t. ((result ≡ 0) × (t.knows ≡ unpins (with_history s.knows t.knows.history)))
+        ⊎ ((result ≡ 66) × (t ≡ s) × (pinned_number s.knows.phase ≡ None))) }
 {
     if !pass.live {
         return CLOSED;
@@ -221,8 +326,8 @@ pub extern "C" fn bes_unpin(pass: &mut Handle) -> u32
     }
 }
 
-/// Writes 1 to 64 operations, all or none. Puts out the journal's length with them, and for each operation the number of
-/// the node that it made, or 0, as far as there is room.
+/// Writes 1 to 64 operations, all or none. Returns the journal's length with them, and for each
+/// operation the number of the node that it made, or 0, as far as there is room.
 #[unsafe(no_mangle)]
 pub extern "C" fn bes_apply(
     alloc: Global,
@@ -256,7 +361,8 @@ pub extern "C" fn bes_apply(
     }
 }
 
-/// Writes as `bes_apply` does if the journal has `expected` entries, and otherwise nothing: then its length goes with the answer.
+/// Writes as `bes_apply` does if the journal has `expected` entries. Otherwise it writes nothing
+/// and returns the length that it found.
 #[unsafe(no_mangle)]
 pub extern "C" fn bes_apply_if(
     alloc: Global,
@@ -268,7 +374,8 @@ pub extern "C" fn bes_apply_if(
     entries: &mut u64,
 ) -> u32
     ensures pass { Calls pass.old.owned.value pass.new.owned.value (IsClosed entries.new result)
-        (λ s t. WritesSpelledIf s t expected spelled.now bytes.now made.old made.new entries.new result) }
+        (λ s t. WritesSpelledIf s t expected spelled.now bytes.now made.old made.new entries.new
+        result) }
     ensures kept { (result ≡ 0) ⊎ (made.new ≡ made.old) }
 {
     if !pass.live {
@@ -291,7 +398,7 @@ pub extern "C" fn bes_apply_if(
     }
 }
 
-/// Tells the number of the handle's pass.
+/// Returns the number of the handle's pass.
 #[unsafe(no_mangle)]
 pub extern "C" fn bes_number(pass: &mut Handle, number: &mut u64) -> u32
     ensures pass { Calls pass.old.owned.value pass.new.owned.value (IsClosed number.new result)
@@ -305,11 +412,12 @@ pub extern "C" fn bes_number(pass: &mut Handle, number: &mut u64) -> u32
     DONE
 }
 
-/// Tells the number that the next new node gets, in the pinned version.
+/// Returns the number that the next new node gets, in the pinned version.
 #[unsafe(no_mangle)]
 pub extern "C" fn bes_next(pass: &mut Handle, node: &mut u64) -> u32
     ensures pass { Calls pass.old.owned.value pass.new.owned.value (IsClosed node.new result)
-        (λ s t. HasRead s.knows t.knows × TellsNumber (pinned_number s.knows.phase) (volume_pinned s.knows).next node.new result) }
+        (λ s t. HasRead s.knows t.knows × TellsNumber (pinned_number s.knows.phase)
+        (volume_pinned s.knows).next node.new result) }
 {
     if !pass.live {
         *node = 0;
@@ -324,8 +432,9 @@ pub extern "C" fn bes_next(pass: &mut Handle, node: &mut u64) -> u32
     }
 }
 
-/// Tells one entry of the journal, that of an index from 0: by which pass it is, and its operations, each that made a node with
-/// that node, as much as there is room for. At the journal's end there are none. Returns the journal's length in `number`.
+/// Returns one entry of the journal, by its index from 0: its pass and its operations, each that
+/// made a node with that node, as much as there is room for. At the journal's end there are none.
+/// Returns the journal's length in `number`.
 #[unsafe(no_mangle)]
 pub extern "C" fn bes_journal_from(
     alloc: Global,
@@ -338,8 +447,10 @@ pub extern "C" fn bes_journal_from(
     number: &mut u64,
 ) -> u32
     ensures pass { Calls pass.old.owned.value pass.new.owned.value (IsClosed number.new result)
-        (λ s t. TellsEntry s t from by.new counts.new listed.old listed.new bytes.old bytes.new number.new result) }
-    ensures kept { (result ≡ 0) ⊎ ((by.new ≡ by.old) × (counts.new ≡ counts.old) × (listed.new ≡ listed.old) × (bytes.new ≡ bytes.old)) }
+        (λ s t. TellsEntry s t from by.new counts.new listed.old listed.new bytes.old bytes.new
+        number.new result) }
+    ensures kept { (result ≡ 0) ⊎ ((by.new ≡ by.old) × (counts.new ≡ counts.old)
+        × (listed.new ≡ listed.old) × (bytes.new ≡ bytes.old)) }
 {
     if !pass.live {
         *number = 0;
@@ -355,8 +466,8 @@ pub extern "C" fn bes_journal_from(
     }
 }
 
-/// Asks the query of this text in the pinned version. Puts out how many nodes meet it, and as many of them as there is
-/// room for.
+/// Asks the query of this text in the pinned version. Returns how many nodes meet it, and as many
+/// of them as there is room for.
 #[unsafe(no_mangle)]
 pub extern "C" fn bes_query(
     alloc: Global,
@@ -365,7 +476,8 @@ pub extern "C" fn bes_query(
     nodes: &mut [u64],
     count: &mut u64,
 ) -> u32
-    ensures pass { Calls pass.old.owned.value pass.new.owned.value (IsClosed count.new result) (λ s t. Finds s t text.now nodes.old nodes.new count.new result) }
+    ensures pass { Calls pass.old.owned.value pass.new.owned.value (IsClosed count.new result)
+        (λ s t. Finds s t text.now nodes.old nodes.new count.new result) }
     ensures kept { (result ≡ 0) ⊎ (nodes.new ≡ nodes.old) }
 {
     let query = match query_for(alloc, pass.live, text, count) {
@@ -386,7 +498,8 @@ pub extern "C" fn bes_query_items(
     nodes: &mut [u64],
     count: &mut u64,
 ) -> u32
-    ensures pass { Calls pass.old.owned.value pass.new.owned.value (IsClosed count.new result) (λ s t. FindsBuilt s t spelled.now bytes.now nodes.old nodes.new count.new result) }
+    ensures pass { Calls pass.old.owned.value pass.new.owned.value (IsClosed count.new result)
+        (λ s t. FindsBuilt s t spelled.now bytes.now nodes.old nodes.new count.new result) }
     ensures kept { (result ≡ 0) ⊎ (nodes.new ≡ nodes.old) }
 {
     if !pass.live {
@@ -401,8 +514,8 @@ pub extern "C" fn bes_query_items(
     tell(answer, nodes, count)
 }
 
-/// Says what the query of this text would be answered from in the pinned version. Puts out how many bytes that text has, and
-/// as many of them as there is room for.
+/// Returns the index cover from which the query of this text would be answered in the pinned
+/// version, as a text: how many bytes it has, and as many of them as there is room for.
 #[unsafe(no_mangle)]
 pub extern "C" fn bes_explain(
     alloc: Global,
@@ -411,7 +524,8 @@ pub extern "C" fn bes_explain(
     bytes: &mut [u8],
     count: &mut u64,
 ) -> u32
-    ensures pass { Calls pass.old.owned.value pass.new.owned.value (IsClosed count.new result) (λ s t. Explains s t text.now bytes.old bytes.new count.new result) }
+    ensures pass { Calls pass.old.owned.value pass.new.owned.value (IsClosed count.new result)
+        (λ s t. Explains s t text.now bytes.old bytes.new count.new result) }
     ensures kept { (result ≡ 0) ⊎ (bytes.new ≡ bytes.old) }
 {
     let query = match query_for(alloc, pass.live, text, count) {
@@ -422,7 +536,8 @@ pub extern "C" fn bes_explain(
     tell_text(answer, bytes, count)
 }
 
-/// Lists the nodes of the pinned version from a number on, ascending, as many as there is room for. Puts out how many these are.
+/// Lists the nodes of the pinned version from a number on, ascending, as many as there is room for.
+/// Returns how many these are.
 #[unsafe(no_mangle)]
 pub extern "C" fn bes_nodes(
     alloc: Global,
@@ -433,7 +548,8 @@ pub extern "C" fn bes_nodes(
 ) -> u32
     ensures pass { Calls pass.old.owned.value pass.new.owned.value (IsClosed count.new result)
         (λ s t. HasRead s.knows t.knows × PutsOutAtPin (pinned_number s.knows.phase)
-        (Ok (nodes_from (volume_pinned s.knows) from (length nodes.old))) nodes.old nodes.new count.new result) }
+        (Ok (nodes_from (volume_pinned s.knows) from (length nodes.old))) nodes.old nodes.new
+        count.new result) }
     ensures kept { (result ≡ 0) ⊎ (nodes.new ≡ nodes.old) }
 {
     if !pass.live {
@@ -445,7 +561,7 @@ pub extern "C" fn bes_nodes(
     tell(answer, nodes, count)
 }
 
-/// Tells how full the store is, and the oldest version that a pass has announced.
+/// Returns how full the store is, and the oldest version that a pass has announced.
 #[unsafe(no_mangle)]
 pub extern "C" fn bes_status(pass: &mut Handle, usage: &mut Usage, number: &mut u64) -> u32
     ensures pass { Calls pass.old.owned.value pass.new.owned.value (IsClosed number.new result)
@@ -465,8 +581,8 @@ pub extern "C" fn bes_status(pass: &mut Handle, usage: &mut Usage, number: &mut 
     }
 }
 
-/// Reads a node's attribute in the pinned version. Puts out its type code, its number and its length in bytes, and as many
-/// of its bytes as there is room for.
+/// Reads a node's attribute in the pinned version. Returns its type code, its number and its length
+/// in bytes, and as many of its bytes as there is room for.
 #[unsafe(no_mangle)]
 pub extern "C" fn bes_get(
     pass: &mut Handle,
@@ -475,7 +591,8 @@ pub extern "C" fn bes_get(
     attribute: &mut Attribute,
     bytes: &mut [u8],
 ) -> u32
-    ensures pass { Calls pass.old.owned.value pass.new.owned.value (result ≡ 64) (λ s t. Reads s t node name_bytes.now attribute.new bytes.old bytes.new result) }
+    ensures pass { Calls pass.old.owned.value pass.new.owned.value (result ≡ 64)
+        (λ s t. Reads s t node name_bytes.now attribute.new bytes.old bytes.new result) }
     ensures kept { (result ≡ 0) ⊎ ((attribute.new ≡ attribute.old) × (bytes.new ≡ bytes.old)) }
 {
     if !pass.live {
@@ -487,7 +604,7 @@ pub extern "C" fn bes_get(
     }
 }
 
-/// Checks a name, and holds it for the calls that take it.
+/// Checks a name, and keeps it for the calls that take it.
 #[unsafe(no_mangle)]
 pub extern "C" fn bes_check_name(name_bytes: &[u8], held: &mut HeldName) -> u32
     ensures { HoldsName name_bytes.now held.old held.new result }
@@ -501,7 +618,8 @@ pub extern "C" fn bes_check_name(name_bytes: &[u8], held: &mut HeldName) -> u32
     }
 }
 
-/// Reads a node's attribute in the pinned version by a name that is held, as `bes_get` does.
+/// Reads a node's attribute in the pinned version by a name that is checked already, as `bes_get`
+/// does.
 #[unsafe(no_mangle)]
 pub extern "C" fn bes_get_named(
     pass: &mut Handle,
@@ -510,7 +628,8 @@ pub extern "C" fn bes_get_named(
     attribute: &mut Attribute,
     bytes: &mut [u8],
 ) -> u32
-    ensures pass { Calls pass.old.owned.value pass.new.owned.value (result ≡ 64) (λ s t. ReadsHeld s t node (name_in held.now) attribute.new bytes.old bytes.new result) }
+    ensures pass { Calls pass.old.owned.value pass.new.owned.value (result ≡ 64)
+        (λ s t. ReadsHeld s t node (name_in held.now) attribute.new bytes.old bytes.new result) }
     ensures kept { (result ≡ 0) ⊎ ((attribute.new ≡ attribute.old) × (bytes.new ≡ bytes.old)) }
 {
     if !pass.live {
@@ -519,8 +638,8 @@ pub extern "C" fn bes_get_named(
     read(pass.owned.lent(), node, held, attribute, bytes)
 }
 
-/// Tells what each node has at each name in the pinned version: a cell for each, and the bytes of all texts end to end, of both as
-/// many as there are places. Puts out how many bytes there are.
+/// Returns what each node has at each name in the pinned version: a cell for each, and the bytes of
+/// all texts end to end, of both as many as there are places. Returns how many bytes there are.
 #[unsafe(no_mangle)]
 pub extern "C" fn bes_columns(
     pass: &mut Handle,
@@ -531,7 +650,8 @@ pub extern "C" fn bes_columns(
     count: &mut u64,
 ) -> u32
     ensures pass { Calls pass.old.owned.value pass.new.owned.value (IsClosed count.new result)
-        (λ s t. HasRead s.knows t.knows × TellsAtPin (pinned_number s.knows.phase) (volume_pinned s.knows) nodes.now (map name_in names.now)
+        (λ s t. HasRead s.knows t.knows × TellsAtPin (pinned_number s.knows.phase)
+        (volume_pinned s.knows) nodes.now (map name_in names.now)
         cells.old cells.new bytes.old bytes.new count.new result) }
     ensures kept { (result ≡ 0) ⊎ ((cells.new ≡ cells.old) × (bytes.new ≡ bytes.old)) }
 {
@@ -548,8 +668,8 @@ pub extern "C" fn bes_columns(
     }
 }
 
-/// Lists a node's attributes in the pinned version, as the operations that set them. Puts out how many they are, and how many
-/// bytes their parts are in, and of both as much as there is room for.
+/// Lists a node's attributes in the pinned version, as the operations that set them. Returns how
+/// many they are and how many bytes their parts take, and of both as much as there is room for.
 #[unsafe(no_mangle)]
 pub extern "C" fn bes_attributes(
     alloc: Global,
@@ -561,8 +681,10 @@ pub extern "C" fn bes_attributes(
 ) -> u32
     ensures pass { Calls pass.old.owned.value pass.new.owned.value (result ≡ 64)
         (λ s t. HasRead s.knows t.knows × Listed (sets node) (pinned_number s.knows.phase)
-        (attributes_at (volume_pinned s.knows) node) counts.new listed.old listed.new bytes.old bytes.new result) }
-    ensures kept { (result ≡ 0) ⊎ ((counts.new ≡ counts.old) × (listed.new ≡ listed.old) × (bytes.new ≡ bytes.old)) }
+        (attributes_at (volume_pinned s.knows) node) counts.new listed.old listed.new bytes.old
+        bytes.new result) }
+    ensures kept { (result ≡ 0) ⊎ ((counts.new ≡ counts.old) × (listed.new ≡ listed.old)
+        × (bytes.new ≡ bytes.old)) }
 {
     if !pass.live {
         return CLOSED;
@@ -571,7 +693,8 @@ pub extern "C" fn bes_attributes(
     tell_attributes(alloc, node, answer, counts, listed, bytes)
 }
 
-/// Lists the indices of the pinned version, as the operations that make them; else as `bes_attributes`.
+/// Lists the indices of the pinned version, as the operations that make them. Otherwise as
+/// `bes_attributes`.
 #[unsafe(no_mangle)]
 pub extern "C" fn bes_indices(
     alloc: Global,
@@ -582,8 +705,10 @@ pub extern "C" fn bes_indices(
 ) -> u32
     ensures pass { Calls pass.old.owned.value pass.new.owned.value (result ≡ 64)
         (λ s t. HasRead s.knows t.knows × Listed makes (pinned_number s.knows.phase)
-        (Ok (index_kinds (volume_pinned s.knows))) counts.new listed.old listed.new bytes.old bytes.new result) }
-    ensures kept { (result ≡ 0) ⊎ ((counts.new ≡ counts.old) × (listed.new ≡ listed.old) × (bytes.new ≡ bytes.old)) }
+        (Ok (index_kinds (volume_pinned s.knows))) counts.new listed.old listed.new bytes.old
+        bytes.new result) }
+    ensures kept { (result ≡ 0) ⊎ ((counts.new ≡ counts.old) × (listed.new ≡ listed.old)
+        × (bytes.new ≡ bytes.old)) }
 {
     if !pass.live {
         return CLOSED;
@@ -592,9 +717,9 @@ pub extern "C" fn bes_indices(
     tell_indices(alloc, answer, counts, listed, bytes)
 }
 
-/// Puts out the next operations that make the pinned version again, 64 at most and none after the last. Puts out how many they
-/// are, and how many bytes their parts are in, and of both as much as there is room for: where that is all, the place goes behind
-/// them.
+/// Returns the next operations that rebuild the pinned version, up to 64, and none after the last.
+/// It returns how many they are and how many bytes their parts take, and of both as much as there
+/// is room for. If there is room for all of it, the place moves after them.
 #[unsafe(no_mangle)]
 pub extern "C" fn bes_state(
     alloc: Global,
@@ -604,11 +729,14 @@ pub extern "C" fn bes_state(
     listed: &mut [Operation],
     bytes: &mut [u8],
 ) -> u32
-    ensures pass { Calls pass.old.owned.value pass.new.owned.value ((result ≡ 64) × (place.new.owned.value ≡ place.old.owned.value))
+    ensures pass { Calls pass.old.owned.value pass.new.owned.value
+        ((result ≡ 64) × (place.new.owned.value ≡ place.old.owned.value))
         (λ s t. HasRead s.knows t.knows × TellsState (pinned_number s.knows.phase)
-        (untold_at (volume_pinned s.knows) place.old.owned.value) (untold_at (volume_pinned s.knows) place.new.owned.value)
+        (untold_at (volume_pinned s.knows) place.old.owned.value)
+        (untold_at (volume_pinned s.knows) place.new.owned.value)
         counts.new listed.old listed.new bytes.old bytes.new result) }
-    ensures kept { (result ≡ 0) ⊎ ((counts.new ≡ counts.old) × (listed.new ≡ listed.old) × (bytes.new ≡ bytes.old)) }
+    ensures kept { (result ≡ 0) ⊎ ((counts.new ≡ counts.old) × (listed.new ≡ listed.old)
+        × (bytes.new ≡ bytes.old)) }
 {
     if !pass.live {
         return CLOSED;
@@ -626,7 +754,7 @@ pub extern "C" fn bes_state(
     )
 }
 
-/// Closes the handle of a place: it stands before the first operation again.
+/// Closes the handle of a place: it is before the first operation again.
 #[unsafe(no_mangle)]
 pub extern "C" fn bes_leave(alloc: Global, place: &mut PlaceHandle) -> u32
     ensures closed { place.new.owned.value ≡ None }
@@ -649,7 +777,8 @@ pub extern "C" fn bes_prepare(
     prepared: &mut PreparedHandle,
     place: &mut u64,
 ) -> u32
-    ensures { Prepares (IsTextOf text.now) (IsTextFault text.now) prepared.old.owned.value prepared.new.owned.value place.new result }
+    ensures { Prepares (IsTextOf text.now) (IsTextFault text.now) prepared.old.owned.value
+        prepared.new.owned.value place.new result }
 {
     *place = 0;
     if prepared.live {
@@ -695,7 +824,8 @@ pub extern "C" fn bes_prepare_items(
     }
 }
 
-/// Tells the canonical text of a prepared query. Puts out how many bytes it has, and as many of them as there is room for.
+/// Returns the canonical text of a prepared query: how many bytes it has, and as many of them as
+/// there is room for.
 #[unsafe(no_mangle)]
 pub extern "C" fn bes_prepared_text(
     alloc: Global,
@@ -727,7 +857,8 @@ pub extern "C" fn bes_move_prepared(
     prepared: &mut PreparedHandle,
     other: &mut PreparedHandle,
 ) -> u32
-    ensures { MovesHandle prepared.old.owned.value other.old.owned.value prepared.new.owned.value other.new.owned.value result }
+    ensures { MovesHandle prepared.old.owned.value other.old.owned.value prepared.new.owned.value
+        other.new.owned.value result }
 {
     if !prepared.live {
         return CLOSED;
@@ -750,7 +881,8 @@ pub extern "C" fn bes_move_place(
     place: &mut PlaceHandle,
     other: &mut PlaceHandle,
 ) -> u32
-    ensures { MovesHandle place.old.owned.value other.old.owned.value place.new.owned.value other.new.owned.value result }
+    ensures { MovesHandle place.old.owned.value other.old.owned.value place.new.owned.value
+        other.new.owned.value result }
 {
     if !place.live {
         return CLOSED;
@@ -781,18 +913,19 @@ pub extern "C" fn bes_release(alloc: Global, prepared: &mut PreparedHandle) -> u
     DONE
 }
 
-/// Asks a prepared query in the pinned version, as `bes_query` does. What its last refresh found stays.
+/// Asks a prepared query in the pinned version, as `bes_query` does, and keeps what it found for
+/// `bes_found`. What its last refresh found stays.
 #[unsafe(no_mangle)]
 pub extern "C" fn bes_query_prepared(
-    alloc: Global,
     pass: &mut Handle,
     prepared: &mut PreparedHandle,
     nodes: &mut [u64],
     count: &mut u64,
 ) -> u32
-    ensures pass { Calls pass.old.owned.value pass.new.owned.value (IsClosed count.new result)
-        (λ s t. FindsPrepared s t prepared.old.owned.value nodes.old nodes.new count.new result) }
-    ensures prepared { prepared.new.owned.value ≡ prepared.old.owned.value }
+    ensures pass { Calls pass.old.owned.value pass.new.owned.value
+        (IsClosed count.new result × (prepared.new.owned.value ≡ prepared.old.owned.value))
+        (λ s t. AsksPrepared s t prepared.old.owned.value prepared.new.owned.value nodes.old
+        nodes.new count.new result) }
     ensures kept { (result ≡ 0) ⊎ (nodes.new ≡ nodes.old) }
 {
     if !pass.live {
@@ -804,11 +937,34 @@ pub extern "C" fn bes_query_prepared(
         return CLOSED;
     }
     let query = prepared.owned.lent();
-    find_prepared(alloc, pass.owned.lent(), query, nodes, count)
+    find_prepared(pass.owned.lent(), query, nodes, count)
 }
 
-/// Refreshes a prepared query in the pinned version. Puts out how many nodes came since its last refresh, and how many went;
-/// `bes_changes` tells which.
+/// Returns the nodes that a prepared query found when it was asked last, from an index on, as many
+/// as there is room for, and how many it found in all.
+#[unsafe(no_mangle)]
+pub extern "C" fn bes_found(
+    prepared: &mut PreparedHandle,
+    from: u64,
+    nodes: &mut [u64],
+    count: &mut u64,
+) -> u32
+    ensures prepared { prepared.new.owned.value ≡ prepared.old.owned.value }
+    ensures found { ShowsFound prepared.old.owned.value from nodes.old nodes.new count.new result }
+    ensures kept { (result ≡ 0) ⊎ (nodes.new ≡ nodes.old) }
+{
+    *count = 0;
+    if !prepared.live {
+        return CLOSED;
+    }
+    let found = prepared.owned.lent().found();
+    *count = found.len() as u64;
+    put(nodes, from_on(found, from));
+    DONE
+}
+
+/// Refreshes a prepared query in the pinned version. Returns how many nodes came since its last
+/// refresh, and how many went; `bes_changes` returns which.
 #[unsafe(no_mangle)]
 pub extern "C" fn bes_refresh(
     pass: &mut Handle,
@@ -816,8 +972,10 @@ pub extern "C" fn bes_refresh(
     counts: &mut UpdateCounts,
 ) -> u32
     ensures pass { Calls pass.old.owned.value pass.new.owned.value (result ≡ 64)
-        (λ s t. RefreshesPrepared s t prepared.old.owned.value prepared.new.owned.value counts.new result) }
-    ensures kept { (result ≡ 0) ⊎ ((counts.new ≡ counts.old) × (prepared.new.owned.value ≡ prepared.old.owned.value)) }
+        (λ s t. RefreshesPrepared s t prepared.old.owned.value prepared.new.owned.value counts.new
+        result) }
+    ensures kept { (result ≡ 0) ⊎ ((counts.new ≡ counts.old)
+        × (prepared.new.owned.value ≡ prepared.old.owned.value)) }
 {
     if !pass.live {
         return CLOSED;
@@ -828,8 +986,8 @@ pub extern "C" fn bes_refresh(
     refresh_prepared(pass.owned.lent(), prepared.owned.lent(), counts)
 }
 
-/// Puts out the nodes that came at the last refresh of a prepared query, and those that went, of both as many as there is room
-/// for.
+/// Returns the nodes that came at the last refresh of a prepared query, and those that went, of
+/// both as many as there is room for.
 #[unsafe(no_mangle)]
 pub extern "C" fn bes_changes(
     prepared: &mut PreparedHandle,
@@ -837,7 +995,8 @@ pub extern "C" fn bes_changes(
     removed: &mut [u64],
 ) -> u32
     ensures prepared { prepared.new.owned.value ≡ prepared.old.owned.value }
-    ensures changes { ShowsChanges prepared.old.owned.value created.old created.new removed.old removed.new result }
+    ensures changes { ShowsChanges prepared.old.owned.value created.old created.new removed.old
+        removed.new result }
     ensures kept { (result ≡ 0) ⊎ ((created.new ≡ created.old) × (removed.new ≡ removed.old)) }
 {
     if !prepared.live {
@@ -849,10 +1008,12 @@ pub extern "C" fn bes_changes(
     DONE
 }
 
-/// Tells the journal's text up to now. Puts out how many bytes it has, and as many of them as there is room for.
+/// Returns the journal's text up to now: how many bytes it has, and as many of them as there is
+/// room for.
 #[unsafe(no_mangle)]
 pub extern "C" fn bes_journal(pass: &mut Handle, bytes: &mut [u8], count: &mut u64) -> u32
-    ensures pass { Calls pass.old.owned.value pass.new.owned.value (IsClosed count.new result) (λ s t. TellsJournal s t bytes.old bytes.new count.new result) }
+    ensures pass { Calls pass.old.owned.value pass.new.owned.value (IsClosed count.new result)
+        (λ s t. TellsJournal s t bytes.old bytes.new count.new result) }
     ensures kept { (result ≡ 0) ⊎ (bytes.new ≡ bytes.old) }
 {
     if !pass.live {

@@ -1,4 +1,4 @@
-//! Lists, put out as the operations that would make them.
+//! Lists, returned as the operations that would make them.
 ghost use Rattle.std.specs.Prelude.{◌≡◌, ◌⊎◌, ℕ, List, IfOk, IfErr, length};
 ghost use Rattle.std.specs.declared.option.Option.{Option as AnyOption};
 ghost use Rattle.std.specs.declared.result.Result.{Result as AnyResult};
@@ -19,15 +19,18 @@ use be_session::{Fault, Operation, Spelling, attributes_spelled, indices_spelled
 use be_store::{Kind, Name, Value};
 use std::alloc::Global;
 
-/// Puts out how many operations a spelling has and how many bytes, and of both as many as there is room for.
+/// Writes how many operations an encoding has and how many bytes, and as many of both as there is
+/// room for.
 pub(crate) fn put_spelling(
     spelling: &Spelling,
     counts: &mut Counts,
     operations: &mut [Operation],
     bytes: &mut [u8],
 )
-    ensures operations { (counts.new.operations ≡ length spelling.now.operations.items) × (operations.new ≡ over spelling.now.operations.items operations.old) }
-    ensures bytes { (counts.new.bytes ≡ length spelling.now.bytes.items) × (bytes.new ≡ over spelling.now.bytes.items bytes.old) }
+    ensures operations { (counts.new.operations ≡ length spelling.now.operations.items)
+        × (operations.new ≡ over spelling.now.operations.items operations.old) }
+    ensures bytes { (counts.new.bytes ≡ length spelling.now.bytes.items)
+        × (bytes.new ≡ over spelling.now.bytes.items bytes.old) }
 {
     *counts = Counts {
         operations: spelling.operations.len() as u64,
@@ -37,17 +40,19 @@ pub(crate) fn put_spelling(
     put(bytes, spelling.bytes.as_slice());
 }
 
-/// Puts out operations that are spelled, as far as there is room.
+/// Writes encoded operations, as far as there is room.
 fn put_spelled(
     spelled: Result<Spelling, Fault>,
     counts: &mut Counts,
     operations: &mut [Operation],
     bytes: &mut [u8],
 ) -> u32
-    ensures listed { (ops : List AnyOp) → IfOk spelled (λ s. AreSpelled s.operations.items s.bytes.items ops)
+    ensures listed { (ops : List AnyOp)
+        → IfOk spelled (λ s. AreSpelled s.operations.items s.bytes.items ops)
         → IfErr spelled (λ e. e ≡ Refused OutOfMemory)
         → IsPutOut ops counts.new operations.old operations.new bytes.old bytes.new result }
-    ensures kept { (result ≡ 0) ⊎ ((counts.new ≡ counts.old) × (operations.new ≡ operations.old) × (bytes.new ≡ bytes.old)) }
+    ensures kept { (result ≡ 0) ⊎ ((counts.new ≡ counts.old) × (operations.new ≡ operations.old)
+        × (bytes.new ≡ bytes.old)) }
 {
     match spelled {
         Ok(spelling) => {
@@ -58,7 +63,8 @@ fn put_spelled(
     }
 }
 
-/// Puts out a node's attributes, as far as there is room. What that says of the version is known of what the session told.
+/// Writes a node's attributes, as far as there is room. What this says of the version follows from
+/// the session's own contract.
 pub(crate) fn tell_attributes(
     alloc: Global,
     node: u64,
@@ -69,8 +75,10 @@ pub(crate) fn tell_attributes(
 ) -> u32
     ensures listed { (pin : AnyOption ℕ) (meant : AnyResult (List (List ℕ × AnyValue)) AnyRefusal)
         → AtPin pin answer (ReadAnswers (λ list. list.items) answer meant)
-        → Listed (sets node) pin meant counts.new operations.old operations.new bytes.old bytes.new result }
-    ensures kept { (result ≡ 0) ⊎ ((counts.new ≡ counts.old) × (operations.new ≡ operations.old) × (bytes.new ≡ bytes.old)) }
+        → Listed (sets node) pin meant counts.new operations.old operations.new bytes.old bytes.new
+        result }
+    ensures kept { (result ≡ 0) ⊎ ((counts.new ≡ counts.old) × (operations.new ≡ operations.old)
+        × (bytes.new ≡ bytes.old)) }
 {
     match answer {
         Ok(list) => {
@@ -81,7 +89,7 @@ pub(crate) fn tell_attributes(
     }
 }
 
-/// Puts out the indices, as far as there is room.
+/// Writes the indices, as far as there is room.
 pub(crate) fn tell_indices(
     alloc: Global,
     answer: Result<Vec<(Name, Kind)>, Fault>,
@@ -91,8 +99,10 @@ pub(crate) fn tell_indices(
 ) -> u32
     ensures listed { (pin : AnyOption ℕ) (meant : AnyResult (List (List ℕ × AnyKind)) AnyRefusal)
         → AtPin pin answer (ReadAnswers (λ list. list.items) answer meant)
-        → Listed makes pin meant counts.new operations.old operations.new bytes.old bytes.new result }
-    ensures kept { (result ≡ 0) ⊎ ((counts.new ≡ counts.old) × (operations.new ≡ operations.old) × (bytes.new ≡ bytes.old)) }
+        → Listed makes pin meant counts.new operations.old operations.new bytes.old bytes.new
+        result }
+    ensures kept { (result ≡ 0) ⊎ ((counts.new ≡ counts.old) × (operations.new ≡ operations.old)
+        × (bytes.new ≡ bytes.old)) }
 {
     match answer {
         Ok(list) => {

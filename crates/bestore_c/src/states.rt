@@ -1,4 +1,4 @@
-//! The operations that make a version again, put out list by list.
+//! The operations that rebuild a version, returned list by list.
 ghost use Rattle.std.specs.Prelude.{◌≡◌, ◌⊎◌, ◌≤◌, [], OnOk, length, true};
 ghost use Rattle.be_store.specs.Passes.{HasRead, volume_pinned};
 ghost use Rattle.be_session.specs.States.{untold, waiting};
@@ -12,9 +12,10 @@ use crate::owned_place::OwnedPlace;
 use be_session::{Operation, Session, StatePlace};
 use std::alloc::{AllocError, Global};
 
-/// Opens the handle of a place where it is closed.
+/// Opens the handle of a place if it is closed.
 pub(crate) fn begin(alloc: Global, place: &mut PlaceHandle) -> Result<(), AllocError>
-    ensures same { (volume : State) → untold_at volume place.new.owned.value ≡ untold_at volume place.old.owned.value }
+    ensures same { (volume : State) → untold_at volume place.new.owned.value
+        ≡ untold_at volume place.old.owned.value }
     ensures open { OnOk result (place.new.live ≡ true) }
 {
     if place.live {
@@ -32,7 +33,8 @@ pub(crate) fn begin(alloc: Global, place: &mut PlaceHandle) -> Result<(), AllocE
     }
 }
 
-/// Puts out what is ready to be told at a place, as far as there is room. Where that is all, it is told now.
+/// Writes the operations that are ready at a place, as far as there is room. If there is room for
+/// all of them, they count as returned.
 fn tell_ready(
     alloc: Global,
     place: &mut StatePlace,
@@ -40,9 +42,12 @@ fn tell_ready(
     operations: &mut [Operation],
     bytes: &mut [u8],
 ) -> u32
-    ensures told { (volume : State) → length (waiting place.old) ≤ 64 → (waiting place.old ≡ [] → untold volume place.old ≡ [])
-        → TellsNext (untold volume place.old) (untold volume place.new) counts.new operations.old operations.new bytes.old bytes.new result }
-    ensures kept { (result ≡ 0) ⊎ ((counts.new ≡ counts.old) × (operations.new ≡ operations.old) × (bytes.new ≡ bytes.old)) }
+    ensures told { (volume : State) → length (waiting place.old) ≤ 64
+        → (waiting place.old ≡ [] → untold volume place.old ≡ [])
+        → TellsNext (untold volume place.old) (untold volume place.new) counts.new operations.old
+        operations.new bytes.old bytes.new result }
+    ensures kept { (result ≡ 0) ⊎ ((counts.new ≡ counts.old) × (operations.new ≡ operations.old)
+        × (bytes.new ≡ bytes.old)) }
 {
     match place.tell(alloc, operations.len(), bytes.len()) {
         Ok(spelling) => {
@@ -53,7 +58,8 @@ fn tell_ready(
     }
 }
 
-/// Puts out the next list of the operations that make the session's pinned version again, as far as there is room.
+/// Writes the next list of the operations that rebuild the session's pinned version, as far as
+/// there is room.
 pub(crate) fn tell_state(
     alloc: Global,
     session: &mut Session,
@@ -62,11 +68,15 @@ pub(crate) fn tell_state(
     operations: &mut [Operation],
     bytes: &mut [u8],
 ) -> u32
-    ensures store { (session.new.store ≡ session.old.store) × (session.new.spare ≡ session.old.spare) }
+    ensures store { (session.new.store ≡ session.old.store)
+        × (session.new.spare ≡ session.old.spare) }
     ensures read { HasRead session.old.knows session.new.knows }
-    ensures told { TellsState (pinned_number session.old.knows.phase) (untold (volume_pinned session.old.knows) place.old)
-        (untold (volume_pinned session.old.knows) place.new) counts.new operations.old operations.new bytes.old bytes.new result }
-    ensures kept { (result ≡ 0) ⊎ ((counts.new ≡ counts.old) × (operations.new ≡ operations.old) × (bytes.new ≡ bytes.old)) }
+    ensures told { TellsState (pinned_number session.old.knows.phase)
+        (untold (volume_pinned session.old.knows) place.old)
+        (untold (volume_pinned session.old.knows) place.new) counts.new operations.old
+        operations.new bytes.old bytes.new result }
+    ensures kept { (result ≡ 0) ⊎ ((counts.new ≡ counts.old) × (operations.new ≡ operations.old)
+        × (bytes.new ≡ bytes.old)) }
 {
     match session.state(alloc, place) {
         Ok(()) => tell_ready(alloc, place, counts, operations, bytes),

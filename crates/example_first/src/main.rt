@@ -33,6 +33,7 @@ fn first_letters<R: AllocGlobal>(rt: &R) -> Result<(Vec<u64>, Journal), ApplyIfE
     Ok((answer.nodes, store.close(passes)))
 }
 
+/// Prints the nodes and the journal, or on standard error why the store refused.
 fn main(rt: HostRuntime) -> io::Result<ExitCode> {
     match first_letters(&rt) {
         Ok((nodes, journal)) => {

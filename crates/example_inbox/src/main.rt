@@ -1,4 +1,5 @@
-//! An inbox in a store: two threads file letters, while a third asks a live query at the version that it has pinned.
+//! An inbox in a store: two threads file letters, while a third asks a live query at the version
+//! that it has pinned.
 #![tactic(auto)]
 
 ghost use Rattle.std.specs.Prelude.{◌≡◌, ℕ, None};
@@ -14,7 +15,8 @@ use std::{io, thread};
 /// How often a write is tried while another pass is writing.
 const TRIES: u64 = 10_000_000;
 
-/// Files a letter: a node with the name of who sent it and the time when it came, in seconds since 1970.
+/// Files a letter: a node with the name of who sent it and the time when it came, in seconds since
+/// 1970.
 fn file(store: &Store, pass: &mut Pass, from: &str, when: i64) -> Result<(), Refusal>
     requires { IsPassOf store.now pass.old }
     ensures { IsPassOf store.now pass.new }
@@ -60,7 +62,8 @@ fn file_both<R: Threads + Sync>(
     bob.1
 }
 
-/// How many letters came into the query's answer since it was asked last. The pass is given back, without its pin.
+/// How many letters came into the query's answer since it was asked last. The pass is given back,
+/// without its pin.
 fn ask(store: &Store, mut pass: Pass, mut live: Live) -> (Pass, Live, Result<usize, Refusal>)
     requires pass { IsPassOf store.now pass }
     requires pinned { (n : ℕ) × IsPinnedTo pass.knows n }
@@ -129,6 +132,7 @@ fn count_letters<R: AllocGlobal + Threads + Sync>(rt: &R) -> Result<(usize, usiz
     Ok((before?, since?))
 }
 
+/// Prints both numbers of letters, or on standard error why the store refused.
 fn main(rt: HostRuntime) -> io::Result<ExitCode> {
     match count_letters(&rt) {
         Ok((before, since)) => {

@@ -254,7 +254,7 @@ impl Client {
     }
 
     /// Waits up to this time until the journal of each volume has at least so many entries: one number for a server with one volume.
-    /// Later reads of the current snapshot have them. Otherwise the error is `Behind`.
+    /// Later reads of the current snapshot have them. Otherwise the error is `NotReached`.
     ///
     /// # Errors
     /// As `call`.
@@ -398,7 +398,7 @@ impl Client {
     /// Waits until the server has this entry of the log that machines share. Reads after it see at least that entry.
     ///
     /// # Errors
-    /// As `call`; `Behind` at the end of the time, of which a minute is the most; `NoLog`; `Pinned`.
+    /// As `call`; `NotReached` at the end of the time, of which a minute is the most; `NoLog`; `Pinned`.
     pub fn wait_for_entry(&mut self, entry: u64, within: Duration) -> Result<wire::LogStatus> {
         self.call(Command::Log(wire::OfLog {
             entry: Some(entry),

@@ -53,9 +53,9 @@ impl Failure {
 
     /// The server doesn't have an entry yet.
     #[cfg(feature = "log")]
-    pub fn behind(expected: u64, found: u64) -> Self {
+    pub fn not_reached(expected: u64, found: u64) -> Self {
         let message = format!("the server has {found} entries of the log");
-        let failure = Self::new("Behind", message).with("expected", expected);
+        let failure = Self::new("NotReached", message).with("expected", expected);
         failure.with("found", found)
     }
 

@@ -27,7 +27,7 @@ pub fn reach(view: &View<'_, '_>, reach: &wire::Reach) -> Result<wire::Commit, F
             });
         }
         if Instant::now() >= until {
-            return Err(behind(&wanted, &found));
+            return Err(not_reached(&wanted, &found));
         }
         thread::sleep(LOOK);
     }
@@ -42,8 +42,8 @@ fn numbers(commit: &Numbers, volumes: usize) -> Result<Vec<u64>, Failure> {
     }
 }
 
-fn behind(wanted: &[u64], found: &[u64]) -> Failure {
-    let failure = Failure::new("Behind", "the journal isn't as long yet");
+fn not_reached(wanted: &[u64], found: &[u64]) -> Failure {
+    let failure = Failure::new("NotReached", "the journal isn't as long yet");
     match (wanted, found) {
         ([wanted], [found]) => failure.with("expected", *wanted).with("found", *found),
         _ => failure.with("expected", wanted.to_vec()).with("found", found.to_vec()),

@@ -224,7 +224,7 @@ fn followers_refuse_writes_and_wait_for_entries() {
     let late = follower.wait_for_entry(99, Duration::from_millis(20)).unwrap_err();
     let details = &late.refusal().unwrap().details;
     assert!(
-        late.is("Behind") && details["expected"] == 99 && details["found"] == 51,
+        late.is("NotReached") && details["expected"] == 99 && details["found"] == 51,
         "{late}"
     );
     assert!(follower

@@ -148,7 +148,7 @@ fn what_cant_be_in_volumes_is_refused() {
             r#"{"name":"NoNode","number":2,"#,
         ),
         (r#""reach":{"commit":1}"#, r#"{"name":"BadRequest","#),
-        (r#""reach":{"commit":[9,9],"within":1}"#, r#"{"name":"Behind","#),
+        (r#""reach":{"commit":[9,9],"within":1}"#, r#"{"name":"NotReached","#),
     ] {
         let said = talk.ask(&format!("{{\"id\":1,{request}}}"));
         assert!(

@@ -1,6 +1,7 @@
 //! Reads of each form of a volume.
 //!
-//! What is refused memory is asked again: so each test passes with any one request for memory refused.
+//! What is refused memory is asked again: so each test passes with any one request for memory
+//! refused.
 ghost use Rattle.std.specs.Prelude.{◌≡◌, true, IfOk};
 ghost use Rattle.be_pages.specs.Pages.{IsUnchanged};
 ghost use Rattle.be_volume.specs.Query.{has_index};
@@ -49,7 +50,8 @@ fn cover_of<S: Source>(
     })
 }
 
-/// The nodes of a query, from one pick or from what is chosen. The plain volume isn't asked: it tells for which volume the source answers.
+/// The nodes of a query, from one pick or from what is chosen. The plain volume isn't asked: it
+/// names the volume that the source reads.
 fn ask<S: Source>(
     alloc: Global,
     _plain: &Volume,
@@ -77,7 +79,8 @@ fn asked_plain(plain: &Volume, query: &Query) -> Result<Vec<u64>, Refusal> {
     }
 }
 
-/// The answer of both forms to a query, which is answered from one pick or from what is chosen, and the look as it was.
+/// The answer of both forms to a query, which is answered from one pick or from what is chosen, and
+/// the look as it was.
 pub(crate) fn query_both<L: Look + Drop>(
     alloc: Global,
     plain: &Volume,
@@ -108,8 +111,11 @@ pub(crate) fn attrs_pages(
     page: u64,
     node: u64,
 ) -> Result<Vec<(Name, Value)>, Refusal>
-    requires version { (volume : State) × IsVersion (⟦<VecRoom as Look>⟧.standing room.old) (⟦<VecRoom as Look>⟧.words room.old) page volume }
-    ensures unchanged { IsUnchanged ⟦<VecRoom as Look>⟧.kept ⟦<VecRoom as Look>⟧.standing ⟦<VecRoom as Look>⟧.words room.old room.new }
+    requires version { (volume : State)
+        × IsVersion (⟦<VecRoom as Look>⟧.standing room.old) (⟦<VecRoom as Look>⟧.words room.old)
+        page volume }
+    ensures unchanged { IsUnchanged ⟦<VecRoom as Look>⟧.kept ⟦<VecRoom as Look>⟧.standing
+        ⟦<VecRoom as Look>⟧.words room.old room.new }
 {
     match attrs(alloc, room, page, node) {
         Err(Refusal::OutOfMemory) => attrs(alloc, room, page, node),
@@ -130,8 +136,11 @@ pub(crate) fn indices_pages(
     room: &mut VecRoom,
     page: u64,
 ) -> Result<Vec<(Name, Kind)>, Refusal>
-    requires version { (volume : State) × IsVersion (⟦<VecRoom as Look>⟧.standing room.old) (⟦<VecRoom as Look>⟧.words room.old) page volume }
-    ensures unchanged { IsUnchanged ⟦<VecRoom as Look>⟧.kept ⟦<VecRoom as Look>⟧.standing ⟦<VecRoom as Look>⟧.words room.old room.new }
+    requires version { (volume : State)
+        × IsVersion (⟦<VecRoom as Look>⟧.standing room.old) (⟦<VecRoom as Look>⟧.words room.old)
+        page volume }
+    ensures unchanged { IsUnchanged ⟦<VecRoom as Look>⟧.kept ⟦<VecRoom as Look>⟧.standing
+        ⟦<VecRoom as Look>⟧.words room.old room.new }
 {
     match indices(alloc, room, page) {
         Err(Refusal::OutOfMemory) => indices(alloc, room, page),

@@ -1,6 +1,8 @@
-//! Both forms of a volume, the plain one and the one over pages, which have to give the same answers.
+//! Both forms of a volume, the plain one and the one over pages, which have to give the same
+//! answers.
 //!
-//! That the pages spell the plain volume is kept by the type, so a test that goes from one call to the next states nothing.
+//! The type keeps that the pages encode the plain volume, so a test that goes from one call to the
+//! next states nothing.
 use crate::tests::asking::{attrs_pages, attrs_plain, indices_pages, indices_plain, query_both};
 use crate::tests::same::same_lists;
 use crate::tests::writing::{accepts, apply_pages, refuses, room_of};
@@ -31,7 +33,8 @@ impl Model for Both {
 
     ghost view = { λ b. b.page };
 
-    ghost invariant = { λ b. IsVersion (⟦<VecRoom as Look>⟧.standing b.room) (⟦<VecRoom as Look>⟧.words b.room) b.page b.plain
+    ghost invariant = { λ b. IsVersion (⟦<VecRoom as Look>⟧.standing b.room)
+        (⟦<VecRoom as Look>⟧.words b.room) b.page b.plain
         × IsWriteStart (⟦<VecRoom as Look>⟧.standing b.room) };
 }
 
@@ -56,7 +59,7 @@ fn agreed_indices(
 }
 
 impl Both {
-    /// Both forms of the empty volume, the one in a room of so many pages.
+    /// Both forms of the empty volume, the one in a room of that many pages.
     pub(crate) fn new(alloc: Global, pages: u64) -> Result<Both, Refusal> {
         let (room, page) = room_of(alloc, pages)?;
         Ok(Both {
@@ -66,7 +69,8 @@ impl Both {
         })
     }
 
-    /// Applies a list, and gives the answer of both. A write that is accepted is kept, and one that is refused is undone.
+    /// Applies a list, and returns the outcomes of both. A write that is accepted is kept, and one
+    /// that is refused is undone.
     pub(crate) fn write(
         self,
         ops: &[Op],

@@ -1,8 +1,10 @@
-//! What requests cost the volume in pages: how many words of pages they read and store, and how many pages they take.
+//! What requests cost the volume in pages: how many words of pages they read and store, and how
+//! many pages they take.
 //!
-//! A row is `REQUEST => COST`, in the words of a script. Each row has a volume of its own, which is made alike each time: a page
-//! that is used again has words of what was written there before, and of these none is stored again. So a cost hangs on no
-//! other row, and is the same in each run. It is told exactly: a row fails where its cost grows, and where it falls.
+//! A row is `REQUEST => COST`, in the words of a script. Each row has a volume of its own, which is
+//! made alike each time: a page that is used again has words of what was written there before, and
+//! of these none is stored again. So a cost depends on no other row, and is the same in each run.
+//! It is exact: a row fails if its cost grows, and if it falls.
 ghost use Rattle.std.specs.Prelude.{◌≤◌, ◌<◌, ◌+◌, ◌^◌, length, IsTrue};
 ghost use Rattle.be_volume.specs.Volume.{State};
 ghost use Rattle.be_paged.specs.Version.{IsVersion};
@@ -13,12 +15,12 @@ use crate::tests::lines::request_of;
 use crate::tests::run_lines;
 use crate::tests::sizes::{accepted, numbered};
 use arrayvec::ArrayVec;
-use be_language::Request;
 use be_paged::{answer_decided, apply_into, get, source};
 use be_pages::{Look, Room};
 use be_plan::{PreparedQuery, answer};
 use be_query::Query;
-use be_testing::{Counted, list_of};
+use be_script_language::Request;
+use be_test_tools::{Counted, list_of};
 use be_value::{Name, Refusal, Value, word_of};
 use be_volume::{Op, Volume};
 use std::alloc::{AllocError, Global};
@@ -27,13 +29,14 @@ use std::test::Fail;
 /// How many nodes of the volume have attributes. The next one is bare.
 const NODES: u64 = 300;
 
-/// The list that makes a node. Its name and its size have an index, and its kind has none. Names and sizes come in an order that
-/// is far from rising.
+/// The list that makes a node. Its name and its size have an index, and its kind has none. Names
+/// and sizes come in an order that is far from rising.
 fn node_text(alloc: Global, node: u64) -> Result<String, AllocError> {
     let name = 10_000 + node.wrapping_mul(271) % NODES;
     let size = node.wrapping_mul(577) % NODES * 10;
     format!(in alloc;
-        "new;set {node} name CSTR {name}-document.txt;set {node} size LONG {size};set {node} kind CSTR text/plain"
+        "new;set {node} name CSTR {name}-document.txt;set {node} size LONG {size};set {node} kind \
+         CSTR text/plain"
     )
 }
 
@@ -77,8 +80,8 @@ fn count_get(both: Both, node: u64, name: &Name) -> Cost {
     }
 }
 
-/// The nodes of a query, as a store asks for them, and the look. The plain volume isn't asked: it tells which volume the pages
-/// spell.
+/// The nodes of a query, as a store asks for them, and the look. The plain volume isn't asked: it
+/// names the volume that the pages encode.
 fn answer_pages<L: Look>(
     alloc: Global,
     _plain: &Volume,
@@ -105,7 +108,7 @@ fn count_query(alloc: Global, both: Both, query: &Query) -> Result<Cost, Refusal
     })
 }
 
-/// The same by a query's text, of another volume where memory is refused.
+/// The same by a query's text, of another volume if memory is refused.
 fn query_cost(alloc: Global, text: &str) -> Result<Cost, Fail> {
     let query = read_query(alloc, text)?;
     match count_query(alloc, filled(alloc)?, &query) {
@@ -114,7 +117,7 @@ fn query_cost(alloc: Global, text: &str) -> Result<Cost, Fail> {
     }
 }
 
-/// What a prepared query costs when it is asked again: the nodes, or none where a plan would be asked.
+/// What a prepared query costs when it is asked again: the nodes, or none if a plan would be asked.
 fn count_again(alloc: Global, both: Both, query: Query) -> Result<Cost, Refusal> {
     let Both {
         plain: _plain,
@@ -133,7 +136,7 @@ fn count_again(alloc: Global, both: Both, query: Query) -> Result<Cost, Refusal>
     })
 }
 
-/// The same by a query's text, of another volume where memory is refused.
+/// The same by a query's text, of another volume if memory is refused.
 fn again_cost(alloc: Global, text: &str) -> Result<Cost, Fail> {
     match count_again(alloc, filled(alloc)?, read_query(alloc, text)?) {
         Err(Refusal::OutOfMemory) => {
@@ -143,7 +146,7 @@ fn again_cost(alloc: Global, text: &str) -> Result<Cost, Fail> {
     }
 }
 
-/// Applies a list to the pages. The plain volume isn't asked: it tells which volume they spell.
+/// Applies a list to the pages. The plain volume isn't asked: it names the volume that they encode.
 fn apply_counted<R: Room>(
     _plain: &Volume,
     room: &mut R,
@@ -176,7 +179,8 @@ fn count_write(both: Both, ops: &[Op]) -> Result<Cost, Fail> {
     })
 }
 
-/// One of several sets in a list: of the sizes of nodes far apart, or of new names on the bare node.
+/// One of several sets in a list: of the sizes of nodes far apart, or of new names on the bare
+/// node.
 fn set_of(kind: &str, number: u8) -> Result<Op, Refusal> {
     if kind == "names" {
         return Ok(Op::Set(NODES + 1, numbered(number)?, Value::int32(1)));
@@ -194,7 +198,7 @@ fn sets_of(alloc: Global, kind: &str, count: u8) -> Result<Vec<Op>, Refusal> {
     Ok(ops)
 }
 
-/// The operations of a row: so many sizes or names, or a list in the words of a script.
+/// The operations of a row: that many sizes or names, or a list in the words of a script.
 fn ops_of(alloc: Global, request: &str) -> Result<Vec<Op>, Refusal> {
     let (kind, count) = request.split_once(" ").unwrap_or((request, ""));
     if kind != "sizes" && kind != "names" {
@@ -260,36 +264,42 @@ fn expect_rows(alloc: Global, rows: &str) -> Result<(), Fail> {
     Ok(())
 }
 
-/// By what each would grow: the get by a second descent of the catalog's tree; a query of one node by a second descent of its
-/// index's tree, or by a look at the node; a range and a front by a descent for each key, where they go along the leaves; and
-/// the filter, which makes a descent of the catalog's tree for each of a hundred nodes, by a hundred for each word that a descent
-/// reads more.
+/// What each cost would grow by. The get: a second descent of the catalog's tree. A query of one
+/// node: a second descent of its index's tree, or a look at the node. The size 1500 has the least
+/// key of its leaf: its range begins at the end of the leaf before, so it takes that second
+/// descent. A range and a front: a descent for each key, instead of a step along the leaves. The
+/// filter makes a descent of the catalog's tree for each of a hundred nodes: it would grow by a
+/// hundred words for each word that a descent reads more.
 #[test]
 fn read_costs(rt: HostRuntime) -> Result<(), Fail> {
     let rows = r#"get 150 size => 1 found, 44 words read
-query name=="10150-document.txt" => 1 found, 43 words read
-query size==1500 => 1 found, 55 words read
-query size>=1000 && size<2000 => 100 found, 428 words read
-query name=="101*" => 100 found, 427 words read
-query name=="101*" && size>=1500 => 50 found, 6734 words read"#;
+query name=="10150-document.txt" => 1 found, 41 words read
+query size==1510 => 1 found, 34 words read
+query size==1500 => 1 found, 87 words read
+query size>=1000 && size<2000 => 100 found, 465 words read
+query name=="101*" => 100 found, 463 words read
+query name=="101*" && size>=1500 => 50 found, 6770 words read"#;
     expect_rows(rt.alloc(), rows)
 }
 
-/// Prepared queries at their second asking. Each would grow by a search for its index, whose name is compared where it stood, or by a look at a node.
+/// Prepared queries at their second asking. Each cost would grow by a search for its index, whose
+/// name is compared at its place of the first asking, or by a look at a node.
 #[test]
 fn prepared_costs(rt: HostRuntime) -> Result<(), Fail> {
-    let rows = r#"again name=="10150-document.txt" => 1 found, 40 words read
-again size==1500 => 1 found, 53 words read
-again size>=1000 && size<2000 => 100 found, 426 words read"#;
+    let rows = r#"again name=="10150-document.txt" => 1 found, 38 words read
+again size==1510 => 1 found, 32 words read
+again size==1500 => 1 found, 85 words read
+again size>=1000 && size<2000 => 100 found, 463 words read"#;
     expect_rows(rt.alloc(), rows)
 }
 
-/// A new node, a set with an index, two sets without one, of which the second sets what stands, lists of sets of many nodes and
-/// of one, and a drop.
+/// A new node, a set with an index, two sets without one, of which the second sets the value that
+/// is there already, lists of sets of many nodes and of one, and a drop.
 ///
-/// By what each would grow: in pages by one that is copied twice in a list, as the version's page for each operation, or by one of
-/// a tree that doesn't change; in words stored by a page that is written whole where it could be edited, or by words that are
-/// written though they stand; and in words read by a descent more, or by what is asked anew for each set of a list.
+/// What each cost would grow by. In pages: one that is copied twice in a list, as the version's
+/// page for each operation, or one of a tree that doesn't change. In words stored: a page that is
+/// written whole instead of edited, or words that are written though they are there already. In
+/// words read: one descent more, or what is asked anew for each set of a list.
 #[test]
 fn write_costs(rt: HostRuntime) -> Result<(), Fail> {
     let rows =
@@ -301,6 +311,6 @@ set 150 kind CSTR text/plain => 55 words stored, 4 pages taken, 210 words read
 sizes 64 => 5712 words stored, 115 pages taken, 20663 words read
 names 8 => 131 words stored, 5 pages taken, 770 words read
 names 64 => 512 words stored, 11 pages taken, 5780 words read
-drop 150 => 225 words stored, 10 pages taken, 765 words read";
+drop 150 => 225 words stored, 10 pages taken, 764 words read";
     expect_rows(rt.alloc(), rows)
 }

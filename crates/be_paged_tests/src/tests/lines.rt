@@ -1,7 +1,8 @@
-//! Requests of tests and the texts of answers, in the words of scripts. What is refused memory is made again.
+//! Requests of tests and the texts of answers, in the words of scripts. What is refused memory is
+//! made again.
 use arrayvec::ArrayVec;
-use be_language::{Reply, Request, read_line};
-use be_testing::{done_lines, reply_lines};
+use be_script_language::{Reply, Request, read_line};
+use be_test_tools::{done_lines, reply_lines};
 use be_value::Refusal;
 use be_volume::Done;
 use std::alloc::{AllocError, Global};

@@ -1,5 +1,5 @@
-//! Versions read by another look than their room: one that counts its calls, and while a write is open one that sees what stood
-//! before it.
+//! Versions read by another look than their room: one that counts its calls, and while a write is
+//! open one that sees the pages as they were before it.
 ghost use Rattle.std.specs.Prelude.{◌≡◌, IfOk};
 ghost use Rattle.be_pages.specs.Pages.{IsUnchanged, after_undo};
 ghost use Rattle.be_tree.specs.Forest.{IsWriteStart};
@@ -13,13 +13,13 @@ use crate::tests::run_lines;
 use crate::tests::test_looks::Before;
 use crate::tests::writing::{accepts, apply_pages};
 use be_pages::{Look, VecRoom};
-use be_testing::{Counted, EQUAL_VALUES};
+use be_test_tools::{Counted, EQUAL_VALUES};
 use be_value::Refusal;
 use be_volume::{Op, Volume};
 use std::alloc::Global;
 use std::test::Fail;
 
-/// Fails unless both forms give these nodes. Gives the look as it was.
+/// Fails unless both forms give these nodes. Returns the look as it was.
 fn expect_look<L: Look + Drop>(
     alloc: Global,
     plain: &Volume,
@@ -39,7 +39,8 @@ fn expect_look<L: Look + Drop>(
     Err(Fail::new(text))
 }
 
-/// Fails unless both forms give these nodes, the one over pages by a look that counts its calls. Gives both as they were.
+/// Fails unless both forms give these nodes, the one over pages by a look that counts its calls.
+/// Returns both as they were.
 fn expect_counting(alloc: Global, both: Both, text: &str, expected: &str) -> Result<Both, Fail> {
     let Both { plain, room, page } = both;
     let counting = Counted {
@@ -56,7 +57,8 @@ fn expect_counting(alloc: Global, both: Both, text: &str, expected: &str) -> Res
     })
 }
 
-/// A walk over a hundred names, which looks at each node. The version stands in the room that comes back, and can be written on.
+/// A walk over a hundred names, which looks at each node. The version is in the room that comes
+/// back, and can be written on.
 #[test]
 fn counting_look(rt: HostRuntime) -> Result<(), Fail> {
     let query = r#"name=="101*" && size>=2900"#;
@@ -67,7 +69,7 @@ fn counting_look(rt: HostRuntime) -> Result<(), Fail> {
     Ok(())
 }
 
-/// An equal volume, copied again where memory is refused.
+/// An equal volume, copied again if memory is refused.
 fn copy_of(plain: &Volume) -> Result<Volume, Refusal>
     ensures { IfOk result (λ copy. copy ≡ plain.now) }
 {
@@ -77,7 +79,8 @@ fn copy_of(plain: &Volume) -> Result<Volume, Refusal>
     }
 }
 
-/// Fails unless the version that stood when the open write began gives these nodes. Gives the room as it was.
+/// Fails unless the version from before the open write gives these nodes. Returns the room as it
+/// was.
 fn expect_before(
     alloc: Global,
     plain: &Volume,
@@ -86,8 +89,10 @@ fn expect_before(
     text: &str,
     expected: &str,
 ) -> Result<VecRoom, Fail>
-    requires version { IsVersion (λ q. after_undo (⟦<VecRoom as Look>⟧.standing room q)) (⟦<VecRoom as Look>⟧.words room) page plain.now }
-    ensures unchanged { IfOk result (λ r. IsUnchanged ⟦<VecRoom as Look>⟧.kept ⟦<VecRoom as Look>⟧.standing ⟦<VecRoom as Look>⟧.words room r) }
+    requires version { IsVersion (λ q. after_undo (⟦<VecRoom as Look>⟧.standing room q))
+        (⟦<VecRoom as Look>⟧.words room) page plain.now }
+    ensures unchanged { IfOk result (λ r. IsUnchanged ⟦<VecRoom as Look>⟧.kept
+        ⟦<VecRoom as Look>⟧.standing ⟦<VecRoom as Look>⟧.words room r) }
 {
     let before = Before { look: room };
     let before = expect_look(alloc, plain, before, page, text, expected)?;
@@ -103,16 +108,20 @@ fn read_copies(
     page: u64,
     new_page: u64,
 ) -> Result<VecRoom, Fail>
-    requires before { IsVersion (λ q. after_undo (⟦<VecRoom as Look>⟧.standing room q)) (⟦<VecRoom as Look>⟧.words room) page original.now }
-    requires version { IsVersion (⟦<VecRoom as Look>⟧.standing room) (⟦<VecRoom as Look>⟧.words room) new_page copy.now }
-    ensures version { IfOk result (λ r. IsVersion (⟦<VecRoom as Look>⟧.standing r) (⟦<VecRoom as Look>⟧.words r) new_page copy.now) }
+    requires before { IsVersion (λ q. after_undo (⟦<VecRoom as Look>⟧.standing room q))
+        (⟦<VecRoom as Look>⟧.words room) page original.now }
+    requires version { IsVersion (⟦<VecRoom as Look>⟧.standing room)
+        (⟦<VecRoom as Look>⟧.words room) new_page copy.now }
+    ensures version { IfOk result (λ r. IsVersion (⟦<VecRoom as Look>⟧.standing r)
+        (⟦<VecRoom as Look>⟧.words r) new_page copy.now) }
 {
     let room = expect_before(alloc, original, room, page, "k==x", "nodes 1 3\n")?;
     let room = expect_look(alloc, copy, room, new_page, "k==x", "nodes 3\n")?;
     Ok(room)
 }
 
-/// Drops node 1 of the copy, and gives it with the room and the new version page, while the write is open.
+/// Drops node 1 of the copy, and returns it with the room and the new version page, while the write
+/// is open.
 fn drop_first(
     original: &Volume,
     mut copy: Volume,
@@ -120,10 +129,14 @@ fn drop_first(
     page: u64,
 ) -> Result<(Volume, VecRoom, u64), Fail>
     requires same { copy ≡ original.now }
-    requires version { IsVersion (⟦<VecRoom as Look>⟧.standing room) (⟦<VecRoom as Look>⟧.words room) page original.now }
+    requires version { IsVersion (⟦<VecRoom as Look>⟧.standing room)
+        (⟦<VecRoom as Look>⟧.words room) page original.now }
     requires start { IsWriteStart (⟦<VecRoom as Look>⟧.standing room) }
-    ensures before { IfOk result (λ r. IsVersion (λ q. after_undo (⟦<VecRoom as Look>⟧.standing r.1 q)) (⟦<VecRoom as Look>⟧.words r.1) page original.now) }
-    ensures version { IfOk result (λ r. IsVersion (⟦<VecRoom as Look>⟧.standing r.1) (⟦<VecRoom as Look>⟧.words r.1) r.2 r.0) }
+    ensures before { IfOk result (λ r. IsVersion
+        (λ q. after_undo (⟦<VecRoom as Look>⟧.standing r.1 q)) (⟦<VecRoom as Look>⟧.words r.1) page
+        original.now) }
+    ensures version { IfOk result (λ r. IsVersion (⟦<VecRoom as Look>⟧.standing r.1)
+        (⟦<VecRoom as Look>⟧.words r.1) r.2 r.0) }
 {
     if original.next() > u64::MAX - 65 {
         return Err(Fail::new("no node number is left"));
@@ -140,14 +153,16 @@ fn drop_first(
 
 /// Keeps the write, and reads the copy.
 fn read_kept(alloc: Global, copy: &Volume, mut room: VecRoom, page: u64) -> Result<(), Fail>
-    requires version { IsVersion (⟦<VecRoom as Look>⟧.standing room) (⟦<VecRoom as Look>⟧.words room) page copy.now }
+    requires version { IsVersion (⟦<VecRoom as Look>⟧.standing room)
+        (⟦<VecRoom as Look>⟧.words room) page copy.now }
 {
     room.keep();
     let _room = expect_look(alloc, copy, room, page, "k==x", "nodes 3\n")?;
     Ok(())
 }
 
-/// Drops node 1 of a copy. The version page of before the write stands for the original, until the write is kept.
+/// Drops node 1 of a copy. The version page of before the write stands for the original, until the
+/// write is kept.
 fn drop_of_copy(alloc: Global, both: Both) -> Result<(), Fail> {
     let Both {
         plain: original,

@@ -1,4 +1,5 @@
-//! The nodes of a version from a number on, of volumes that a leaf holds and that it doesn't: a leaf has 12 pairs at most.
+//! The nodes of a version from a number on, of volumes that a leaf holds and that it doesn't: a
+//! leaf has 12 pairs at most.
 //!
 //! A row is `FROM MOST => NODES`. What is refused memory is asked again, as elsewhere here.
 ghost use Rattle.be_pages.specs.Pages.{IsUnchanged};
@@ -22,8 +23,11 @@ fn nodes_pages(
     from: u64,
     most: usize,
 ) -> Result<Vec<u64>, Refusal>
-    requires version { (volume : State) × IsVersion (⟦<VecRoom as Look>⟧.standing room.old) (⟦<VecRoom as Look>⟧.words room.old) page volume }
-    ensures unchanged { IsUnchanged ⟦<VecRoom as Look>⟧.kept ⟦<VecRoom as Look>⟧.standing ⟦<VecRoom as Look>⟧.words room.old room.new }
+    requires version { (volume : State)
+        × IsVersion (⟦<VecRoom as Look>⟧.standing room.old) (⟦<VecRoom as Look>⟧.words room.old)
+        page volume }
+    ensures unchanged { IsUnchanged ⟦<VecRoom as Look>⟧.kept ⟦<VecRoom as Look>⟧.standing
+        ⟦<VecRoom as Look>⟧.words room.old room.new }
 {
     match nodes(alloc, room, page, from, most) {
         Err(Refusal::OutOfMemory) => nodes(alloc, room, page, from, most),
@@ -89,7 +93,7 @@ fn written(both: Both, op: Op) -> Result<Both, Fail> {
     Ok(both)
 }
 
-/// Makes so many nodes.
+/// Makes that many nodes.
 fn with_nodes(mut both: Both, count: u64) -> Result<Both, Fail> {
     for _ in 0..count {
         both = written(both, Op::New)?;
@@ -105,6 +109,8 @@ fn with_attributes(mut both: Both, node: u64) -> Result<Both, Fail> {
     Ok(both)
 }
 
+/// Nodes without attributes are listed from any number on, up to the count asked for, as nodes are
+/// added.
 #[test]
 fn bare_nodes(rt: HostRuntime) -> Result<(), Fail> {
     let both = Both::new(rt.alloc(), 128)?;

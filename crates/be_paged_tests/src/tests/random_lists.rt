@@ -26,8 +26,8 @@ impl Random {
     }
 }
 
-/// What lists are made of: of the youngest nodes so many, so many names, one new node in so many that could be, and the pages
-/// of the room.
+/// What lists are made of: of the youngest nodes so many, so many names, one new node in so many
+/// that could be, and the pages of the room.
 #[derive(Drop)]
 struct Mix {
     nodes: u64,
@@ -48,6 +48,7 @@ fn random_value(random: &mut Random) -> Option<Value> {
     Value::text(str::from_utf8(&letters[..length as usize % 256]).ok()?).ok()
 }
 
+/// A random kind of an index, mostly LONG; RAWT can't be indexed.
 fn random_kind(random: &mut Random) -> Kind {
     match random.below(8) {
         0 => Kind::Rawt,
@@ -56,6 +57,8 @@ fn random_kind(random: &mut Random) -> Kind {
     }
 }
 
+/// A random operation on one of the last nodes before `next`, or a new node if there is none. None
+/// if its name or value can't be made.
 fn random_op(random: &mut Random, mix: &Mix, next: u64) -> Option<Op> {
     if next == 1 {
         return Some(Op::New);
@@ -88,7 +91,7 @@ fn random_list(
     Ok(ops)
 }
 
-/// A random list. Where memory is refused, the same list is made again.
+/// A random list. If memory is refused, the same list is made again.
 fn list_of(
     alloc: Global,
     random: &mut Random,
@@ -168,7 +171,7 @@ fn random_reads(alloc: Global, random: &mut Random, mix: &Mix, both: Both) -> Re
     random_query(alloc, random, both)
 }
 
-/// Writes a random list, and reads where that is asked for.
+/// Writes a random list, and reads if that is asked for.
 fn random_turn(
     alloc: Global,
     random: &mut Random,
@@ -235,7 +238,8 @@ fn is_often(seen: &[u64; 23], number: &str) -> bool {
     seen[place] > 100
 }
 
-/// 10,000 lists. Many are accepted, and many refused by the volume in each way, and for want of pages.
+/// 10,000 lists. Many are accepted, and many are refused by the volume in each way, or because the
+/// pages are full.
 #[test]
 fn random_lists(rt: HostRuntime) -> Result<(), Fail> {
     let mut random = Random {

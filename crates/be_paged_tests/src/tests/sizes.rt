@@ -1,5 +1,6 @@
-//! The greatest sizes, by the plain volume and by the one over pages: a list of 64 operations is taken, 64 attributes of a node
-//! and 32 indices are taken and listed whole, and one attribute and one index more are refused.
+//! The greatest sizes, by the plain volume and by the one over pages: a list of 64 operations is
+//! taken, 64 attributes of a node and 32 indices are taken and listed whole, and one attribute and
+//! one index more are refused.
 use crate::tests::both::Both;
 use be_value::{Kind, Name, Refusal, Value};
 use be_volume::Op;
@@ -58,7 +59,7 @@ fn refused(both: Both, op: Op, refusal: Refusal) -> Result<(), Fail> {
     }
 }
 
-/// Both forms once they have taken a list of so many operations.
+/// Both forms after a list of that many operations.
 fn with_list(alloc: Global, ops: &[Op], count: usize) -> Result<Both, Fail> {
     if ops.len() != count {
         return Err(Fail::new("another number of operations"));
@@ -66,7 +67,7 @@ fn with_list(alloc: Global, ops: &[Op], count: usize) -> Result<Both, Fail> {
     accepted(Both::new(alloc, 64)?, ops)
 }
 
-/// Fails unless both forms list so many attributes of node 1.
+/// Fails unless both forms list that many attributes of node 1.
 fn lists_attributes(alloc: Global, both: &mut Both, count: usize) -> Result<(), Fail> {
     if both.attrs(alloc, 1)??.len() == count {
         return Ok(());
@@ -74,7 +75,7 @@ fn lists_attributes(alloc: Global, both: &mut Both, count: usize) -> Result<(), 
     Err(Fail::new("another number of attributes"))
 }
 
-/// Fails unless both forms list so many indices.
+/// Fails unless both forms list that many indices.
 fn lists_indices(alloc: Global, both: &mut Both, count: usize) -> Result<(), Fail> {
     if both.indices(alloc)?.len() == count {
         return Ok(());

@@ -1,7 +1,8 @@
 //! A reader for tests, which sees the room as it was when its write began.
 use be_pages::Look;
 
-/// A reader as it was when the open write began. What the write gave up can be read, and what it took can't.
+/// A reader as it was when the open write began. What the write gave up can be read, and what it
+/// took can't.
 #[derive(Drop)]
 pub(crate) struct Before<L> {
     pub look: L,

@@ -1,6 +1,7 @@
 //! Lists of operations on each form of a volume.
 //!
-//! What is refused memory is asked again: so each test passes with any one request for memory refused.
+//! What is refused memory is asked again: so each test passes with any one request for memory
+//! refused.
 ghost use Rattle.std.specs.Prelude.{◌≡◌, ◌<◌, ◌≤◌, ◌+◌, ◌^◌, Ok, IfOk, OnOk, IfErr, List, length};
 ghost use Rattle.be_pages.specs.Pages.{after_undo};
 ghost use Rattle.be_tree.specs.Forest.{IsWriteStart};
@@ -19,7 +20,8 @@ use std::test::Fail;
 
 /// A room with the first version, and its page.
 pub(crate) fn room_of(alloc: Global, pages: u64) -> Result<(VecRoom, u64), Refusal>
-    ensures version { IfOk result (λ r. IsVersion (⟦<VecRoom as Look>⟧.standing r.0) (⟦<VecRoom as Look>⟧.words r.0) r.1 empty) }
+    ensures version { IfOk result (λ r. IsVersion (⟦<VecRoom as Look>⟧.standing r.0)
+        (⟦<VecRoom as Look>⟧.words r.0) r.1 empty) }
     ensures start { IfOk result (λ r. IsWriteStart (⟦<VecRoom as Look>⟧.standing r.0)) }
 {
     let mut room = match VecRoom::new(alloc, pages) {
@@ -49,7 +51,7 @@ fn apply_plain(plain: &mut Volume, ops: &[Op]) -> Result<ArrayVec<Done, 64>, Ref
     }
 }
 
-/// Applies a list to the pages. The plain volume isn't asked: it tells which volume they spell.
+/// Applies a list to the pages. The plain volume isn't asked: it names the volume that they encode.
 pub(crate) fn apply_pages(
     _plain: &Volume,
     room: &mut VecRoom,
@@ -57,13 +59,16 @@ pub(crate) fn apply_pages(
     ops: &[Op],
 ) -> Result<(u64, ArrayVec<Done, 64>), Refusal>
     ghost volume: { State }
-    requires version { IsVersion (⟦<VecRoom as Look>⟧.standing room.old) (⟦<VecRoom as Look>⟧.words room.old) page volume }
+    requires version { IsVersion (⟦<VecRoom as Look>⟧.standing room.old)
+        (⟦<VecRoom as Look>⟧.words room.old) page volume }
     requires some { 1 ≤ length ops.now }
     requires few { length ops.now ≤ 64 }
     requires fits { volume.next + 64 < 2 ^ 64 }
-    ensures ok { IfOk result (λ r. Applies ⟦<VecRoom as Look>⟧.kept ⟦<VecRoom as Look>⟧.standing ⟦<VecRoom as Look>⟧.words
+    ensures ok { IfOk result (λ r. Applies ⟦<VecRoom as Look>⟧.kept ⟦<VecRoom as Look>⟧.standing
+        ⟦<VecRoom as Look>⟧.words
         page r.0 volume ops.now r.1.items room.old room.new) }
-    ensures err { IfErr result (λ e. IsRefusedList ⟦<VecRoom as Look>⟧.kept ⟦<VecRoom as Look>⟧.standing ⟦<VecRoom as Look>⟧.words
+    ensures err { IfErr result (λ e. IsRefusedList ⟦<VecRoom as Look>⟧.kept
+        ⟦<VecRoom as Look>⟧.standing ⟦<VecRoom as Look>⟧.words
         ⟦<VecRoom as Room>⟧.full volume ops.now e room.old room.new) }
 {
     apply(room, page, ops)
@@ -74,7 +79,8 @@ pub(crate) fn accepts(plain: &mut Volume, ops: &[Op], dones: &[Done]) -> Result<
     requires some { 1 ≤ length ops.now }
     requires few { length ops.now ≤ 64 }
     requires fits { plain.old.next + 64 < 2 ^ 64 }
-    ensures { OnOk result ((answers : List AnyDone) × (steps plain.old ops.now ≡ Ok (plain.new, answers))) }
+    ensures { OnOk result ((answers : List AnyDone)
+        × (steps plain.old ops.now ≡ Ok (plain.new, answers))) }
 {
     match apply_plain(plain, ops) {
         Ok(answer) if answer.as_slice() == dones => Ok(()),
@@ -82,7 +88,8 @@ pub(crate) fn accepts(plain: &mut Volume, ops: &[Op], dones: &[Done]) -> Result<
     }
 }
 
-/// Applies a list to the plain volume, which has to refuse it so. Where the pages are full it has to accept the list, and isn't asked for more.
+/// Applies a list to the plain volume, which has to refuse it by the same refusal. If the pages are
+/// full, it has to accept the list, and isn't asked for more.
 pub(crate) fn refuses(plain: &mut Volume, ops: &[Op], refusal: Refusal) -> Result<(), Fail>
     requires some { 1 ≤ length ops.now }
     requires few { length ops.now ≤ 64 }

@@ -40,7 +40,8 @@ fn keys_within(volume: &Volume, name: &Name, low: &[u8], high: Option<&[u8]>) ->
 /// What a source was asked.
 #[derive(Drop)]
 pub(crate) struct Counts {
-    /// The first letter of an index for each key that was asked of it; of a range that was asked for whole, for each of its keys and for its end.
+    /// The first letter of an index for each key that was asked of it; of a range that was asked
+    /// for whole, for each of its keys and for its end.
     pub asked: ArrayString<64>,
     pub kinds: u64,
     pub ranges: u64,
@@ -49,7 +50,7 @@ pub(crate) struct Counts {
     pub searches: u64,
 }
 
-/// Writes down a step for each of so many keys, and one for the end.
+/// Writes down a step for each of that many keys, and one for the end.
 fn write_steps(counts: &mut Counts, name: &Name, keys: usize) {
     for _ in 0..=keys {
         let _full = counts.asked.try_push(first_letter(name));
@@ -121,7 +122,7 @@ impl Source for Counting<'_> {
     }
 }
 
-/// The nodes by a cover, and what was asked for them; none where it doesn't cover the query.
+/// The nodes by a cover, and what was asked for them; none if it doesn't cover the query.
 pub(crate) fn nodes_by(
     alloc: Global,
     volume: &Volume,
@@ -136,7 +137,8 @@ pub(crate) fn nodes_by(
     Ok(Some((nodes, source.counts)))
 }
 
-/// The nodes by what is chosen where the source tells the kinds, and what was asked to choose and to find them.
+/// The nodes by the picks that are chosen from a source that knows the kinds, and the counts of
+/// what choosing and finding them asked for.
 pub(crate) fn nodes_chosen(
     alloc: Global,
     volume: &Volume,

@@ -1,8 +1,10 @@
 //! How many keys a walk asks for, and what else is asked of the nodes that it finds.
 //!
-//! A range that held a key too many would lose no answer, so no contract refuses it. Here each range is counted: of an index of known keys, the
-//! keys that the range of one comparison holds, and one more for its end. Nor would it lose one to ask for a value that the key has told, or to
-//! search an index for a value of which the comparison is false: these are counted too.
+//! A range that held a key too many would lose no answer, so no contract refuses it. Here each
+//! range is counted: of an index of known keys, the keys that the range of one comparison holds,
+//! and one more for its end. No answer would be lost either if a walk asked for a value that the
+//! key has given, or searched an index for a value of which the comparison is false: these are
+//! counted too.
 
 use crate::tests::{replies, replies_of, volume_of};
 use be_value::Refusal;
@@ -10,7 +12,7 @@ use be_volume::Volume;
 use std::alloc::{AllocError, Global};
 use std::test::Fail;
 
-/// A volume with an index k of a kind, of which nodes 1, 2, .. have so many values.
+/// A volume with an index k of a kind. Nodes 1, 2, .. have these values at k, `count` in all.
 fn volume_of_values(
     alloc: Global,
     kind: &str,
@@ -33,19 +35,23 @@ fn lines_of_values(
     format!(in alloc; "mkindex k {kind}\n{count} times new\neach k {kind}: {values}")
 }
 
-/// Of each kind seven values in rising order, with the least and the greatest, and both sides of 0 or of the middle.
+/// Of each kind seven values in rising order, with the least and the greatest, and both sides of 0
+/// or of the middle.
 const SEVENS: &str = "LONG -2147483648 -2147483647 -1 0 1 2147483646 2147483647
 LLNG -9223372036854775808 -9223372036854775807 -1 0 1 9223372036854775806 9223372036854775807
 ULNG 0 1 2147483647 2147483648 2147483649 4294967294 4294967295
-ULLG 0 1 9223372036854775807 9223372036854775808 9223372036854775809 18446744073709551614 18446744073709551615";
+ULLG 0 1 9223372036854775807 9223372036854775808 9223372036854775809 18446744073709551614 \
+ 18446744073709551615";
 
-/// How many keys of seven rising values each range of a comparison with one of them holds, where so many are below it.
+/// Of seven rising values, `below` are below this one. The text says how many keys each range of a
+/// comparison with it holds.
 fn keys_of_value(alloc: Global, value: &str, below: u64) -> Result<String, AllocError> {
     let above = 6u64.wrapping_sub(below);
     let to = below.wrapping_add(1);
     let from = above.wrapping_add(1);
     format!(in alloc;
-        "keys k=={value} => 1\nkeys k<{value} => {below}\nkeys k<={value} => {to}\nkeys k>{value} => {above}\nkeys k>={value} => {from}\n"
+        "keys k=={value} => 1\nkeys k<{value} => {below}\nkeys k<={value} => {to}\nkeys k>{value} \
+         => {above}\nkeys k>={value} => {from}\n"
     )
 }
 
@@ -79,10 +85,12 @@ fn integer_ranges_are_exact(rt: HostRuntime) -> Result<(), Fail> {
     Ok(())
 }
 
-/// Texts in rising order: below a front, the front itself, those that begin with it, and above them.
+/// Texts in rising order: below a front, the front itself, those that begin with it, and above
+/// them.
 const TEXTS: &str = "\"\" a a\u{1} ab aé aéz b \u{10ffff} \u{10ffff}z";
 
-/// Patterns, and how many of the texts begin with what stands before the first wildcard, or are the text where none stands.
+/// Patterns, and how many of the texts begin with what comes before the first wildcard, or are the
+/// text if there is none.
 const FRONTS: &str = "keys k==\"*\" => 9
 keys k==\"a*\" => 5
 keys k==\"a?\" => 5
@@ -110,8 +118,9 @@ each k ULLG: 1 2 3 4 5
 each p ULLG: 1 2 3 4 5
 each q ULLG: 1 2 3 4 5";
 
-/// Of a node that a walk finds, the key tells the value at the picked name. At other names it is asked for, and where the comparison is true of
-/// it, and the name has an index, that is searched.
+/// Of a node that a walk finds, the key gives the value at the picked name. At other names the
+/// value is asked for. If the comparison is true of it, and the name has an index, that is
+/// searched.
 const LOOKS: &str = "looks k!=3 => values 0 searches 0
 looks k!=3&&(k!=2||k!=4) => values 0 searches 0
 looks k>=2&&p<4 => values 4 searches 0

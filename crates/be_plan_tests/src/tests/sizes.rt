@@ -1,5 +1,5 @@
-//! As many nodes of a plain volume as a version may have, by each way to ask for them. No contract rules out a want of memory at one
-//! size alone.
+//! As many nodes of a plain volume as a version may have, by each way to ask for them. No contract
+//! rules out that memory runs out at one size alone.
 use super::write;
 use be_plan::{answer, choose_from, run, volume_source};
 use be_query::{Query, parse};
@@ -10,10 +10,11 @@ use std::test::Fail;
 
 /// How many nodes are asked for: around each power of two, and the bound.
 const COUNTS: &str =
-    "1 2 3 4 5 7 8 9 15 16 17 31 32 33 63 64 65 127 128 129 255 256 257 511 512 513 1023 1024 1025 2047 2048 \
+    "1 2 3 4 5 7 8 9 15 16 17 31 32 33 63 64 65 127 128 129 255 256 257 511 512 513 1023 1024 1025 \
+     2047 2048 \
 2049 4095 4096 4097 8191 8192 8193 16383 16384 16385 26000";
 
-/// Does a list of operations, again where it is refused memory.
+/// Does a list of operations, again if it is refused memory.
 fn write_again(volume: &mut Volume, ops: &[Op]) -> Result<(), Refusal> {
     match write(volume, ops) {
         Err(Refusal::OutOfMemory) => write(volume, ops),
@@ -21,7 +22,7 @@ fn write_again(volume: &mut Volume, ops: &[Op]) -> Result<(), Refusal> {
     }
 }
 
-/// A volume of so many nodes, each of which has its number in the attribute k.
+/// A volume of that many nodes, each of which has its number in the attribute k.
 fn numbered(alloc: Global, count: u64) -> Result<Volume, Refusal> {
     let mut volume = Volume::new(alloc);
     write_again(&mut volume, &[Op::MkIndex(Name::new("k")?, Kind::Ullg)])?;

@@ -1,6 +1,6 @@
-//! A line of a race runs behind the first call of its gate, and before the second.
+//! A line of a race runs after the first call of its gate, and before the second.
 use super::races::{expect, raced};
-use be_serving::Gate;
+use be_script_runner::Gate;
 use std::sync::atomic::AtomicU64;
 use std::sync::atomic::Ordering::SeqCst;
 use std::test::Fail;
@@ -10,7 +10,8 @@ const LOOKED_AT: &str =
     "pass 0\nnode 1\npass 1\npin 0\nok\npin 1\njournal 1\n1 by 0 new -> node 1\nreplay ok\n";
 
 const HELD_BACK: &str =
-    "pass 0\nnode 3\npass 1\nnode 1\nnode 2\njournal 3\n1 by 1 new -> node 1\n2 by 1 new -> node 2\n3 by 0 new -> node 3\nreplay ok\n";
+    "pass 0\nnode 3\npass 1\nnode 1\nnode 2\njournal 3\n1 by 1 new -> node 1\n2 by 1 new -> node \
+     2\n3 by 0 new -> node 3\nreplay ok\n";
 
 /// How far two passes have come that wait for each other.
 #[derive(Drop)]
@@ -54,8 +55,9 @@ impl Stages {
     }
 }
 
-/// Keeps pass 0 before its one line and behind it, each time until pass 1 has looked how many entries there are. The stages: pass
-/// 0 stands before its line; pass 1 has looked; pass 0 stands behind its line; pass 1 has looked again.
+/// Keeps pass 0 before its one line and after it, each time until pass 1 has looked how many
+/// entries there are. The stages: pass 0 is before its line; pass 1 has looked; pass 0 is after its
+/// line; pass 1 has looked again.
 #[derive(Drop)]
 struct Around {
     stages: Stages,
@@ -79,8 +81,9 @@ impl Gate for Around {
     }
 }
 
-/// Keeps pass 0 before its first line until pass 1 has run both of its lines, and pass 1 behind them until pass 0 has run that one.
-/// The stages: pass 0 stands before its first line; pass 1 has run its lines; pass 0 stands before its second line.
+/// Keeps pass 0 before its first line until pass 1 has run both of its lines, and pass 1 after them
+/// until pass 0 has run that one. The stages: pass 0 is before its first line; pass 1 has run its
+/// lines; pass 0 is before its second line.
 #[derive(Drop)]
 struct HoldsBack {
     stages: Stages,
@@ -103,7 +106,7 @@ impl Gate for HoldsBack {
     }
 }
 
-/// While pass 0 stands before its line, pass 1 sees no entry, and while it stands behind the line, one.
+/// While pass 0 is before its line, pass 1 sees no entry, and while it is after the line, one.
 #[test]
 fn lines_run_inside(rt: HostRuntime) -> Result<(), Fail> {
     for _ in 0..2 {
@@ -119,7 +122,8 @@ fn lines_run_inside(rt: HostRuntime) -> Result<(), Fail> {
     Err(Fail::new("out of memory"))
 }
 
-/// A line that a gate holds back comes behind all of the other script: what is written is this text alone.
+/// A line that a gate holds back comes after all of the other script: what is written is this text
+/// alone.
 #[test]
 fn line_held_back(rt: HostRuntime) -> Result<(), Fail> {
     for _ in 0..2 {

@@ -1,6 +1,6 @@
 //! Races: scripts at once, each on a thread of its own.
-use be_serving::{Gate, Limits, OpenGate, RunFault, race};
-use be_testing::{Narrow, list_with_room, longest_list};
+use be_script_runner::{Gate, Limits, OpenGate, RunFault, race};
+use be_test_tools::{Narrow, list_with_room, longest_list};
 use be_value::word_of;
 use std::alloc::{AllocError, Global};
 use std::io::Write;
@@ -48,7 +48,7 @@ fn race_on<R: Threads + Wait, G: Gate + Sync, W: Write>(
     race(rt, alloc, scripts, limits, gate, writer)
 }
 
-/// The text of what was written, or None where a line was refused for want of memory.
+/// The text of what was written, or None if a line was refused because memory ran out.
 fn text_of(written: Vec<u8>) -> Option<String> {
     let text = String::from_utf8(written).ok()?;
     if text.contains("refused 10 OutOfMemory\n") {
@@ -57,7 +57,7 @@ fn text_of(written: Vec<u8>) -> Option<String> {
     Some(text)
 }
 
-/// What a race on so many pages writes, or None where memory was wanted.
+/// What a race on so many pages writes, or None if memory ran out.
 fn raced_on<R: Threads + Wait, G: Gate + Sync>(
     rt: &R,
     alloc: Global,
@@ -88,7 +88,7 @@ pub fn raced<R: Threads + Wait, G: Gate + Sync>(
     raced_on(rt, alloc, texts, 256, gate)
 }
 
-/// What a race writes, raced again where memory was wanted.
+/// What a race writes, raced again if memory ran out.
 fn outcome_of<R: Threads + Wait, G: Gate + Sync>(
     rt: &R,
     alloc: Global,
@@ -112,7 +112,7 @@ fn race_of_two(rt: HostRuntime) -> Result<(), Fail> {
     expect(written.as_str() == OF_TWO, written.as_str())
 }
 
-/// What a gate was told of the lines of one pass.
+/// The calls of a gate for the lines of one pass.
 #[derive(Drop)]
 struct Calls {
     /// The line that began last, and the one that ended last.
@@ -131,7 +131,7 @@ impl Calls {
         }
     }
 
-    /// A line begins. It is in its turn behind the end of the one before it.
+    /// A line begins. It is in its turn after the end of the one before it.
     fn begin(&self, line: u64) {
         let begun = self.begun.swap(line, SeqCst);
         if begun != self.ended.load(SeqCst) || line != begun.wrapping_add(1) {
@@ -139,7 +139,7 @@ impl Calls {
         }
     }
 
-    /// A line ends. It is in its turn where it began last, and hasn't ended.
+    /// A line ends. It is in its turn if it began last, and hasn't ended.
     fn end(&self, line: u64) {
         let ended = self.ended.swap(line, SeqCst);
         if line != self.begun.load(SeqCst) || line != ended.wrapping_add(1) {
@@ -147,7 +147,8 @@ impl Calls {
         }
     }
 
-    /// Whether the calls were just these: for each of so many lines from 1 on one before it, and then one after it.
+    /// Whether the calls were just these: for each of so many lines from 1 on one before it, and
+    /// then one after it.
     fn are_of(&self, lines: u64) -> bool {
         self.strays.load(SeqCst) == 0
             && self.begun.load(SeqCst) == lines
@@ -155,7 +156,7 @@ impl Calls {
     }
 }
 
-/// What a gate was told of each of two passes.
+/// The calls of a gate for each of two passes.
 #[derive(Drop)]
 struct Record {
     first: Calls,
@@ -185,7 +186,8 @@ impl Gate for Record {
     }
 }
 
-/// A flag for each of two passes. Before its second line a pass raises its own and waits until the other's is up.
+/// A flag for each of two passes. Before its second line a pass raises its own and waits until the
+/// other's is up.
 #[derive(Drop)]
 struct Meeting {
     flags: [AtomicU64; 2],
@@ -235,12 +237,14 @@ impl Gate for Meeting {
     }
 }
 
-/// Whether each of two passes was told of its two lines, and found the other one in the middle of its script.
+/// Whether the gate was called for both lines of each of two passes, and each pass found the other
+/// one in the middle of its script.
 fn have_met(gate: &Meeting) -> bool {
     gate.missed.load(SeqCst) == 0 && gate.record.first.are_of(2) && gate.record.second.are_of(2)
 }
 
-/// Two threads are in the middle of their scripts at once. One thread can't pass, in whatever order it takes the lines.
+/// Two threads are in the middle of their scripts at once. One thread can't pass, in whatever order
+/// it takes the lines.
 #[test]
 fn both_threads_run(rt: HostRuntime) -> Result<(), Fail> {
     let gate = Meeting::new();
@@ -253,7 +257,8 @@ fn both_threads_run(rt: HostRuntime) -> Result<(), Fail> {
     )
 }
 
-/// Whether a gate is told of so many lines of a script, and of none of an empty one beside it; None where memory was wanted.
+/// Whether a gate is called for so many lines of a script, and for none of an empty one beside it;
+/// None if memory ran out.
 fn tells_lines<R: Threads + Wait>(
     rt: &R,
     alloc: Global,
@@ -267,7 +272,8 @@ fn tells_lines<R: Threads + Wait>(
     }
 }
 
-/// Fails unless a gate is told of as many lines of a script as stand before it, in which a `|` is an LF.
+/// Fails unless a gate is called for as many lines of a script as the number before it says. A `|`
+/// in the script is an LF.
 fn check_lines<R: Threads + Wait>(rt: &R, alloc: Global, line: &str) -> Result<(), Fail> {
     let (count, script) = line.split_once(" ").unwrap_or(("0", line));
     let lines = word_of(count.as_bytes()).unwrap_or(0);
@@ -282,7 +288,7 @@ fn check_lines<R: Threads + Wait>(rt: &R, alloc: Global, line: &str) -> Result<(
     expect(told == Some(true), line)
 }
 
-/// Blank lines, comments and bad ones count, and what follows the last LF where it isn't empty.
+/// Blank lines, comments and bad ones count, and what follows the last LF if it isn't empty.
 #[test]
 fn lines_at_the_gate(rt: HostRuntime) -> Result<(), Fail> {
     let lines = "1 new\n1 new|\n1 |\n2 ||\n4 # a||new\r|sett|\n2 new| ";
@@ -294,8 +300,10 @@ fn lines_at_the_gate(rt: HostRuntime) -> Result<(), Fail> {
 
 /// Lines that write, read, pin and fail, and a batch.
 const MIXED: &str =
-    "new\nmkindex k LONG\nset 1 k LONG 5\nset 2 k LONG 6\nquery k>4\nbegin\nnew\nset 3 k LONG 7\nnew\ncommit\npin\ndrop 1\nquery k>4\n\
-    unpin\nset 2 k LONG 8\nlive k==8\nrefresh\nrmindex k\ndrop 99\nset 2 \"\" CSTR x\nsett\n# a comment\nnew\n";
+    "new\nmkindex k LONG\nset 1 k LONG 5\nset 2 k LONG 6\nquery k>4\nbegin\nnew\nset 3 k LONG \
+     7\nnew\ncommit\npin\ndrop 1\nquery k>4\n\
+    unpin\nset 2 k LONG 8\nlive k==8\nrefresh\nrmindex k\ndrop 99\nset 2 \"\" CSTR x\nsett\n# a \
+     comment\nnew\n";
 
 /// Fails unless a race of so many such scripts ends with a right replay.
 fn check_race<R: Threads + Wait>(rt: &R, alloc: Global, count: usize) -> Result<(), Fail> {
@@ -321,7 +329,7 @@ fn races_of_two_to_four(rt: HostRuntime) -> Result<(), Fail> {
     Ok(())
 }
 
-/// A text so many times. It is made again where memory is refused.
+/// A text so many times. It is made again if memory is refused.
 fn repeated(alloc: Global, text: &str, count: usize) -> Result<String, AllocError> {
     match text.repeat(alloc, count) {
         Err(_) => text.repeat(alloc, count),
@@ -389,7 +397,7 @@ fn end_of_length<R: Threads + Wait>(rt: &R, alloc: Global, length: usize) -> &'s
     end_of(rt, scripts, 64)
 }
 
-/// Fails unless it ends so, at the second race where memory was wanted at the first.
+/// Fails unless it ends so, at the second race if memory ran out at the first.
 fn check_length<R: Threads + Wait>(
     rt: &R,
     alloc: Global,
@@ -403,7 +411,8 @@ fn check_length<R: Threads + Wait>(
     expect(ended == end, ended)
 }
 
-/// A script that is too long, behind one that is empty: nothing is written. A byte less, and it is run.
+/// A script that is too long, after one that is empty: nothing is written. A byte less, and it is
+/// run.
 #[test]
 fn longest_scripts(rt: HostRuntime) -> Result<(), Fail> {
     check_length(&rt, rt.alloc(), 1_048_577, "too long")?;
@@ -418,7 +427,8 @@ fn end_on<R: Threads + Wait>(rt: &R, alloc: Global, pages: u64) -> &'static str 
     }
 }
 
-/// Fails unless so many pages are told to be out of range, at the second race where memory was wanted at the first.
+/// Fails unless so many pages are reported to be out of range, at the second race if memory ran out
+/// at the first.
 fn check_limits<R: Threads + Wait>(rt: &R, alloc: Global, pages: u64) -> Result<(), Fail> {
     let ended = match end_on(rt, alloc, pages) {
         "memory" => end_on(rt, alloc, pages),
@@ -427,15 +437,15 @@ fn check_limits<R: Threads + Wait>(rt: &R, alloc: Global, pages: u64) -> Result<
     expect(ended == "limits", ended)
 }
 
-/// A limit that is out of its range is told first, and nothing is written.
+/// A limit that is out of its range is reported first, and nothing is written.
 #[test]
 fn limits_of_a_race(rt: HostRuntime) -> Result<(), Fail> {
     check_limits(&rt, rt.alloc(), 7)?;
     check_limits(&rt, rt.alloc(), 16385)
 }
 
-/// How many nodes the second script of a race made, and how many of its lines were refused by Full with this number of
-/// entries.
+/// How many nodes the second script of a race made, and how many of its lines were refused by Full
+/// with this number of entries.
 fn count_fulls(alloc: Global, written: &str) -> Result<(usize, usize), AllocError> {
     let entries = written.matches(" by 1 new -> node ").count();
     let full = format!(in alloc; "refused 11 Full {entries}")?;
@@ -444,7 +454,7 @@ fn count_fulls(alloc: Global, written: &str) -> Result<(usize, usize), AllocErro
     Ok((entries, fulls))
 }
 
-/// The same of a race of an empty script and this one, on so many pages; None where memory was wanted.
+/// The same of a race of an empty script and this one, on so many pages; None if memory ran out.
 fn fulls_on<R: Threads + Wait>(
     rt: &R,
     alloc: Global,
@@ -476,8 +486,8 @@ fn check_fulls<R: Threads + Wait>(
     Err(Fail::new(pages))
 }
 
-/// A race has as many pages as its limits say: 8 refuse some of 60 nodes, and tell the current version where nothing is
-/// pinned; 64 take them all.
+/// A race has as many pages as its limits say: 8 refuse some of 60 nodes, and report the current
+/// version if nothing is pinned; 64 take them all.
 #[test]
 fn pages_of_a_race(rt: HostRuntime) -> Result<(), Fail> {
     let script = repeated(rt.alloc(), "new\n", 60)?;
@@ -485,8 +495,9 @@ fn pages_of_a_race(rt: HostRuntime) -> Result<(), Fail> {
     check_fulls(&rt, rt.alloc(), script.as_str(), 64, false)
 }
 
-/// Whether a race writes as many bytes as there is room for, and then ends with `Write`; or with success, where there is
-/// room for all. It may say no where memory was wanted, which isn't told as `Write`.
+/// Whether a race writes as many bytes as there is room for, and then ends with `Write`; or with
+/// success if there is room for all. It may return false if memory ran out, which isn't reported as
+/// `Write`.
 fn fills<R: Threads + Wait>(rt: &R, alloc: Global, room: usize) -> Result<bool, RunFault> {
     let Ok(scripts) = scripts_of(alloc, &["new\n", ""]) else {
         return Ok(false);
@@ -512,10 +523,10 @@ fn failing_writer_of_a_race(rt: HostRuntime) -> Result<(), Fail> {
     Ok(())
 }
 
-/// What is written where the one line of a race is refused for want of memory.
+/// What is written if the one line of a race is refused because memory ran out.
 const OF_NONE: &str = "pass 0\nrefused 10 OutOfMemory\npass 1\njournal 0\nreplay ok\n";
 
-/// Whether a race that ended so may have written this: all, or for want of memory a front.
+/// Whether a race that ended so may have written this: all, or a front if memory ran out.
 fn may_write(ended: Result<bool, RunFault>, written: &str) -> bool {
     match ended {
         Ok(legal) => legal && (written == OF_TWO || written == OF_NONE),
@@ -524,7 +535,8 @@ fn may_write(ended: Result<bool, RunFault>, written: &str) -> bool {
     }
 }
 
-/// A request for memory that is refused is told as Memory, or by the line, over a writer that needs none.
+/// A request for memory that is refused is reported as Memory, or by the line, over a writer that
+/// needs none.
 #[test]
 fn refused_memory(rt: HostRuntime) -> Result<(), Fail> {
     let alloc = rt.alloc();

@@ -27,7 +27,7 @@ k>=-7
 k==[
 k<18446744073709551615"#;
 
-/// Lines of one word, or of one word and a query, which stands in place of `{query}`.
+/// Lines of one word, or of one word and a query, which takes the place of `{query}`.
 const SHORT_LINES: &str = "pin
 pin
 unpin

@@ -1,6 +1,6 @@
 //! Worked examples.
 use super::{check, check_behind, check_bytes};
-use be_testing::{COVERAGE, EXAMPLES, TEXTS, TWO_INDICES};
+use be_test_tools::{COVERAGE, EXAMPLES, TEXTS, TWO_INDICES};
 use std::test::Fail;
 
 /// The examples that other forms of a volume answer alike.
@@ -12,7 +12,7 @@ fn shared_examples(rt: HostRuntime) -> Result<(), Fail> {
     Ok(())
 }
 
-/// What only a script asks, behind three of these.
+/// What only a script asks, after three of these.
 #[test]
 fn behind_examples(rt: HostRuntime) -> Result<(), Fail> {
     check_behind(
@@ -39,6 +39,8 @@ fn faults(rt: HostRuntime) -> Result<(), Fail> {
     )
 }
 
+/// A batch is written whole, or not at all if one of its operations is refused. The reply says so
+/// if no batch is open, or one is open already or empty.
 #[test]
 fn batches(rt: HostRuntime) -> Result<(), Fail> {
     check(
@@ -63,6 +65,8 @@ fn batches(rt: HostRuntime) -> Result<(), Fail> {
     )
 }
 
+/// A live query reports at each refresh which nodes joined and left its result since the one
+/// before.
 #[test]
 fn live_query(rt: HostRuntime) -> Result<(), Fail> {
     check(
@@ -81,6 +85,8 @@ fn live_query(rt: HostRuntime) -> Result<(), Fail> {
     )
 }
 
+/// Reads are of the pinned version until `unpin`. A second `pin` or `unpin` changes nothing, and
+/// its reply says so.
 #[test]
 fn pins_in_scripts(rt: HostRuntime) -> Result<(), Fail> {
     check(

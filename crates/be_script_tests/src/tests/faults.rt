@@ -1,7 +1,7 @@
 //! Readers and writers that fail, and requests for memory that are refused.
 use super::{By, LIMITS, check_bytes, run_by};
-use be_serving::{RunFault, run};
-use be_testing::{Narrow, list_with_room};
+use be_script_runner::{RunFault, run};
+use be_test_tools::{Narrow, list_with_room};
 use std::alloc::Global;
 use std::io::Read;
 use std::test::Fail;
@@ -9,13 +9,17 @@ use std::{io, str};
 
 /// A script with every command.
 const SCRIPT: &str =
-    "new\nset 1 k LONG 5\nmkindex k LONG\nset 1 k LONG 6\nquery k==6\nexplain k==6\nget 1 k\nattrs 1\nindices\npin\nlive k>4\n\
-    begin\nset 1 \"n\" CSTR \"x\"\nunset 1 k\ncommit\nrefresh\nunpin\nrefresh\nbegin\nabort\nrmindex k\ndrop 1\nsett\n";
+    "new\nset 1 k LONG 5\nmkindex k LONG\nset 1 k LONG 6\nquery k==6\nexplain k==6\nget 1 k\nattrs \
+     1\nindices\npin\nlive k>4\n\
+    begin\nset 1 \"n\" CSTR \"x\"\nunset 1 \
+     k\ncommit\nrefresh\nunpin\nrefresh\nbegin\nabort\nrmindex k\ndrop 1\nsett\n";
 
 /// What it is answered.
 const REPLIES: &str =
-    "node 1\nok\nok\nok\nnodes 1\n\"k\"==\"6\" score 1\nLONG 6\nattrs 1\n\"k\" LONG 6\nindices 1\n\"k\" LONG\npin 4\nok\n\
-    ok\nqueued\nqueued\ncommit 5\nok\nok\ncreated 1\nremoved\nok\ncreated\nremoved 1\nok\nok\nok\nok\nbad line\n";
+    "node 1\nok\nok\nok\nnodes 1\n\"k\"==\"6\" score 1\nLONG 6\nattrs 1\n\"k\" LONG 6\nindices \
+     1\n\"k\" LONG\npin 4\nok\n\
+    ok\nqueued\nqueued\ncommit 5\nok\nok\ncreated 1\nremoved\nok\ncreated\nremoved \
+     1\nok\nok\nok\nok\nbad line\n";
 
 /// An error of one of four kinds.
 fn some_error(number: usize) -> io::Error {
@@ -27,7 +31,7 @@ fn some_error(number: usize) -> io::Error {
     })
 }
 
-/// Gives its bytes one at a time, then fails where it is to, and counts its reads.
+/// Gives its bytes one at a time, then fails if it is to, and counts its reads.
 #[derive(Drop)]
 struct Dripping<'a> {
     bytes: &'a [u8],
@@ -36,6 +40,8 @@ struct Dripping<'a> {
 }
 
 impl Read for Dripping<'_> {
+    /// Counts the read, and gives the next byte; after the last one the end, or an error if it is
+    /// to fail.
     fn read(&mut self, buf: &mut [u8]) -> io::Result<usize> {
         self.reads = self.reads.saturating_add(1);
         let Some((byte, rest)) = self.bytes.split_first() else {
@@ -73,6 +79,7 @@ pub struct Outcome {
     pub reads: usize,
 }
 
+/// Runs a script that comes byte by byte once.
 fn drip(alloc: Global, bytes: &[u8], fails: bool) -> Outcome {
     let mut reader = Dripping {
         bytes,
@@ -88,7 +95,7 @@ fn drip(alloc: Global, bytes: &[u8], fails: bool) -> Outcome {
     }
 }
 
-/// Runs a script that comes byte by byte, again where memory was wanted.
+/// Runs a script that comes byte by byte, again if memory ran out.
 pub fn dripped(alloc: Global, bytes: &[u8], fails: bool) -> Outcome {
     let outcome = drip(alloc, bytes, fails);
     if outcome.end == "memory" {
@@ -97,7 +104,8 @@ pub fn dripped(alloc: Global, bytes: &[u8], fails: bool) -> Outcome {
     outcome
 }
 
-/// Whether a run of a script whose reader fails behind these bytes ends with `Read`, and writes nothing.
+/// Whether a run of a script whose reader fails after these bytes ends with `Read`, and writes
+/// nothing.
 fn fails_behind(alloc: Global, bytes: &[u8]) -> bool {
     let outcome = dripped(alloc, bytes, true);
     outcome.end == "read" && outcome.written == 0
@@ -115,8 +123,8 @@ fn failing_reader(rt: HostRuntime) -> Result<(), Fail> {
     Ok(())
 }
 
-/// Whether a run writes as many bytes of the replies as there is room for, and then ends with `Write`; or with success,
-/// where there is room for all.
+/// Whether a run writes as many bytes of the replies as there is room for, and then ends with
+/// `Write`; or with success if there is room for all.
 fn fills(alloc: Global, room: usize, fails: bool) -> bool {
     let mut writer = Narrow::new(REPLIES.as_bytes(), room, fails);
     let end = end_of(run(alloc, &mut SCRIPT.as_bytes(), &mut writer, LIMITS));
@@ -127,7 +135,8 @@ fn fills(alloc: Global, room: usize, fails: bool) -> bool {
     }
 }
 
-/// The same of a writer that fails and of one that takes nothing, at the second run where memory may have been wanted at the first.
+/// The same of a writer that fails and of one that takes nothing, at the second run if memory may
+/// have run out at the first.
 fn fills_by_each(alloc: Global, room: usize) -> bool {
     (fills(alloc, room, true) || fills(alloc, room, true))
         && (fills(alloc, room, false) || fills(alloc, room, false))
@@ -144,11 +153,11 @@ fn failing_writer(rt: HostRuntime) -> Result<(), Fail> {
     Ok(())
 }
 
-/// What is written where no line wants memory.
+/// What is written if memory never runs out.
 const OUTPUT: &str = "node 1\nok\nok\nnodes\n";
 
-/// What may be written where a line wants memory, but its last LF, with a blank line between: that line is refused, and those
-/// behind it see a store without it.
+/// What may be written if memory runs out in a line, but its last LF, with a blank line between:
+/// that line is refused, and those after it see a store without it.
 const OUTPUTS: &str = "refused 10 OutOfMemory\nrefused 2 NoNode\nok\nnodes\n
 node 1\nrefused 10 OutOfMemory\nok\nnodes\n
 node 1\nok\nrefused 10 OutOfMemory\nrefused 17 NotCovered\n
@@ -174,7 +183,8 @@ fn is_among(text: &str, texts: &str) -> bool {
     false
 }
 
-/// Where a request for memory is refused, the line is answered so, or the run ends with `Memory` and a front is written.
+/// If a request for memory is refused, the line is answered so, or the run ends with `Memory` and a
+/// front is written.
 #[test]
 fn refused_memory(rt: HostRuntime) -> Result<(), Fail> {
     let alloc = rt.alloc();

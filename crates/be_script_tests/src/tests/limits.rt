@@ -1,8 +1,8 @@
 //! What there may be most of.
 use super::faults::{dripped, end_of};
 use super::{LIMITS, check, check_bytes};
-use be_serving::{Limits, run};
-use be_testing::longest_list;
+use be_script_runner::{Limits, run};
+use be_test_tools::longest_list;
 use be_value::word_of;
 use std::alloc::{AllocError, Global};
 use std::test::Fail;
@@ -85,7 +85,8 @@ fn longest_replies(rt: HostRuntime) -> Result<(), Fail> {
     check_bytes(rt.alloc(), script.as_bytes(), &replies, LIMITS.commits)
 }
 
-/// There are 32 indices at most. An index of that name is told first, and its kind last.
+/// A store has up to 32 indices. If the name has an index, that is reported before the limit, and a
+/// kind that can't be indexed after it.
 #[test]
 fn too_many_indices(rt: HostRuntime) -> Result<(), Fail> {
     let last = "
@@ -164,20 +165,21 @@ fn long_queries(rt: HostRuntime) -> Result<(), Fail> {
 fn commits_spent(rt: HostRuntime) -> Result<(), Fail> {
     let script =
         b"new\ndrop 9\nmkindex k LONG\nnew\ndrop 9\nquery k==1\nbegin\nnew\ncommit\ncommit\n";
-    let replies =
-        "node 1\nrefused 2 NoNode\nok\nrefused 9 CommitsSpent\nrefused 2 NoNode\nnodes\nok\nqueued\n\
+    let replies = "node 1\nrefused 2 NoNode\nok\nrefused 9 CommitsSpent\nrefused 2 \
+         NoNode\nnodes\nok\nqueued\n\
         refused 9 CommitsSpent\nnot begun\n";
     check_bytes(rt.alloc(), script, replies, 2)
 }
 
-/// Whether a run of these bytes, each of which costs a read, ends so behind 1,048,577 reads, and writes nothing.
+/// Whether a run of these bytes, each of which costs a read, ends so after 1,048,577 reads, and
+/// writes nothing.
 fn ends_unwritten(alloc: Global, bytes: &[u8], fails: bool, end: &str) -> bool {
     let outcome = dripped(alloc, bytes, fails);
     outcome.end == end && outcome.written == 0 && outcome.reads == 1_048_577
 }
 
-/// 1,048,576 bytes run, a byte more is too long, and each byte costs a read. A read that fails behind the last byte that
-/// there may be is told, and one behind a byte more is never made.
+/// 1,048,576 bytes run, a byte more is too long, and each byte costs a read. A read that fails
+/// after the last allowed byte is reported, and a read after one byte more is never made.
 #[test]
 fn longest_script(rt: HostRuntime) -> Result<(), Fail> {
     let alloc = rt.alloc();
@@ -199,7 +201,7 @@ fn run_within(alloc: Global, limits: Limits) -> &'static str {
     end_of(run(alloc, &mut b"# x".as_slice(), &mut written, limits))
 }
 
-/// The same, run again where memory was wanted.
+/// The same, run again if memory ran out.
 fn end_within(alloc: Global, limits: Limits) -> &'static str {
     match run_within(alloc, limits) {
         "memory" => run_within(alloc, limits),
@@ -207,7 +209,7 @@ fn end_within(alloc: Global, limits: Limits) -> &'static str {
     }
 }
 
-/// The number that a word spells, 0 where there is none.
+/// The number that a word encodes, 0 if there is none.
 fn number_in(word: Option<&str>) -> u64 {
     word_of(word.unwrap_or("").as_bytes()).unwrap_or(0)
 }

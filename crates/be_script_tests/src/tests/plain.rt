@@ -1,14 +1,15 @@
 //! A volume with its journal on one thread, as another server of scripts.
-ghost use Rattle.std.specs.Prelude.{◌≡◌, ◌≤◌, ◌<◌, ◌^◌, OnOk, IfErr, IsSome, true, length, unwrap_or};
+ghost use Rattle.std.specs.Prelude.{◌≡◌, ◌≤◌, ◌<◌, ◌^◌, OnOk, IfErr, IsSome, true, length};
+ghost use Rattle.std.specs.Prelude.{unwrap_or};
 ghost use Rattle.be_value.specs.declared.refusals.Refusal.TheVariants.{OutOfMemory};
-ghost use Rattle.be_serving.specs.Store.{start, viewed, MayWrite};
+ghost use Rattle.be_script_runner.specs.Store.{start, viewed, MayWrite};
 
 use arrayvec::ArrayVec;
-use be_history::volume_text;
 use be_journal::Journal;
+use be_journal_text::volume_text;
 use be_plan::{Cover, choose_from, volume_source};
 use be_query::Query;
-use be_serving::Server;
+use be_script_runner::Server;
 use be_value::{Kind, Name, Refusal, Value};
 use be_volume::{Done, Op, Volume};
 use std::alloc::{AllocError, Global};
@@ -22,14 +23,14 @@ pub struct PlainStore {
     journal: Journal,
     /// How many writes were accepted before the pinned version.
     pin: Option<u64>,
-    /// The pinned version's volume, where a write was tried since.
+    /// The pinned version's volume, if a write was tried since.
     kept: Option<Volume>,
 }
 
 impl Model for PlainStore {
     ghost use Rattle.std.specs.Prelude.{unwrap_or};
     ghost use Rattle.std.specs.Option.{option_map};
-    ghost use Rattle.be_serving.specs.Store.{Store, coded_store};
+    ghost use Rattle.be_script_runner.specs.Store.{Store, coded_store};
 
     ghost Value = { Store };
 
@@ -46,7 +47,8 @@ impl Model for PlainStore {
 
     ghost use Rattle.std.specs.Prelude.{◌≤◌, ◌+◌, ◌*◌, ◌^◌, ◌<◌, length};
 
-    ghost invariant = { λ s. (s.volume.next ≤ 1 + 64 * length s.journal.entries) × (length s.journal.entries ≤ s.journal.limit) × (s.journal.limit < 2 ^ 32) };
+    ghost invariant = { λ s. (s.volume.next ≤ 1 + 64 * length s.journal.entries)
+        × (length s.journal.entries ≤ s.journal.limit) × (s.journal.limit < 2 ^ 32) };
 }
 
 impl PlainStore {
@@ -64,8 +66,8 @@ impl PlainStore {
         }
     }
 
-    /// A refusal of the volume goes before one of the journal, and the journal makes its room before the volume is
-    /// changed.
+    /// A refusal of the volume goes before one of the journal, and the journal makes its room
+    /// before the volume is changed.
     fn write(&mut self, ops: &[Op]) -> Result<(u64, ArrayVec<Done, 64>), Refusal>
         requires some { 1 ≤ length ops.now }
         requires few { length ops.now ≤ 64 }
@@ -91,7 +93,7 @@ impl PlainStore {
     }
 }
 
-/// Keeps a copy of the volume for a pinned version, where none is kept.
+/// Keeps a copy of the volume for a pinned version, if none is kept.
 fn keep(is_pinned: bool, kept: &mut Option<Volume>, volume: &Volume) -> Result<(), Refusal>
     ensures kept { OnOk result (is_pinned ≡ true → IsSome kept.new) }
     ensures same { unwrap_or kept.new volume.now ≡ unwrap_or kept.old volume.now }

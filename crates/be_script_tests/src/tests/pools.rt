@@ -1,6 +1,6 @@
 //! Scripts that fill a small pool of pages.
 use super::LIMITS;
-use be_serving::{Limits, run};
+use be_script_runner::{Limits, run};
 use std::alloc::{AllocError, Global};
 use std::test::Fail;
 
@@ -18,7 +18,7 @@ fn repeated(
     Ok(script)
 }
 
-/// The replies to a script over so few pages, or none where memory was wanted.
+/// The replies to a script over so few pages, or none if memory ran out.
 fn replies_over(alloc: Global, pages: u64, script: &str) -> Option<String> {
     let mut replies: Vec<u8> = Vec::new(alloc);
     let limits = Limits { pages, ..LIMITS };
@@ -39,14 +39,15 @@ fn count_nodes(replies: &str) -> usize {
         .count()
 }
 
-/// What stands at the end, where so many nodes fill the pages and `full` refuses the next.
+/// The end of the replies if so many nodes fill the pages and `full` refuses the next.
 fn end_of_full(alloc: Global, full: &str, nodes: usize) -> Result<String, AllocError> {
     format!(in alloc;
         "{full}\npin {nodes}\nnone\nindices 0\nok\nok\nqueued\nqueued\nrefused 2 NoNode\n{full}\n"
     )
 }
 
-/// Whether these are 13 nodes or more but not 37, a refusal of each one after the first that is refused, and answers even so.
+/// Whether these are 13 nodes or more but not 37, a refusal of each one after the first that is
+/// refused, and answers even so.
 fn is_of_eight_pages(alloc: Global, replies: &str) -> Result<bool, AllocError> {
     let nodes = count_nodes(replies);
     let full = format!(in alloc; "refused 11 Full {nodes}")?;

@@ -1,7 +1,9 @@
-//! Rules of the script language, one after the other. A comment in a row is a comment of its script too.
+//! Rules of the script language, one after the other. A comment in a row is a comment of its script
+//! too.
 use super::check;
 use std::test::Fail;
 
+/// Which lines are comments or blank, and what a CR and other blank-like characters in a line are.
 #[test]
 fn lines(rt: HostRuntime) -> Result<(), Fail> {
     check(
@@ -34,46 +36,49 @@ fn lines(rt: HostRuntime) -> Result<(), Fail> {
     )
 }
 
+/// How a line is parted into words, and what a quoted word stands for.
 #[test]
 fn words(rt: HostRuntime) -> Result<(), Fail> {
     check(
         rt.alloc(),
-        r#"
+        "
         new => node 1
         mkindex k LONG => ok
         # Blanks part words.
         set␉1␠␠k␉␠LONG␠␉5 => ok
-        # A quoted word ends at the next quote that no backslash escapes, and a blank or the end of the line follows.
-        set 1 "a b" CSTR "c d" => ok
-        get 1 "a b" => CSTR "c d"
-        set 1 t CSTR "a\\" => ok
-        get 1 t => CSTR "a\\"
-        set 1 t CSTR "a\" => bad line
-        set 1 t CSTR "a => bad line
-        set 1 t CSTR "a"b => bad line
-        set 1 t CSTR "a""b" => bad line
+        # A quoted word ends at the next quote that no backslash escapes, and a blank or the end \
+         of the line follows.
+        set 1 \"a b\" CSTR \"c d\" => ok
+        get 1 \"a b\" => CSTR \"c d\"
+        set 1 t CSTR \"a\\\\\" => ok
+        get 1 t => CSTR \"a\\\\\"
+        set 1 t CSTR \"a\\\" => bad line
+        set 1 t CSTR \"a => bad line
+        set 1 t CSTR \"a\"b => bad line
+        set 1 t CSTR \"a\"\"b\" => bad line
         # It has four escapes.
-        set 1 t CSTR "\"\\\n\r" => ok
-        get 1 t => CSTR "\"\\\n\r"
-        set 1 t CSTR "a\tb" => bad line
-        set 1 t CSTR "a\0b" => bad line
+        set 1 t CSTR \"\\\"\\\\\\n\\r\" => ok
+        get 1 t => CSTR \"\\\"\\\\\\n\\r\"
+        set 1 t CSTR \"a\\tb\" => bad line
+        set 1 t CSTR \"a\\0b\" => bad line
         # Any other word is taken as it is.
-        set 1 t CSTR a"b\n => ok
-        get 1 t => CSTR "a\"b\\n"
+        set 1 t CSTR a\"b\\n => ok
+        get 1 t => CSTR \"a\\\"b\\\\n\"
         # Numbers, kinds and values may be quoted; the command may not.
-        set "1" "k" "LONG" "5" => ok
-        get "1" k => LONG 5
-        mkindex q "CSTR" => ok
-        "new" => bad line
-        "query" k==5 => bad line
+        set \"1\" \"k\" \"LONG\" \"5\" => ok
+        get \"1\" k => LONG 5
+        mkindex q \"CSTR\" => ok
+        \"new\" => bad line
+        \"query\" k==5 => bad line
         # Names are printed with the four escapes, by `explain` with those of queries.
-        mkindex "\"\\\n\r" LONG => ok
-        indices => indices 3 / "\"\\\n\r" LONG / "k" LONG / "q" CSTR
-        mkindex "a\"b\\c\rd" LONG => ok
-        explain "a\"b\\c␍d"==1 => "a\"b\\c␍d"=="1" score 1"#,
+        mkindex \"\\\"\\\\\\n\\r\" LONG => ok
+        indices => indices 3 / \"\\\"\\\\\\n\\r\" LONG / \"k\" LONG / \"q\" CSTR
+        mkindex \"a\\\"b\\\\c\\rd\" LONG => ok
+        explain \"a\\\"b\\\\c␍d\"==1 => \"a\\\"b\\\\c␍d\"==\"1\" score 1",
     )
 }
 
+/// A line whose command isn't known, or whose words are too many or too few, is bad.
 #[test]
 fn counts(rt: HostRuntime) -> Result<(), Fail> {
     check(
@@ -111,6 +116,7 @@ fn counts(rt: HostRuntime) -> Result<(), Fail> {
     )
 }
 
+/// The digits and the range of a node's number and of LONG, LLNG, ULNG and ULLG values.
 #[test]
 fn numbers(rt: HostRuntime) -> Result<(), Fail> {
     check(
@@ -163,11 +169,12 @@ fn numbers(rt: HostRuntime) -> Result<(), Fail> {
     )
 }
 
+/// The kinds, and which words encode a value of each.
 #[test]
 fn kinds(rt: HostRuntime) -> Result<(), Fail> {
     check(
         rt.alloc(),
-        r#"
+        "
         new => node 1
         # Seven kinds, by their words.
         set 1 k FLOT 1 => bad line
@@ -175,27 +182,29 @@ fn kinds(rt: HostRuntime) -> Result<(), Fail> {
         set 1 k LONG␀ 1 => bad line
         mkindex q TEXT => bad line
         # RAWT has an even number of hexadecimal digits of either case, none too.
-        set 1 r RAWT "" => ok
-        get 1 r => RAWT ""
+        set 1 r RAWT \"\" => ok
+        get 1 r => RAWT \"\"
         set 1 r RAWT 0aFf => ok
-        get 1 r => RAWT "0aff"
+        get 1 r => RAWT \"0aff\"
         set 1 r RAWT 0af => bad line
         set 1 r RAWT 0g => bad line
         set 1 r RAWT 00␀ => bad line
         set 1 r RAWT {255*9F} => ok
-        get 1 r => RAWT "{255*9f}"
+        get 1 r => RAWT \"{255*9f}\"
         set 1 r RAWT {256*9F} => refused 19 DataLength
         # MIMS is a text.
         set 1 m MIMS text/plain => ok
-        get 1 m => MIMS "text/plain"
+        get 1 m => MIMS \"text/plain\"
         set 1 m MIMS {256*x} => refused 19 DataLength
         # Attributes are listed by name, by its bytes.
-        set 1 é CSTR "" => ok
+        set 1 é CSTR \"\" => ok
         set 1 Z LONG 5 => ok
-        attrs 1 => attrs 4 / "Z" LONG 5 / "m" MIMS "text/plain" / "r" RAWT "{255*9f}" / "é" CSTR """#,
+        attrs 1 => attrs 4 / \"Z\" LONG 5 / \"m\" MIMS \"text/plain\" / \"r\" RAWT \"{255*9f}\" / \
+         \"é\" CSTR \"\"",
     )
 }
 
+/// All causes of a bad line come before a refusal, and refusals have an order too.
 #[test]
 fn order_of_faults(rt: HostRuntime) -> Result<(), Fail> {
     check(
@@ -236,6 +245,7 @@ fn order_of_faults(rt: HostRuntime) -> Result<(), Fail> {
     )
 }
 
+/// The text of a query isn't split into words, and its errors have their place.
 #[test]
 fn query_texts(rt: HostRuntime) -> Result<(), Fail> {
     check(
@@ -278,6 +288,7 @@ fn query_texts(rt: HostRuntime) -> Result<(), Fail> {
     )
 }
 
+/// Comparisons with sets, with numbers, and with texts that are no number; and faulty sets.
 #[test]
 fn comparisons(rt: HostRuntime) -> Result<(), Fail> {
     check(
@@ -313,6 +324,7 @@ fn comparisons(rt: HostRuntime) -> Result<(), Fail> {
     )
 }
 
+/// A batch keeps its operations until `commit` or `abort`, whatever other lines come between.
 #[test]
 fn batches(rt: HostRuntime) -> Result<(), Fail> {
     check(
@@ -357,11 +369,12 @@ fn batches(rt: HostRuntime) -> Result<(), Fail> {
     )
 }
 
+/// A pin is the number of accepted writes, and stays until `unpin`.
 #[test]
 fn pins(rt: HostRuntime) -> Result<(), Fail> {
     check(
         rt.alloc(),
-        r#"
+        "
         mkindex k LONG => ok
         new => node 1
         set 1 k LONG 5 => ok
@@ -379,11 +392,11 @@ fn pins(rt: HostRuntime) -> Result<(), Fail> {
         query k>=5 => nodes 1
         get 1 k => LONG 5
         get 2 k => none
-        attrs 1 => attrs 1 / "k" LONG 5
+        attrs 1 => attrs 1 / \"k\" LONG 5
         attrs 2 => refused 2 NoNode
-        indices => indices 1 / "k" LONG
+        indices => indices 1 / \"k\" LONG
         # So does `explain`, which is chosen by the indices of that version.
-        explain k==5 => "k"=="5" score 1
+        explain k==5 => \"k\"==\"5\" score 1
         explain n==5 => refused 17 NotCovered
         query n==5 => refused 17 NotCovered
         # A write is refused by the last version, not by the pinned one.
@@ -393,25 +406,27 @@ fn pins(rt: HostRuntime) -> Result<(), Fail> {
         # Without a pin a line reads what is there, and leaves no pin behind.
         unpin => ok
         get 2 k => LONG 7
-        indices => indices 1 / "n" LONG
-        explain n==5 => "n"=="5" score 1
+        indices => indices 1 / \"n\" LONG
+        explain n==5 => \"n\"==\"5\" score 1
         query k==5 => refused 17 NotCovered
-        attrs 2 => attrs 1 / "k" LONG 7
+        attrs 2 => attrs 1 / \"k\" LONG 7
         unpin => not pinned
         pin => pin 8
         unpin => ok
         # A refused write doesn't count.
         drop 9 => refused 2 NoNode
         pin => pin 8
-        # A pin of the version after all writes is left behind by the next write, by each in its turn.
+        # A pin of the version after all writes is left behind by the next write, by each in its \
+         turn.
         drop 1 => ok
-        attrs 1 => attrs 1 / "k" LONG 6
+        attrs 1 => attrs 1 / \"k\" LONG 6
         drop 2 => ok
-        attrs 1 => attrs 1 / "k" LONG 6
-        # A pin may be open at the end."#,
+        attrs 1 => attrs 1 / \"k\" LONG 6
+        # A pin may be open at the end.",
     )
 }
 
+/// A pin and an open batch don't change one another.
 #[test]
 fn pins_and_batches(rt: HostRuntime) -> Result<(), Fail> {
     check(
@@ -445,6 +460,7 @@ fn pins_and_batches(rt: HostRuntime) -> Result<(), Fail> {
     )
 }
 
+/// What `live` and `refresh` reply, and what leaves a live query as it was.
 #[test]
 fn live_queries(rt: HostRuntime) -> Result<(), Fail> {
     check(

@@ -1,8 +1,8 @@
 //! Runs that tell their journal, and the scripts that make the journal again, or its state alone.
 use super::LIMITS;
-use be_history::{Finding, check, dump, dump_state, journal_told};
-use be_serving::{Limits, RunFault, run_and_tell};
-use be_testing::{Narrow, list_with_room};
+use be_journal_text::{Finding, check, dump, dump_state, journal_told};
+use be_script_runner::{Limits, RunFault, run_and_tell};
+use be_test_tools::{Narrow, list_with_room};
 use std::alloc::{AllocError, Global};
 use std::str;
 use std::test::Fail;
@@ -11,12 +11,14 @@ const SCRIPT: &str = "new\nset 1 k LONG 5\nbegin\nnew\nset 2 k LONG 6\ncommit\ng
 
 const TOLD: &str =
     "node 1\nok\nok\nqueued\nqueued\ncommit 3\nnode 2\nok\nLONG 5\nrefused 2 NoNode\njournal 3\n\
-1 by 0 new -> node 1\n2 by 0 set 1 \"k\" LONG 5 -> ok\n3 by 0 new; set 2 \"k\" LONG 6 -> node 2; ok\nreplay ok\n";
+1 by 0 new -> node 1\n2 by 0 set 1 \"k\" LONG 5 -> ok\n3 by 0 new; set 2 \"k\" LONG 6 -> node 2; \
+     ok\nreplay ok\n";
 
 const DUMPED: &str = "new\nset 1 \"k\" LONG 5\nbegin\nnew\nset 2 \"k\" LONG 6\ncommit\n";
 
 const TOLD_AGAIN: &str = "node 1\nok\nok\nqueued\nqueued\ncommit 3\nnode 2\nok\njournal 3\n\
-1 by 0 new -> node 1\n2 by 0 set 1 \"k\" LONG 5 -> ok\n3 by 0 new; set 2 \"k\" LONG 6 -> node 2; ok\nreplay ok\n";
+1 by 0 new -> node 1\n2 by 0 set 1 \"k\" LONG 5 -> ok\n3 by 0 new; set 2 \"k\" LONG 6 -> node 2; \
+ ok\nreplay ok\n";
 
 const STATE: &str = "begin\nnew\nset 1 \"k\" LONG 5\nnew\nset 2 \"k\" LONG 6\ncommit\n";
 
@@ -24,12 +26,12 @@ const STATE_TOLD: &str =
     "ok\nqueued\nqueued\nqueued\nqueued\ncommit 1\nnode 1\nok\nnode 2\nok\njournal 1\n\
 1 by 0 new; set 1 \"k\" LONG 5; new; set 2 \"k\" LONG 6 -> node 1; ok; node 2; ok\nreplay ok\n";
 
-/// What a run of a line tells, and what it tells where the line is refused for want of memory.
+/// What a run of a line writes, and what it writes if the line is refused because memory ran out.
 const OF_ONE: &str = "node 1\njournal 1\n1 by 0 new -> node 1\nreplay ok\n";
 
 const OF_NONE: &str = "refused 10 OutOfMemory\njournal 0\nreplay ok\n";
 
-/// Whether a run that ended so may have told this: all, or for want of memory a front.
+/// Whether a run that ended so may have written this: all, or a front if memory ran out.
 fn may_tell(ended: Result<bool, RunFault>, told: &str) -> bool {
     match ended {
         Ok(legal) => legal && (told == OF_ONE || told == OF_NONE),
@@ -38,8 +40,8 @@ fn may_tell(ended: Result<bool, RunFault>, told: &str) -> bool {
     }
 }
 
-/// Whether a run of a script that tells its journal writes this, at the second run where memory may have been wanted at the
-/// first. It is told that the journal is legal.
+/// Whether a run of a script that writes its journal writes this, at the second run if memory may
+/// have run out at the first. The run must report that the journal is legal.
 fn tells(alloc: Global, script: &str, told: &str) -> Result<bool, Fail> {
     Ok(tells_at_once(alloc, script, told)? || tells_at_once(alloc, script, told)?)
 }
@@ -62,7 +64,8 @@ fn dump_told(alloc: Global, told: &str) -> Result<String, AllocError> {
     }
 }
 
-/// Whether this is the script of the state that was told, at the second try where memory may have been wanted at the first.
+/// Whether this is the script of the state of the journal that was written, at the second try if
+/// memory may have run out at the first.
 fn has_state(alloc: Global, told: &str) -> bool {
     is_state(alloc, told) || is_state(alloc, told)
 }
@@ -78,7 +81,8 @@ fn is_right(alloc: Global, told: &str) -> Result<bool, AllocError> {
     Ok(matches!(&check(alloc, told.as_bytes())?, Finding::Right(_)))
 }
 
-/// A script's journal is told behind its replies, and a run of the journal's script tells the same.
+/// A script's journal is written after its replies, and a run of the journal's script writes the
+/// same journal.
 #[test]
 fn journal_is_made_again(rt: HostRuntime) -> Result<(), Fail> {
     assert!(rt; tells(rt.alloc(), SCRIPT, TOLD)?);
@@ -96,7 +100,7 @@ fn state_is_made_again(rt: HostRuntime) -> Result<(), Fail> {
     Ok(())
 }
 
-/// What was told is checked as right, and this script makes it again.
+/// The journal that was written is checked as right, and this script makes it again.
 #[test]
 fn journal_is_read(rt: HostRuntime) -> Result<(), Fail> {
     let alloc = rt.alloc();
@@ -111,8 +115,9 @@ fn journal_is_read(rt: HostRuntime) -> Result<(), Fail> {
     Ok(())
 }
 
-/// Whether a run that tells its journal writes as many bytes as there is room for, and then ends with `Write`; or with
-/// success, where there is room for all. It may say no where memory was wanted, which isn't told as `Write`.
+/// Whether a run that writes its journal writes as many bytes as there is room for, and then ends
+/// with `Write`; or with success if there is room for all. It may return false if memory ran out,
+/// which isn't reported as `Write`.
 fn fills(alloc: Global, room: usize) -> Result<bool, RunFault> {
     let mut writer = Narrow::new(TOLD.as_bytes(), room, true);
     match run_and_tell(alloc, &mut SCRIPT.as_bytes(), &mut writer, LIMITS) {
@@ -135,7 +140,8 @@ fn failing_writer_of_a_telling(rt: HostRuntime) -> Result<(), Fail> {
     Ok(())
 }
 
-/// A request for memory that is refused is told as Memory, or by the line, over a writer that needs none.
+/// A request for memory that is refused is reported as Memory, or by the line, over a writer that
+/// needs none.
 #[test]
 fn refused_memory_of_a_telling(rt: HostRuntime) -> Result<(), Fail> {
     let alloc = rt.alloc();
@@ -145,7 +151,8 @@ fn refused_memory_of_a_telling(rt: HostRuntime) -> Result<(), Fail> {
     Ok(())
 }
 
-/// Whether a run whose limits are out of range ends with that, and leaves nothing written, nor read.
+/// Whether a run whose limits are out of range ends with that, and leaves nothing written, nor
+/// read.
 fn leaves_all(alloc: Global, limits: Limits) -> bool {
     let mut script = SCRIPT.as_bytes();
     let mut written: Vec<u8> = Vec::new(alloc);

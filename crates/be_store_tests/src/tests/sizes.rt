@@ -1,22 +1,25 @@
-//! What is asked and answered at sizes between their bounds. No contract rules out a want of memory at one size alone.
+//! Requests and their replies at sizes between their bounds. No contract rules out that a call runs
+//! out of memory at one size alone.
 //!
-//! A row has the greatest size, and then requests with their replies, as all tests of a room have. In them `@` is the size, and
-//! `{PART}` the part once for each number from 2 to the size, with the number in place of `#`: so what stands before it, and
-//! it, are as many as the size says.
+//! A row has the greatest size, and then requests with their replies, as all tests of a room have.
+//! In them `@` is the size. `{PART}` is the part once for each number from 2 to the size, with the
+//! number in place of `#`. So with what is before it there are as many parts as the size says.
 
 use crate::tests::room::{Room, for_one};
 use be_store::{Name, Op, Refusal, Value};
-use be_testing::check_lines;
+use be_test_tools::check_lines;
 use be_value::word_of;
 use std::alloc::{AllocError, Global};
 use std::test::Fail;
 
-/// Comparisons, operations and attributes, indices, bytes of a query, of a name and of a value; each is read of the version of a
-/// pin that goes with the read, and of one that stands.
+/// Comparisons, operations and attributes, indices, bytes of a query, of a name and of a value.
+/// Each is read from the version of a pin that goes with the read, and from that of a pin that
+/// stays.
 const ROWS: &str = "256
 0 mkindex k LONG;new;set 1 k LONG 0 => commit 1 / ok / node 1 / ok
 0 query k==0{||k==#} / 0 query k<1{&&k<#} => pin 1 / nodes 1 / pin 1 / nodes 1
-live k==0{||k==#} / 0 pin / 0 refresh / 0 query k!=1{&&k!=#} => ok / pin 1 / created 1 / removed / pin 1 / nodes 1
+live k==0{||k==#} / 0 pin / 0 refresh / 0 query k!=1{&&k!=#} => ok / pin 1 / created 1 / removed / \
+ pin 1 / nodes 1
 
 64
 0 new / 0 set 1 a1 LONG 1{;set 1 a# LONG 1} => commit 1 / node 1 / commit 2 / ok{ / ok}
@@ -37,7 +40,8 @@ head indices / 0 pin / head indices => indices @ / pin 1 / indices @
 
 255
 0 mkindex k CSTR;new;set 1 k CSTR x{x};set 1 r MIMS x{x} => commit 1 / ok / node 1 / ok / ok
-0 get 1 k / 0 query k==x{x} / 0 pin / 0 get 1 r => CSTR \"x{x}\" / pin 1 / nodes 1 / pin 1 / MIMS \"x{x}\"";
+0 get 1 k / 0 query k==x{x} / 0 pin / 0 get 1 r => CSTR \"x{x}\" / pin 1 / nodes 1 / pin 1 / MIMS \
+ \"x{x}\"";
 
 /// The powers of two below the greatest size of a row.
 const POWERS: [u64; 12] = [2, 4, 8, 16, 32, 64, 128, 256, 512, 1024, 2048, 4096];
@@ -103,23 +107,28 @@ fn sizes(rt: HostRuntime) -> Result<(), Fail> {
     Ok(())
 }
 
-/// How many nodes there are when a query and a live one are asked: around each power of two, and the bound.
+/// How many nodes there are when a query and a live one are asked: around each power of two, and
+/// the bound.
 const COUNTS: &str =
-    "1 2 3 4 5 7 8 9 15 16 17 31 32 33 63 64 65 127 128 129 255 256 257 511 512 513 1023 1024 1025 2047 2048 \
+    "1 2 3 4 5 7 8 9 15 16 17 31 32 33 63 64 65 127 128 129 255 256 257 511 512 513 1023 1024 1025 \
+     2047 2048 \
 2049 4095 4096 4097 8191 8192 8193 16383 16384 16385 26000";
 
-/// What finds all of so many nodes, by the version after this many writes.
+/// The requests that find all of `count` nodes, and their replies, by the version after this many
+/// writes.
 fn found_lines(alloc: Global, count: u64, pin: u64) -> Result<String, AllocError> {
     let mut nodes = String::from_str(alloc, "1")?;
     push_each(alloc, &mut nodes, " #", count)?;
     format!(in alloc;
-        "live k==7 / 0 refresh / 0 query k==7 => ok / created {nodes} / removed / pin {pin} / nodes {nodes}
-0 pin / 0 refresh / 0 query k>6 && k!=8 || k==9 => pin {pin} / created / removed / pin {pin} / nodes {nodes}
+        "live k==7 / 0 refresh / 0 query k==7 => ok / created {nodes} / removed / pin {pin} / \
+         nodes {nodes}
+0 pin / 0 refresh / 0 query k>6 && k!=8 || k==9 => pin {pin} / created / removed / pin {pin} / \
+         nodes {nodes}
 live k>6 / 0 refresh / 0 unpin => ok / created {nodes} / removed / ok"
     )
 }
 
-/// Makes the nodes behind so many, up to a count.
+/// Makes the nodes after the first `made`, up to a count.
 fn make_nodes(room: &mut Room, made: u64, count: u64) -> Result<(), Refusal> {
     for node in made.saturating_add(1)..=count {
         room.write(Op::New)?;
@@ -128,7 +137,7 @@ fn make_nodes(room: &mut Room, made: u64, count: u64) -> Result<(), Refusal> {
     Ok(())
 }
 
-/// The same, and looks at what finds all of them.
+/// The same, and then checks what finds all of them.
 fn find_nodes(alloc: Global, room: &mut Room, made: u64, count: u64) -> Result<(), Fail> {
     make_nodes(room, made, count)?;
     let pin = count.saturating_mul(2).saturating_add(1);
@@ -157,7 +166,7 @@ fn many_nodes(rt: HostRuntime) -> Result<(), Fail> {
     find_growing(rt.alloc(), &mut for_one(rt.alloc(), 16384, 60_000)?)
 }
 
-/// The list of the first nodes, asked for again where memory is refused.
+/// The list of the first nodes, asked for again after running out of memory.
 fn list_first(alloc: Global, room: &mut Room, count: u64) -> Result<Vec<u64>, Refusal> {
     let most = usize::try_from(count).unwrap_or(0);
     match room.nodes(alloc, 1, most) {

@@ -6,7 +6,7 @@ use crate::tests::room::open;
 use crate::tests::writes::enter_many;
 use be_journal::Journal;
 use be_table::{Limits, Seat, VersionTable};
-use be_testing::{both_of, pair_of};
+use be_test_tools::{both_of, pair_of};
 use be_value::Refusal;
 use std::alloc::Global;
 use std::thread;
@@ -21,7 +21,8 @@ fn enter_hundred(table: &VersionTable, mut seat: Seat) -> (Seat, bool)
     (seat, entered)
 }
 
-/// The journal after two passes have entered a hundred nodes each, each on a thread of its own, and whether each was entered.
+/// The journal after two passes have entered a hundred nodes each, each on a thread of its own, and
+/// whether each was entered.
 fn race_once<R: Threads + Sync>(rt: &R, alloc: Global) -> Result<(Journal, bool), Refusal> {
     let limits = Limits {
         pages: 64,
@@ -39,7 +40,7 @@ fn race_once<R: Threads + Sync>(rt: &R, alloc: Global) -> Result<(Journal, bool)
     Ok((table.close(seats), first.1 && second.1))
 }
 
-/// The same, once more where memory is refused.
+/// The same, tried once more if memory is refused.
 pub(crate) fn race<R: Threads + Sync>(rt: &R, alloc: Global) -> Result<(Journal, bool), Refusal> {
     match race_once(rt, alloc) {
         Err(Refusal::OutOfMemory) => race_once(rt, alloc),

@@ -1,5 +1,5 @@
-//! A table with its seats, which replies to requests. What is known of them is its invariant, so that no method has a
-//! clause.
+//! A table with its seats, which replies to requests. What is known of them is its invariant, so
+//! that no method has a clause.
 ghost use Rattle.std.specs.Prelude.{◌≡◌, length, IfOk};
 ghost use Rattle.be_table.specs.Works.{AreNew};
 ghost use Rattle.be_table_tests.specs.Resting.{IsResting};
@@ -8,7 +8,7 @@ use crate::tests::calls::{Text, answer, answers, both_texts, number_text, write_
 use crate::tests::writes::{act, enter_many, in_write};
 use be_paged::first_page;
 use be_table::{Limits, Seat, VersionTable};
-use be_testing::{Answers, answer_lines, both_of};
+use be_test_tools::{Answers, answer_lines, both_of};
 use be_value::{Refusal, word_of};
 use be_volume::Op;
 use std::alloc::Global;
@@ -32,12 +32,14 @@ impl Model for Room {
 
     ghost view = { λ r. r.table };
 
-    ghost invariant = { λ r. IsResting r.table r.first × IsResting r.table r.second × IsResting r.table r.third };
+    ghost invariant = { λ r. IsResting r.table r.first × IsResting r.table r.second
+        × IsResting r.table r.third };
 }
 
-/// A table with these limits and its seats. Version 0 spells the empty volume.
+/// A table with these limits and its seats. Version 0 encodes the empty volume.
 pub(crate) fn open(alloc: Global, limits: Limits) -> Result<(VersionTable, Vec<Seat>), Refusal>
-    ensures { IfOk result (λ r. (r.0.limits ≡ limits) × (length r.1.items ≡ limits.passes) × AreNew r.0 0 r.1.items) }
+    ensures { IfOk result (λ r. (r.0.limits ≡ limits) × (length r.1.items ≡ limits.passes)
+        × AreNew r.0 0 r.1.items) }
 {
     VersionTable::open(alloc, limits, &first_page())
 }
@@ -51,6 +53,7 @@ pub(crate) fn count_seats(alloc: Global, limits: Limits) -> Result<usize, Refusa
     Ok(seats.len())
 }
 
+/// A room of three passes and these many pages. Errors: those of `open`.
 fn open_room(alloc: Global, pages: u64) -> Result<Room, Refusal> {
     let limits = Limits {
         pages,
@@ -70,7 +73,7 @@ fn open_room(alloc: Global, pages: u64) -> Result<Room, Refusal> {
     })
 }
 
-/// A room with so many pages, opened again where memory is refused.
+/// A room with so many pages, opened again if memory is refused.
 pub(crate) fn opened(alloc: Global, pages: u64) -> Result<Room, Refusal> {
     match open_room(alloc, pages) {
         Err(Refusal::OutOfMemory) => open_room(alloc, pages),
@@ -78,7 +81,8 @@ pub(crate) fn opened(alloc: Global, pages: u64) -> Result<Room, Refusal> {
     }
 }
 
-/// What two passes are answered, whose requests stand before and behind ` | `, while another one holds the lock.
+/// The replies to two passes while another one holds the lock. Their requests are before and after
+/// ` | `.
 fn hold(
     table: &VersionTable,
     alloc: Global,
@@ -87,8 +91,10 @@ fn hold(
     third: &mut Seat,
     requests: &str,
 ) -> Text
-    requires { IsResting table.now holder.old × IsResting table.now second.old × IsResting table.now third.old }
-    ensures { IsResting table.now holder.new × IsResting table.now second.new × IsResting table.now third.new }
+    requires { IsResting table.now holder.old × IsResting table.now second.old
+        × IsResting table.now third.old }
+    ensures { IsResting table.now holder.new × IsResting table.now second.new
+        × IsResting table.now third.new }
 {
     let (before, behind) = requests.split_once(" | ").unwrap_or((requests, ""));
     let writing = match table.lock(holder.move_out()) {
@@ -104,7 +110,7 @@ fn hold(
     both_texts(alloc, first, last)
 }
 
-/// What a pass is answered before and after another one, which holds the lock, enters a node.
+/// The replies to a pass before and after another one, which holds the lock, enters a node.
 fn write_between(
     table: &VersionTable,
     alloc: Global,
@@ -134,8 +140,8 @@ fn write_between(
     )
 }
 
-/// A pass looks, another one enters so many nodes, and then the first announces what it saw and looks again. What it saw
-/// at both looks.
+/// A pass looks, another one enters so many nodes, and then the first announces what it saw and
+/// looks again. What it saw at both looks.
 #[tactic(auto, using(crate::proofs::Phases::idle_at_rest))]
 fn pin_late(
     table: &VersionTable,
@@ -222,6 +228,8 @@ impl Room {
         both
     }
 
+    /// The reply to a request, whose first word names a pass or an act of several. BadLimits for
+    /// any other.
     fn answer(&mut self, alloc: Global, request: &str) -> Text {
         let (who, words) = request.split_once(" ").unwrap_or((request, ""));
         match who {

@@ -1,10 +1,12 @@
-//! What a pass does while it holds the lock. Lists of operations go through be_paged over the open write.
+//! What a pass does while it holds the lock. Lists of operations go through be_paged over the open
+//! write.
 ghost use Rattle.std.specs.Prelude.{◌≡◌, ◌≤◌, ◌<◌, ◌+◌, ◌^◌, ℕ, false, length, IfErr, IfOk};
 ghost use Rattle.be_table.specs.declared.pass.Knowledge.{Knowledge};
 ghost use Rattle.be_paged.specs.Changes.{Applies};
 ghost use Rattle.be_paged.specs.Version.{IsVersion};
 ghost use Rattle.be_volume.specs.Volume.{State};
-ghost use Rattle.be_table.specs.Reading.{open_of, standing_among, word_of_page, standing_in_work, words_of};
+ghost use Rattle.be_table.specs.Reading.{open_of, standing_among, word_of_page, standing_in_work};
+ghost use Rattle.be_table.specs.Reading.{words_of};
 ghost use Rattle.be_table.specs.Works.{TakesLock};
 ghost use Rattle.be_table_tests.specs.Resting.{IsResting, StaysSeat};
 
@@ -14,7 +16,7 @@ use be_table::{Seat, VersionTable, Writing};
 use be_value::Refusal;
 use be_volume::{Done, Op};
 
-/// Makes room for so many operations, at the second call where memory is refused at the first.
+/// Makes room for so many operations, by a second call if memory is refused at the first.
 fn make_room(writing: &mut Writing<'_>, count: usize) -> Result<(), Refusal>
     requires open { writing.old.knows.published ≡ false }
     requires count { (1 ≤ count) × (count ≤ 64) }
@@ -35,23 +37,26 @@ fn apply_to(
     ops: &[Op],
 ) -> Result<(u64, ArrayVec<Done, 64>), Refusal>
     ghost volume: { State }
-    requires version { IsVersion (standing_among writing.old.knows.places) (word_of_page writing.old.knows.words) page volume }
+    requires version { IsVersion (standing_among writing.old.knows.places)
+        (word_of_page writing.old.knows.words) page volume }
     requires count { (1 ≤ length ops.now) × (length ops.now ≤ 64) }
     requires fits { volume.next + 64 < 2 ^ 64 }
     requires open { writing.old.knows.published ≡ false }
-    ensures ok { IfOk result (λ r. Applies open_of standing_in_work words_of page r.0 volume ops.now r.1.items writing.old writing.new) }
+    ensures ok { IfOk result (λ r. Applies open_of standing_in_work words_of page r.0 volume ops.now
+        r.1.items writing.old writing.new) }
     ensures err { IfErr result (λ e. open_of writing.new ≡ open_of writing.old) }
 {
     apply(writing, page, ops)
 }
 
-/// Applies a list of operations to the current version, and publishes the version that it makes. Answers the journal's
-/// length.
+/// Applies a list of operations to the current version, and publishes the version that it makes.
+/// Returns the journal's length.
 fn write(writing: &mut Writing<'_>, ops: &[Op]) -> Result<u64, Refusal>
     requires begun { (a : Knowledge) × TakesLock a writing.old.knows }
     requires count { (1 ≤ length ops.now) × (length ops.now ≤ 64) }
     ensures table { writing.new.table ≡ writing.old.table }
-    ensures pass { (writing.new.knows.number ≡ writing.old.knows.number) × (writing.new.knows.phase ≡ writing.old.knows.phase) }
+    ensures pass { (writing.new.knows.number ≡ writing.old.knows.number)
+        × (writing.new.knows.phase ≡ writing.old.knows.phase) }
 {
     let (_, old) = writing.current();
     let (page, dones) = apply_to(writing, old, ops)?;
@@ -64,7 +69,8 @@ fn look_round(writing: &mut Writing<'_>, words: &str) -> u64
     requires open { writing.old.knows.published ≡ false }
     requires begun { (a : Knowledge) × TakesLock a writing.old.knows }
     ensures table { writing.new.table ≡ writing.old.table }
-    ensures pass { (writing.new.knows.number ≡ writing.old.knows.number) × (writing.new.knows.phase ≡ writing.old.knows.phase) }
+    ensures pass { (writing.new.knows.number ≡ writing.old.knows.number)
+        × (writing.new.knows.phase ≡ writing.old.knows.phase) }
 {
     match words {
         "scan" => writing.scan(),
@@ -73,11 +79,13 @@ fn look_round(writing: &mut Writing<'_>, words: &str) -> u64
     }
 }
 
-/// Writes a list, or looks round where it is empty. BadLimits where it has more than 64 operations.
+/// Writes a list. If it is empty, scans or asks whether a scan is due, as the words say. BadLimits
+/// if it has more than 64 operations.
 pub(crate) fn act(writing: &mut Writing<'_>, ops: &[Op], words: &str) -> Result<u64, Refusal>
     requires begun { (a : Knowledge) × TakesLock a writing.old.knows }
     ensures table { writing.new.table ≡ writing.old.table }
-    ensures pass { (writing.new.knows.number ≡ writing.old.knows.number) × (writing.new.knows.phase ≡ writing.old.knows.phase) }
+    ensures pass { (writing.new.knows.number ≡ writing.old.knows.number)
+        × (writing.new.knows.phase ≡ writing.old.knows.phase) }
 {
     if ops.is_empty() {
         return Ok(look_round(writing, words));

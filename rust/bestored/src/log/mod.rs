@@ -158,7 +158,7 @@ impl Log {
         if let Some(entry) = wanted.entry {
             let found = self.line.wait_for(entry, within(wanted.within)?);
             if found < entry {
-                return Err(Failure::behind(entry, found));
+                return Err(Failure::not_reached(entry, found));
             }
         }
         let state = self.line.lock();

@@ -1,5 +1,5 @@
 use Rattle.std.proofs.Common.{List, ℕ, sym, ap, subst, ◌∙◌}
-use Rattle.be_state.proofs.Keys.{told, unfit, without}
+use Rattle.be_volume_state.proofs.Keys.{told, unfit, without}
 use Rattle.be_value.specs.Value.{is_indexable}
 use Rattle.be_volume.specs.Keys.{IsKey}
 use Rattle.be_paged.proofs.Versions.{version_since}

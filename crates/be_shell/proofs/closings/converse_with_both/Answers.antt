@@ -1,7 +1,7 @@
 use Rattle.std.proofs.Common.{inl, inr, refl}
-use Rattle.be_serving.proofs.RunLemmas.{each_err, on_ok}
-use Rattle.be_serving.specs.View.{session}
-use Rattle.be_serving.specs.declared.faults.RunFault.{RunFault}
+use Rattle.be_script_runner.proofs.RunLemmas.{each_err, on_ok}
+use Rattle.be_script_runner.specs.View.{session}
+use Rattle.be_script_runner.specs.declared.faults.RunFault.{RunFault}
 use Rattle.be_shell.specs.Conversation.{BrokeOff, ShellLeaves, TalkedTo}
 use Rattle.be_shell.proofs.TalkLemmas.{passed_up}
 use Rattle.be_shell.proofs.closings.converse_with_both.Goals as goal

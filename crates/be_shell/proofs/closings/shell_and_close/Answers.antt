@@ -5,14 +5,14 @@ use Rattle.be_table.specs.Rule.{entries}
 use Rattle.be_table.specs.Versions.{CanSpellEach}
 use Rattle.be_table.specs.declared.pass.Knowledge.{Knowledge}
 use Rattle.be_store.specs.Passes.{IsPassOf}
-use Rattle.be_serving.specs.Output.{Session, opening}
-use Rattle.be_serving.specs.Run.{IsNotLimits}
-use Rattle.be_serving.specs.Served.{known}
-use Rattle.be_serving.specs.Store.{Store, start}
-use Rattle.be_serving.specs.View.{session}
-use Rattle.be_serving.specs.declared.faults.RunFault.TheVariants.{Limits, Memory}
-use Rattle.be_serving.proofs.LimitLemmas.{no_fault, not_by}
-use Rattle.be_serving.proofs.RunLemmas.{each_err, on_ok}
+use Rattle.be_script_runner.specs.Output.{Session, opening}
+use Rattle.be_script_runner.specs.Run.{IsNotLimits}
+use Rattle.be_script_runner.specs.Served.{known}
+use Rattle.be_script_runner.specs.Store.{Store, start}
+use Rattle.be_script_runner.specs.View.{session}
+use Rattle.be_script_runner.specs.declared.faults.RunFault.TheVariants.{Limits, Memory}
+use Rattle.be_script_runner.proofs.LimitLemmas.{no_fault, not_by}
+use Rattle.be_script_runner.proofs.RunLemmas.{each_err, on_ok}
 use Rattle.be_shell.specs.Conversation.{ShellLeaves, TalkedTo}
 use Rattle.be_shell.proofs.closings.shell_and_close.Goals as goal
 

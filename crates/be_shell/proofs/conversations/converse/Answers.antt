@@ -1,5 +1,5 @@
 use Rattle.std.proofs.Common.{refl, ◌∙◌, arith}
-use Rattle.be_serving.specs.View.{session}
+use Rattle.be_script_runner.specs.View.{session}
 use Rattle.be_shell.proofs.TalkLemmas.{at_end, broken_is_other, broken_off, none_yet, one_more, passed_up, uncounted}
 use Rattle.be_shell.proofs.conversations.converse.Goals as goal
 

@@ -1,5 +1,5 @@
 use Rattle.std.proofs.Common.{◌≡◌, ◌≤◌, length}
-use Rattle.be_serving.specs.View.{session, queued_ops}
+use Rattle.be_script_runner.specs.View.{session, queued_ops}
 use Rattle.be_shell.specs.Conversation.{SoFar}
 use Rattle.be_shell.proofs.conversations.converse.Given as goal
 

@@ -1,5 +1,5 @@
 use Rattle.std.proofs.Common.{ap}
-use Rattle.be_serving.specs.View.{session}
+use Rattle.be_script_runner.specs.View.{session}
 use Rattle.be_shell.specs.Conversation.{hearing, line_heard}
 use Rattle.be_shell.proofs.SaveLemmas.{broke_from, replied_from}
 use Rattle.be_shell.proofs.TalkLemmas.{broke_behind, deaf, passed_up, went_on, went_out}

@@ -1,8 +1,8 @@
 use Rattle.std.proofs.Common.{subst}
-use Rattle.be_language.specs.Request.{Request}
-use Rattle.be_language.specs.View.{reply_of}
-use Rattle.be_serving.specs.Output.{Serves}
-use Rattle.be_serving.specs.View.{session}
+use Rattle.be_script_language.specs.Request.{Request}
+use Rattle.be_script_language.specs.View.{reply_of}
+use Rattle.be_script_runner.specs.Output.{Serves}
+use Rattle.be_script_runner.specs.View.{session}
 use Rattle.be_shell.proofs.conversations.reply_to.Goals as goal
 
 pub returns-in-Ok-reply_text-clause-reply : goal.returns-in-Ok-reply_text-clause-reply

@@ -1,6 +1,6 @@
 use Rattle.std.proofs.Common.{List, ℕ, sym, subst}
 use Rattle.std.specs.String.{string_bytes}
-use Rattle.be_serving.specs.View.{session}
+use Rattle.be_script_runner.specs.View.{session}
 use Rattle.be_shell.specs.Conversation.{RepliedTo, line_heard}
 use Rattle.be_shell.proofs.TalkLemmas.{cut_off, passed_up, unanswered}
 use Rattle.be_shell.proofs.conversations.serve_line.Goals as goal

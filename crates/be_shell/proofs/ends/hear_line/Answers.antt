@@ -1,7 +1,7 @@
 use Rattle.std.proofs.Common.{◌≡◌, false, List, ℕ, [], ◌∷◌, ap, sym, subst, arith}
 use Rattle.std.proofs.lemmas.Bool.Decides.{nat_tests}
 use Rattle.std.specs.Io.KnownBytes.{Consumes}
-use Rattle.be_serving.specs.Run.{is_line_end}
+use Rattle.be_script_runner.specs.Run.{is_line_end}
 use Rattle.be_shell.specs.Bytes.{HasTaken}
 use Rattle.be_shell.specs.Conversation.{hearing, hears, line_heard}
 use Rattle.be_shell.proofs.LineLemmas.{byte_taken, line_ended, line_left, none_taken}

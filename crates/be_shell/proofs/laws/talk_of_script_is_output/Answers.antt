@@ -1,6 +1,6 @@
 use Rattle.std.proofs.Common.{List, ℕ, refl, sym, subst}
-use Rattle.be_language.specs.Request.{lines_of}
-use Rattle.be_serving.specs.Output.{Outputs, opening}
+use Rattle.be_script_language.specs.Request.{lines_of}
+use Rattle.be_script_runner.specs.Output.{Outputs, opening}
 use Rattle.be_shell.specs.Conversation.{said}
 use Rattle.be_shell.proofs.TalkLemmas.{empty_more, talk_output}
 use Rattle.be_shell.proofs.laws.talk_of_script_is_output.Goals as goal

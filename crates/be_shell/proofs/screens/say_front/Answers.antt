@@ -1,5 +1,5 @@
 use Rattle.std.proofs.Common.{◌≡◌, ◌++◌, drop}
-use Rattle.be_serving.proofs.RunLemmas.{always_err}
+use Rattle.be_script_runner.proofs.RunLemmas.{always_err}
 use Rattle.be_shell.specs.Escape.{shown}
 use Rattle.be_shell.proofs.ScreenLemmas.{front_of_more}
 use Rattle.be_shell.proofs.screens.say_front.Goals as goal

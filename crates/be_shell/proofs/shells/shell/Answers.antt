@@ -1,10 +1,10 @@
 use Rattle.std.proofs.Common.{ap, ◌∙◌, subst, inl, inr, refl}
-use Rattle.be_serving.specs.Output.{Session, opening}
-use Rattle.be_serving.specs.Served.{known}
-use Rattle.be_serving.specs.Store.{start}
-use Rattle.be_serving.specs.View.{session}
-use Rattle.be_serving.proofs.LimitLemmas.{served_spelt}
-use Rattle.be_serving.specs.declared.faults.RunFault.{RunFault}
+use Rattle.be_script_runner.specs.Output.{Session, opening}
+use Rattle.be_script_runner.specs.Served.{known}
+use Rattle.be_script_runner.specs.Store.{start}
+use Rattle.be_script_runner.specs.View.{session}
+use Rattle.be_script_runner.proofs.LimitLemmas.{served_spelt}
+use Rattle.be_script_runner.specs.declared.faults.RunFault.{RunFault}
 use Rattle.be_shell.specs.Conversation.{BrokeOff, ShellLeaves, TalkedTo}
 use Rattle.be_shell.proofs.TalkLemmas.{passed_up}
 use Rattle.be_shell.proofs.shells.shell.Goals as goal

@@ -1,6 +1,6 @@
-use Rattle.std.proofs.Common.{◌≡◌, List, [], ◌∷◌, length, suc, ◌+◌, ◌-◌, sym, ap, ◌∙◌, subst, arith, length-append, refl, None}
-use Rattle.be_table.specs.declared.pass.Knowledge.{Knowledge}
-use Rattle.be_table.specs.Rule.{newcomer, newcomers, pass_of}
+use Rattle.std.proofs.Common.{◌≡◌, [], ◌∷◌, length, suc, ◌+◌, ◌-◌, sym, ap, ◌∙◌, subst, arith, length-append, refl, None}
+use Rattle.be_table.specs.declared.pass.View.{View}
+use Rattle.be_table.specs.Rule.{alone, newcomer, undealt, pass_of}
 use Rattle.be_table.specs.Seats.{IsTold, pin_of}
 use Rattle.be_table.specs.Works.{AreNewAt}
 use Rattle.be_table.proofs.Deals.{Me2, newcomers-deal, newcomer_told, AreNewAt-push, dealt, left_over, newcomers-none}
@@ -10,34 +10,34 @@ pub split_seat-base-requires : goal.split_seat-base-requires
 split_seat-base-requires c =
     let i = c.loop-number.invariant in
     let more : c.args.limits.passes - c.loop-number.number ≡ suc (c.args.limits.passes - suc c.loop-number.number) = omega arith in
-    (i.table, omega (arith, c.requires.table.0), newcomers-deal _ c.args.limits _ _ _ _ _ (ap (λ m. m.0) i.rest ∙ ap (newcomers c.args.limits c.loop-number.number c.loop-number.number) more))
+    (i.table, omega (arith, c.requires.table.0), newcomers-deal _ c.args.limits _ _ _ _ _ (ap (λ m. m.0) i.rest ∙ ap (undealt c.args.limits c.loop-number.number c.loop-number.number) more))
 
 pub of-requires-clause-pass : goal.of-requires-clause-pass
 of-requires-clause-pass c =
     let i = c.loop-number.invariant in let k = c.loop-number.number in
     let more : c.args.limits.passes - k ≡ suc (c.args.limits.passes - suc k) = omega arith in
-    let d = dealt c.args.limits k (c.args.limits.passes - suc k) _ _ (i.rest ∙ ap (λ n. (newcomers c.args.limits k k n, [])) more) c.split_seat-base.ensures.4 in
-    d ∙ ap (λ (m : Me2). (pass_of m.0 ∷ [], [])) (sym d)
+    let d = dealt c.args.limits k (c.args.limits.passes - suc k) _ _ (i.rest ∙ ap (λ n. (undealt c.args.limits k k n, [])) more) c.split_seat-base.ensures.4 in
+    d ∙ ap (λ (m : Me2). (alone (pass_of m.0), [])) (sym d)
 
 pub of-requires-clause-told : goal.of-requires-clause-told
 of-requires-clause-told c =
     let i = c.loop-number.invariant in let k = c.loop-number.number in
     let more : c.args.limits.passes - k ≡ suc (c.args.limits.passes - suc k) = omega arith in
-    let d = dealt c.args.limits k (c.args.limits.passes - suc k) _ _ (i.rest ∙ ap (λ n. (newcomers c.args.limits k k n, [])) more) c.split_seat-base.ensures.4 in
+    let d = dealt c.args.limits k (c.args.limits.passes - suc k) _ _ (i.rest ∙ ap (λ n. (undealt c.args.limits k k n, [])) more) c.split_seat-base.ensures.4 in
     subst (λ (m : Me2). IsTold (pass_of m.0) k 0) (sym d) (newcomer_told c.args.limits (k + 1) k c.requires.table.2 (omega arith))
 
 pub of-requires-clause-pin : goal.of-requires-clause-pin
 of-requires-clause-pin c =
     let i = c.loop-number.invariant in let k = c.loop-number.number in
     let more : c.args.limits.passes - k ≡ suc (c.args.limits.passes - suc k) = omega arith in
-    let d = dealt c.args.limits k (c.args.limits.passes - suc k) _ _ (i.rest ∙ ap (λ n. (newcomers c.args.limits k k n, [])) more) c.split_seat-base.ensures.4 in
+    let d = dealt c.args.limits k (c.args.limits.passes - suc k) _ _ (i.rest ∙ ap (λ n. (undealt c.args.limits k k n, [])) more) c.split_seat-base.ensures.4 in
     subst (λ (m : Me2). None ≡ pin_of (pass_of m.0).phase (pass_of m.0).seen) (sym d) refl
 
 pub loop-number-preserved : goal.loop-number-preserved
 loop-number-preserved c =
     let i = c.loop-number.invariant in let k = c.loop-number.number in let s = c.split_seat-base.ensures in
     let more : c.args.limits.passes - k ≡ suc (c.args.limits.passes - suc k) = omega arith in
-    let was = i.rest ∙ ap (λ n. (newcomers c.args.limits k k n, [])) more in
+    let was = i.rest ∙ ap (λ n. (undealt c.args.limits k k n, [])) more in
     let d = dealt c.args.limits k (c.args.limits.passes - suc k) _ _ was s.4 in
     let l = left_over c.args.limits k (c.args.limits.passes - suc k) _ _ was s.2 in
     let at : suc k ≡ k + 1 = omega arith in
@@ -46,7 +46,7 @@ loop-number-preserved c =
     let place : k ≡ 0 + length c.loop-number.seats.items = omega (arith, i.count) in
     record {
       table = s.0 ∙ i.table;
-      rest = l ∙ ap (λ n. (newcomers c.args.limits (k + 1) n (c.args.limits.passes - n), [])) at;
+      rest = l ∙ ap (λ n. (undealt c.args.limits (k + 1) n (c.args.limits.passes - n), [])) at;
       seats = subst (AreNewAt c.args.table.now.shared.table_id c.args.limits 0) (sym p.items)
           (AreNewAt-push _ c.args.limits 0 c.loop-number.seats.items c.of.result i.seats
           (o.0, o.1 ∙ s.3 ∙ i.table, knows ∙ ap (λ n. newcomer c.args.limits (n + 1) n) place));
@@ -57,4 +57,4 @@ loop-number-preserved c =
 pub returns-clause-rest : goal.returns-clause-rest
 returns-clause-rest c =
     let i = c.loop-number.invariant in
-    (i.table, i.rest ∙ ap (λ (v : List Knowledge). (v, [])) (newcomers-none c.args.limits c.loop-number.number c.loop-number.number _ (omega arith)))
+    (i.table, i.rest ∙ ap (λ (v : View). (v, [])) (newcomers-none c.args.limits c.loop-number.number c.loop-number.number _ (omega arith)))

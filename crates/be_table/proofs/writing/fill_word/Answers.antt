@@ -1,7 +1,6 @@
 use Rattle.std.proofs.Common.{◌≡◌, sym, ap, ◌∙◌, arith}
 use Rattle.be_table.specs.Rule.{pass_of}
-use Rattle.be_table.specs.Steps.{fills}
-use Rattle.be_table.specs.Trace.{with_history}
+use Rattle.be_table.specs.Steps.{fills, with_history}
 use Rattle.be_table.proofs.Fills.{may_again, there_as, stored_as, there_makes, stored_makes}
 use Rattle.be_table.proofs.Frames.{Me1}
 use Rattle.be_table.proofs.Holding.{fills_as, found_as}

@@ -1,9 +1,8 @@
 use Rattle.std.proofs.Common.{[], ◌∷◌, ◌+◌, length, sym, ap, ◌∙◌, subst, arith, ℕ}
 use Rattle.be_table.specs.declared.limits.Limits.{Limits}
-use Rattle.be_table.specs.Rule.{pass_of, current_word}
+use Rattle.be_table.specs.Rule.{alone, pass_of, current_word}
 use Rattle.be_table.specs.declared.pass.Move.TheVariants.{Publish}
-use Rattle.be_table.specs.Steps.{MayPublish, given_of, publishes}
-use Rattle.be_table.specs.Trace.{with_history}
+use Rattle.be_table.specs.Steps.{MayPublish, given_of, publishes, with_history}
 use Rattle.be_table.specs.Works.{Moves}
 use Rattle.be_table.proofs.Moved.{publish_makes}
 use Rattle.be_table.proofs.Publishing.{publishes_as}
@@ -23,7 +22,7 @@ pub returns-clause-me : goal.returns-clause-me
 returns-clause-me g c =
     let m = c.args.base.now.me in let r = c.store.new.seat.me in
     (publish_makes g.E.NextVersion.entry g.E.NextVersion.page m r c.store.ensures.2).0
-    ∙ ap (λ p. (publishes (with_history (pass_of m.0) (pass_of r.0).history) g.E.NextVersion.entry p ∷ [], m.1)) (sym c.requires.told.1)
+    ∙ ap (λ p. (alone (publishes (with_history (pass_of m.0) (pass_of r.0).history) g.E.NextVersion.entry p), m.1)) (sym c.requires.told.1)
 
 pub returns-clause-moves : goal.returns-clause-moves
 returns-clause-moves g c =

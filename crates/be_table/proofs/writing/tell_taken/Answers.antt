@@ -1,9 +1,9 @@
 use Rattle.std.proofs.Common.{◌≡◌, ◌+◌, ◌*◌, ℕ, List, [], ◌∷◌, slice_index, subst, sym, ap, ◌∙◌, arith}
 use Rattle.be_table.specs.declared.pass.Move.{Move}
 use Rattle.be_table.specs.declared.pass.Move.TheVariants.{Fill}
-use Rattle.be_table.specs.Rule.{pass_of, word_place}
-use Rattle.be_table.specs.Steps.{takes_page}
-use Rattle.be_table.specs.Trace.{Makes, with_history}
+use Rattle.be_table.specs.Rule.{alone, pass_of, word_place}
+use Rattle.be_table.specs.Steps.{takes_page, with_history}
+use Rattle.be_table.specs.Trace.{Makes}
 use Rattle.be_table.proofs.Frames.{Me1}
 use Rattle.be_table.proofs.Holding.{takes_as}
 use Rattle.be_table.proofs.writing.tell_taken.Goals as goal
@@ -21,7 +21,7 @@ pub returns-clause-me : goal.returns-clause-me
 returns-clause-me c =
     let m = c.args.base.now.me in let t = c.load.ensures.2.0 c.args.page (omega arith) in
     let h : (pass_of c.load.new.seat.me.0).history ≡ t.0 = ap (λ (x : Me1). (pass_of x.0).history) t.2 in
-    t.2 ∙ ap (λ (l : List Move). (takes_page (with_history (pass_of m.0) l) c.args.page ∷ [], m.1)) (sym h)
+    t.2 ∙ ap (λ (l : List Move). (alone (takes_page (with_history (pass_of m.0) l) c.args.page), m.1)) (sym h)
 
 pub returns-clause-moves : goal.returns-clause-moves
 returns-clause-moves c =

@@ -1,4 +1,4 @@
-use Rattle.be_serving.proofs.RunLemmas.{always_err}
+use Rattle.be_script_runner.proofs.RunLemmas.{always_err}
 use Rattle.be_shell.specs.Bytes.{Hears, ChangesBytes}
 use Rattle.be_shell.specs.Conversation.{hearing}
 use Rattle.be_shell.proofs.LineLemmas.{hears_moves, if_ok, keeps_itself}

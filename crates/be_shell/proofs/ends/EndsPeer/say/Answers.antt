@@ -1,5 +1,5 @@
 use Rattle.std.proofs.Common.{refl}
-use Rattle.be_serving.proofs.RunLemmas.{on_err, on_ok}
+use Rattle.be_script_runner.proofs.RunLemmas.{on_err, on_ok}
 use Rattle.be_shell.proofs.ends.EndsPeer.say.Goals as goal
 
 pub returns-clause-said : goal.returns-clause-said

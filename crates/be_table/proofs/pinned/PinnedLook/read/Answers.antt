@@ -1,9 +1,9 @@
-use Rattle.std.proofs.Common.{[], ◌∷◌, ◌≡◌, ◌<◌, IsTrue, refl, sym, ap, ◌∙◌, subst, arith}
+use Rattle.std.proofs.Common.{◌≡◌, ◌<◌, IsTrue, refl, sym, ap, ◌∙◌, subst, arith}
 use Rattle.be_pages.specs.Pages.{is_readable}
 use Rattle.be_table.specs.declared.pass.Knowledge.{Knowledge}
 use Rattle.be_table.specs.Place.{Pin}
 use Rattle.be_table.specs.Reading.{pinned_standing}
-use Rattle.be_table.specs.Rule.{one_step_on, pass_of}
+use Rattle.be_table.specs.Rule.{alone, one_step_on, pass_of}
 use Rattle.be_table.proofs.Moves.{pinned_as}
 use Rattle.be_table.proofs.Pins.{readable_pin}
 use Rattle.be_table.proofs.Readers.{read_on, readable_inside}
@@ -47,4 +47,4 @@ pub invariant_of-self : goal.invariant_of-self
 invariant_of-self c =
     let i = c.self.invariant in let w = c.self.inside in let a : Knowledge = pass_of w.base.me.0 in
     let s = c.load.ensures in
-    read_on w _ i refl refl s.0 (s.2.0 ∙ ap (λ l. (one_step_on a ∷ [], l)) (ap (λ m. m.1) i.me_is))
+    read_on w _ i refl refl s.0 (s.2.0 ∙ ap (λ l. (alone (one_step_on a), l)) (ap (λ m. m.1) i.me_is))

@@ -1,10 +1,9 @@
-use Rattle.std.proofs.Common.{[], ◌∷◌, ◌≡◌, ◌<◌, length, IsTrue, refl, sym, ap, ◌∙◌, subst, arith, length-set, slice_set}
+use Rattle.std.proofs.Common.{◌≡◌, ◌<◌, length, IsTrue, refl, sym, ap, ◌∙◌, subst, arith, length-set, slice_set}
 use Rattle.be_table.specs.declared.pass.Knowledge.{Knowledge}
 use Rattle.be_pages.specs.declared.page_pool.Place.TheVariants.{Filled}
 use Rattle.be_pages.specs.Place.{is_in_hand, place_of}
-use Rattle.be_table.specs.Rule.{ledger_places, pass_of, word_place}
-use Rattle.be_table.specs.Steps.{fills_word, fill_moves}
-use Rattle.be_table.specs.Trace.{with_history}
+use Rattle.be_table.specs.Rule.{alone, ledger_places, pass_of, word_place}
+use Rattle.be_table.specs.Steps.{fills_word, fill_moves, with_history}
 use Rattle.be_table.proofs.Ledgers.{left-fill}
 use Rattle.be_table.proofs.Opened.{may_fill, reopened}
 use Rattle.be_table.proofs.Worked.{fill_needs, fill_work, reasons_none, worked_more}
@@ -29,7 +28,7 @@ pub invariant_of-self : goal.invariant_of-self
 invariant_of-self c =
     let i = c.self.invariant in let w = c.self.inside in let a = pass_of w.base.me.0 in
     let b = fills_word (with_history a (pass_of c.fill_word.new.base.me.0).history) c.args.page c.args.i c.args.word in
-    reopened w _ b i refl refl refl refl refl c.fill_word.ensures.seat.0 (c.fill_word.ensures.me ∙ ap (λ l. (b ∷ [], l)) (ap (λ m. m.1) i.me_is)) refl i.turn
+    reopened w _ b i refl refl refl refl refl c.fill_word.ensures.seat.0 (c.fill_word.ensures.me ∙ ap (λ l. (alone b, l)) (ap (λ m. m.1) i.me_is)) refl i.turn
     (length-set a.words (word_place c.args.page c.args.i) c.args.word) (length-set a.places c.args.page Filled) (c.fill.ensures ∙ ap (λ l. slice_set l c.args.page Filled) i.places)
     (left-fill w.ledger.left (ledger_places w.ledger) c.args.self.now.knows.places _ c.args.page Filled (i.places ∙ ap (λ (x : Rattle.be_table.specs.Place.Work). x.knows.places) c.self.view_is) c.fill.ensures c.requires.taken.0 c.requires.taken.1 i.left)
     (λ unpublished. worked_more a.limits a.number a.history (fill_moves a c.args.page c.args.i c.args.word) (pass_of c.fill_word.new.base.me.0).history (fill_work a c.args.page c.args.i c.args.word)

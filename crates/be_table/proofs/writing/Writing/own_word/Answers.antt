@@ -1,6 +1,6 @@
-use Rattle.std.proofs.Common.{refl, [], ◌∷◌, ◌≡◌, ◌<◌, length, sym, ap, ◌∙◌, subst, arith}
+use Rattle.std.proofs.Common.{refl, ◌≡◌, ◌<◌, length, sym, ap, ◌∙◌, subst, arith}
 use Rattle.be_table.specs.declared.pass.Knowledge.{Knowledge}
-use Rattle.be_table.specs.Rule.{one_step_on, pass_of}
+use Rattle.be_table.specs.Rule.{alone, one_step_on, pass_of}
 use Rattle.be_table.proofs.Holding.{owns_as}
 use Rattle.be_table.proofs.Opened.{reopened}
 use Rattle.be_table.proofs.writing.Writing.own_word.Goals as goal
@@ -45,4 +45,4 @@ pub invariant_of-self : goal.invariant_of-self
 invariant_of-self c =
     let i = c.self.invariant in let w = c.self.inside in let a = pass_of w.base.me.0 in
     let s = c.load.ensures in
-    reopened w _ (one_step_on a) i refl refl refl refl refl s.0 (s.2.0 ∙ ap (λ l. (one_step_on a ∷ [], l)) (ap (λ m. m.1) i.me_is)) refl i.turn refl refl i.places i.left i.worked
+    reopened w _ (one_step_on a) i refl refl refl refl refl s.0 (s.2.0 ∙ ap (λ l. (alone (one_step_on a), l)) (ap (λ m. m.1) i.me_is)) refl i.turn refl refl i.places i.left i.worked

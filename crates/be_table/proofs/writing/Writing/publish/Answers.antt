@@ -5,13 +5,12 @@ use Rattle.be_journal.specs.Journal.{Agrees, replay}
 use Rattle.be_pages.specs.Place.{is_retired, retired_at, place_of, published_place}
 use Rattle.be_table.specs.declared.pass.Knowledge.{Knowledge}
 use Rattle.be_table.specs.Place.{Work}
-use Rattle.be_table.specs.Rule.{entries, ledger_places, page_at, pass_of}
+use Rattle.be_table.specs.Rule.{alone, entries, ledger_places, page_at, pass_of}
 use Rattle.be_table.specs.Seats.{pin_of}
 use Rattle.be_table.specs.Ledger.{is_of_next}
 use Rattle.be_pages.specs.declared.room.Standing.TheVariants.{Taken}
 use Rattle.be_table.specs.Reading.{standing_among, word_of_page}
-use Rattle.be_table.specs.Steps.{commit_of, pages_from, publishes}
-use Rattle.be_table.specs.Trace.{with_history}
+use Rattle.be_table.specs.Steps.{commit_of, pages_from, publishes, with_history}
 use Rattle.be_table.specs.Working.{HasWorked}
 use Rattle.be_table.specs.Versions.{SpellsVolume}
 use Rattle.be_table.proofs.Keeping.{spells_kept}
@@ -55,13 +54,13 @@ invariant_of-self c =
     let e : Entry = record { by = w.marks.number; ops = c.args.ops.now; dones = c.args.dones.now } in
     let b = publishes (with_history a (pass_of c.store_version.new.base.me.0).history) e c.args.page in
     let commit = commit_of a e c.args.page in
-    let m : c.store_version.new.base.me ≡ (b ∷ [], (0, None) ∷ []) = c.store_version.ensures.me ∙ ap (λ l. (b ∷ [], l)) (ap (λ m. m.1) i.me_is) in
+    let m : c.store_version.new.base.me ≡ (alone b, (0, None) ∷ []) = c.store_version.ensures.me ∙ ap (λ l. (alone b, l)) (ap (λ m. m.1) i.me_is) in
     let k : pass_of c.store_version.new.base.me.0 ≡ b = ap (λ m. pass_of m.0) m in
     let long : length w.ledger.journal.entries ≡ length a.seen = ap length i.journal ∙ seen_length a.seen in
     let places = c.append.ensures.places in
     record {
       table_is = c.store_version.ensures.seat.0 ∙ i.table_is;
-      me_is = m ∙ sym (ap (λ (x : Knowledge). (x ∷ [], (0, None) ∷ [])) k);
+      me_is = m ∙ sym (ap (λ (x : Knowledge). (alone x, (0, None) ∷ [])) k);
       number_is = ap (λ (x : Knowledge). x.number) k ∙ i.number_is;
       limits_are = ap (λ (x : Knowledge). x.limits) k ∙ i.limits_are;
       small = i.small;

@@ -1,9 +1,9 @@
-use Rattle.std.proofs.Common.{ℕ, [], ◌∷◌, length, map, arith, refl, sym, ap, ◌∙◌, subst}
+use Rattle.std.proofs.Common.{ℕ, length, map, arith, refl, sym, ap, ◌∙◌, subst}
 use Rattle.std.proofs.lemmas.List.{length-map}
 use Rattle.be_pages.specs.Place.{swept_place}
 use Rattle.be_table.specs.declared.limits.Limits.{Limits}
 use Rattle.be_table.specs.declared.pass.Knowledge.{Knowledge}
-use Rattle.be_table.specs.Rule.{pass_of}
+use Rattle.be_table.specs.Rule.{alone, pass_of}
 use Rattle.be_table.specs.Steps.{scans_of}
 use Rattle.be_table.specs.Trace.{Makes}
 use Rattle.be_table.specs.Working.{HasWorked, MakesForReason}
@@ -22,7 +22,7 @@ invariant_of-self c =
     let z = ap (λ m. pass_of m.0) r.me.2 in
     let words = ap (λ (x : Knowledge). x.words) part.same in
     let passes = ap (λ l. l.passes) i.limits_are in
-    reopened w _ s i refl refl refl c.sweep.ensures.kept.0 c.sweep.ensures.kept.1 r.seat.0 (r.me.2 ∙ (λ k. (sym z k ∷ [], ap (λ m. m.1) i.me_is k)))
+    reopened w _ s i refl refl refl c.sweep.ensures.kept.0 c.sweep.ensures.kept.1 r.seat.0 (r.me.2 ∙ (λ k. (alone (sym z k), ap (λ m. m.1) i.me_is k)))
     (part.same ∙ ap (λ ws. record a { scanned = s.scanned; least = s.least; places = s.places; words = ws; held = s.held; steps = s.steps; history = s.history }) (sym words))
     whole.0 (ap length words) (ap length whole.1 ∙ length-map a.places (swept_place c.read_all-found.result.least)) (c.sweep.ensures.kept.2 ∙ ap (map (swept_place c.read_all-found.result.least)) i.places ∙ sym whole.1) (let left = c.sweep.ensures.left in omega (arith, left))
     (λ unpublished. subst (λ (x : Limits × ℕ). HasWorked x.0 x.1 s.history) (λ n. (sym (ap (λ (x : Knowledge). x.limits) part.same) n, sym (ap (λ (x : Knowledge). x.number) part.same) n))

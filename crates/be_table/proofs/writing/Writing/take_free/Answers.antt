@@ -1,13 +1,12 @@
-use Rattle.std.proofs.Common.{◌≡◌, ℕ, false, ◌+◌, ◌<◌, [], ◌∷◌, None, length, slice_set, sym, ap, ◌∙◌, subst}
+use Rattle.std.proofs.Common.{◌≡◌, ℕ, ◌+◌, ◌<◌, [], ◌∷◌, None, length, slice_set, sym, ap, ◌∙◌, subst}
 use Rattle.std.proofs.Common.{length-set}
 use Rattle.be_pages.specs.declared.page_pool.Place.TheVariants.{Reserved}
 use Rattle.be_table.specs.declared.limits.Limits.{Limits}
 use Rattle.be_table.specs.declared.pass.Knowledge.{Knowledge}
 use Rattle.be_pages.specs.Place.{is_retired}
-use Rattle.be_table.specs.Rule.{entries, ledger_places, page_at, pass_of}
+use Rattle.be_table.specs.Rule.{alone, entries, ledger_places, page_at, pass_of}
 use Rattle.be_table.specs.Seats.{pin_of}
-use Rattle.be_table.specs.Steps.{IsPass, takes_page, take_moves}
-use Rattle.be_table.specs.Trace.{with_history}
+use Rattle.be_table.specs.Steps.{IsPass, takes_page, take_moves, with_history}
 use Rattle.be_table.specs.Working.{HasWorked}
 use Rattle.be_table.proofs.Ledgers.{left-set}
 use Rattle.be_table.proofs.Opened.{going_pass}
@@ -20,12 +19,12 @@ invariant_of-self-2 c =
     let i = c.self.invariant in let w = c.self.inside in let a = pass_of w.base.me.0 in
     let p = c.in_ok-page.page in
     let b = takes_page (with_history a (pass_of c.tell_taken.new.base.me.0).history) p in
-    let m : c.tell_taken.new.base.me ≡ (b ∷ [], (0, None) ∷ []) = c.tell_taken.ensures.me ∙ ap (λ l. (b ∷ [], l)) (ap (λ m. m.1) i.me_is) in
+    let m : c.tell_taken.new.base.me ≡ (alone b, (0, None) ∷ []) = c.tell_taken.ensures.me ∙ ap (λ l. (alone b, l)) (ap (λ m. m.1) i.me_is) in
     let k : pass_of c.tell_taken.new.base.me.0 ≡ b = ap (λ m. pass_of m.0) m in
     let taken = c.in_ok-page.ensures.some in
     record {
       table_is = c.tell_taken.ensures.seat.0 ∙ i.table_is;
-      me_is = m ∙ sym (ap (λ (x : Knowledge). (x ∷ [], (0, None) ∷ [])) k);
+      me_is = m ∙ sym (ap (λ (x : Knowledge). (alone x, (0, None) ∷ [])) k);
       number_is = ap (λ (x : Knowledge). x.number) k ∙ i.number_is;
       limits_are = ap (λ (x : Knowledge). x.limits) k ∙ i.limits_are;
       small = i.small;

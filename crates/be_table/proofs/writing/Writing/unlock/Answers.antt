@@ -5,8 +5,7 @@ use Rattle.be_table.specs.Place.{Work}
 use Rattle.be_table.specs.Rule.{ledger_places, pass_of}
 use Rattle.be_table.proofs.Frames.{Me1}
 use Rattle.be_pages.specs.Place.{is_retired, undone_place}
-use Rattle.be_table.specs.Steps.{without_lock}
-use Rattle.be_table.specs.Trace.{with_history}
+use Rattle.be_table.specs.Steps.{without_lock, with_history}
 use Rattle.be_table.specs.Working.{HasWorked}
 use Rattle.be_table.proofs.Traces.{pass_history}
 use Rattle.be_table.proofs.Ledgers.{left-undo}

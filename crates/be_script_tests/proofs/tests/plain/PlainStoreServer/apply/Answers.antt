@@ -1,7 +1,7 @@
 use Rattle.std.specs.Prelude.{Result, Ok, Err, IfErr}
 use Rattle.be_value.specs.declared.refusals.Refusal.{Refusal}
-use Rattle.be_serving.specs.Store.{MayWrite}
-use Rattle.be_serving.proofs.JoinLemmas.{at_once}
+use Rattle.be_script_runner.specs.Store.{MayWrite}
+use Rattle.be_script_runner.proofs.JoinLemmas.{at_once}
 use Rattle.be_script_tests.proofs.tests.plain.PlainStoreServer.apply.Goals as goal
 
 pub returns-clause-writes : goal.returns-clause-writes

@@ -1,4 +1,4 @@
-use Rattle.be_serving.proofs.JoinLemmas.{joins_itself}
+use Rattle.be_script_runner.proofs.JoinLemmas.{joins_itself}
 use Rattle.be_script_tests.proofs.tests.plain.PlainStoreServer.indices.Goals as goal
 
 pub returns-clause-joins : goal.returns-clause-joins

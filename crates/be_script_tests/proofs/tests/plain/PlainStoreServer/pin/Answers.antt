@@ -1,6 +1,6 @@
 use Rattle.std.proofs.Common.{◌≡◌, ℕ, Some, length, ap, ◌∙◌}
-use Rattle.be_serving.specs.Store.{Store, Meanwhile, pinned}
-use Rattle.be_serving.proofs.JoinLemmas.{at_once}
+use Rattle.be_script_runner.specs.Store.{Store, Meanwhile, pinned}
+use Rattle.be_script_runner.proofs.JoinLemmas.{at_once}
 use Rattle.be_script_tests.proofs.tests.plain.PlainStoreServer.pin.Goals as goal
 
 abbrev pinned_after : Store → ℕ → Store

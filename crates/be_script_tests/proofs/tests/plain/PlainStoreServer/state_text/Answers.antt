@@ -1,11 +1,11 @@
 use Rattle.std.proofs.Common.{◌≡◌, All, subst}
 use Rattle.std.specs.Prelude.{IfOk, OnOk}
 use Rattle.std.specs.String.{string_bytes}
-use Rattle.be_history.specs.Dump.{state_dump}
-use Rattle.be_history.specs.History.{CanBeOp}
-use Rattle.be_state.specs.Rebuilding.{state_ops}
+use Rattle.be_journal_text.specs.Dump.{state_dump}
+use Rattle.be_journal_text.specs.History.{CanBeOp}
+use Rattle.be_volume_state.specs.Rebuilding.{state_ops}
 use Rattle.be_volume.specs.Volume.{State}
-use Rattle.be_serving.proofs.JoinLemmas.{joins_itself}
+use Rattle.be_script_runner.proofs.JoinLemmas.{joins_itself}
 use Rattle.be_script_tests.proofs.tests.plain.PlainStoreServer.state_text.Goals as goal
 
 pub returns-clause-joins : goal.returns-clause-joins

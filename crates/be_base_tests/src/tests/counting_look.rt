@@ -1,0 +1,108 @@
+//! Look-ups and walks serve any reader of pages: here one that owns a room and counts the words
+//! that are read.
+ghost use Rattle.std.specs.Prelude.{◌≡◌, ℕ, IfOk, IsTrue, OnOk};
+ghost use Rattle.be_pages.specs.declared.room.Standing.TheVariants.{Free};
+ghost use Rattle.be_pages.specs.Pages.{IsUnchanged};
+ghost use Rattle.be_tree.specs.Tree.{IsTree};
+
+use be_pages::{Look, Room, VecRoom};
+use be_test_tools::Counted;
+use be_tree::{Cursor, clear, find, has_key, insert, range};
+use be_value::Refusal;
+use std::alloc::Global;
+use std::test::Fail;
+
+/// A room, at the second call if memory is refused at the first.
+pub(crate) fn room_of(alloc: Global, pages: u64) -> Result<VecRoom, Refusal>
+    ensures { IfOk result (λ r. (q : ℕ) → ⟦<VecRoom as Look>⟧.standing r q ≡ Free) }
+{
+    match VecRoom::new(alloc, pages) {
+        Err(Refusal::OutOfMemory) => VecRoom::new(alloc, pages),
+        answer => answer,
+    }
+}
+
+/// Inserts the numbers below `count` in order, and returns the root.
+fn filled<R: Room>(room: &mut R, count: u64) -> Result<u64, Refusal>
+    requires { IsTrue (R.is_open (R.kept room.old)) }
+    ensures tree { IfOk result (λ root. IsTree (R.standing room.new) (R.words room.new) root) }
+    ensures kept { OnOk result (R.kept room.new ≡ R.kept room.old) }
+{
+    let mut root = 0;
+    for i in 0..count {
+        root = insert(room, root, &i.to_be_bytes(), &i.to_le_bytes())?;
+    }
+    Ok(root)
+}
+
+/// Whether each number below `count` is found with its payload, and the next one is not.
+pub(crate) fn finds<L: Look>(look: &mut L, root: u64, count: u64) -> bool
+    requires { IsTree (L.standing look.old) (L.words look.old) root }
+    ensures { IsUnchanged L.kept L.standing L.words look.old look.new }
+{
+    for i in 0..count {
+        match find(look, root, &i.to_be_bytes()) {
+            Some(payload) if &payload[..] == &i.to_le_bytes()[..] => {}
+            _ => return false,
+        }
+        if !has_key(look, root, &i.to_be_bytes()) {
+            return false;
+        }
+    }
+    !has_key(look, root, &count.to_be_bytes())
+}
+
+/// Whether `range` meets the numbers below `count` one after the other, and nothing else.
+pub(crate) fn ranges<L: Look>(look: &mut L, root: u64, count: u64) -> bool
+    requires { IsTree (L.standing look.old) (L.words look.old) root }
+    ensures { IsUnchanged L.kept L.standing L.words look.old look.new }
+{
+    let mut from = [0; 8];
+    let mut after = false;
+    for i in 0..count {
+        match range(look, root, &from, after) {
+            Some(item) if &item.key[..] == &i.to_be_bytes()[..] => {}
+            _ => return false,
+        }
+        from = i.to_be_bytes();
+        after = true;
+    }
+    range(look, root, &from, after).is_none()
+}
+
+/// Whether a cursor meets the numbers below `count` one after the other, and nothing else.
+fn steps<L: Look>(look: &mut L, root: u64, count: u64) -> bool
+    requires { IsTree (L.standing look.old) (L.words look.old) root }
+    ensures { IsUnchanged L.kept L.standing L.words look.old look.new }
+{
+    let mut cursor = Cursor::new();
+    cursor.seek(look, root, &[], false);
+    for i in 0..count {
+        match cursor.next(look) {
+            Some(item) if &item.key[..] == &i.to_be_bytes()[..] => {}
+            _ => return false,
+        }
+    }
+    cursor.next_key(look).is_none()
+}
+
+/// A hundred pairs lie in two levels: some forty words a look-up, one word a step and the pair's
+/// own.
+#[test]
+fn counting_look(rt: HostRuntime) -> Result<(), Fail> {
+    let mut room = room_of(rt.alloc(), 64)?;
+    let root = filled(&mut room, 100)?;
+    let mut look = Counted::new(room);
+    assert!(rt; finds(&mut look, root, 100));
+    let found = look.reads;
+    assert!(rt; found < 201 * 50);
+    assert!(rt; ranges(&mut look, root, 100));
+    let ranged = look.reads;
+    assert!(rt; ranged < found + 101 * 50);
+    assert!(rt; steps(&mut look, root, 100));
+    assert!(rt; look.reads < ranged + 101 * 8);
+    let mut room = look.pages;
+    clear(&mut room, root);
+    assert_eq!(rt; room.free(), 64);
+    Ok(())
+}

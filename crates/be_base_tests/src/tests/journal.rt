@@ -1,0 +1,275 @@
+//! Worked examples of journals.
+//!
+//! A request has a journal's limit, and then its entries with ` | ` between them: `OPERATIONS ->
+//! ANSWERS`, in the words of scripts, with `;` between several. Told are the journal's text,
+//! whether it is legal, whether it has room, the next node of its volume, and the attributes of
+//! node 1 there.
+
+use super::lines::{first_number, replies};
+use be_journal::{Entry, Items, Journal};
+use be_script_language::Reply;
+use be_test_tools::{is_legal, list_of, reply_lines};
+use be_value::{Name, Refusal, Value, word_of};
+use be_volume::{Done, Op};
+use std::alloc::{AllocError, Global};
+use std::test::Fail;
+
+/// Pushes an entry by pass 0.
+fn push(journal: &mut Journal, ops: Vec<Op>, dones: Vec<Done>) -> Result<(), Refusal> {
+    if ops.is_empty() || ops.len() > 64 || dones.len() != ops.len() {
+        return Err(Refusal::BadLimits);
+    }
+    journal.push(Entry {
+        by: 0,
+        ops: Items::from_vec(ops),
+        dones: Items::from_vec(dones),
+    })
+}
+
+/// Enters a pass's list in the room that is reserved for it.
+fn enter(journal: &mut Journal, pass: u64, ops: &[Op], dones: &[Done]) -> Result<(), Refusal> {
+    if ops.is_empty() || ops.len() > 64 || dones.len() != ops.len() {
+        return Err(Refusal::BadLimits);
+    }
+    journal.reserve(ops.len())?;
+    journal.push_reserved(pass, ops, dones);
+    Ok(())
+}
+
+/// The answer of a text, `node NUMBER` or `ok`.
+fn done_of(text: &str) -> Done {
+    match text.strip_prefix("node ") {
+        Some(number) => Done::Node(word_of(number.as_bytes()).unwrap_or(0)),
+        None => Done::Unit,
+    }
+}
+
+fn dones_of(alloc: Global, texts: &str) -> Result<Vec<Done>, AllocError> {
+    let mut dones = Vec::new(alloc);
+    for text in texts.split(';') {
+        dones.push(done_of(text))?;
+    }
+    Ok(dones)
+}
+
+/// Pushes the entry of a text. If the list has several operations it is entered in room that is
+/// reserved.
+fn push_text(alloc: Global, journal: &mut Journal, text: &str) -> Result<(), Refusal> {
+    let (ops, dones) = text.split_once(" -> ").unwrap_or((text, ""));
+    let ops = list_of(alloc, ops)?;
+    let dones = dones_of(alloc, dones)?;
+    if ops.len() > 1 {
+        return enter(journal, 0, &ops, &dones);
+    }
+    push(journal, ops, dones)
+}
+
+/// A journal of up to `limit` entries.
+fn journal_within(alloc: Global, limit: u64) -> Result<Journal, Refusal> {
+    if limit > 2_000 {
+        return Err(Refusal::BadLimits);
+    }
+    Ok(Journal::new(alloc, limit))
+}
+
+/// The journal of a request.
+fn journal_of(alloc: Global, request: &str) -> Result<Journal, Refusal> {
+    let (limit, entries) = first_number(request);
+    let mut journal = journal_within(alloc, limit)?;
+    for entry in entries.split(" | ") {
+        if !entry.is_empty() {
+            push_text(alloc, &mut journal, entry)?;
+        }
+    }
+    Ok(journal)
+}
+
+/// Pushes an entry of one operation.
+fn push_one(alloc: Global, journal: &mut Journal, op: Op, done: Done) -> Result<(), Refusal> {
+    let mut ops = Vec::new(alloc);
+    ops.push(op)?;
+    let mut dones = Vec::new(alloc);
+    dones.push(done)?;
+    push(journal, ops, dones)
+}
+
+/// A journal whose one entry has a name and a text with all that is escaped.
+fn escaped(alloc: Global) -> Result<Journal, Refusal> {
+    let mut journal = journal_within(alloc, 1)?;
+    let set = Op::Set(1, Name::new("a\"b")?, Value::text("x\\y\n\r")?);
+    push_one(alloc, &mut journal, set, Done::Unit)?;
+    Ok(journal)
+}
+
+/// 1,100 nodes that were made.
+fn nodes(alloc: Global) -> Result<Journal, Refusal> {
+    let mut journal = journal_within(alloc, 1_100)?;
+    for node in 1..=1_100 {
+        push_one(alloc, &mut journal, Op::New, Done::Node(node))?;
+    }
+    Ok(journal)
+}
+
+/// A list of 64 texts of 255 bytes.
+fn long_list(alloc: Global) -> Result<Vec<Op>, Refusal> {
+    let text = "x".repeat(alloc, 255)?;
+    let mut ops = Vec::new(alloc);
+    for node in 0..64 {
+        ops.push(Op::Set(node, Name::new("a")?, Value::text(text.as_str())?))?;
+    }
+    Ok(ops)
+}
+
+/// So many long lists, each by the pass of its number. A block of the journal has room for 15 of
+/// them.
+fn long_lists(alloc: Global, count: u64) -> Result<Journal, Refusal> {
+    let ops = long_list(alloc)?;
+    let dones = vec![in alloc; Done::Unit; 64]?;
+    let mut journal = journal_within(alloc, count)?;
+    for pass in 0..count {
+        enter(&mut journal, pass, &ops, &dones)?;
+    }
+    Ok(journal)
+}
+
+/// How many entries are of 64 operations by the pass of their number.
+fn found_lists(journal: &Journal) -> u64 {
+    let mut found: u64 = 0;
+    for i in 0..journal.len() {
+        let entry = journal.get(i);
+        if entry.by() == i && entry.len() == 64 {
+            found = found.saturating_add(1);
+        }
+    }
+    found
+}
+
+/// The reply to `attrs`.
+fn attributes(list: Result<Vec<(Name, Value)>, Refusal>) -> Result<Reply, Refusal> {
+    match list {
+        Ok(list) => Ok(Reply::Attributes(list)),
+        Err(Refusal::OutOfMemory) => Err(Refusal::OutOfMemory),
+        Err(refusal) => Ok(Reply::Refused(refusal)),
+    }
+}
+
+/// The next node of the journal's volume, and the attributes of node 1.
+fn contents(alloc: Global, journal: &Journal) -> Result<String, Refusal> {
+    let volume = journal.replay()?;
+    let list = reply_lines(alloc, &attributes(volume.attrs(1))?)?;
+    let next = volume.next();
+    Ok(format!(in alloc; "next {next}\n{list}")?)
+}
+
+fn has_room(journal: &mut Journal) -> Result<bool, Refusal> {
+    match journal.reserve(64) {
+        Err(Refusal::CommitsSpent) => Ok(false),
+        Err(refusal) => Err(refusal),
+        Ok(()) => Ok(true),
+    }
+}
+
+fn takes_entry(alloc: Global, journal: &mut Journal) -> Result<bool, Refusal> {
+    match push_one(alloc, journal, Op::New, Done::Unit) {
+        Err(Refusal::CommitsSpent) => Ok(false),
+        Err(refusal) => Err(refusal),
+        Ok(()) => Ok(true),
+    }
+}
+
+/// Whether there is room for 64 operations, and an entry is pushed; at the limit neither is.
+fn room(alloc: Global, journal: &mut Journal) -> Result<&'static str, Refusal> {
+    match (has_room(journal)?, takes_entry(alloc, journal)?) {
+        (true, true) => Ok("room"),
+        (false, false) => Ok("spent"),
+        _ => Ok("room, and yet none"),
+    }
+}
+
+/// The report on a journal: its text, whether it is legal, whether it has room, and its contents.
+fn told(alloc: Global, mut journal: Journal) -> Result<String, Refusal> {
+    let text = journal.text()?;
+    let word = if is_legal(&journal)? {
+        "legal"
+    } else {
+        "wrong"
+    };
+    let has = contents(alloc, &journal)?;
+    let room = room(alloc, &mut journal)?;
+    Ok(format!(in alloc; "{text}{word}, {room}, {has}")?)
+}
+
+/// The report on the journal of a request.
+pub(crate) fn told_of(alloc: Global, request: &str) -> Result<String, Refusal> {
+    told(alloc, journal_of(alloc, request)?)
+}
+
+pub(crate) fn told_of_escaped(alloc: Global) -> Result<String, Refusal> {
+    told(alloc, escaped(alloc)?)
+}
+
+/// The report on 1,100 nodes, from the text after the 1,099th entry on.
+pub(crate) fn told_end(alloc: Global) -> Result<String, Refusal> {
+    let text = told(alloc, nodes(alloc)?)?;
+    let front = "\n1099 by 0 new -> node 1099\n";
+    let (_, end) = text.as_str().split_once(front).unwrap_or(("", ""));
+    Ok(String::from_str(alloc, end)?)
+}
+
+/// How many of that many long lists are found in their journal.
+pub(crate) fn told_lists(alloc: Global, text: &str) -> Result<String, Refusal> {
+    let (count, _) = first_number(text);
+    let journal = long_lists(alloc, count)?;
+    let found = found_lists(&journal);
+    Ok(format!(in alloc; "{found} found")?)
+}
+
+/// A text of entries, whether it is legal, and what its volume has. Without entries there is room
+/// for 64 operations. An answer that the volume doesn't give is wrong, and so is an entry that it
+/// refuses. Example `batches` is the last one: a list is entered in the room that was reserved for
+/// it.
+#[test]
+fn journals_are_told(rt: HostRuntime) -> Result<(), Fail> {
+    let lines =
+        "journal 2 new -> node 1 | set 1 size LONG 5 -> ok => 1 by 0 new -> node 1 / 2 by 0 set 1 \
+         \"size\" LONG 5 -> ok / legal, spent, next 2 / attrs 1 / \"size\" LONG 5
+journal 1 => legal, room, next 1 / refused 2 NoNode
+journal 2 new -> node 2 | set 1 size LONG 5 -> ok => 1 by 0 new -> node 2 / 2 by 0 set 1 \"size\" \
+         LONG 5 -> ok / wrong, spent, next 2 / attrs 1 / \"size\" LONG 5
+journal 2 new -> node 1 | drop 9 -> ok => 1 by 0 new -> node 1 / 2 by 0 drop 9 -> ok / wrong, \
+         spent, next 2 / attrs 0
+journal 2 mkindex k LONG -> ok | new;set 1 k LONG 5 -> node 1;ok => 1 by 0 mkindex \"k\" LONG -> \
+         ok / 2 by 0 new; set 1 \"k\" LONG 5 -> node 1; ok / legal, spent, next 2 / attrs 1 / \
+         \"k\" LONG 5";
+    replies(rt.alloc(), lines)
+}
+
+/// Each operation and each value has its text. Node 1 isn't there, so none of these is accepted.
+#[test]
+fn operations_have_a_text(rt: HostRuntime) -> Result<(), Fail> {
+    let lines =
+        "escaped => 1 by 0 set 1 \"a\\\"b\" CSTR \"x\\\\y\\n\\r\" -> ok / wrong, spent, next 1 / \
+         refused 2 NoNode
+journal 1 set 1 r RAWT 00abff -> ok => 1 by 0 set 1 \"r\" RAWT \"00abff\" -> ok / wrong, spent, \
+         next 1 / refused 2 NoNode
+journal 2 set 1 l LLNG -9223372036854775808 -> ok | set 1 u ULLG 18446744073709551615 -> ok => 1 \
+         by 0 set 1 \"l\" LLNG -9223372036854775808 -> ok / 2 by 0 set 1 \"u\" ULLG \
+         18446744073709551615 -> ok / wrong, spent, next 1 / refused 2 NoNode
+journal 3 unset 7 m -> ok | rmindex k -> ok | drop 7 -> ok => 1 by 0 unset 7 \"m\" -> ok / 2 by 0 \
+         rmindex \"k\" -> ok / 3 by 0 drop 7 -> ok / wrong, spent, next 1 / refused 2 NoNode";
+    replies(rt.alloc(), lines)
+}
+
+/// A journal of 1,100 entries is reported, checked and played whole.
+#[test]
+fn long_journal(rt: HostRuntime) -> Result<(), Fail> {
+    let lines = "nodes => 1100 by 0 new -> node 1100 / legal, spent, next 1101 / attrs 0";
+    replies(rt.alloc(), lines)
+}
+
+/// Entries are found in a journal's first block, if that is just full, and in those after it.
+#[test]
+fn journal_of_blocks(rt: HostRuntime) -> Result<(), Fail> {
+    let lines = "lists 15 => 15 found\nlists 16 => 16 found\nlists 46 => 46 found";
+    replies(rt.alloc(), lines)
+}

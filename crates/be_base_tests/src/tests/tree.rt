@@ -1,0 +1,184 @@
+//! Trees in a room of few pages: how many they take, and what a room that is full leaves; and equal
+//! values in one index.
+ghost use Rattle.std.specs.Prelude.{◌≡◌, ◌<◌, ◌≤◌, IfOk, OnErr};
+ghost use Rattle.be_pages.specs.declared.room.Standing.TheVariants.{Free};
+ghost use Rattle.be_pages.specs.Pages.{IsUnchanged};
+ghost use Rattle.be_tree.specs.Forest.{IsWriteStart};
+ghost use Rattle.be_tree.specs.Tree.{IsTree};
+
+use super::counting_look::{finds, ranges, room_of};
+use super::lines::{first_number, replies};
+use be_pages::{Look, VecRoom};
+use be_tree::{Cursor, insert, remove};
+use be_value::Refusal;
+use std::alloc::Global;
+use std::test::Fail;
+
+/// Inserts a number's key and keeps the write, or undoes a write that is refused.
+pub(crate) fn put_number(room: &mut VecRoom, root: u64, i: u64) -> Result<u64, Refusal>
+    requires tree { IsTree (⟦<VecRoom as Look>⟧.standing room.old)
+        (⟦<VecRoom as Look>⟧.words room.old) root }
+    requires start { IsWriteStart (⟦<VecRoom as Look>⟧.standing room.old) }
+    ensures ok { IfOk result (λ new. IsTree (⟦<VecRoom as Look>⟧.standing room.new)
+        (⟦<VecRoom as Look>⟧.words room.new) new) }
+    ensures err { OnErr result (IsTree (⟦<VecRoom as Look>⟧.standing room.new)
+        (⟦<VecRoom as Look>⟧.words room.new) root) }
+    ensures start { IsWriteStart (⟦<VecRoom as Look>⟧.standing room.new) }
+{
+    match insert(room, root, &i.to_be_bytes(), &i.to_le_bytes()) {
+        Ok(new) => {
+            room.keep();
+            Ok(new)
+        }
+        Err(refusal) => {
+            room.undo();
+            Err(refusal)
+        }
+    }
+}
+
+/// Inserts the numbers below another in order, each write kept. Returns the root, and the first
+/// number that was refused, or the last one's next.
+fn put_numbers(room: &mut VecRoom, root: u64, to: u64) -> (u64, u64)
+    requires tree { IsTree (⟦<VecRoom as Look>⟧.standing room.old)
+        (⟦<VecRoom as Look>⟧.words room.old) root }
+    requires start { IsWriteStart (⟦<VecRoom as Look>⟧.standing room.old) }
+    ensures tree { IsTree (⟦<VecRoom as Look>⟧.standing room.new)
+        (⟦<VecRoom as Look>⟧.words room.new) result.0 }
+    ensures start { IsWriteStart (⟦<VecRoom as Look>⟧.standing room.new) }
+{
+    let mut root = root;
+    for i in 0..to {
+        match put_number(room, root, i) {
+            Ok(new) => root = new,
+            Err(_) => return (root, i),
+        }
+    }
+    (root, to)
+}
+
+/// Takes the numbers below another out in order, each write kept.
+fn take_numbers(room: &mut VecRoom, root: u64, to: u64) -> Result<u64, Refusal>
+    requires tree { IsTree (⟦<VecRoom as Look>⟧.standing room.old)
+        (⟦<VecRoom as Look>⟧.words room.old) root }
+    ensures tree { IfOk result (λ new. IsTree (⟦<VecRoom as Look>⟧.standing room.new)
+        (⟦<VecRoom as Look>⟧.words room.new) new) }
+{
+    let mut root = root;
+    for i in 0..to {
+        root = remove(room, root, &i.to_be_bytes())?;
+        room.keep();
+    }
+    Ok(root)
+}
+
+/// How many of that many pages are free once the numbers below a count are inserted, if they are
+/// met in order then.
+pub(crate) fn free_with(alloc: Global, line: &str) -> Result<String, Refusal> {
+    let (pages, numbers) = first_number(line);
+    let (count, _) = first_number(numbers);
+    let mut room = room_of(alloc, pages)?;
+    let (root, accepted) = put_numbers(&mut room, 0, count);
+    if accepted != count || !ranges(&mut room, root, count) {
+        return Err(Refusal::Full(accepted));
+    }
+    let free = room.free();
+    Ok(format!(in alloc; "{free}")?)
+}
+
+/// The root, and how many of that many pages are free, once the numbers below a count are inserted
+/// and taken out again.
+pub(crate) fn free_without(alloc: Global, line: &str) -> Result<String, Refusal> {
+    let (pages, numbers) = first_number(line);
+    let (count, _) = first_number(numbers);
+    let mut room = room_of(alloc, pages)?;
+    let (root, accepted) = put_numbers(&mut room, 0, count);
+    let root = take_numbers(&mut room, root, accepted)?;
+    let free = room.free();
+    Ok(format!(in alloc; "{accepted} taken, root {root}, {free} free")?)
+}
+
+/// Twelve pairs fit in one page; the thirteenth makes two leaves and an inner page. Rising keys
+/// fill their pages: 600 pairs take 50 leaves of 12, five pages above them and the root.
+#[test]
+fn tree_pages(rt: HostRuntime) -> Result<(), Fail> {
+    let lines = "free 16 1 => 15
+free 16 12 => 15
+free 16 13 => 13
+free 128 600 => 72
+emptied 16 13 => 13 taken, root 0, 16 free";
+    replies(rt.alloc(), lines)
+}
+
+/// The limits of a room.
+#[test]
+fn limits(rt: HostRuntime) -> Result<(), Fail> {
+    let lines = "free 0 0 => refused 21 BadLimits
+free 7 0 => refused 21 BadLimits
+free 16385 0 => refused 21 BadLimits
+free 16384 0 => 16384";
+    replies(rt.alloc(), lines)
+}
+
+/// In a room of eight pages at least 20 rising keys are accepted and at most 60. The next one is
+/// refused, and its write undone: the pairs before it stay.
+#[test]
+fn full_tree(rt: HostRuntime) -> Result<(), Fail> {
+    let mut room = room_of(rt.alloc(), 8)?;
+    let (root, accepted) = put_numbers(&mut room, 0, 61);
+    assert!(rt; accepted >= 20 && accepted < 61);
+    assert_eq!(rt;
+        put_number(&mut room, root, accepted),
+        Err(Refusal::Full(0))
+    );
+    assert!(rt; finds(&mut room, root, accepted));
+    assert!(rt; ranges(&mut room, root, accepted));
+    Ok(())
+}
+
+/// The key of the text `x` of a node in an index.
+fn value_key(node: u8) -> [u8; 10] {
+    let mut key = *b"x\0\0\0\0\0\0\0\0\0";
+    key[9] = node;
+    key
+}
+
+/// Inserts the keys of nodes, and returns the root.
+fn put_nodes(room: &mut VecRoom, nodes: &[u8]) -> Result<u64, Refusal>
+    ensures tree { IfOk result (λ root. IsTree (⟦<VecRoom as Look>⟧.standing room.new)
+        (⟦<VecRoom as Look>⟧.words room.new) root) }
+{
+    let mut root = 0;
+    for node in nodes {
+        root = insert(room, root, &value_key(*node), &[])?;
+    }
+    Ok(root)
+}
+
+/// Whether the tree has the keys of these nodes, and no others, from the text `x` on, in this
+/// order.
+fn has_nodes<L: Look>(look: &mut L, root: u64, nodes: &[u8]) -> bool
+    requires { IsTree (L.standing look.old) (L.words look.old) root }
+    ensures { IsUnchanged L.kept L.standing L.words look.old look.new }
+{
+    let mut cursor = Cursor::new();
+    cursor.seek(look, root, b"x\0", false);
+    for node in nodes {
+        match cursor.next_key(look) {
+            Some(key) if &key[..] == &value_key(*node)[..] => {}
+            _ => return false,
+        }
+    }
+    cursor.next_key(look).is_none()
+}
+
+/// One value at three nodes is three keys; one of them is taken out.
+#[test]
+fn equal_values(rt: HostRuntime) -> Result<(), Fail> {
+    let mut room = room_of(rt.alloc(), 8)?;
+    let root = put_nodes(&mut room, &[1, 2, 3])?;
+    assert!(rt; has_nodes(&mut room, root, &[1, 2, 3]));
+    let root = remove(&mut room, root, &value_key(2))?;
+    assert!(rt; has_nodes(&mut room, root, &[1, 3]));
+    Ok(())
+}

@@ -1,0 +1,3 @@
+pub mod Standing
+pub mod Bytes
+pub mod Spelling

@@ -1,0 +1,60 @@
+//! A compiled pattern.
+ghost use Rattle.std.specs.Prelude.{◌≡◌, IsUtf8, IfOk, IfErr};
+ghost use Rattle.std.specs.Str.{chars};
+ghost use Rattle.be_value.specs.declared.refusals.Refusal.TheVariants.{OutOfMemory};
+ghost use Rattle.be_pattern.specs.Match.{matches};
+
+use crate::reading::read_runs;
+use crate::runs::Runs;
+use be_pattern::Pattern;
+use be_value::Refusal;
+use std::alloc::Global;
+use std::marker::Model;
+use std::str;
+
+/// A pattern that is ready to be asked of the bytes of many texts. A contract sees the pattern's
+/// parts.
+#[derive(Drop)]
+pub struct BytePattern<'p> {
+    pattern: &'p Pattern,
+    /// The runs of a pattern without `?` and sets.
+    runs: Option<Runs>,
+}
+
+impl<'p> Model for BytePattern<'p> {
+    ghost use Rattle.std.specs.Prelude.{◌≡◌, ◌++◌, List, map, true, IfSome};
+    ghost use Rattle.be_pattern.specs.Match.{Part, Only};
+    ghost use Rattle.be_byte_pattern.specs.Runs.{IsOfRuns};
+
+    ghost Value = { List Part };
+
+    ghost view = { λ p. p.pattern.now };
+
+    ghost invariant = { λ p. IfSome p.runs (λ runs. IsOfRuns p.pattern.now runs) };
+}
+
+impl<'p> BytePattern<'p> {
+    /// Compiles a pattern. It asks for memory a few times for each run of literal characters.
+    pub fn new(alloc: Global, pattern: &'p Pattern) -> Result<BytePattern<'p>, Refusal>
+        ensures ok { IfOk result (λ compiled. compiled ≡ pattern.now) }
+        ensures err { IfErr result (λ e. e ≡ OutOfMemory) }
+    {
+        let text = pattern.canonical(alloc)?;
+        let runs = read_runs(alloc, text.as_str())?;
+        Ok(BytePattern { pattern, runs })
+    }
+
+    /// Whether the pattern matches the whole text, given by its bytes, as `Pattern::matches` does.
+    /// It takes no memory. Bytes that are no text get any answer.
+    pub fn matches(&self, text: &[u8]) -> bool
+        ensures { IsUtf8 text.now → result ≡ matches self.now (chars text.now) }
+    {
+        match &self.runs {
+            Some(runs) => runs.stand_in(text),
+            None => match str::from_utf8(text) {
+                Ok(text) => self.pattern.matches(text),
+                Err(_) => false,
+            },
+        }
+    }
+}

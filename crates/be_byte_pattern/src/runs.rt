@@ -1,0 +1,109 @@
+//! Runs of literal bytes with a `*` between two.
+ghost use Rattle.std.specs.Prelude.{◌≡◌, ◌≤◌, ◌++◌, ◌∷◌, List, ℕ, true, false, map, length, take};
+ghost use Rattle.std.specs.Prelude.{nat_eq, IfNone, IfSome, string_bytes};
+ghost use Rattle.std.specs.List.{ends_with};
+ghost use Rattle.be_pattern.specs.Match.{Part, Only, Run, matches, some_tail};
+ghost use Rattle.be_byte_pattern.specs.Runs.{after_stars, parts_of_runs};
+
+/// The runs of a pattern without `?` and sets.
+#[derive(Drop)]
+pub(crate) struct Runs {
+    /// What comes before the first `*`, with which a text begins.
+    pub(crate) front: String,
+    /// What comes after each `*`.
+    pub(crate) later: Vec<String>,
+}
+
+impl Runs {
+    /// Whether the bytes begin with the first run, end with the last one, and have the others
+    /// between these in their order.
+    pub(crate) fn stand_in(&self, text: &[u8]) -> bool
+        ensures { result ≡ matches (parts_of_runs self.now) text.now }
+    {
+        match after_run(text, self.front.as_bytes()) {
+            Some(rest) => follow(self.later.as_slice(), rest),
+            None => false,
+        }
+    }
+}
+
+/// Whether bytes begin with a run that is no longer than they are. Most don't, and differ in the
+/// first byte.
+#[inline(always)]
+fn begins_with(bytes: &[u8], run: &[u8]) -> bool
+    requires { length run.now ≤ length bytes.now }
+    ensures yes { result ≡ true → take (length run.now) bytes.now ≡ run.now }
+    ensures no { result ≡ false → (rest : List ℕ) → bytes.now ≡ run.now ++ rest → ⊥ }
+{
+    for i in 0..run.len() {
+        if bytes[i] != run[i] {
+            return false;
+        }
+    }
+    true
+}
+
+/// The bytes after a run with which they begin.
+#[inline(always)]
+fn after_run<'a>(bytes: &'a [u8], run: &[u8]) -> Option<&'a [u8]>
+    ensures some { IfSome result (λ rest. bytes.now ≡ run.now ++ rest.now) }
+    ensures none { IfNone result ((rest : List ℕ) → bytes.now ≡ run.now ++ rest → ⊥) }
+{
+    if bytes.len() < run.len() || !begins_with(bytes, run) {
+        return None;
+    }
+    Some(&bytes[run.len()..])
+}
+
+/// Whether bytes end with a run.
+#[inline(always)]
+fn ends_with(bytes: &[u8], run: &[u8]) -> bool
+    ensures { result ≡ ends_with nat_eq bytes.now run.now }
+{
+    if bytes.len() < run.len() {
+        return false;
+    }
+    let (_, end) = bytes.split_at(bytes.len() - run.len());
+    begins_with(end, run)
+}
+
+/// The bytes after the first place at which a run is found.
+fn after_first<'a>(bytes: &'a [u8], run: &[u8]) -> Option<&'a [u8]>
+    ensures some { IfSome result (λ rest. (ps : List Part) →
+        some_tail (matches (map Only run.now ++ (Run ∷ ps))) bytes.now
+        ≡ some_tail (matches ps) rest.now) }
+    ensures none { IfNone result ((ps : List Part)
+        → some_tail (matches (map Only run.now ++ ps)) bytes.now ≡ false) }
+{
+    let mut rest = bytes;
+    'places: while run.len() <= rest.len() {
+        if let Some(after) = after_run(rest, run) {
+            return Some(after);
+        }
+        let Some((_, shorter)) = rest.split_first() else {
+            return None;
+        };
+        rest = shorter;
+    }
+    None
+}
+
+/// Whether the runs, each after a `*`, are found one after the other, with the last of them at the
+/// end.
+fn follow(runs: &[String], bytes: &[u8]) -> bool
+    ensures { result ≡ matches (after_stars (map string_bytes runs.now)) bytes.now }
+{
+    let mut left = runs;
+    let mut rest = bytes;
+    'runs: while let Some((run, after)) = left.split_first() {
+        if after.is_empty() {
+            return ends_with(rest, run.as_bytes());
+        }
+        let Some(shorter) = after_first(rest, run.as_bytes()) else {
+            return false;
+        };
+        left = after;
+        rest = shorter;
+    }
+    rest.is_empty()
+}

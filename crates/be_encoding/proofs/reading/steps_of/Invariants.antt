@@ -1,7 +1,0 @@
-use Rattle.std.proofs.Common.{◌≡◌, ◌-◌}
-use Rattle.be_encoding.specs.Decoding.{steps_at}
-use Rattle.be_encoding.proofs.Loops.{behind}
-use Rattle.be_encoding.proofs.reading.steps_of.Given as goal
-
-abbrev pub invariant-loop : goal.invariant-loop
-invariant-loop l = behind l.ops.items l.dones.items (steps_at (l.count - l.counter) l.rest) ≡ steps_at l.count l.bytes

@@ -1,0 +1,47 @@
+//! Numbers and operations are in the ranges of their types. A contract can't see this of a number
+//! or an operation that is only borrowed. Each function does nothing; its contract says so.
+ghost use Rattle.std.specs.Prelude.{◌<◌, ◌^◌, All};
+ghost use Rattle.be_entry_bytes.specs.Encoding as spec;
+
+use be_volume::{Done, Op};
+
+fn op_can_be(op: &Op)
+    ensures { spec.CanBeOp op.now }
+{
+    op.valid();
+    match op {
+        Op::Drop(node) | Op::Set(node, _, _) | Op::Unset(node, _) => {
+            let _node = *node;
+        }
+        Op::New | Op::MkIndex(_, _) | Op::RmIndex(_) => {}
+    }
+}
+
+/// Each of the operations is one of the program.
+pub(crate) fn ops_can_be(ops: &[Op])
+    ensures { All spec.CanBeOp ops.now }
+{
+    for op in ops {
+        op_can_be(op);
+    }
+}
+
+fn done_can_be(done: &Done)
+    ensures { spec.CanBeDone done.now }
+{
+    match done {
+        Done::Node(node) => {
+            let _node = *node;
+        }
+        Done::Unit => {}
+    }
+}
+
+/// Each of the outcomes is one of the program.
+pub(crate) fn dones_can_be(dones: &[Done])
+    ensures { All spec.CanBeDone dones.now }
+{
+    for done in dones {
+        done_can_be(done);
+    }
+}

@@ -1,7 +1,0 @@
-//! Worked examples of journals that are read back, by public calls.
-//!
-//! They stand in a crate of their own, so that be_history isn't proved a second time with them.
-#![tactic(auto)]
-
-#[cfg(test)]
-mod tests;

@@ -1,0 +1,70 @@
+-- Which journal a text has, and what the check of it finds.
+use Rattle.std.specs.Prelude.{◌≡◌, ◌⊎◌, ℕ, ◌+◌, ◌<◌, ◌≤◌, ◌^◌, All, List, [], ◌∷◌, ◌++◌, length}
+use Rattle.std.specs.Prelude.{get_or, Some, None, codes}
+use Rattle.std.specs.Fmt.{decimal}
+use Rattle.std.specs.String.{string_bytes}
+use Rattle.std.specs.declared.option.Option.{Option}
+use Rattle.be_journal.specs.Journal.{IsEntry, IsFirstWrong}
+use Rattle.be_journal.specs.Text.{entry_line, lines_from, result_text}
+use Rattle.be_journal.specs.declared.entries.Entry.{Entry}
+use Rattle.be_journal_text.specs.History.{CanBeJournal}
+use Rattle.be_journal_text.specs.declared.checks.Finding.{Finding}
+use Rattle.be_journal_text.specs.declared.checks.Finding.TheVariants as findings
+
+-- whole lines, or nothing
+abbrev pub AreLines : List ℕ → Type 0
+AreLines text = (text ≡ []) ⊎ ((front : List ℕ) × (text ≡ front ++ 10 ∷ []))
+
+-- the line `journal N`
+abbrev pub head : ℕ → List ℕ
+head count = codes "journal " ++ (decimal count ++ codes "\n")
+
+-- A text has the journal whose text it is, or the one that follows the other lines of a race as its
+-- result.
+abbrev pub TextTells : List ℕ → List Entry → Type 0
+TextTells text entries = (text ≡ lines_from 1 entries)
+    ⊎ ((front : List ℕ) × AreLines front × (text ≡ front ++ result_text entries))
+
+-- this is the rest of the text from a line on that begins with `j`
+abbrev pub IsFromJ : List ℕ → List ℕ → Type 0
+IsFromJ text rest = (front : List ℕ) × (more : List ℕ) × AreLines front × (text ≡ front ++ rest)
+    × (rest ≡ 106 ∷ more)
+
+-- the same of the last such line; none if no line begins so
+abbrev pub IsFromLastJ : List ℕ → Option (List ℕ) → Type 0
+IsFromLastJ text None = (rest : List ℕ) → IsFromJ text rest → ⊥
+IsFromLastJ text (Some last) = IsFromJ text last
+    × ((rest : List ℕ) → IsFromJ text rest → length last ≤ length rest)
+
+-- entries of which each has its operations and answers, and fewer than 2^32 of them
+abbrev pub AreChecked : List Entry → Type 0
+AreChecked entries = All IsEntry entries × (length entries < 2 ^ 32)
+
+-- what the check of a text finds: that it has no journal, that its journal of this many entries is
+-- right, or how many entries it has and the line of the first wrong one
+pub data Found : Type 0 where
+  no_journal : Found
+  right : ℕ → Found
+  wrong : ℕ → List ℕ → Found
+
+abbrev pub found_of : Finding → Found
+found_of findings.NoJournal = no_journal
+found_of (findings.Right count) = right count
+found_of (findings.Wrong line count) = wrong count (string_bytes line)
+
+-- what the check of entries finds
+abbrev pub IsFound : List Entry → Found → Type 0
+IsFound entries no_journal = ⊥
+IsFound entries (right count) = IsFirstWrong entries None × (count ≡ length entries)
+IsFound entries (wrong count line) =
+    (i : ℕ) × (entry : Entry) × IsFirstWrong entries (Some i) × (entry ≡ get_or entries i entry)
+    × (line ≡ entry_line (i + 1) entry) × (count ≡ length entries)
+
+-- what the check of a text finds
+abbrev pub IsFinding : List ℕ → Found → Type 0
+IsFinding text no_journal = (entries : List Entry) → CanBeJournal entries → TextTells text entries
+    → ⊥
+IsFinding text (right count) = (entries : List Entry) × CanBeJournal entries
+    × TextTells text entries × IsFound entries (right count)
+IsFinding text (wrong count line) = (entries : List Entry) × CanBeJournal entries
+    × TextTells text entries × IsFound entries (wrong count line)

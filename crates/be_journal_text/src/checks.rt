@@ -1,0 +1,44 @@
+//! The check of a journal that somebody else printed.
+ghost use Rattle.std.specs.Prelude.{IfOk};
+ghost use Rattle.be_journal_text.specs.Finding as spec;
+
+use crate::outputs::journal_told;
+use be_journal::{Entry, entry_line, first_wrong};
+use std::alloc::{AllocError, Global};
+
+/// What the check of a text finds.
+#[derive(Debug, Drop, PartialEq, Eq)]
+pub enum Finding {
+    /// The text has no journal.
+    NoJournal,
+    /// The journal has this many entries. Each has the outcomes of a volume that ran those before
+    /// it.
+    Right(u64),
+    /// The line of the first entry that was not, with its LF, and how many entries the journal has.
+    Wrong(String, u64),
+}
+
+/// The line of the first wrong entry, or that there is none; and how many entries there are.
+fn finding_of(alloc: Global, entries: &[Entry]) -> Result<Finding, AllocError>
+    requires { spec.AreChecked entries.now }
+    ensures { IfOk result (λ found. spec.IsFound entries.now (spec.found_of found)) }
+{
+    let count = entries.len() as u64;
+    let Some(place) = first_wrong(alloc, entries)? else {
+        return Ok(Finding::Right(count));
+    };
+    let line = entry_line(alloc, place + 1, &entries[place as usize])?;
+    Ok(Finding::Wrong(line, count))
+}
+
+/// Runs the journal of a text again, on an empty volume. Returns whether each entry was answered
+/// the same, or the first that was not, and how many entries there are. It trusts nothing but the
+/// text. The only error is out of memory.
+pub fn check(alloc: Global, text: &[u8]) -> Result<Finding, AllocError>
+    ensures { IfOk result (λ found. spec.IsFinding text.now (spec.found_of found)) }
+{
+    match journal_told(alloc, text)? {
+        Some(entries) => finding_of(alloc, &entries),
+        None => Ok(Finding::NoJournal),
+    }
+}

@@ -1,0 +1,144 @@
+//! A journal that is read back from its text.
+ghost use Rattle.std.specs.Fmt.{decimal};
+ghost use Rattle.std.specs.List.{join_by};
+ghost use Rattle.std.specs.Option.{option_map};
+ghost use Rattle.std.specs.Prelude.{◌≡◌, ◌≤◌, ◌<◌, ◌++◌, ◌∷◌, [], ℕ, List, Some, IfOk, IfSome};
+ghost use Rattle.std.specs.Prelude.{codes, length};
+ghost use Rattle.be_journal.specs.Journal.{IsEntry};
+ghost use Rattle.be_journal.specs.Text.{done_text, entry_line, lines_from, op_text};
+ghost use Rattle.be_journal.specs.declared.entries.Entry.{Entry as AnyEntry};
+ghost use Rattle.be_journal_text.specs.History as history;
+ghost use Rattle.be_journal_text.specs.Parts as spec;
+
+use crate::lists::{read_dones, read_ops};
+use crate::parts::{skip, split_around, without_last_two};
+use crate::ranges::{dones_can_be, ops_can_be};
+use be_journal::{Entry, Items, entry_line};
+use be_value::word_of;
+use be_volume::{Done, Op};
+use std::alloc::{AllocError, Global};
+
+/// The most entries of a journal.
+const MAX_ENTRIES: usize = (1 << 32) - 1;
+
+/// An entry of these lists, if they fit each other and are no longer than those of a write.
+fn entry_of(by: u64, ops: Vec<Op>, dones: Vec<Done>) -> Option<Entry>
+    ensures { result ≡ history.entry_of by ops.items dones.items }
+{
+    let count = ops.len();
+    if count < 1 || count > 64 || dones.len() != count {
+        return None;
+    }
+    Some(Entry {
+        by,
+        ops: Items::from_vec(ops),
+        dones: Items::from_vec(dones),
+    })
+}
+
+/// What follows `N by ` in the line of the entry N.
+fn behind_number(alloc: Global, number: u64, line: &[u8]) -> Result<&[u8], AllocError>
+    ensures { IfOk result (λ rest. (more : List ℕ) → line.now ≡ decimal number
+        ++ (codes " by " ++ more) → rest.now ≡ more) }
+{
+    let head = format!(in alloc; "{number} by ")?;
+    Ok(skip(head.len(), line))
+}
+
+/// The texts of the pass, the operations and the answers in the line of the entry with this number.
+fn parts_of(alloc: Global, number: u64, line: &[u8]) -> Result<(&[u8], &[u8], &[u8]), AllocError>
+    ensures { IfOk result (λ parts. (entry : AnyEntry) → history.CanBeEntry entry → line.now
+        ≡ entry_line number entry →
+        (parts.0.now ≡ decimal entry.by) × (parts.1.now ≡ join_by op_text (codes "; ") entry.ops)
+        × (parts.2.now ≡ join_by done_text (codes "; ") entry.dones)) }
+{
+    let rest = behind_number(alloc, number, line)?;
+    let (by, rest) = split_around(b' ', rest);
+    let (ops, dones) = split_around(b'>', rest);
+    let (dones, _) = split_around(b'\n', skip(1, dones));
+    Ok((by, without_last_two(ops), dones))
+}
+
+/// The entry of a line with its LF, if the line is one that was printed; otherwise any entry or
+/// none.
+fn guess_entry(alloc: Global, number: u64, line: &[u8]) -> Result<Option<Entry>, AllocError>
+    ensures whole { IfOk result (λ read. (entry : AnyEntry) → history.CanBeEntry entry → line.now
+        ≡ entry_line number entry → read ≡ Some entry) }
+    ensures is { IfOk result (λ read. IfSome read IsEntry) }
+{
+    let (by, ops, dones) = parts_of(alloc, number, line)?;
+    let Some(by) = word_of(by) else {
+        return Ok(None);
+    };
+    let Some(ops) = read_ops(alloc, ops)? else {
+        return Ok(None);
+    };
+    let Some(dones) = read_dones(alloc, dones)? else {
+        return Ok(None);
+    };
+    Ok(entry_of(by, ops, dones))
+}
+
+/// The entry that has this line, its LF included. None if no entry has it.
+fn read_entry(alloc: Global, number: u64, line: &[u8]) -> Result<Option<Entry>, AllocError>
+    ensures reads { IfOk result (λ read. IfSome read
+        (λ entry. history.CanBeEntry entry × (line.now ≡ entry_line number entry))) }
+    ensures whole { IfOk result (λ read. (entry : AnyEntry) → history.CanBeEntry entry → line.now
+        ≡ entry_line number entry → read ≡ Some entry) }
+{
+    let Some(entry) = guess_entry(alloc, number, line)? else {
+        return Ok(None);
+    };
+    let printed = entry_line(alloc, number, &entry)?;
+    if printed.as_bytes() != line {
+        return Ok(None);
+    }
+    ops_can_be(entry.ops.as_slice());
+    dones_can_be(entry.dones.as_slice());
+    Ok(Some(entry))
+}
+
+/// The first line with its LF, and what follows it. A last line may lack its LF.
+pub(crate) fn first_line(text: &[u8]) -> (&[u8], &[u8])
+    ensures whole { result.0.now ++ result.1.now ≡ text.now }
+    ensures first { (line more : List ℕ) → spec.IsLinePart 10 line → text.now ≡ line ++ 10 ∷ more
+        → (result.0.now ≡ line ++ 10 ∷ []) × (result.1.now ≡ more) }
+    ensures shorter { 1 ≤ length text.now → length result.1.now < length text.now }
+{
+    let end = split_around(b'\n', text).0.len();
+    if end < text.len() {
+        text.split_at(end + 1)
+    } else {
+        (text, &[])
+    }
+}
+
+/// Reads a journal's text: its entries, or None if no journal has this text. The only error is out
+/// of memory.
+///
+/// It is the exact inverse of the text: what it gives has this text, and if entries have this text
+/// it gives them.
+pub fn read_journal(alloc: Global, text: &[u8]) -> Result<Option<Vec<Entry>>, AllocError>
+    ensures reads { IfOk result (λ read. IfSome read
+        (λ entries. history.CanBeJournal entries.items × (text.now ≡ lines_from 1 entries.items))) }
+    ensures whole { IfOk result (λ read. (entries : List AnyEntry) → history.CanBeJournal entries
+        → text.now ≡ lines_from 1 entries →
+        option_map (λ v. v.items) read ≡ Some entries) }
+{
+    let mut entries = Vec::new(alloc);
+    let mut number = 1;
+    let mut rest = text;
+    while !rest.is_empty() {
+        let (line, behind) = first_line(rest);
+        let Some(entry) = read_entry(alloc, number, line)? else {
+            return Ok(None);
+        };
+        entries.push(entry)?;
+        number += 1;
+        rest = behind;
+    }
+    if entries.len() > MAX_ENTRIES {
+        return Ok(None);
+    }
+    Ok(Some(entries))
+}

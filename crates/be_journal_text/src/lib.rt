@@ -1,0 +1,25 @@
+//! Histories as texts: a journal that is read back from its text, checked, and made again by a
+//! script.
+//!
+//! [`read_journal`] is the exact inverse of a journal's text: it reads each text that a journal
+//! has, as that journal's entries, and no other text. [`check`] runs a journal's text again on an
+//! empty volume. [`dump`] writes the script that makes the same writes again, and [`dump_state`]
+//! one that makes the same volume. From the bottom up: where a part of a line ends, operations and
+//! answers, an entry, a journal, what a race printed, the check, and the scripts.
+#![tactic(auto)]
+
+mod checks;
+mod dumps;
+mod journals;
+pub mod laws;
+mod lists;
+mod outputs;
+mod parts;
+mod ranges;
+mod state_dumps;
+
+pub use checks::{Finding, check};
+pub use dumps::dump;
+pub use journals::read_journal;
+pub use outputs::journal_told;
+pub use state_dumps::{dump_state, push_write, volume_text};

@@ -1,0 +1,85 @@
+//! The operations and the answers of an entry's line.
+//!
+//! What is read here is right if the text is one that was printed; otherwise it may be anything. An
+//! entry is printed again once it is read, and is taken only if that gives the line.
+ghost use Rattle.std.specs.List.{join_by};
+ghost use Rattle.std.specs.Option.{option_map};
+ghost use Rattle.std.specs.Prelude.{◌≡◌, List, All, Some, IfOk, codes};
+ghost use Rattle.be_volume.specs.declared.ops.Done.{Done as AnyDone};
+ghost use Rattle.be_volume.specs.declared.ops.Op.{Op as AnyOp};
+ghost use Rattle.be_journal.specs.Text.{op_text, done_text};
+ghost use Rattle.be_journal_text.specs.History as history;
+ghost use Rattle.be_journal_text.specs.Parts as spec;
+
+use crate::laws::printed_op_asks_for_it;
+use crate::parts::{skip, split_around};
+use be_script_language::{Request, read_line};
+use be_value::word_of;
+use be_volume::{Done, Op};
+use std::alloc::{AllocError, Global};
+
+/// The operation that a script's line asks for.
+fn read_op(alloc: Global, text: &[u8]) -> Result<Option<Op>, AllocError>
+    ensures { IfOk result (λ op. op ≡ spec.op_in text.now) }
+{
+    let Request::Write(op) = read_line(alloc, text)? else {
+        return Ok(None);
+    };
+    match op {
+        Ok(op) => Ok(Some(op)),
+        Err(_) => Ok(None),
+    }
+}
+
+/// The outcome that a text is for: the number after `node `, if there is one.
+fn read_done(text: &[u8]) -> Done
+    ensures { (done : AnyDone) → history.CanBeDone done → text.now ≡ done_text done → result
+        ≡ done }
+{
+    match word_of(skip(5, text)) {
+        Some(node) => Done::Node(node),
+        None => Done::Unit,
+    }
+}
+
+/// The operations of a text, parted by `; `.
+pub fn read_ops(alloc: Global, text: &[u8]) -> Result<Option<Vec<Op>>, AllocError>
+    ensures { IfOk result (λ read. (ops : List AnyOp) → All history.CanBeOp ops → text.now
+        ≡ join_by op_text (codes "; ") ops →
+        option_map (λ v. v.items) read ≡ Some ops) }
+{
+    printed_op_asks_for_it();
+    let mut ops = Vec::new(alloc);
+    let mut rest = text;
+    while !rest.is_empty() {
+        let (part, behind) = split_around(b';', rest);
+        if part.is_empty() {
+            return Ok(None);
+        }
+        let Some(op) = read_op(alloc, part)? else {
+            return Ok(None);
+        };
+        ops.push(op)?;
+        rest = skip(1, behind);
+    }
+    Ok(Some(ops))
+}
+
+/// The answers of a text, parted by `; `.
+pub fn read_dones(alloc: Global, text: &[u8]) -> Result<Option<Vec<Done>>, AllocError>
+    ensures { IfOk result (λ read. (dones : List AnyDone) → All history.CanBeDone dones → text.now
+        ≡ join_by done_text (codes "; ") dones →
+        option_map (λ v. v.items) read ≡ Some dones) }
+{
+    let mut dones = Vec::new(alloc);
+    let mut rest = text;
+    while !rest.is_empty() {
+        let (part, behind) = split_around(b';', rest);
+        if part.is_empty() {
+            return Ok(None);
+        }
+        dones.push(read_done(part))?;
+        rest = skip(1, behind);
+    }
+    Ok(Some(dones))
+}

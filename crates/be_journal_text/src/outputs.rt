@@ -1,0 +1,91 @@
+//! The journal that a race or a run printed.
+//!
+//! It is the end of what was printed: the line `journal N`, the journal's text, and `replay ok`. No
+//! line of a journal's text begins with a `j`, so the last line that does is where it begins.
+ghost use Rattle.std.specs.Option.{option_map};
+ghost use Rattle.std.specs.Prelude.{◌≡◌, ◌≢◌, ◌↔◌, ◌++◌, ℕ, true, List, Some, IfOk, IfSome};
+ghost use Rattle.std.specs.Prelude.{MatchOption, codes};
+ghost use Rattle.be_journal.specs.Text.{result_text};
+ghost use Rattle.be_journal.specs.declared.entries.Entry.{Entry as AnyEntry};
+ghost use Rattle.be_journal_text.specs.Finding as spec;
+ghost use Rattle.be_journal_text.specs.History.{CanBeJournal};
+
+use crate::journals::{first_line, read_journal};
+use be_journal::Entry;
+use std::alloc::{AllocError, Global};
+
+/// The last line of what was printed.
+const LAST_LINE: &[u8] = b"replay ok\n";
+
+/// The text from its last line on that begins with `j`. None if no line does.
+fn from_last_j(text: &[u8]) -> Option<&[u8]>
+    ensures { spec.IsFromLastJ text.now (option_map (λ t. t.now) result) }
+{
+    let mut found = None;
+    let mut is_start = true;
+    let mut rest = text;
+    while let Some((byte, behind)) = rest.split_first() {
+        if is_start && *byte == b'j' {
+            found = Some(rest);
+        }
+        is_start = *byte == b'\n';
+        rest = behind;
+    }
+    found
+}
+
+/// Whether the text is that of the line `journal N`, for this N, and its LF.
+fn is_head(alloc: Global, text: &[u8], count: usize) -> Result<bool, AllocError>
+    ensures { IfOk result (λ is. (is ≡ true) ↔ (text.now ≡ spec.head count)) }
+{
+    let head = format!(in alloc; "journal {count}\n")?;
+    Ok(head.as_bytes() == text)
+}
+
+/// The lines before the last one, if that says that the replay is right.
+fn before_last(text: &[u8]) -> Option<&[u8]>
+    ensures { MatchOption result ((lines : List ℕ) → text.now ≢ lines ++ codes "replay ok\n")
+        (λ lines. text.now ≡ lines.now ++ codes "replay ok\n") }
+{
+    text.strip_suffix(LAST_LINE)
+}
+
+/// The entries of a text that ends a race: `journal N`, the journal's text, and `replay ok`.
+fn read_result(alloc: Global, text: &[u8]) -> Result<Option<Vec<Entry>>, AllocError>
+    ensures reads { IfOk result (λ read. IfSome read
+        (λ entries. CanBeJournal entries.items × (text.now ≡ result_text entries.items))) }
+    ensures whole { IfOk result (λ read. (entries : List AnyEntry) → CanBeJournal entries → text.now
+        ≡ result_text entries →
+        option_map (λ v. v.items) read ≡ Some entries) }
+{
+    let (head, rest) = first_line(text);
+    let Some(lines) = before_last(rest) else {
+        return Ok(None);
+    };
+    let Some(entries) = read_journal(alloc, lines)? else {
+        return Ok(None);
+    };
+    if is_head(alloc, head, entries.len())? {
+        Ok(Some(entries))
+    } else {
+        Ok(None)
+    }
+}
+
+/// The journal of a text: of what a race printed, or a run that prints its journal, or of the
+/// journal's text alone. None if the text has no journal. The only error is out of memory.
+///
+/// It is exact: the journal that it returns is the text's, and it returns each journal that a text
+/// has. So no text has two journals.
+pub fn journal_told(alloc: Global, text: &[u8]) -> Result<Option<Vec<Entry>>, AllocError>
+    ensures reads { IfOk result (λ read. IfSome read
+        (λ entries. CanBeJournal entries.items × spec.TextTells text.now entries.items)) }
+    ensures whole { IfOk result (λ read. (entries : List AnyEntry) → CanBeJournal entries
+        → spec.TextTells text.now entries →
+        option_map (λ v. v.items) read ≡ Some entries) }
+{
+    match from_last_j(text) {
+        Some(result) => read_result(alloc, result),
+        None => read_journal(alloc, text),
+    }
+}

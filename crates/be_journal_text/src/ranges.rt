@@ -1,0 +1,73 @@
+//! What is at hand is such of the program: a contract can't tell of a number or an operation that
+//! it is lent that it is in its type's range. Each function does nothing; its contract says so.
+ghost use Rattle.std.specs.Prelude.{◌<◌, ◌^◌, All};
+ghost use Rattle.be_journal_text.specs.History as history;
+
+use be_value::Value;
+use be_volume::{Done, Op};
+
+/// Bytes are below 256.
+fn are_bytes(bytes: &[u8])
+    ensures { All (λ b. b < 2 ^ 8) bytes.now }
+{
+    for byte in bytes {
+        let _byte = *byte;
+    }
+}
+
+fn value_has_bytes(value: &Value)
+    ensures { history.HasBytes value.now }
+{
+    match value {
+        Value::Rawt(bytes) => are_bytes(bytes.as_slice()),
+        Value::Cstr(_) | Value::Mims(_) => {}
+        Value::Long(_) | Value::Llng(_) | Value::Ulng(_) | Value::Ullg(_) => {}
+    }
+}
+
+/// A law of one operation: it is one of the program, as a contract can't tell of an operation that
+/// it is lent. It does nothing.
+fn op_can_be(op: &Op)
+    ensures { history.CanBeOp op.now }
+{
+    op.valid();
+    match op {
+        Op::Drop(node) | Op::Unset(node, _) => {
+            let _node = *node;
+        }
+        Op::Set(node, _, value) => {
+            let _node = *node;
+            value_has_bytes(value);
+        }
+        Op::New | Op::MkIndex(_, _) | Op::RmIndex(_) => {}
+    }
+}
+
+/// The same of operations.
+pub fn ops_can_be(ops: &[Op])
+    ensures { All history.CanBeOp ops.now }
+{
+    for op in ops {
+        op_can_be(op);
+    }
+}
+
+fn done_can_be(done: &Done)
+    ensures { history.CanBeDone done.now }
+{
+    match done {
+        Done::Node(node) => {
+            let _node = *node;
+        }
+        Done::Unit => {}
+    }
+}
+
+/// The same of answers.
+pub fn dones_can_be(dones: &[Done])
+    ensures { All history.CanBeDone dones.now }
+{
+    for done in dones {
+        done_can_be(done);
+    }
+}

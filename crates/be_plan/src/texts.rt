@@ -1,0 +1,79 @@
+//! Comparisons that are asked of many texts.
+//!
+//! A walk over an index of texts asks one comparison of each key. So its pattern is compiled once,
+//! and then asked of the bytes of the keys: no text is taken out of a key, and none is decoded.
+ghost use Rattle.std.specs.Prelude.{◌≡◌, IsUtf8, IfOk, IfErr};
+ghost use Rattle.be_value.specs.declared.refusals.Refusal.TheVariants.{OutOfMemory};
+ghost use Rattle.be_query.specs.View.{literal};
+ghost use Rattle.be_volume.specs.Query.{holds_of_text};
+ghost use Rattle.be_plan.specs.Texts.{text_in};
+
+use be_byte_pattern::BytePattern;
+use be_query::{Cmp, Comparison, Literal};
+use be_value::Refusal;
+use be_volume::is_true_of;
+use std::alloc::Global;
+use std::marker::Model;
+
+/// What texts are compared with.
+#[derive(Drop)]
+enum Compared<'q> {
+    Words(&'q str),
+    Pattern(BytePattern<'q>),
+}
+
+/// A comparison that is ready to be asked of texts. A contract sees its operator and its literal.
+#[derive(Drop)]
+pub(crate) struct TextTest<'q> {
+    op: Cmp,
+    compared: Compared<'q>,
+}
+
+impl<'q> Model for TextTest<'q> {
+    ghost use Rattle.be_query.specs.Grammar.{Literal as AnyLiteral};
+    ghost use Rattle.be_query.specs.declared.tree.Cmp.{Cmp as Operator};
+    ghost use Rattle.be_plan.specs.Texts.{literal_of};
+
+    ghost Value = { Operator × AnyLiteral };
+
+    ghost view = { λ t. (t.op, literal_of t.compared) };
+}
+
+impl<'q> TextTest<'q> {
+    /// Makes a comparison ready. It takes memory for a pattern alone.
+    pub(crate) fn new(alloc: Global, comparison: &'q Comparison) -> Result<TextTest<'q>, Refusal>
+        ensures ok { IfOk result (λ test. test
+            ≡ (comparison.now.op, literal comparison.now.literal)) }
+        ensures err { IfErr result (λ e. e ≡ OutOfMemory) }
+    {
+        let compared = match &comparison.literal {
+            Literal::Text(words) => Compared::Words(words.as_str()),
+            Literal::Pattern(pattern) => Compared::Pattern(BytePattern::new(alloc, pattern)?),
+        };
+        Ok(TextTest {
+            op: comparison.op,
+            compared,
+        })
+    }
+
+    /// Whether the comparison is true of a text, given by its bytes.
+    pub(crate) fn passes(&self, text: &[u8]) -> bool
+        ensures { IsUtf8 text.now → result ≡ holds_of_text self.now.0 text.now self.now.1 }
+    {
+        match &self.compared {
+            Compared::Words(words) => is_true_of(self.op, text.cmp(&words.as_bytes())),
+            Compared::Pattern(pattern) => match self.op {
+                Cmp::Eq => pattern.matches(text),
+                _ => !pattern.matches(text),
+            },
+        }
+    }
+}
+
+/// The text of a key of an index of texts: what comes before a zero byte and the eight bytes of the
+/// node.
+pub(crate) fn text_of(key: &[u8]) -> &[u8]
+    ensures { result.now ≡ text_in key.now }
+{
+    &key[..key.len().saturating_sub(9)]
+}

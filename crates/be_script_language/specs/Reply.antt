@@ -1,0 +1,92 @@
+-- The replies, and their texts.
+use Rattle.std.specs.Prelude.{ℕ, List, [], ◌∷◌, ◌++◌, Some, None, codes, length}
+use Rattle.std.specs.List.{flat_map}
+use Rattle.std.specs.Fmt.{decimal}
+use Rattle.std.specs.declared.option.Option.{Option}
+use Rattle.be_value.specs.Refusal.{printed}
+use Rattle.be_value.specs.Value.{kind_of, kind_name}
+use Rattle.be_value.specs.declared.refusals.Refusal.{Refusal}
+use Rattle.be_value.specs.declared.values.Kind.{Kind}
+use Rattle.be_value.specs.declared.values.Value.{Value}
+use Rattle.be_volume.specs.declared.ops.Done.{Done}
+use Rattle.be_journal.specs.Text.{quoted, value_text, done_text}
+
+-- the reply to a line; `none` is that of a line without one
+pub data Reply : Type 0 where
+  none : Reply
+  bad_line : Reply
+  ok : Reply
+  node : ℕ → Reply
+  nodes : List ℕ → Reply
+  value : Option Value → Reply
+  attributes : List (List ℕ × Value) → Reply
+  kinds : List (List ℕ × Kind) → Reply
+  cover : List ℕ → Reply
+  pinned_at : ℕ → Reply
+  already_pinned : Reply
+  not_pinned : Reply
+  updates : List ℕ → List ℕ → Reply
+  no_live_query : Reply
+  queued : Reply
+  full_batch : Reply
+  empty_batch : Reply
+  already_begun : Reply
+  not_begun : Reply
+  committed : ℕ → List Done → Reply
+  refused : Refusal → Reply
+
+-- a space and a number for each
+abbrev pub numbers : List ℕ → List ℕ
+numbers ns = flat_map (λ n. 32 ∷ decimal n) ns
+
+-- a word, and then a space and a number for each
+abbrev pub numbers_line : List ℕ → List ℕ → List ℕ
+numbers_line word ns = (word ++ numbers ns) ++ codes "\n"
+
+-- `KIND VALUE`
+abbrev pub kind_and_value : Value → List ℕ
+kind_and_value v = kind_name (kind_of v) ++ (codes " " ++ value_text v)
+
+abbrev pub value_line : Option Value → List ℕ
+value_line None = codes "none\n"
+value_line (Some v) = kind_and_value v ++ codes "\n"
+
+-- `"NAME" KIND VALUE`
+abbrev pub attribute_line : List ℕ × Value → List ℕ
+attribute_line a = quoted a.0 ++ (codes " " ++ (kind_and_value a.1 ++ codes "\n"))
+
+-- `"NAME" KIND`
+abbrev pub kind_line : List ℕ × Kind → List ℕ
+kind_line i = quoted i.0 ++ (codes " " ++ (kind_name i.1 ++ codes "\n"))
+
+abbrev pub done_line : Done → List ℕ
+done_line done = done_text done ++ codes "\n"
+
+-- a word and a number in the first line, and then a line for each
+abbrev pub listed : {A : Type 0} → List ℕ → ℕ → (A → List ℕ) → List A → List ℕ
+listed word n line_of xs = (word ++ (decimal n ++ codes "\n")) ++ flat_map line_of xs
+
+-- the text of a reply, with its line ends
+abbrev pub text_of : Reply → List ℕ
+text_of none = []
+text_of bad_line = codes "bad line\n"
+text_of ok = codes "ok\n"
+text_of (node n) = codes "node " ++ (decimal n ++ codes "\n")
+text_of (nodes ns) = numbers_line (codes "nodes") ns
+text_of (value v) = value_line v
+text_of (attributes list) = listed (codes "attrs ") (length list) attribute_line list
+text_of (kinds list) = listed (codes "indices ") (length list) kind_line list
+text_of (cover text) = text ++ codes "\n"
+text_of (pinned_at n) = codes "pin " ++ (decimal n ++ codes "\n")
+text_of already_pinned = codes "already pinned\n"
+text_of not_pinned = codes "not pinned\n"
+text_of (updates created removed) = numbers_line (codes "created") created
+    ++ numbers_line (codes "removed") removed
+text_of no_live_query = codes "no live query\n"
+text_of queued = codes "queued\n"
+text_of full_batch = codes "full batch\n"
+text_of empty_batch = codes "empty batch\n"
+text_of already_begun = codes "already begun\n"
+text_of not_begun = codes "not begun\n"
+text_of (committed n dones) = listed (codes "commit ") n done_line dones
+text_of (refused r) = printed r ++ codes "\n"

@@ -1,0 +1,177 @@
+//! Replies and their texts.
+//!
+//! A reply is a line or several, each with its LF. Its whole text is made before any of it is
+//! written, so out of memory never leaves half a reply written.
+ghost use Rattle.std.specs.Prelude.{◌≡◌, ◌++◌, ◌∷◌, IfOk, OnOk, codes, decimal, flat_map};
+ghost use Rattle.std.specs.String.{string_bytes};
+ghost use Rattle.be_script_language.specs.Reply as spec;
+
+use arrayvec::ArrayVec;
+use be_journal::{done_text, quoted, value_text};
+use be_value::{Kind, Name, Refusal, Value};
+use be_volume::Done;
+use std::alloc::{AllocError, Global};
+
+/// The reply to a line.
+#[derive(Debug, Drop)]
+pub enum Reply {
+    /// The line has no reply.
+    Silent,
+    BadLine,
+    Done,
+    Node(u64),
+    /// What a query finds.
+    Nodes(Vec<u64>),
+    /// What `get` finds.
+    Value(Option<Value>),
+    Attributes(Vec<(Name, Value)>),
+    Kinds(Vec<(Name, Kind)>),
+    /// What `explain` says.
+    Cover(String),
+    /// The number of the version that is now pinned.
+    Pinned(u64),
+    AlreadyPinned,
+    NotPinned,
+    /// What `refresh` finds: the nodes that came, and those that went.
+    Updates(Vec<u64>, Vec<u64>),
+    NoLiveQuery,
+    Queued,
+    FullBatch,
+    EmptyBatch,
+    AlreadyBegun,
+    NotBegun,
+    /// The number of a commit, and an answer for each of its operations.
+    Committed(u64, ArrayVec<Done, 64>),
+    Refused(Refusal),
+}
+
+ghost use Rattle.be_script_language.specs.View.{reply_of};
+
+/// The reply as it is written.
+pub fn reply_text(alloc: Global, reply: &Reply) -> Result<String, AllocError>
+    ensures { IfOk result (λ text. string_bytes text ≡ spec.text_of (reply_of reply.now)) }
+{
+    match reply {
+        Reply::Silent => Ok(String::new(alloc)),
+        Reply::BadLine => String::from_str(alloc, "bad line\n"),
+        Reply::Done => String::from_str(alloc, "ok\n"),
+        Reply::Node(n) => format!(in alloc; "node {n}\n"),
+        Reply::Nodes(nodes) => numbers_line(alloc, "nodes", nodes),
+        Reply::Value(value) => value_line(alloc, value),
+        Reply::Attributes(list) => attributes_text(alloc, list),
+        Reply::Kinds(list) => kinds_text(alloc, list),
+        Reply::Cover(text) => format!(in alloc; "{text}\n"),
+        Reply::Pinned(n) => format!(in alloc; "pin {n}\n"),
+        Reply::AlreadyPinned => String::from_str(alloc, "already pinned\n"),
+        Reply::NotPinned => String::from_str(alloc, "not pinned\n"),
+        Reply::Updates(created, removed) => updates_text(alloc, created, removed),
+        Reply::NoLiveQuery => String::from_str(alloc, "no live query\n"),
+        Reply::Queued => String::from_str(alloc, "queued\n"),
+        Reply::FullBatch => String::from_str(alloc, "full batch\n"),
+        Reply::EmptyBatch => String::from_str(alloc, "empty batch\n"),
+        Reply::AlreadyBegun => String::from_str(alloc, "already begun\n"),
+        Reply::NotBegun => String::from_str(alloc, "not begun\n"),
+        Reply::Committed(n, dones) => commit_text(alloc, *n, dones.as_slice()),
+        Reply::Refused(refusal) => format!(in alloc; "{refusal}\n"),
+    }
+}
+
+/// A word, and then a space and a number for each.
+fn numbers_line(alloc: Global, word: &str, numbers: &[u64]) -> Result<String, AllocError>
+    ensures { IfOk result (λ text. string_bytes text ≡ spec.numbers_line word.now numbers.now) }
+{
+    let mut text = String::from_str(alloc, word)?;
+    for number in numbers {
+        text.push_str(after_space(alloc, *number)?.as_str())?;
+    }
+    text.push_str("\n")?;
+    Ok(text)
+}
+
+fn updates_text(alloc: Global, created: &[u64], removed: &[u64]) -> Result<String, AllocError>
+    ensures { IfOk result (λ text. string_bytes text
+        ≡ spec.text_of (spec.updates created.now removed.now)) }
+{
+    let mut text = numbers_line(alloc, "created", created)?;
+    text.push_str(numbers_line(alloc, "removed", removed)?.as_str())?;
+    Ok(text)
+}
+
+fn after_space(alloc: Global, n: u64) -> Result<String, AllocError>
+    ensures { IfOk result (λ text. string_bytes text ≡ 32 ∷ decimal n) }
+{
+    format!(in alloc; " {n}")
+}
+
+/// `KIND VALUE`.
+fn kind_and_value(alloc: Global, value: &Value) -> Result<String, AllocError>
+    ensures { IfOk result (λ text. string_bytes text ≡ spec.kind_and_value value.now) }
+{
+    let kind = value.kind().name();
+    let value = value_text(alloc, value)?;
+    format!(in alloc; "{kind} {value}")
+}
+
+fn value_line(alloc: Global, value: &Option<Value>) -> Result<String, AllocError>
+    ensures { IfOk result (λ text. string_bytes text ≡ spec.value_line value.now) }
+{
+    match value {
+        Some(value) => {
+            let value = kind_and_value(alloc, value)?;
+            format!(in alloc; "{value}\n")
+        }
+        None => String::from_str(alloc, "none\n"),
+    }
+}
+
+/// `"NAME" KIND VALUE`.
+fn attribute_line(alloc: Global, name: &Name, value: &Value) -> Result<String, AllocError>
+    ensures { IfOk result (λ text. string_bytes text ≡ spec.attribute_line (name.now, value.now)) }
+{
+    let name = quoted(alloc, name.as_str())?;
+    let value = kind_and_value(alloc, value)?;
+    format!(in alloc; "{name} {value}\n")
+}
+
+fn attributes_text(alloc: Global, list: &[(Name, Value)]) -> Result<String, AllocError>
+    ensures { IfOk result (λ text. string_bytes text ≡ spec.text_of (spec.attributes list.now)) }
+{
+    let count = list.len();
+    let mut text = format!(in alloc; "attrs {count}\n")?;
+    for (name, value) in list {
+        text.push_str(attribute_line(alloc, name, value)?.as_str())?;
+    }
+    Ok(text)
+}
+
+/// `"NAME" KIND`.
+fn kind_line(alloc: Global, name: &Name, kind: Kind) -> Result<String, AllocError>
+    ensures { IfOk result (λ text. string_bytes text ≡ spec.kind_line (name.now, kind)) }
+{
+    let name = quoted(alloc, name.as_str())?;
+    let kind = kind.name();
+    format!(in alloc; "{name} {kind}\n")
+}
+
+fn kinds_text(alloc: Global, list: &[(Name, Kind)]) -> Result<String, AllocError>
+    ensures { IfOk result (λ text. string_bytes text ≡ spec.text_of (spec.kinds list.now)) }
+{
+    let count = list.len();
+    let mut text = format!(in alloc; "indices {count}\n")?;
+    for (name, kind) in list {
+        text.push_str(kind_line(alloc, name, *kind)?.as_str())?;
+    }
+    Ok(text)
+}
+
+fn commit_text(alloc: Global, number: u64, dones: &[Done]) -> Result<String, AllocError>
+    ensures { IfOk result (λ text. string_bytes text
+        ≡ spec.text_of (spec.committed number dones.now)) }
+{
+    let mut text = format!(in alloc; "commit {number}\n")?;
+    for done in dones {
+        text.push_str(done_text(alloc, done)?.as_str())?;
+        text.push_str("\n")?;
+    }
+    Ok(text)
+}

@@ -1,0 +1,313 @@
+//! What a line asks for.
+//!
+//! A line is looked at in a fixed order: is it a text at all, has it a reply at all, then its
+//! command word and the words after it. Whatever doesn't fit makes it a bad line. Names and values
+//! that fit and that no store takes leave their refusal in the request.
+ghost use Rattle.std.specs.List.{list_all};
+ghost use Rattle.std.specs.Option.{option_map};
+ghost use Rattle.std.specs.Prelude.{◌≡◌, IfOk, string_bytes};
+ghost use Rattle.std.specs.Str.{chars};
+ghost use Rattle.std.specs.Str.Lines.{strip_carriage_return};
+ghost use Rattle.be_value.specs.Name.{name_from};
+ghost use Rattle.be_script_language.specs.Request as spec;
+ghost use Rattle.be_script_language.specs.Words.{is_blank};
+
+use crate::commands::{Command, command_named};
+use crate::values::{kind_of, value_of};
+use crate::words::{first_word, is_empty, one_word, skip, split_word, text_of, two_words};
+use be_value::{Kind, Name, Refusal, Value, word_of};
+use be_volume::Op;
+use std::alloc::{AllocError, Global};
+use std::str;
+
+/// What a line asks for.
+#[derive(Debug, Drop)]
+pub enum Request {
+    /// The line has no reply.
+    Silent,
+    /// The line is a bad line.
+    Malformed,
+    /// An operation, or why its name or its value is none.
+    Write(Result<Op, Refusal>),
+    /// A query's text.
+    Query(String),
+    /// The text of a query that is to be explained.
+    Explain(String),
+    Get(u64, Result<Name, Refusal>),
+    Attrs(u64),
+    Indices,
+    Pin,
+    Unpin,
+    /// The text of a live query.
+    Live(String),
+    Refresh,
+    Begin,
+    Commit,
+    Abort,
+}
+
+ghost use Rattle.be_script_language.specs.View.{request_of};
+
+/// A request that takes no words.
+fn bare(request: Request, rest: &[char]) -> Option<Request>
+    ensures { option_map request_of result ≡ spec.bare (request_of request) rest.now }
+{
+    if is_empty(rest) { Some(request) } else { None }
+}
+
+fn unset_op(node: u64, name: &str) -> Result<Op, Refusal>
+    ensures { result ≡ spec.named (λ name. Op.Unset node name) name.now }
+{
+    Ok(Op::Unset(node, Name::new(name)?))
+}
+
+fn mkindex_op(name: &str, kind: Kind) -> Result<Op, Refusal>
+    ensures { result ≡ spec.named (λ name. Op.MkIndex name kind) name.now }
+{
+    Ok(Op::MkIndex(Name::new(name)?, kind))
+}
+
+fn rmindex_op(name: &str) -> Result<Op, Refusal>
+    ensures { result ≡ spec.named Op.RmIndex name.now }
+{
+    Ok(Op::RmIndex(Name::new(name)?))
+}
+
+/// The name is looked at before the value.
+fn set_op(node: u64, name: &str, value: Result<Value, Refusal>) -> Result<Op, Refusal>
+    ensures { result ≡ spec.set_op node (name_from name.now) value }
+{
+    let name = Name::new(name)?;
+    Ok(Op::Set(node, name, value?))
+}
+
+/// `set N NAME KIND VALUE`, in its words.
+fn set_from(
+    alloc: Global,
+    node: &str,
+    name: &str,
+    kind: &str,
+    value: &str,
+) -> Result<Option<Request>, AllocError>
+    ensures { IfOk result (λ request. option_map request_of request
+        ≡ spec.set_from node.now name.now kind.now value.now) }
+{
+    let Some(node) = word_of(node.as_bytes()) else {
+        return Ok(None);
+    };
+    let Some(kind) = kind_of(kind) else {
+        return Ok(None);
+    };
+    match value_of(alloc, kind, value)? {
+        Some(value) => Ok(Some(Request::Write(set_op(node, name, value)))),
+        None => Ok(None),
+    }
+}
+
+/// The request of a line `set`, from the words after the command: node, name, kind and value. None
+/// if the line is bad.
+fn set_request(alloc: Global, rest: &[char]) -> Result<Option<Request>, AllocError>
+    ensures { IfOk result (λ request. option_map request_of request ≡ spec.set_in rest.now) }
+{
+    let Some((node, rest)) = first_word(alloc, rest)? else {
+        return Ok(None);
+    };
+    let Some((name, rest)) = first_word(alloc, rest)? else {
+        return Ok(None);
+    };
+    match two_words(alloc, rest)? {
+        Some((kind, value)) => set_from(
+            alloc,
+            node.as_str(),
+            name.as_str(),
+            kind.as_str(),
+            value.as_str(),
+        ),
+        None => Ok(None),
+    }
+}
+
+/// The only word, a number.
+fn only_number(alloc: Global, rest: &[char]) -> Result<Option<u64>, AllocError>
+    ensures { IfOk result (λ number. number ≡ spec.only_number_in rest.now) }
+{
+    match one_word(alloc, rest)? {
+        Some(word) => Ok(word_of(word.as_bytes())),
+        None => Ok(None),
+    }
+}
+
+fn drop_request(alloc: Global, rest: &[char]) -> Result<Option<Request>, AllocError>
+    ensures { IfOk result (λ request. option_map request_of request ≡ spec.drop_in rest.now) }
+{
+    match only_number(alloc, rest)? {
+        Some(node) => Ok(Some(Request::Write(Ok(Op::Drop(node))))),
+        None => Ok(None),
+    }
+}
+
+fn attrs_request(alloc: Global, rest: &[char]) -> Result<Option<Request>, AllocError>
+    ensures { IfOk result (λ request. option_map request_of request ≡ spec.attrs_in rest.now) }
+{
+    match only_number(alloc, rest)? {
+        Some(node) => Ok(Some(Request::Attrs(node))),
+        None => Ok(None),
+    }
+}
+
+/// The only two words, the number of a node and a name.
+fn node_and_name(alloc: Global, rest: &[char]) -> Result<Option<(u64, String)>, AllocError>
+    ensures { IfOk result (λ words. option_map (λ p. (p.0, string_bytes p.1)) words
+        ≡ spec.number_and_word_in rest.now) }
+{
+    let Some((node, name)) = two_words(alloc, rest)? else {
+        return Ok(None);
+    };
+    match word_of(node.as_bytes()) {
+        Some(node) => Ok(Some((node, name))),
+        None => Ok(None),
+    }
+}
+
+fn unset_request(alloc: Global, rest: &[char]) -> Result<Option<Request>, AllocError>
+    ensures { IfOk result (λ request. option_map request_of request ≡ spec.unset_in rest.now) }
+{
+    match node_and_name(alloc, rest)? {
+        Some((node, name)) => Ok(Some(Request::Write(unset_op(node, name.as_str())))),
+        None => Ok(None),
+    }
+}
+
+fn get_request(alloc: Global, rest: &[char]) -> Result<Option<Request>, AllocError>
+    ensures { IfOk result (λ request. option_map request_of request ≡ spec.get_in rest.now) }
+{
+    match node_and_name(alloc, rest)? {
+        Some((node, name)) => Ok(Some(Request::Get(node, Name::new(name.as_str())))),
+        None => Ok(None),
+    }
+}
+
+fn mkindex_request(alloc: Global, rest: &[char]) -> Result<Option<Request>, AllocError>
+    ensures { IfOk result (λ request. option_map request_of request ≡ spec.mkindex_in rest.now) }
+{
+    let Some((name, kind)) = two_words(alloc, rest)? else {
+        return Ok(None);
+    };
+    match kind_of(kind.as_str()) {
+        Some(kind) => Ok(Some(Request::Write(mkindex_op(name.as_str(), kind)))),
+        None => Ok(None),
+    }
+}
+
+fn rmindex_request(alloc: Global, rest: &[char]) -> Result<Option<Request>, AllocError>
+    ensures { IfOk result (λ request. option_map request_of request ≡ spec.rmindex_in rest.now) }
+{
+    match one_word(alloc, rest)? {
+        Some(name) => Ok(Some(Request::Write(rmindex_op(name.as_str())))),
+        None => Ok(None),
+    }
+}
+
+/// What a command and what follows its word ask for.
+fn command_request(
+    alloc: Global,
+    command: Command,
+    rest: &[char],
+) -> Result<Option<Request>, AllocError>
+    ensures { IfOk result (λ request. option_map request_of request
+        ≡ spec.command_in command rest.now) }
+{
+    match command {
+        Command::New => Ok(bare(Request::Write(Ok(Op::New)), rest)),
+        Command::Drop => drop_request(alloc, rest),
+        Command::Set => set_request(alloc, rest),
+        Command::Unset => unset_request(alloc, rest),
+        Command::MkIndex => mkindex_request(alloc, rest),
+        Command::RmIndex => rmindex_request(alloc, rest),
+        Command::Query => Ok(Some(Request::Query(text_of(alloc, skip(rest))?))),
+        Command::Explain => Ok(Some(Request::Explain(text_of(alloc, skip(rest))?))),
+        Command::Get => get_request(alloc, rest),
+        Command::Attrs => attrs_request(alloc, rest),
+        Command::Indices => Ok(bare(Request::Indices, rest)),
+        Command::Pin => Ok(bare(Request::Pin, rest)),
+        Command::Unpin => Ok(bare(Request::Unpin, rest)),
+        Command::Live => Ok(Some(Request::Live(text_of(alloc, skip(rest))?))),
+        Command::Refresh => Ok(bare(Request::Refresh, rest)),
+        Command::Begin => Ok(bare(Request::Begin, rest)),
+        Command::Commit => Ok(bare(Request::Commit, rest)),
+        Command::Abort => Ok(bare(Request::Abort, rest)),
+    }
+}
+
+/// What a line with a command asks for, as characters from its first word on.
+fn command_of(alloc: Global, line: &[char]) -> Result<Request, AllocError>
+    ensures { IfOk result (λ request. request_of request ≡ spec.command_of line.now) }
+{
+    let (word, rest) = split_word(line);
+    let word = text_of(alloc, word)?;
+    let Some(command) = command_named(word.as_str()) else {
+        return Ok(Request::Malformed);
+    };
+    match command_request(alloc, command, rest)? {
+        Some(request) => Ok(request),
+        None => Ok(Request::Malformed),
+    }
+}
+
+/// Whether the line has only spaces and tabs.
+fn is_blank_line(line: &[u8]) -> bool
+    ensures { result ≡ list_all is_blank line.now }
+{
+    line.iter().all(|c| *c == b' ' || *c == b'\t')
+}
+
+fn is_comment(line: &[u8]) -> bool
+    ensures { result ≡ spec.is_comment line.now }
+{
+    match line.first() {
+        Some(c) => *c == b'#',
+        None => false,
+    }
+}
+
+/// The bytes as text.
+fn utf8(bytes: &[u8]) -> Option<&str>
+    ensures { option_map (λ s. s.now) result ≡ spec.utf8 bytes.now }
+{
+    match str::from_utf8(bytes) {
+        Ok(text) => Some(text),
+        Err(_) => None,
+    }
+}
+
+/// The characters of a text.
+fn characters(alloc: Global, text: &str) -> Result<Vec<char>, AllocError>
+    ensures { IfOk result (λ cs. cs.items ≡ chars text.now) }
+{
+    text.chars().collect(alloc)
+}
+
+/// The line without one CR at its end.
+fn without_cr(line: &[u8]) -> &[u8]
+    ensures { result.now ≡ strip_carriage_return line.now }
+{
+    match line.split_last() {
+        Some((c, front)) if *c == b'\r' => front,
+        _ => line,
+    }
+}
+
+/// What a line asks for, given without its LF.
+pub fn read_line(alloc: Global, line: &[u8]) -> Result<Request, AllocError>
+    ensures { IfOk result (λ request. request_of request ≡ spec.asked line.now) }
+{
+    let line = without_cr(line);
+    let Some(text) = utf8(line) else {
+        return Ok(Request::Malformed);
+    };
+    if is_blank_line(line) || is_comment(line) {
+        return Ok(Request::Silent);
+    }
+    let text = characters(alloc, text)?;
+    command_of(alloc, skip(text.as_slice()))
+}

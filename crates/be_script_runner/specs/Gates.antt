@@ -1,0 +1,30 @@
+-- Which calls the gate of a race gets.
+use Rattle.std.specs.Prelude.{◌≡◌, ◌⊎◌, ◌≤◌, ℕ, ◌+◌, ◌<◌, List, [], ◌∷◌, length, slice_index_or}
+use Rattle.be_script_language.specs.Request.{lines_of}
+
+-- the number of lines that what follows the last LF makes: one if it isn't empty, otherwise none
+abbrev pub last_count : List ℕ → ℕ
+last_count [] = 0
+last_count (c ∷ line) = 1
+
+abbrev pub count_lines : List (List ℕ) → ℕ
+count_lines [] = 0
+count_lines (line ∷ []) = last_count line
+count_lines (line ∷ next ∷ lines) = count_lines (next ∷ lines) + 1
+
+-- how many lines of a script are run
+abbrev pub line_count : List ℕ → ℕ
+line_count script = count_lines (lines_of script)
+
+-- the line is the first, or the one before it has ended
+abbrev pub IsNext : (ℕ → Type 0) → ℕ → Type 0
+IsNext ended line = (line ≡ 1) ⊎ ((before : ℕ) × (line ≡ before + 1) × ended before)
+
+-- each line up to this number has begun and has ended
+abbrev pub AreTold : (ℕ → Type 0) → (ℕ → Type 0) → ℕ → Type 0
+AreTold begun ended count = (line : ℕ) → 1 ≤ line → line ≤ count → begun line × ended line
+
+-- the same for the lines of each script, by the calls of its pass
+abbrev pub AreAllTold : (ℕ → ℕ → Type 0) → (ℕ → ℕ → Type 0) → List (List ℕ) → Type 0
+AreAllTold begun ended scripts = (k : ℕ) → k < length scripts
+    → AreTold (begun k) (ended k) (line_count (slice_index_or scripts k []))

@@ -1,0 +1,43 @@
+-- What a pass of a store shows a script, by what it knows.
+use Rattle.std.specs.Prelude.{ℕ, List, take}
+use Rattle.std.specs.Option.{option_map}
+use Rattle.be_journal.specs.Journal.{replay}
+use Rattle.be_table.specs.declared.pass.Knowledge.{Knowledge}
+use Rattle.be_table.specs.Place.{Opened}
+use Rattle.be_table.specs.Rule.{entries}
+use Rattle.be_table.specs.Seats.{pinned_number}
+use Rattle.be_store.specs.History.{IsLastReason}
+use Rattle.be_store.specs.Passes.{volume_seen}
+use Rattle.be_script_runner.specs.Store.{PinnedVolume, Store}
+use Rattle.be_value.specs.declared.refusals.Refusal.{Refusal}
+use Rattle.be_volume.specs.declared.ops.Op.{Op}
+
+-- a store, and what one of its passes knows
+pub record Seated : Type 0 where
+  pub store : Opened
+  pub knows : Knowledge
+
+-- what stays the same of it: its store, and which pass it is
+abbrev pub seat_of : Seated → Opened × ℕ
+seat_of s = (s.store, s.knows.number)
+
+-- the version after the first n writes that the pass has seen
+abbrev pub pin_at : Knowledge → ℕ → PinnedVolume
+pin_at a n = record { number = n; volume = replay (take n (entries a.seen)) }
+
+-- the store as the pass sees it: what it has seen is what was written
+abbrev pub known : Knowledge → Store
+known a = record {
+  journal = entries a.seen;
+  volume = volume_seen a;
+  limit = a.limits.commits;
+  passes = a.limits.passes;
+  pass = a.number;
+  pin = option_map (pin_at a) (pinned_number a.phase);
+}
+
+-- Why a server's write is refused. Busy is the reason after 10,000,000 tries, each of which found a
+-- pass holding the lock; Busy names the pass that the last try found. Otherwise the write is
+-- refused as the store refuses it.
+abbrev pub IsRefusedBy : Knowledge → List Op → Refusal → Knowledge → Type 0
+IsRefusedBy a ops e c = IsLastReason 10000000 a c ops e

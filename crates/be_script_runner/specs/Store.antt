@@ -1,0 +1,140 @@
+-- What serves a script.
+use Rattle.std.specs.Prelude.{◌≡◌, ◌≢◌, ◌⊎◌, ◌<◌, ◌≤◌, ℕ, List, [], ◌∷◌, ◌++◌, All, fold, length}
+use Rattle.std.specs.Prelude.{nat_lt, if◌then◌else◌, IsOk, Some, None, refl}
+use Rattle.std.specs.Coded.{Coded, code_by, coded_ℕ, coded_list, coded_option, coded×}
+use Rattle.std.specs.Option.{option_map_or}
+use Rattle.std.specs.declared.option.Option.{Option}
+use Rattle.std.specs.declared.result.Result.{Result}
+use Rattle.std.specs.declared.result.Result.TheVariants.{Ok, Err}
+use Rattle.be_value.specs.declared.refusals.Refusal.{Refusal}
+use Rattle.be_value.specs.declared.refusals.Refusal.TheVariants.{Busy, CommitsSpent, OutOfMemory}
+use Rattle.be_value.specs.declared.refusals.Refusal.TheVariants.{Full}
+use Rattle.be_volume.specs.Ahead.{state_after}
+use Rattle.be_volume.specs.Volume.{State, coded_state, steps, empty}
+use Rattle.be_volume.specs.declared.ops.Done.{Done}
+use Rattle.be_volume.specs.declared.ops.Op.{Op}
+use Rattle.be_journal.specs.declared.entries.Entry.{Entry}
+use Rattle.be_journal.specs.Journal.{coded_entry}
+
+-- a pinned version: how many writes were accepted before it, and its volume
+pub record PinnedVolume : Type 0 where
+  pub number : ℕ
+  pub volume : State
+
+-- A store as the pass sees it that serves: the accepted writes, the volume after them, how many
+-- writes there may be, how many passes the store has, which of them this is, and the version that
+-- it pinned, if it did.
+pub record Store : Type 0 where
+  pub journal : List Entry
+  pub volume : State
+  pub limit : ℕ
+  pub passes : ℕ
+  pub pass : ℕ
+  pub pin : Option PinnedVolume
+
+abbrev pub coded_pin : Coded PinnedVolume
+coded_pin = code_by _ (coded× coded_ℕ coded_state) (λ p. (p.number, p.volume))
+    (λ q. record { number = q.0; volume = q.1 }) (λ _. refl)
+
+abbrev pub coded_store : Coded Store
+coded_store = code_by _ (coded× (coded_list coded_entry)
+    (coded× coded_state (coded× coded_ℕ
+    (coded× coded_ℕ (coded× coded_ℕ (coded_option coded_pin))))))
+    (λ s. (s.journal, (s.volume, (s.limit, (s.passes, (s.pass, s.pin))))))
+    (λ q. record {
+      journal = q.0;
+      volume = q.1.0;
+      limit = q.1.1.0;
+      passes = q.1.1.1.0;
+      pass = q.1.1.1.1.0;
+      pin = q.1.1.1.1.1;
+    }) (λ _. refl)
+
+-- a store of one pass before its first write, with no pin
+abbrev pub start : ℕ → Store
+start limit = record {
+  journal = [];
+  volume = empty;
+  limit = limit;
+  passes = 1;
+  pass = 0;
+  pin = None;
+}
+
+-- the store has a pass of this number, and it is another one than this
+abbrev pub IsOther : Store → ℕ → Type 0
+IsOther s k = (k < s.passes) × (k ≢ s.pass)
+
+-- What the other passes may have made of the store: they append entries, and the volume is the one
+-- after these entries.
+pub record Joins (old new : Store) : Type 0 where
+  pub others : List Entry
+  pub theirs : All (λ e. IsOther old e.by) others
+  pub store : new ≡ record old {
+    journal = old.journal
+        ++ others;
+    volume = fold (λ v e. state_after v e.ops) old.volume others;
+  }
+
+-- The other passes may have written meanwhile, and P is true of the store as they left it.
+pub record Meanwhile (old : Store) (P : Store → Type 0) : Type 0 where
+  pub now : Store
+  pub joins : Joins old now
+  pub is : P now
+
+-- the volume that is read: the pinned one, or the one after all writes if none is pinned
+abbrev pub viewed : Store → State
+viewed s = option_map_or (λ (p : PinnedVolume). p.volume) s.pin s.volume
+
+-- the store with the version after all writes pinned
+abbrev pub pinned : Store → Store
+pinned s = record s { pin = Some (record { number = length s.journal; volume = s.volume }) }
+
+-- the store with no pin
+abbrev pub unpinned : Store → Store
+unpinned s = record s { pin = None }
+
+-- the store after a write by the pass that the volume accepts, with its answers; a pin stays
+abbrev pub entered : Store → List Op → State → List Done → Store
+entered s ops volume dones = record s {
+  journal = s.journal ++ record { by = s.pass; ops = ops; dones = dones }
+      ∷ [];
+  volume = volume;
+}
+
+-- A write: a refusal by the volume comes before the refusal of a journal at its limit.
+abbrev pub written_by : Store → List Op → Result (State × List Done) Refusal
+    → Result (Store × List Done) Refusal
+written_by s ops (Ok answer) = if nat_lt (length s.journal) s.limit
+    then Ok (entered s ops answer.0 answer.1, answer.1) else Err CommitsSpent
+written_by s ops (Err e) = Err e
+
+abbrev pub written : Store → List Op → Result (Store × List Done) Refusal
+written s ops = written_by s ops (steps s.volume ops)
+
+-- the version that is read, as the number of writes accepted before it: the pinned one, or the one
+-- after all writes if none is pinned
+abbrev pub viewed_number : Store → ℕ
+viewed_number s = option_map_or (λ (p : PinnedVolume). p.number) s.pin (length s.journal)
+
+-- The least version that a full store reports is no later than the version that is read; and if no
+-- other pass reads, it is that version.
+abbrev pub IsLeastOf : Store → ℕ → Type 0
+IsLeastOf s least = (least ≤ viewed_number s) × (s.passes ≡ 1 → least ≡ viewed_number s)
+
+-- a refusal because memory ran out, or because the pages ran out, with the least version
+abbrev pub IsWant : Store → Refusal → Type 0
+IsWant s e = (e ≡ OutOfMemory) ⊎ ((least : ℕ) × (e ≡ Full least) × IsLeastOf s least)
+
+-- another pass was writing
+abbrev pub IsBusy : Store → Refusal → Type 0
+IsBusy s e = (pass : ℕ) × (e ≡ Busy pass) × IsOther s pass
+
+-- An accepted write has the outcomes that the volume gives, and the number of its commit. Out of
+-- memory and Full come only for a write that the volume accepts. A refused write changes nothing.
+abbrev pub MayWrite : {X : Type 0} → (X → List Done) → Store → List Op → Result (ℕ × X) Refusal
+    → Store → Type 0
+MayWrite dones_of old ops (Ok answer) new = (written old ops ≡ Ok (new, dones_of answer.1))
+    × (answer.0 ≡ length new.journal)
+MayWrite dones_of old ops (Err e) new = (new ≡ old)
+    × ((written old ops ≡ Err e) ⊎ (IsWant old e × IsOk (written old ops)) ⊎ IsBusy old e)

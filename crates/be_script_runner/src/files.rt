@@ -1,0 +1,75 @@
+//! The scripts of files.
+ghost use Rattle.std.specs.Prelude.{◌≡◌, ◌≤◌, ◌<◌, ◌^◌, false, length, nat_lt, vec_len, IfOk};
+ghost use Rattle.std.specs.Prelude.{IfErr};
+ghost use Rattle.std.specs.List.{list_any};
+ghost use Rattle.be_script_runner.specs.Run.{IsEarly};
+
+use crate::RunFault;
+use crate::runs::read_script;
+use std::alloc::Global;
+use std::fs;
+use std::rt::Files;
+
+/// Reads a file whole, as a script; `-` is standard input. A file that can't be opened is one that
+/// can't be read.
+fn read_file<R: Files + Input>(rt: &R, alloc: Global, file: &str) -> Result<Vec<u8>, RunFault>
+    ensures fits { IfOk result (λ script. vec_len script ≤ 2 ^ 20) }
+    ensures early { IfErr result IsEarly }
+{
+    if file == "-" {
+        return read_script(alloc, &mut rt.reader());
+    }
+    match fs::open(rt, file) {
+        Ok(mut script) => read_script(alloc, &mut script),
+        Err(_) => Err(RunFault::Read),
+    }
+}
+
+/// What ends the reading if the file at this place is too long: the first later file that can't be
+/// read, or this one if all can be read.
+fn stop_at<R: Files + Input>(
+    rt: &R,
+    alloc: Global,
+    files: &[String],
+    place: usize,
+) -> (usize, RunFault)
+    requires { place < length files.now }
+    ensures { (result.0 < length files.now) × IsEarly result.1 }
+{
+    for next in place + 1..files.len() {
+        match read_file(rt, alloc, files[next].as_str()) {
+            Ok(_) | Err(RunFault::TooLong) => {}
+            Err(fault) => return (next, fault),
+        }
+    }
+    (place, RunFault::TooLong)
+}
+
+/// Reads the scripts of these files, in their order; `-` is standard input, and a second `-` reads
+/// as empty. The first file that can't be read ends it: the error is its place, from 0, and Read or
+/// Memory. If all can be read and some are too long, the error is the place of the first of these,
+/// and TooLong.
+pub fn read_files<R: Files + Input>(
+    rt: &R,
+    alloc: Global,
+    files: &[String],
+) -> Result<Vec<Vec<u8>>, (usize, RunFault)>
+    ensures scripts { IfOk result (λ scripts. vec_len scripts ≡ length files.now) }
+    ensures short { IfOk result (λ scripts. list_any (λ s. nat_lt (2 ^ 20) (vec_len s))
+        scripts.items ≡ false) }
+    ensures fault { IfErr result (λ stop. (stop.0 < length files.now) × IsEarly stop.1) }
+{
+    let mut scripts = Vec::new(alloc);
+    for (place, file) in files.iter().enumerate() {
+        match read_file(rt, alloc, file.as_str()) {
+            Ok(script) => {
+                if scripts.push(script).is_err() {
+                    return Err((place, RunFault::Memory));
+                }
+            }
+            Err(RunFault::TooLong) => return Err(stop_at(rt, alloc, files, place)),
+            Err(fault) => return Err((place, fault)),
+        }
+    }
+    Ok(scripts)
+}

@@ -1,0 +1,56 @@
+//! Laws of the definitions. Each does nothing; its contract is the law.
+ghost use Rattle.std.specs.Prelude.{◌≡◌, ◌≤◌, ◌∷◌, [], ◌++◌, ℕ, All, List, Some, None, length};
+ghost use Rattle.be_journal_text.specs.Dump.{dump, state_dump};
+ghost use Rattle.be_journal_text.specs.History.{CanBeJournal, CanBeOp};
+ghost use Rattle.be_journal.specs.Journal.{IsLegal, replay};
+ghost use Rattle.be_journal.specs.declared.entries.Entry.{Entry as AnyEntry};
+ghost use Rattle.be_script_runner.specs.Output.{IsOutputTo, Outputs, Session, Replies, Serves};
+ghost use Rattle.be_script_runner.specs.Output.{opening};
+ghost use Rattle.be_script_language.specs.Reply.{Reply};
+ghost use Rattle.be_script_language.specs.Request.{Request, lines_of};
+ghost use Rattle.be_script_runner.specs.Store.{Store, Joins, start};
+ghost use Rattle.be_script_runner.specs.Strict.{IsStrictOutput};
+ghost use Rattle.be_script_runner.specs.Telling.{MakesVolume, dump_output, made};
+ghost use Rattle.be_volume_state.specs.Rebuilding.{state_ops};
+
+/// A store of one pass has no others: it is always as its pass left it.
+pub fn nobody_joins()
+    ensures { (old new : Store) → old.passes ≡ 1 → old.pass ≡ 0 → Joins old new → new ≡ old }
+{}
+
+/// A line of such a store is answered from the store as it is, and leaves such a store: so what
+/// `run` writes is said of one pass alone.
+pub fn answered_alone()
+    ensures { (s after : Session) (request : Request) (reply : Reply) → s.store.passes ≡ 1
+        → s.store.pass ≡ 0 → Serves s request reply after →
+        Replies s request reply after × (after.store.passes ≡ 1) × (after.store.pass ≡ 0) }
+{}
+
+/// The script of a journal makes it again: a run of it, if memory and pages suffice, has the same
+/// journal but for the numbers of passes, and the same volume.
+pub fn dump_makes_journal()
+    ensures { (limit : ℕ) (entries : List AnyEntry) → CanBeJournal entries → IsLegal entries
+        → length entries ≤ limit →
+        IsOutputTo (start limit) (dump entries) (made limit entries) (dump_output 1 entries) }
+{}
+
+/// The script of the state that a journal leaves makes this state: a run of it, if memory and pages
+/// suffice, leaves the journal's volume, by no more writes than the journal has. Of the operations
+/// of a volume at hand be_journal_text's `dump_state` says that they are such of the program.
+pub fn state_dump_makes_volume()
+    ensures { (limit : ℕ) (entries : List AnyEntry) → CanBeJournal entries
+        → All CanBeOp (state_ops (replay entries)) → length entries ≤ limit →
+        MakesVolume limit (state_dump (replay entries)) (replay entries) (length entries) }
+{}
+
+/// What a strict run writes is an output: of the whole script if no line is refused, otherwise of
+/// its first lines, the last of which is the one that was refused.
+pub fn strict_output_is_output()
+    ensures whole { (store new : Store) (script out : List ℕ)
+        → IsStrictOutput store script None new out → IsOutputTo store script new out }
+    ensures first { (store new : Store) (script text out : List ℕ) (number : ℕ)
+        → IsStrictOutput store script (Some (number, text)) new out →
+        (lines : List (List ℕ)) × (rest : List (List ℕ)) × (last : Session)
+        × (lines_of script ≡ lines ++ rest) × (number ≡ length lines)
+        × Outputs (opening store) lines last out × (last.store ≡ new) }
+{}

@@ -1,0 +1,386 @@
+//! Races: several scripts at once on one shared store, each on a thread of its own.
+//!
+//! Script k is served from pass k of the store, and its replies are kept. Nobody waits for the lock
+//! inside the store, so scripts meet there alone, and each write takes its place in one journal.
+//! Once all threads have ended the store is closed. Then the replies are written, script by script,
+//! and after them the journal and the result of its check.
+//!
+//! A thread promises what it returns ([`Served`]): a pass of the store, with the script's number,
+//! and replies. The pass's own writes are some of those that the script asks for. The replies are
+//! ones that the script may get of what the pass has seen, if others write too. So every pass is
+//! there when the store is closed. The journal's entries of a pass are writes of its script, and
+//! the replies to each script agree with that journal.
+ghost use Rattle.std.specs.Prelude.{◌≡◌, ◌≤◌, ◌<◌, ℕ, ◌^◌, ◌++◌, ◌↔◌, true, false, length, vec_len};
+ghost use Rattle.std.specs.Prelude.{map, IfOk, IfErr, OnOk, OnErr, Ok, Err, get_or, nat_lt};
+ghost use Rattle.std.specs.Io.KnownBytes.{Appends};
+ghost use Rattle.std.specs.List.{list_any};
+ghost use Rattle.be_journal.specs.Journal.{IsLegal};
+ghost use Rattle.be_journal.specs.Text.{result_text};
+ghost use Rattle.be_script_runner.specs.Gates.{AreAllTold, AreTold, line_count};
+ghost use Rattle.be_script_runner.specs.Race.{IsOutcome, AreFirstTexts, AreServed, IsNew, IsRace};
+ghost use Rattle.be_script_runner.specs.Race.{RaceLeaves, pass_line, replies_text};
+ghost use Rattle.be_script_runner.specs.Run.{Wrote, IsFrontOf, IsLate};
+ghost use Rattle.be_store.specs.Passes.{IsPassOf};
+ghost use Rattle.std.specs.String.{string_bytes};
+ghost use Rattle.be_table.specs.Rule.{AreBad, IsWithin};
+ghost use Rattle.be_table.specs.Works.{AreNew};
+
+use crate::gates::Gate;
+use crate::runs::{MAX_SCRIPT, put, serve_pass};
+use crate::{Limits, RunFault};
+use be_journal::Journal;
+use be_store::{Pass, Store};
+use std::alloc::{AllocError, Global};
+use std::io::Write;
+use std::snapshot::Snapshot;
+use std::sync::Wait;
+use std::thread;
+use std::thread::{Promise, PromisedHandle, Scope, Threads};
+
+/// A pass that has served a script, and the replies.
+type Outcome = (Pass, Result<Vec<u8>, RunFault>);
+
+/// What a thread promises of its outcome. The pass is of this store and has this number. If there
+/// are replies, they are an output of this script that leaves what the pass has seen; its own
+/// writes are some of those that the script asks for; and this gate was called for each line.
+#[derive(Drop)]
+struct Served<G> {
+    store: Snapshot<Store>,
+    number: u64,
+    script: Snapshot<Vec<u8>>,
+    gate: Snapshot<G>,
+}
+
+impl<G: Gate> Promise<(Pass, Result<Vec<u8>, RunFault>)> for Served<G> {
+    ghost kept_by = { λ p outcome.
+        IsPassOf p.store.value outcome.0
+        × (outcome.0.knows.number ≡ p.number)
+        × IfOk outcome.1 (λ replies. IsOutcome p.store.value.limits p.number p.script.value.items
+        outcome.0.knows replies.items)
+        × OnOk outcome.1 (AreTold (G.begun p.gate.value p.number) (G.ended p.gate.value p.number)
+        (line_count p.script.value.items)) };
+}
+
+/// Serves a script from a new pass.
+fn serve_new<G: Gate>(alloc: Global, store: &Store, pass: Pass, gate: &G, script: &[u8]) -> Outcome
+    requires { IsNew store.now pass.knows.number pass }
+    ensures pass { IsPassOf store.now result.0 }
+    ensures number { result.0.knows.number ≡ pass.knows.number }
+    ensures replies { IfOk result.1 (λ replies. IsOutcome store.now.limits pass.knows.number
+        script.now result.0.knows replies.items) }
+    ensures told { OnOk result.1 (AreTold (G.begun gate.now pass.knows.number)
+        (G.ended gate.now pass.knows.number) (line_count script.now)) }
+{
+    serve_pass(alloc, store, pass, gate, script)
+}
+
+/// Starts a thread for each pass, which serves the script of its number. Memory if one can't be
+/// started.
+fn start<'s, E, G: Gate + Sync>(
+    scope: &Scope<'s, E>,
+    alloc: Global,
+    store: &'s Store,
+    passes: Vec<Pass>,
+    scripts: &'s Vec<Vec<u8>>,
+    gate: &'s G,
+) -> Result<Vec<PromisedHandle<Outcome, Served<G>>>, RunFault>
+    requires new { AreNew store.now 0 passes.items }
+    requires count { length passes.items ≡ length scripts.now.items }
+    ensures len { IfOk result (λ threads. length threads.items ≡ length scripts.now.items) }
+    ensures each { IfOk result (λ threads. (k : ℕ) (t s : _) → k < length scripts.now.items
+        → let promise = (get_or threads.items k t).promise in
+        (promise.store.value ≡ store.now) × (promise.number ≡ k)
+        × (promise.script.value ≡ get_or scripts.now.items k s) × (promise.gate.value ≡ gate.now)) }
+    ensures fault { IfErr result (λ e. e ≡ RunFault.Memory) }
+{
+    let mut threads = Vec::new(alloc);
+    for pass in passes {
+        let number = pass.number();
+        let script = &scripts[number as usize];
+        let promise = Served {
+            store: Snapshot::of(store),
+            number,
+            script: Snapshot::of(script),
+            gate: Snapshot::of(gate),
+        };
+        let thread = scope.spawn_with(
+            promise,
+            move || -> Outcome
+                requires { IsNew store.now pass.knows.number pass }
+                ensures pass { IsPassOf store.entry.now result.0 }
+                ensures number { result.0.knows.number ≡ pass.knows.number }
+                ensures replies { IfOk result.1 (λ replies.
+                    IsOutcome store.entry.now.limits pass.knows.number script.entry.now.items
+                    result.0.knows replies.items) }
+                ensures told { OnOk result.1 (AreTold (G.begun gate.entry.now pass.knows.number)
+                    (G.ended gate.entry.now pass.knows.number)
+                    (line_count script.entry.now.items)) }
+            { serve_new(alloc, store, pass, gate, script) },
+        );
+        let Ok(thread) = thread else {
+            return Err(RunFault::Memory);
+        };
+        if threads.push(thread).is_err() {
+            return Err(RunFault::Memory);
+        }
+    }
+    Ok(threads)
+}
+
+/// The passes, and the replies of each. Memory if one has none.
+fn part(alloc: Global, outcomes: Vec<Outcome>) -> Result<(Vec<Pass>, Vec<Vec<u8>>), RunFault>
+    ensures passes { IfOk result (λ r. r.0.items ≡ map (λ o. o.0) outcomes.items) }
+    ensures replies { IfOk result (λ r. map Ok r.1.items ≡ map (λ o. o.1) outcomes.items) }
+    ensures fault { IfErr result (λ e. e ≡ RunFault.Memory) }
+{
+    let mut passes = Vec::new(alloc);
+    let mut replies = Vec::new(alloc);
+    for (pass, outcome) in outcomes {
+        let Ok(text) = outcome else {
+            return Err(RunFault::Memory);
+        };
+        if passes.push(pass).is_err() || replies.push(text).is_err() {
+            return Err(RunFault::Memory);
+        }
+    }
+    Ok((passes, replies))
+}
+
+/// Serves each script on a thread of this scope, and waits for the threads if all could be started.
+fn serve_in<'s, E, R: Threads, G: Gate + Sync>(
+    scope: &Scope<'s, E>,
+    rt: &R,
+    alloc: Global,
+    store: &'s Store,
+    passes: Vec<Pass>,
+    scripts: &'s Vec<Vec<u8>>,
+    gate: &'s G,
+) -> Result<(Vec<Pass>, Vec<Vec<u8>>), RunFault>
+    requires { AreNew store.now 0 passes.items × (length passes.items ≡ length scripts.now.items) }
+    ensures served { IfOk result (λ r. AreServed store.now (map (λ s. s.items) scripts.now.items)
+        r.0.items (map (λ s. s.items) r.1.items)) }
+    ensures told { OnOk result (AreAllTold (G.begun gate.now) (G.ended gate.now)
+        (map (λ s. s.items) scripts.now.items)) }
+    ensures fault { IfErr result (λ e. e ≡ RunFault.Memory) }
+{
+    let threads = start(scope, alloc, store, passes, scripts, gate)?;
+    match thread::join_promised(rt, threads) {
+        Ok(outcomes) => part(alloc, outcomes),
+        Err(_) => Err(RunFault::Memory),
+    }
+}
+
+/// Serves each script on a thread of its own. All threads have ended when it returns, after a fault
+/// too.
+fn serve_at_once<R: Threads + Wait, G: Gate + Sync>(
+    rt: &R,
+    alloc: Global,
+    store: &Store,
+    passes: Vec<Pass>,
+    scripts: &Vec<Vec<u8>>,
+    gate: &G,
+) -> Result<(Vec<Pass>, Vec<Vec<u8>>), RunFault>
+    requires { AreNew store.now 0 passes.items × (length passes.items ≡ length scripts.now.items) }
+    ensures served { IfOk result (λ r. AreServed store.now (map (λ s. s.items) scripts.now.items)
+        r.0.items (map (λ s. s.items) r.1.items)) }
+    ensures told { OnOk result (AreAllTold (G.begun gate.now) (G.ended gate.now)
+        (map (λ s. s.items) scripts.now.items)) }
+    ensures fault { IfErr result (λ e. e ≡ RunFault.Memory) }
+{
+    thread::scope(
+        thread::scope_env(),
+        rt,
+        move |scope| -> Result<(Vec<Pass>, Vec<Vec<u8>>), RunFault>
+            requires { AreNew store.now 0 passes.items
+                × (length passes.items ≡ length scripts.now.items) }
+            ensures served { IfOk result (λ r. AreServed store.entry.now
+                (map (λ s. s.items) scripts.entry.now.items) r.0.items
+                (map (λ s. s.items) r.1.items)) }
+            ensures told { OnOk result (AreAllTold (G.begun gate.entry.now) (G.ended gate.entry.now)
+                (map (λ s. s.items) scripts.entry.now.items)) }
+            ensures fault { IfErr result (λ e. e ≡ RunFault.Memory) }
+        { serve_in(scope, rt, alloc, store, passes, scripts, gate) },
+    )
+}
+
+/// Whether some script is longer than a script may be.
+fn is_some_too_long(scripts: &[Vec<u8>]) -> bool
+    ensures { result ≡ list_any (λ s. nat_lt (2 ^ 20) (vec_len s)) scripts.now }
+{
+    scripts.iter().any(|script| script.len() > MAX_SCRIPT)
+}
+
+fn line_of(alloc: Global, pass: usize) -> Result<String, AllocError>
+    ensures { IfOk result (λ line. string_bytes line ≡ pass_line pass) }
+{
+    format!(in alloc; "pass {pass}\n")
+}
+
+/// Writes each pass's line and its replies. A failed write leaves a front of the whole text, and
+/// out of memory leaves whole replies of the first passes.
+fn put_replies<W: Write>(alloc: Global, writer: &mut W, replies: &[Vec<u8>]) -> Result<(), RunFault>
+    ensures ok { OnOk result (Appends (W.contents writer.old) (W.contents writer.new)
+        (replies_text 0 (map (λ t. t.items) replies.now))) }
+    ensures err { OnErr result (Wrote (W.contents writer.old) (W.contents writer.new)
+        (IsFrontOf (replies_text 0 (map (λ t. t.items) replies.now)))) }
+    ensures whole { IfErr result (λ e. e ≡ RunFault.Memory →
+        Wrote (W.contents writer.old) (W.contents writer.new)
+        (AreFirstTexts (map (λ t. t.items) replies.now))) }
+    ensures late { IfErr result IsLate }
+{
+    for (pass, text) in replies.iter().enumerate() {
+        let Ok(line) = line_of(alloc, pass) else {
+            return Err(RunFault::Memory);
+        };
+        put(writer, line.as_bytes())?;
+        put(writer, text)?;
+    }
+    Ok(())
+}
+
+/// Writes three texts, one after the other. A fault leaves a front of the whole text.
+fn put_parts<W: Write>(
+    writer: &mut W,
+    first: &[u8],
+    second: &[u8],
+    third: &[u8],
+) -> Result<(), RunFault>
+    ensures ok { OnOk result (Appends (W.contents writer.old) (W.contents writer.new)
+        (first.now ++ (second.now ++ third.now))) }
+    ensures err { OnErr result (Wrote (W.contents writer.old) (W.contents writer.new)
+        (IsFrontOf (first.now ++ (second.now ++ third.now)))) }
+    ensures fault { IfErr result (λ e. e ≡ RunFault.Write) }
+    ensures late { IfErr result IsLate }
+{
+    put(writer, first)?;
+    put(writer, second)?;
+    put(writer, third)
+}
+
+/// Writes how many entries the journal has, their text, and the result of its check. Returns that
+/// result, which is always true: the journal is legal. Out of memory leaves nothing written, and a
+/// failed write a front.
+pub fn put_result<W: Write>(
+    alloc: Global,
+    writer: &mut W,
+    journal: &Journal,
+) -> Result<bool, RunFault>
+    requires { IsLegal journal.now.entries }
+    ensures ok { IfOk result (λ legal. (legal ≡ true)
+        × Appends (W.contents writer.old) (W.contents writer.new)
+        (result_text journal.now.entries)) }
+    ensures err { OnErr result (Wrote (W.contents writer.old) (W.contents writer.new)
+        (IsFrontOf (result_text journal.now.entries))) }
+    ensures whole { IfErr result (λ e. e ≡ RunFault.Memory → W.contents writer.new
+        ≡ W.contents writer.old) }
+    ensures late { IfErr result IsLate }
+{
+    let count = journal.len();
+    let (Ok(head), Ok(text), Ok(legal)) = (
+        format!(in alloc; "journal {count}\n"),
+        journal.text(),
+        journal.check(),
+    ) else {
+        return Err(RunFault::Memory);
+    };
+    let last = if legal { "replay ok\n" } else { "replay bad\n" };
+    put_parts(writer, head.as_bytes(), text.as_bytes(), last.as_bytes())?;
+    Ok(legal)
+}
+
+/// Writes each pass's line and its replies, and after them the journal. Returns the result of the
+/// journal's check. A failed write leaves a front of the whole text, and out of memory whole
+/// replies alone.
+fn put_race<W: Write>(
+    alloc: Global,
+    writer: &mut W,
+    replies: &[Vec<u8>],
+    journal: &Journal,
+) -> Result<bool, RunFault>
+    requires { IsLegal journal.now.entries }
+    ensures ok { IfOk result (λ legal. (legal ≡ true)
+        × Appends (W.contents writer.old) (W.contents writer.new)
+        (replies_text 0 (map (λ t. t.items) replies.now) ++ result_text journal.now.entries)) }
+    ensures err { OnErr result (Wrote (W.contents writer.old) (W.contents writer.new)
+        (IsFrontOf (replies_text 0 (map (λ t. t.items) replies.now)
+        ++ result_text journal.now.entries))) }
+    ensures whole { IfErr result (λ e. e ≡ RunFault.Memory →
+        Wrote (W.contents writer.old) (W.contents writer.new)
+        (AreFirstTexts (map (λ t. t.items) replies.now))) }
+    ensures late { IfErr result IsLate }
+{
+    put_replies(alloc, writer, replies)?;
+    put_result(alloc, writer, journal)
+}
+
+/// Serves the scripts at once on a store of its own, which is closed then: the replies to each, and
+/// the journal.
+fn serve_on_new<R: Threads + Wait, G: Gate + Sync>(
+    rt: &R,
+    alloc: Global,
+    scripts: Vec<Vec<u8>>,
+    limits: Limits,
+    gate: &G,
+) -> Result<(Vec<Vec<u8>>, Journal), RunFault>
+    requires { limits.passes ≡ vec_len scripts }
+    ensures raced { IfOk result (λ r. (race : IsRace limits (map (λ s. s.items) scripts.items)
+        (replies_text 0 (map (λ t. t.items) r.0.items) ++ result_text r.1.entries))
+        × (race.replies ≡ map (λ t. t.items) r.0.items)) }
+    ensures legal { IfOk result (λ r. IsLegal r.1.entries) }
+    ensures told { OnOk result (AreAllTold (G.begun gate.now) (G.ended gate.now)
+        (map (λ s. s.items) scripts.items)) }
+    ensures fault { IfErr result (λ e. e ≡ RunFault.Memory) }
+{
+    let Ok((store, passes)) = Store::open(alloc, limits) else {
+        return Err(RunFault::Memory);
+    };
+    let (passes, replies) = serve_at_once(rt, alloc, &store, passes, &scripts, gate)?;
+    Ok((replies, store.close(passes)))
+}
+
+/// Races two to four scripts against one another on an empty store, which has the pages and commits
+/// of the limits and a pass for each script, and returns whether the journal is legal, which is
+/// always true.
+///
+/// The limits are looked at first, then the lengths of the scripts, of at most 1,048,576 bytes
+/// each; if one of these is invalid, nothing is written. Script k is run from pass k, on a thread
+/// of its own. A write that finds another pass writing is tried again, in all up to 10,000,000
+/// times, and its refusal is the reply then. It returns once all threads have ended. The replies
+/// are written after a line `pass K` for each pass; then `journal N`, the journal's text, and
+/// `replay ok`. The journal is of the store that replied: it begins with what each pass has seen,
+/// and has its writes just as they were answered. The error is Memory if memory or a thread is
+/// missing: nothing was written then, or the lines and the replies of the first passes, each of
+/// them whole. Any error of a write, and a write of no bytes, is Write, and leaves a front of what
+/// a race of these scripts writes.
+pub fn race<R: Threads + Wait, G: Gate + Sync, W: Write>(
+    rt: &R,
+    alloc: Global,
+    scripts: Vec<Vec<u8>>,
+    limits: Limits,
+    gate: &G,
+    writer: &mut W,
+) -> Result<bool, RunFault>
+    requires scripts { (2 ≤ vec_len scripts) × (vec_len scripts ≤ 4) }
+    requires passes { limits.passes ≡ vec_len scripts }
+    ensures limits { (result ≡ Err RunFault.Limits) ↔ AreBad limits }
+    ensures long { (result ≡ Err RunFault.TooLong) ↔
+        (IsWithin limits × (list_any (λ s. nat_lt (2 ^ 20) (vec_len s)) scripts.items ≡ true)) }
+    ensures ok { IfOk result (λ legal. (legal ≡ true)
+        × Wrote (W.contents writer.old) (W.contents writer.new)
+        (IsRace limits (map (λ s. s.items) scripts.items))) }
+    ensures told { OnOk result (AreAllTold (G.begun gate.now) (G.ended gate.now)
+        (map (λ s. s.items) scripts.items)) }
+    ensures fault { IfErr result (λ e. RaceLeaves limits (map (λ s. s.items) scripts.items) e
+        (W.contents writer.old) (W.contents writer.new)) }
+{
+    if !limits.are_within() {
+        return Err(RunFault::Limits);
+    }
+    if is_some_too_long(&scripts) {
+        return Err(RunFault::TooLong);
+    }
+    match serve_on_new(rt, alloc, scripts, limits, gate) {
+        Ok((replies, journal)) => put_race(alloc, writer, &replies, &journal),
+        Err(fault) => Err(fault),
+    }
+}

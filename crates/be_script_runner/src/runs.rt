@@ -1,0 +1,282 @@
+//! Whole runs: the bytes of a script in, the replies out.
+//!
+//! A script is read whole before its first line is run, so a script that can't be read or is too
+//! long writes nothing. Then each line is run, its reply is made as a text, and the text is
+//! written: a fault leaves the front of an output, which ends after a whole reply if no write has
+//! failed.
+ghost use Rattle.std.specs.Prelude.{◌≡◌, ◌<◌, ◌≤◌, ◌^◌, ◌↔◌, ◌∷◌, [], length, vec_len, position};
+ghost use Rattle.std.specs.Prelude.{IfOk, OnOk, IfErr, IfSome, OnErr, IfNone, Err};
+ghost use Rattle.std.specs.Io.KnownBytes.{Appends};
+ghost use Rattle.be_journal.specs.Journal.{by_pass};
+ghost use Rattle.be_script_runner.specs.Gates.{AreTold, line_count};
+ghost use Rattle.be_script_runner.specs.Output as outputs;
+ghost use Rattle.be_script_runner.specs.Own.{IsPartOf, operations, write_ops};
+ghost use Rattle.be_script_language.specs.Request.{lines_of};
+ghost use Rattle.be_script_runner.specs.Run as spec;
+ghost use Rattle.be_script_runner.specs.Served.{known};
+ghost use Rattle.be_script_runner.specs.Store.{start};
+ghost use Rattle.be_script_runner.specs.View.{session, queued_ops};
+ghost use Rattle.be_store.specs.Passes.{IsPassOf};
+ghost use Rattle.be_table.specs.Rule.{AreBad, entries};
+
+use crate::answers::answer;
+use crate::client::Client;
+use crate::gates::{Gate, OpenGate};
+use crate::script_readers::ScriptReader;
+use crate::stores::{PassServer, Server, open_for_one};
+use crate::{Limits, RunFault};
+use be_script_language::{read_line, reply_text};
+use be_store::{Pass, Store};
+use std::alloc::Global;
+use std::io::Write;
+
+/// The longest script in bytes.
+pub(crate) const MAX_SCRIPT: usize = 1 << 20;
+
+/// The most reads of a script: each gives a byte at least, the end or a fault.
+const MAX_READS: u64 = (1 << 20) + 1;
+
+/// Writes all the bytes. After a fault their front was written.
+pub fn put<W: Write>(writer: &mut W, bytes: &[u8]) -> Result<(), RunFault>
+    ensures ok { OnOk result (Appends (W.contents writer.old) (W.contents writer.new) bytes.now) }
+    ensures err { OnErr result (spec.Wrote (W.contents writer.old) (W.contents writer.new)
+        (spec.IsFrontOf bytes.now)) }
+    ensures fault { IfErr result (λ e. e ≡ RunFault.Write) }
+    ensures late { IfErr result spec.IsLate }
+{
+    let mut rest = bytes;
+    while !rest.is_empty() {
+        match writer.write(rest) {
+            Ok(0) | Err(_) => return Err(RunFault::Write),
+            Ok(n) => rest = rest.split_at(n).1,
+        }
+    }
+    Ok(())
+}
+
+/// Runs a line, and then writes its reply. Nothing of it was written if memory is missing.
+fn run_line<S: Server, W: Write>(
+    alloc: Global,
+    server: &mut S,
+    client: &mut Client,
+    line: &[u8],
+    writer: &mut W,
+) -> Result<(), RunFault>
+    requires few { length (queued_ops client.old) ≤ 64 }
+    ensures ok { OnOk result (spec.Wrote (W.contents writer.old) (W.contents writer.new)
+        (outputs.Answered (session (S.shows server.old) client.old) line.now
+        (session (S.shows server.new) client.new))) }
+    ensures err { OnErr result (spec.Wrote (W.contents writer.old) (W.contents writer.new)
+        (spec.IsFrontOfAnswer (session (S.shows server.old) client.old) line.now)) }
+    ensures whole { IfErr result (λ e. e ≡ RunFault.Memory → W.contents writer.new
+        ≡ W.contents writer.old) }
+    ensures late { IfErr result spec.IsLate }
+    ensures stays { S.kept server.new ≡ S.kept server.old }
+    ensures few { length (queued_ops client.new) ≤ 64 }
+{
+    let Ok(request) = read_line(alloc, line) else {
+        return Err(RunFault::Memory);
+    };
+    let reply = answer(alloc, server, client, request);
+    let Ok(text) = reply_text(alloc, &reply) else {
+        return Err(RunFault::Memory);
+    };
+    put(writer, text.as_bytes())
+}
+
+fn end_of_line(script: &[u8]) -> Option<usize>
+    ensures { result ≡ position spec.is_line_end script.now }
+{
+    script.iter().position(|c| *c == b'\n')
+}
+
+/// The first line without its LF, and what follows it, if there is an LF.
+pub(crate) fn split_line(script: &[u8]) -> Option<(&[u8], &[u8])>
+    ensures first { IfSome result (λ parts. lines_of script.now ≡ parts.0.now
+        ∷ lines_of parts.1.now) }
+    ensures shorter { IfSome result (λ parts. length parts.1.now < length script.now) }
+    ensures last { IfNone result (lines_of script.now ≡ script.now ∷ []) }
+{
+    match end_of_line(script) {
+        Some(end) => Some((script.split_at(end).0, script.split_at(end + 1).1)),
+        None => None,
+    }
+}
+
+/// Runs the lines of a script in turn, each between two calls of the gate, which get the pass's
+/// number and the line's. What follows the last LF is a line only if it isn't empty.
+pub(crate) fn run_lines<S: Server, G: Gate, W: Write>(
+    alloc: Global,
+    server: &mut S,
+    pass: u64,
+    gate: &G,
+    script: &[u8],
+    writer: &mut W,
+) -> Result<(), RunFault>
+    ensures ok { OnOk result (spec.Wrote (W.contents writer.old) (W.contents writer.new)
+        (outputs.IsOutputTo (S.shows server.old) script.now (S.shows server.new))) }
+    ensures err { OnErr result (spec.Wrote (W.contents writer.old) (W.contents writer.new)
+        (outputs.IsFrontOfOutput (S.shows server.old) script.now)) }
+    ensures whole { IfErr result (λ e. e ≡ RunFault.Memory →
+        spec.Wrote (W.contents writer.old) (W.contents writer.new)
+        (spec.AreFirstReplies (S.shows server.old) script.now)) }
+    ensures late { IfErr result spec.IsLate }
+    ensures told { OnOk result (AreTold (G.begun gate.now pass) (G.ended gate.now pass)
+        (line_count script.now)) }
+    ensures stays { S.kept server.new ≡ S.kept server.old }
+{
+    let mut client = Client::new();
+    let mut rest = script;
+    let mut number = 1;
+    while let Some((line, behind)) = split_line(rest) {
+        gate.before(pass, number);
+        let ran = run_line(alloc, server, &mut client, line, writer);
+        gate.after(pass, number);
+        ran?;
+        rest = behind;
+        number += 1;
+    }
+    if rest.is_empty() {
+        return Ok(());
+    }
+    gate.before(pass, number);
+    let ran = run_line(alloc, server, &mut client, rest, writer);
+    gate.after(pass, number);
+    ran
+}
+
+/// Serves a script from a pass that has seen nothing, while the other passes of the store may
+/// write. The gate is called before and after each line, with the pass's number and the line's;
+/// lines count from 1 over all lines. The replies are kept: Memory is the only fault. The pass
+/// comes back in either case.
+pub fn serve_pass<G: Gate>(
+    alloc: Global,
+    store: &Store,
+    pass: Pass,
+    gate: &G,
+    script: &[u8],
+) -> (Pass, Result<Vec<u8>, RunFault>)
+    requires pass { IsPassOf store.now pass }
+    requires fresh { pass.knows.seen ≡ [] }
+    ensures pass { IsPassOf store.now result.0 }
+    ensures number { result.0.knows.number ≡ pass.knows.number }
+    ensures mine { OnOk result.1 (by_pass result.0.knows.number (entries result.0.knows.seen)
+        ≡ result.0.knows.mine) }
+    ensures own { OnOk result.1 (IsPartOf (operations result.0.knows.mine) (write_ops script.now)) }
+    ensures replies { IfOk result.1 (λ replies. outputs.IsOutputTo (known pass.knows) script.now
+        (known result.0.knows) replies.items) }
+    ensures told { OnOk result.1 (AreTold (G.begun gate.now pass.knows.number)
+        (G.ended gate.now pass.knows.number) (line_count script.now)) }
+    ensures fault { IfErr result.1 (λ e. e ≡ RunFault.Memory) }
+{
+    let number = pass.number();
+    let mut server = PassServer::new(alloc, store, pass);
+    let mut replies = Vec::new(alloc);
+    let ran = run_lines(alloc, &mut server, number, gate, script, &mut replies);
+    let pass = server.into_pass();
+    pass.is_pass();
+    match ran {
+        Ok(()) => (pass, Ok(replies)),
+        Err(_) => (pass, Err(RunFault::Memory)),
+    }
+}
+
+/// Reads a whole script.
+pub(crate) fn read_script<R: ScriptReader>(
+    alloc: Global,
+    reader: &mut R,
+) -> Result<Vec<u8>, RunFault>
+    ensures ok { IfOk result (λ script. spec.ReadsAll (R.remaining reader.old)
+        (R.remaining reader.new) script.items) }
+    ensures fits { IfOk result (λ script. vec_len script ≤ 2 ^ 20) }
+    ensures err { IfErr result (λ e. spec.ReadFault e (R.remaining reader.old)
+        (R.remaining reader.new)) }
+    ensures early { IfErr result spec.IsEarly }
+    ensures reads { spec.HasFewReads (R.was_read reader.old) (R.was_read reader.new) }
+{
+    let mut script = Vec::new(alloc);
+    let mut buffer = [0u8; 4096];
+    for _reads in 0..MAX_READS {
+        match reader.read_once(&mut buffer) {
+            Err(_) => return Err(RunFault::Read),
+            Ok(0) => return Ok(script),
+            Ok(n) => {
+                if script.len() + n > MAX_SCRIPT {
+                    return Err(RunFault::TooLong);
+                }
+                if script.extend_from_slice(&buffer[..n]).is_err() {
+                    return Err(RunFault::Memory);
+                }
+            }
+        }
+    }
+    unreachable!()
+}
+
+/// Runs a script on what serves it. If the reader's bytes and the writer's are known, what is
+/// written is an output of the script from there on, and leaves what then serves.
+pub fn serve<S: Server, R: ScriptReader, W: Write>(
+    alloc: Global,
+    server: &mut S,
+    reader: &mut R,
+    writer: &mut W,
+) -> Result<(), RunFault>
+    ensures output { OnOk result (IfSome (R.remaining reader.old) (λ script.
+        spec.Wrote (W.contents writer.old) (W.contents writer.new)
+        (outputs.IsOutputTo (S.shows server.old) script (S.shows server.new)))) }
+    ensures stays { S.kept server.new ≡ S.kept server.old }
+    ensures fault { IfErr result (λ e. spec.RunLeaves e (S.shows server.old)
+        (R.remaining reader.old) (W.contents writer.old) (W.contents writer.new)) }
+    ensures fits { OnOk result (IfSome (R.remaining reader.old)
+        (λ script. length script ≤ 2 ^ 20)) }
+    ensures taken { IfErr result (λ e. spec.HasReadScript e (R.remaining reader.old)
+        (R.remaining reader.new)) }
+    ensures other { IfErr result spec.IsNotLimits }
+    ensures reads { spec.HasFewReads (R.was_read reader.old) (R.was_read reader.new) }
+{
+    match read_script(alloc, reader) {
+        Ok(script) => run_lines(alloc, server, 0, &OpenGate, &script, writer),
+        Err(fault) => Err(fault),
+    }
+}
+
+/// Runs a script on an empty store of its own, which has the pages and commits of the limits and
+/// one pass.
+///
+/// The limits are looked at first, and then the store is opened. The script is read whole, in at
+/// most 1,048,577 reads, before its first line is run; any error of a read is `Read`. Each line is
+/// run before its reply is written; any error of a write, and a write of no bytes, is `Write`.
+/// `TooLong` comes if more than 1,048,576 bytes were read, and no other fault comes then. If the
+/// reader's bytes and the writer's are known, as those of a slice and a vector are, what is written
+/// is an output of the script. After `Write` it is the front of one, after `Memory` the replies to
+/// the script's first lines, each of them whole, and after any other fault nothing was written.
+pub fn run<R: ScriptReader, W: Write>(
+    alloc: Global,
+    reader: &mut R,
+    writer: &mut W,
+    limits: Limits,
+) -> Result<(), RunFault>
+    ensures limits { (result ≡ Err RunFault.Limits) ↔ AreBad limits }
+    ensures unread { result ≡ Err RunFault.Limits → reader.new ≡ reader.old }
+    ensures output { OnOk result (IfSome (R.remaining reader.old) (λ script.
+        spec.Wrote (W.contents writer.old) (W.contents writer.new) (spec.IsRun limits script))) }
+    ensures fits { OnOk result (IfSome (R.remaining reader.old)
+        (λ script. length script ≤ 2 ^ 20)) }
+    ensures fault { IfErr result (λ e. spec.RunLeaves e (start limits.commits)
+        (R.remaining reader.old) (W.contents writer.old) (W.contents writer.new)) }
+    ensures taken { IfErr result (λ e. spec.HasReadScript e (R.remaining reader.old)
+        (R.remaining reader.new)) }
+    ensures reads { spec.HasFewReads (R.was_read reader.old) (R.was_read reader.new) }
+{
+    if !limits.are_within() {
+        return Err(RunFault::Limits);
+    }
+    let Ok((store, pass)) = open_for_one(alloc, limits) else {
+        return Err(RunFault::Memory);
+    };
+    let mut server = PassServer::new(alloc, &store, pass);
+    let ran = serve(alloc, &mut server, reader, writer);
+    let pass = server.into_pass();
+    pass.is_pass();
+    ran
+}

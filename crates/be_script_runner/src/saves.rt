@@ -1,0 +1,37 @@
+//! A version that is written as a script.
+ghost use Rattle.std.specs.Io.KnownBytes.{Appends};
+ghost use Rattle.std.specs.Prelude.{◌≡◌, All, IfErr, OnOk, OnErr};
+ghost use Rattle.be_journal_text.specs.Dump.{state_dump};
+ghost use Rattle.be_journal_text.specs.History.{CanBeOp};
+ghost use Rattle.be_script_runner.specs.Run.{Wrote, IsFrontOf, IsLate};
+ghost use Rattle.be_script_runner.specs.Store.{Joins, viewed};
+ghost use Rattle.be_volume_state.specs.Rebuilding.{state_ops};
+
+use crate::RunFault;
+use crate::runs::put;
+use crate::stores::Server;
+use std::io::Write;
+
+/// Writes the script that makes the version again that is read, the pinned one or the one after all
+/// writes: what `bestore dump --state` prints of a journal that leaves it. An open batch is no part
+/// of it.
+///
+/// `Memory` if there is none for the script; nothing was written then. Any error of a write, and a
+/// write of no bytes, is `Write`, and leaves a front of the script written. It doesn't flush.
+pub fn save_state<S: Server, W: Write>(server: &mut S, writer: &mut W) -> Result<(), RunFault>
+    ensures saved { OnOk result (Appends (W.contents writer.old) (W.contents writer.new)
+        (state_dump (viewed (S.shows server.new)))) }
+    ensures can { OnOk result (All CanBeOp (state_ops (viewed (S.shows server.new)))) }
+    ensures cut { OnErr result (Wrote (W.contents writer.old) (W.contents writer.new)
+        (IsFrontOf (state_dump (viewed (S.shows server.new))))) }
+    ensures whole { IfErr result (λ e. e ≡ RunFault.Memory → W.contents writer.new
+        ≡ W.contents writer.old) }
+    ensures late { IfErr result IsLate }
+    ensures joins { Joins (S.shows server.old) (S.shows server.new) }
+    ensures stays { S.kept server.new ≡ S.kept server.old }
+{
+    let Ok(text) = server.state_text() else {
+        return Err(RunFault::Memory);
+    };
+    put(writer, text.as_bytes())
+}

@@ -1,0 +1,312 @@
+//! What serves a script.
+//!
+//! A script's lines need few calls. [`Server`] names them. One ghost member says what the calls
+//! work on: a journal, the volume that it stands for, the limit on its entries, and the pinned
+//! version. Other passes may write between two calls, and a call works on the store as they left
+//! it. What runs scripts is proved over that trait, so it holds for whatever serves. [`PassServer`]
+//! is a shared store with one of its passes.
+ghost use Rattle.std.specs.Prelude.{◌≡◌, ◌≤◌, true, All, List, Ok, None, IsSome, is_some, length};
+ghost use Rattle.std.specs.Prelude.{IfOk, IfErr, OnOk, if◌then◌else◌};
+ghost use Rattle.std.specs.String.{string_bytes};
+ghost use Rattle.be_journal_text.specs.Dump.{state_dump};
+ghost use Rattle.be_journal_text.specs.History.{CanBeOp};
+ghost use Rattle.be_plan.specs.Cover.{chosen};
+ghost use Rattle.be_plan.specs.Explain.{are_places};
+ghost use Rattle.be_store.specs.History.{IsLastReason};
+ghost use Rattle.be_store.specs.Passes.{IsPassOf};
+ghost use Rattle.be_value.specs.Refusal.{Answers};
+ghost use Rattle.be_value.specs.declared.refusals.Refusal.TheVariants.{OutOfMemory};
+ghost use Rattle.be_value.specs.declared.refusals.Refusal.{Refusal as AnyRefusal};
+ghost use Rattle.be_volume.specs.declared.ops.Op.{Op as AnyOp};
+ghost use Rattle.be_volume.specs.Query.{scan, has_index};
+ghost use Rattle.be_volume.specs.Reading.{attribute, attributes_at, index_kinds};
+ghost use Rattle.be_table.specs.Rule.{IsWithin};
+ghost use Rattle.be_volume_state.specs.Rebuilding.{state_ops};
+ghost use Rattle.be_script_runner.specs.Served.{known, seat_of};
+ghost use Rattle.be_script_runner.specs.Store.{Store, Joins, Meanwhile, start, viewed, pinned};
+ghost use Rattle.be_script_runner.specs.Store.{unpinned, MayWrite};
+
+use crate::Limits;
+use crate::states::pinned_text;
+use arrayvec::ArrayVec;
+use be_plan::Cover;
+use be_query::Query;
+use be_store::Pass;
+use be_value::{Kind, Name, Refusal, Value};
+use be_volume::{Done, Op};
+use std::alloc::{AllocError, Global};
+use std::marker::Model;
+
+/// How often a write is tried while another pass is writing.
+const MAX_TRIES: u64 = 10_000_000;
+
+/// What serves a script. Reads are of the pinned version, or of the volume after all writes if none
+/// is pinned.
+pub trait Server {
+    ghost Kept: { Type 0 };
+
+    /// What no call changes.
+    ghost kept: { Self → Kept };
+
+    ghost shows: { Self → Store };
+
+    /// Why operations are refused, by what becomes of the server.
+    ghost refuses: { Self → List AnyOp → AnyRefusal → Self → Type 0 };
+
+    /// Writes operations, all or none: the number of the commit, and an answer for each. It is
+    /// refused by Busy if another pass is writing, otherwise by what the volume says, then
+    /// CommitsSpent, then OutOfMemory, then Full. A pin stays.
+    fn apply(&mut self, ops: &[Op]) -> Result<(u64, ArrayVec<Done, 64>), Refusal>
+        requires some { 1 ≤ length ops.now }
+        requires few { length ops.now ≤ 64 }
+        ensures stays { kept self.new ≡ kept self.old }
+        ensures writes { Meanwhile (shows self.old)
+            (λ store. MayWrite (λ dones. dones.items) store ops.now result (shows self.new)) }
+        ensures reason { IfErr result (λ e. refuses self.old ops.now e self.new) };
+
+    /// Whether a version is pinned.
+    fn is_pinned(&self) -> bool
+        ensures { result ≡ is_some (shows self.now).pin };
+
+    /// Pins the version after all writes so far, and returns the number of these writes.
+    fn pin(&mut self) -> u64
+        requires { (shows self.old).pin ≡ None }
+        ensures stays { kept self.new ≡ kept self.old }
+        ensures pins { Meanwhile (shows self.old)
+            (λ store. (shows self.new ≡ pinned store) × (result ≡ length store.journal)) };
+
+    /// Gives the pin up.
+    fn unpin(&mut self)
+        requires { IsSome (shows self.old).pin }
+        ensures stays { kept self.new ≡ kept self.old }
+        ensures unpins { shows self.new ≡ unpinned (shows self.old) };
+
+    /// The nodes of which a query is true, ascending; or NotCovered or OutOfMemory.
+    fn query(&mut self, query: &Query) -> Result<Vec<u64>, Refusal>
+        ensures stays { kept self.new ≡ kept self.old }
+        ensures joins { Joins (shows self.old) (shows self.new) }
+        ensures answers { Answers (λ nodes. nodes.items) result
+            (scan (viewed (shows self.new)) query.now) };
+
+    /// What a query would be answered from; or NotCovered or OutOfMemory.
+    fn explain(&mut self, query: &Query) -> Result<Cover, Refusal>
+        ensures stays { kept self.new ≡ kept self.old }
+        ensures joins { Joins (shows self.old) (shows self.new) }
+        ensures answers { Answers (λ cover. cover) result
+            (chosen (has_index (viewed (shows self.new))) query.now) }
+        ensures places { IfOk result (λ cover. are_places query.now cover.picks ≡ true) };
+
+    /// The value of an attribute.
+    fn get(&mut self, node: u64, name: &Name) -> Option<Value>
+        ensures stays { kept self.new ≡ kept self.old }
+        ensures joins { Joins (shows self.old) (shows self.new) }
+        ensures answer { result ≡ attribute (viewed (shows self.new)) node name.now };
+
+    /// The attributes of a node, by ascending names; or NoNode or OutOfMemory.
+    fn attrs(&mut self, node: u64) -> Result<Vec<(Name, Value)>, Refusal>
+        ensures stays { kept self.new ≡ kept self.old }
+        ensures joins { Joins (shows self.old) (shows self.new) }
+        ensures answers { Answers (λ list. list.items) result
+            (attributes_at (viewed (shows self.new)) node) };
+
+    /// The indices, by ascending names; or OutOfMemory.
+    fn indices(&mut self) -> Result<Vec<(Name, Kind)>, Refusal>
+        ensures stays { kept self.new ≡ kept self.old }
+        ensures joins { Joins (shows self.old) (shows self.new) }
+        ensures answers { Answers (λ list. list.items) result
+            (Ok (index_kinds (viewed (shows self.new)))) };
+
+    /// The script that makes the version again that is read: the pinned one, or the one after all
+    /// writes. It is what be_journal_text's `dump_state` gives of a journal that leaves this
+    /// version.
+    fn state_text(&mut self) -> Result<String, AllocError>
+        ensures stays { kept self.new ≡ kept self.old }
+        ensures joins { Joins (shows self.old) (shows self.new) }
+        ensures text { IfOk result (λ text. string_bytes text
+            ≡ state_dump (viewed (shows self.new))) }
+        ensures can { OnOk result (All CanBeOp (state_ops (viewed (shows self.new)))) };
+}
+
+/// Opens a store of one pass before its first write, with as many pages and commits as the limits
+/// say. Only out of memory is refused.
+pub fn open_for_one(alloc: Global, limits: Limits) -> Result<(be_store::Store, Pass), Refusal>
+    requires { IsWithin limits }
+    ensures opened { IfOk result (λ r. IsPassOf r.0 r.1
+        × (known r.1.knows ≡ start limits.commits)) }
+    ensures pages { IfOk result (λ r. r.0.limits.pages ≡ limits.pages) }
+    ensures refused { IfErr result (λ e. e ≡ OutOfMemory) }
+{
+    let limits = Limits {
+        passes: 1,
+        ..limits
+    };
+    let (store, mut passes) = be_store::Store::open(alloc, limits)?;
+    let Some(pass) = passes.pop() else {
+        unreachable!()
+    };
+    Ok((store, pass))
+}
+
+/// Writes, and tries again while another pass is writing, in all up to 10,000,000 times. Before
+/// each further try another thread may run.
+fn apply_at_last(
+    store: &be_store::Store,
+    pass: &mut Pass,
+    ops: &[Op],
+) -> Result<(u64, ArrayVec<Done, 64>), Refusal>
+    requires pass { IsPassOf store.now pass.old }
+    requires count { (1 ≤ length ops.now) × (length ops.now ≤ 64) }
+    ensures pass { IsPassOf store.now pass.new }
+    ensures number { pass.new.knows.number ≡ pass.old.knows.number }
+    ensures writes { Meanwhile (known pass.old.knows)
+        (λ store. MayWrite (λ dones. dones.items) store ops.now result (known pass.new.knows)) }
+    ensures tries { IfErr result (λ e. IsLastReason MAX_TRIES pass.old.knows pass.new.knows ops.now
+        e) }
+{
+    pass.is_pass();
+    let answer = store.apply_or_retry(pass, ops, MAX_TRIES);
+    pass.is_pass();
+    answer
+}
+
+/// A shared store, served from one of its passes. The others may write at any time; what this pass
+/// has seen is what a script is shown.
+#[derive(Drop)]
+pub struct PassServer<'a> {
+    alloc: Global,
+    store: &'a be_store::Store,
+    pass: Pass,
+}
+
+impl<'a> Model for PassServer<'a> {
+    ghost use Rattle.be_script_runner.specs.Served.{Seated};
+
+    ghost Value = { Seated };
+
+    ghost use Rattle.be_store.specs.Passes.{IsPassOf};
+
+    ghost view = { λ s. record { store = s.store.now; knows = s.pass.knows } };
+
+    ghost invariant = { λ s. IsPassOf s.store.now s.pass };
+}
+
+impl<'a> PassServer<'a> {
+    /// Serves a script from this pass of the store.
+    pub fn new(alloc: Global, store: &'a be_store::Store, pass: Pass) -> PassServer<'a>
+        requires { IsPassOf store.now pass }
+        ensures { (result.store ≡ store.now) × (result.knows ≡ pass.knows) }
+    {
+        PassServer { alloc, store, pass }
+    }
+
+    /// Gives the pass back.
+    pub fn into_pass(self) -> Pass
+        ensures { IsPassOf self.entry.store result × (result.knows ≡ self.entry.knows) }
+    {
+        let PassServer { pass, .. } = self;
+        pass
+    }
+
+    /// Pins for one read if no version is pinned, and returns whether it did.
+    fn begin_read(&mut self) -> bool
+        ensures stays { seat_of self.new ≡ seat_of self.old }
+        ensures pinned { IsSome (known self.new.knows).pin }
+        ensures same_view { viewed (known self.new.knows)
+            ≡ viewed (if result then unpinned (known self.new.knows) else known self.new.knows) }
+        ensures joins { Joins (known self.old.knows)
+            (if result then unpinned (known self.new.knows) else known self.new.knows) }
+    {
+        if self.is_pinned() {
+            return false;
+        }
+        self.pin();
+        true
+    }
+
+    /// Gives the pin of one read up, if the read made it.
+    fn end_read(&mut self, made: bool)
+        requires { IsSome (known self.old.knows).pin }
+        ensures stays { seat_of self.new ≡ seat_of self.old }
+        ensures unpinned { known self.new.knows
+            ≡ (if made then unpinned (known self.old.knows) else known self.old.knows) }
+    {
+        if made {
+            self.unpin();
+        }
+    }
+}
+
+impl<'a> Server for PassServer<'a> {
+    ghost use Rattle.std.specs.Prelude.{ℕ};
+    ghost use Rattle.be_script_runner.specs.Served.{IsRefusedBy, seat_of};
+    ghost use Rattle.be_table.specs.Place.{Opened};
+
+    ghost Kept = { Opened × ℕ };
+
+    ghost kept = { seat_of };
+
+    ghost shows = { λ s. known s.knows };
+
+    ghost refuses = { λ s ops e t. IsRefusedBy s.knows ops e t.knows };
+
+    fn apply(&mut self, ops: &[Op]) -> Result<(u64, ArrayVec<Done, 64>), Refusal> {
+        apply_at_last(self.store, &mut self.pass, ops)
+    }
+
+    fn is_pinned(&self) -> bool {
+        self.pass.pinned().is_some()
+    }
+
+    fn pin(&mut self) -> u64 {
+        self.pass.is_pass();
+        let number = self.store.pin(&mut self.pass);
+        self.pass.is_pass();
+        number
+    }
+
+    fn unpin(&mut self) {
+        self.store.unpin(&mut self.pass);
+    }
+
+    fn query(&mut self, query: &Query) -> Result<Vec<u64>, Refusal> {
+        let made = self.begin_read();
+        let answer = self.store.query(self.alloc, &mut self.pass, query);
+        self.end_read(made);
+        Ok(answer?.nodes)
+    }
+
+    fn explain(&mut self, query: &Query) -> Result<Cover, Refusal> {
+        let made = self.begin_read();
+        let cover = self.store.explain(self.alloc, &mut self.pass, query);
+        self.end_read(made);
+        cover
+    }
+
+    fn get(&mut self, node: u64, name: &Name) -> Option<Value> {
+        let made = self.begin_read();
+        let value = self.store.get(&mut self.pass, node, name);
+        self.end_read(made);
+        value
+    }
+
+    fn attrs(&mut self, node: u64) -> Result<Vec<(Name, Value)>, Refusal> {
+        let made = self.begin_read();
+        let list = self.store.attrs(self.alloc, &mut self.pass, node);
+        self.end_read(made);
+        list
+    }
+
+    fn indices(&mut self) -> Result<Vec<(Name, Kind)>, Refusal> {
+        let made = self.begin_read();
+        let list = self.store.indices(self.alloc, &mut self.pass);
+        self.end_read(made);
+        list
+    }
+
+    fn state_text(&mut self) -> Result<String, AllocError> {
+        let made = self.begin_read();
+        let text = pinned_text(self.alloc, self.store, &mut self.pass);
+        self.end_read(made);
+        text
+    }
+}

@@ -1,0 +1,205 @@
+//! Runs that end at the first line that is refused.
+//!
+//! Each line is run and its reply written, as in any run. Behind a reply that says that its line
+//! was not done nothing more is run: that reply is the last that is written. The store is closed
+//! then, and its journal is returned.
+ghost use Rattle.std.specs.Option.{option_map};
+ghost use Rattle.std.specs.Prelude.{◌≡◌, ◌≤◌, ◌^◌, ◌↔◌, length, IfOk, OnOk, IfErr, IfSome, OnErr};
+ghost use Rattle.std.specs.Prelude.{if◌then◌else◌};
+ghost use Rattle.std.specs.String.{string_bytes};
+ghost use Rattle.be_journal.specs.Journal.{IsLegal};
+ghost use Rattle.be_script_language.specs.View.{reply_of};
+ghost use Rattle.be_script_runner.specs.Output.{IsFrontOfOutput};
+ghost use Rattle.be_script_runner.specs.Run as spec;
+ghost use Rattle.be_script_runner.specs.Store.{start};
+ghost use Rattle.be_script_runner.specs.Strict as strict;
+ghost use Rattle.be_script_runner.specs.View.{session, queued_ops};
+ghost use Rattle.be_table.specs.Rule.{AreBad, IsWithin};
+
+use crate::answers::answer;
+use crate::client::Client;
+use crate::runs::{put, read_script, split_line};
+use crate::script_readers::ScriptReader;
+use crate::stores::{PassServer, Server, open_for_one};
+use crate::tellings::close_alone;
+use crate::{Limits, RunFault};
+use be_journal::Journal;
+use be_script_language::{Reply, read_line, reply_text};
+use std::alloc::Global;
+use std::io::Write;
+
+/// A line of a script that was refused.
+#[derive(Debug, Drop)]
+pub struct RefusedLine {
+    /// Its number; lines count from 1.
+    pub number: u64,
+    /// Its reply, with the LF.
+    pub reply: String,
+}
+
+/// Whether a reply says that its line was not done.
+fn is_refusal(reply: &Reply) -> bool
+    ensures { result ≡ strict.is_refusal (reply_of reply.now) }
+{
+    match reply {
+        Reply::Silent | Reply::Done | Reply::Queued => false,
+        Reply::Node(_) | Reply::Nodes(_) | Reply::Value(_) | Reply::Attributes(_) => false,
+        Reply::Kinds(_) | Reply::Cover(_) | Reply::Pinned(_) => false,
+        Reply::Updates(_, _) | Reply::Committed(_, _) => false,
+        Reply::BadLine | Reply::Refused(_) => true,
+        Reply::AlreadyPinned | Reply::NotPinned | Reply::NoLiveQuery => true,
+        Reply::FullBatch | Reply::EmptyBatch | Reply::AlreadyBegun | Reply::NotBegun => true,
+    }
+}
+
+/// The text of a reply, if it says that its line was not done.
+fn refusal_in(is_refused: bool, text: String) -> Option<String>
+    ensures { option_map string_bytes result
+        ≡ (if is_refused then Some (string_bytes text) else None) }
+{
+    if is_refused { Some(text) } else { None }
+}
+
+/// Runs a line, and then writes its reply, which is returned if it says that the line was not done.
+/// Nothing of it was written if memory is missing.
+fn run_line<S: Server, W: Write>(
+    alloc: Global,
+    server: &mut S,
+    client: &mut Client,
+    line: &[u8],
+    writer: &mut W,
+) -> Result<Option<String>, RunFault>
+    requires few { length (queued_ops client.old) ≤ 64 }
+    ensures ok { IfOk result (λ found. spec.Wrote (W.contents writer.old) (W.contents writer.new)
+        (strict.Judged (session (S.shows server.old) client.old) line.now
+        (session (S.shows server.new) client.new) (option_map string_bytes found))) }
+    ensures err { OnErr result (spec.Wrote (W.contents writer.old) (W.contents writer.new)
+        (spec.IsFrontOfAnswer (session (S.shows server.old) client.old) line.now)) }
+    ensures whole { IfErr result (λ e. e ≡ RunFault.Memory → W.contents writer.new
+        ≡ W.contents writer.old) }
+    ensures late { IfErr result spec.IsLate }
+    ensures stays { S.kept server.new ≡ S.kept server.old }
+    ensures few { length (queued_ops client.new) ≤ 64 }
+{
+    let Ok(request) = read_line(alloc, line) else {
+        return Err(RunFault::Memory);
+    };
+    let reply = answer(alloc, server, client, request);
+    let Ok(text) = reply_text(alloc, &reply) else {
+        return Err(RunFault::Memory);
+    };
+    put(writer, text.as_bytes())?;
+    Ok(refusal_in(is_refusal(&reply), text))
+}
+
+/// The refused line of this number, if there is a reply of one.
+fn refused_line(number: u64, reply: Option<String>) -> Option<RefusedLine>
+    ensures { option_map strict.line_refused result
+        ≡ strict.numbered number (option_map string_bytes reply) }
+{
+    match reply {
+        Some(reply) => Some(RefusedLine { number, reply }),
+        None => None,
+    }
+}
+
+/// Runs the lines of a script in turn, up to the first that is refused, and gives that one. What
+/// follows the last LF is a line only if it isn't empty.
+fn run_lines<S: Server, W: Write>(
+    alloc: Global,
+    server: &mut S,
+    script: &[u8],
+    writer: &mut W,
+) -> Result<Option<RefusedLine>, RunFault>
+    ensures ok { IfOk result (λ found. spec.Wrote (W.contents writer.old) (W.contents writer.new)
+        (strict.IsStrictOutput (S.shows server.old) script.now
+        (option_map strict.line_refused found) (S.shows server.new))) }
+    ensures front { spec.Wrote (W.contents writer.old) (W.contents writer.new)
+        (IsFrontOfOutput (S.shows server.old) script.now) }
+    ensures whole { IfErr result (λ e. e ≡ RunFault.Memory →
+        spec.Wrote (W.contents writer.old) (W.contents writer.new)
+        (spec.AreFirstReplies (S.shows server.old) script.now)) }
+    ensures late { IfErr result spec.IsLate }
+    ensures stays { S.kept server.new ≡ S.kept server.old }
+{
+    let mut client = Client::new();
+    let mut rest = script;
+    let mut number = 1;
+    while let Some((line, behind)) = split_line(rest) {
+        let refused = run_line(alloc, server, &mut client, line, writer)?;
+        if let Some(reply) = refused {
+            return Ok(Some(RefusedLine { number, reply }));
+        }
+        rest = behind;
+        number += 1;
+    }
+    if rest.is_empty() {
+        return Ok(None);
+    }
+    let refused = run_line(alloc, server, &mut client, rest, writer)?;
+    Ok(refused_line(number, refused))
+}
+
+/// Runs a script on a new store up to the first line that is refused, and closes the store.
+fn run_on_new<W: Write>(
+    alloc: Global,
+    script: &[u8],
+    writer: &mut W,
+    limits: Limits,
+) -> Result<(Option<RefusedLine>, Journal), RunFault>
+    requires { IsWithin limits }
+    ensures ran { IfOk result (λ r. spec.Wrote (W.contents writer.old) (W.contents writer.new)
+        (strict.IsStrictRun limits script.now (option_map strict.line_refused r.0) r.1.entries)) }
+    ensures legal { IfOk result (λ r. IsLegal r.1.entries) }
+    ensures err { OnErr result (spec.Wrote (W.contents writer.old) (W.contents writer.new)
+        (IsFrontOfOutput (start limits.commits) script.now)) }
+    ensures whole { IfErr result (λ e. e ≡ RunFault.Memory →
+        spec.Wrote (W.contents writer.old) (W.contents writer.new)
+        (spec.AreFirstReplies (start limits.commits) script.now)) }
+    ensures late { IfErr result spec.IsLate }
+{
+    let Ok((store, pass)) = open_for_one(alloc, limits) else {
+        return Err(RunFault::Memory);
+    };
+    let mut server = PassServer::new(alloc, &store, pass);
+    let refused = run_lines(alloc, &mut server, script, writer)?;
+    let pass = server.into_pass();
+    let journal = close_alone(alloc, store, pass)?;
+    Ok((refused, journal))
+}
+
+/// Runs a script as [`crate::run`] does, but ends after the first reply that says that its line was
+/// not done, and returns that line. It returns None if there was no such line: then all lines were
+/// run. The journal of the accepted writes is returned too.
+///
+/// Such replies are a refusal, `bad line`, `already begun`, `not begun`, `full batch`, `empty
+/// batch`, `already pinned`, `not pinned` and `no live query`. What is written is an output of the
+/// lines up to that one. Faults are those of `run`, and leave what they leave there.
+pub fn run_strictly<R: ScriptReader, W: Write>(
+    alloc: Global,
+    reader: &mut R,
+    writer: &mut W,
+    limits: Limits,
+) -> Result<(Option<RefusedLine>, Journal), RunFault>
+    ensures limits { (result ≡ Err RunFault.Limits) ↔ AreBad limits }
+    ensures unread { result ≡ Err RunFault.Limits → reader.new ≡ reader.old }
+    ensures ran { IfOk result (λ r. IfSome (R.remaining reader.old) (λ script.
+        spec.Wrote (W.contents writer.old) (W.contents writer.new)
+        (strict.IsStrictRun limits script (option_map strict.line_refused r.0) r.1.entries))) }
+    ensures legal { IfOk result (λ r. IsLegal r.1.entries) }
+    ensures fits { OnOk result (IfSome (R.remaining reader.old)
+        (λ script. length script ≤ 2 ^ 20)) }
+    ensures fault { IfErr result (λ e. spec.RunLeaves e (start limits.commits)
+        (R.remaining reader.old) (W.contents writer.old) (W.contents writer.new)) }
+    ensures taken { IfErr result (λ e. spec.HasReadScript e (R.remaining reader.old)
+        (R.remaining reader.new)) }
+    ensures reads { spec.HasFewReads (R.was_read reader.old) (R.was_read reader.new) }
+{
+    if !limits.are_within() {
+        return Err(RunFault::Limits);
+    }
+    match read_script(alloc, reader) {
+        Ok(script) => run_on_new(alloc, &script, writer, limits),
+        Err(fault) => Err(fault),
+    }
+}

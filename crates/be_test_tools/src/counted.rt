@@ -1,0 +1,74 @@
+//! Pages that count accesses.
+ghost use Rattle.std.specs.Prelude.{◌≡◌};
+
+use be_pages::{Look, Room};
+use be_value::Refusal;
+
+/// A reader of pages, or a room of them, which counts the words that are read and stored, and the
+/// pages that are taken. A word that a page has already isn't stored again, as in a table. Its
+/// facts are those of what it owns.
+#[derive(Drop)]
+pub struct Counted<P> {
+    pub pages: P,
+    pub reads: u64,
+    pub stores: u64,
+    pub takes: u64,
+}
+
+impl<P: Drop> Counted<P> {
+    /// Counts from 0 what is asked of these pages.
+    pub fn new(pages: P) -> Counted<P>
+        ensures { result.pages ≡ pages }
+    {
+        Counted {
+            pages,
+            reads: 0,
+            stores: 0,
+            takes: 0,
+        }
+    }
+}
+
+impl<L: Look> Look for Counted<L> {
+    ghost Kept = { L.Kept };
+
+    ghost kept = { λ c. L.kept c.pages };
+
+    ghost is_open = { L.is_open };
+
+    ghost standing = { λ c. L.standing c.pages };
+
+    ghost words = { λ c. L.words c.pages };
+
+    ghost pages_small = { λ c q some. L.pages_small c.pages q some };
+
+    fn word(&mut self, page: u64, i: usize) -> u64 {
+        self.reads = self.reads.wrapping_add(1);
+        self.pages.word(page, i)
+    }
+}
+
+impl<R: Room> Room for Counted<R> {
+    ghost full = { λ c least. R.full c.pages least };
+
+    fn is_taken(&self, page: u64) -> bool {
+        self.pages.is_taken(page)
+    }
+
+    fn take(&mut self) -> Result<u64, Refusal> {
+        self.takes = self.takes.wrapping_add(1);
+        self.pages.take()
+    }
+
+    #[tactic(auto, using(crate::proofs::Standings::taken_readable))]
+    fn fill(&mut self, page: u64, i: usize, word: u64) {
+        if self.pages.word(page, i) != word {
+            self.stores = self.stores.wrapping_add(1);
+        }
+        self.pages.fill(page, i, word);
+    }
+
+    fn give_up(&mut self, page: u64) {
+        self.pages.give_up(page)
+    }
+}

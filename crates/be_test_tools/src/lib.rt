@@ -1,0 +1,23 @@
+//! What the tests of several crates share: worked examples as texts, the loop over their lines, the
+//! texts of replies, pages that count accesses, a writer of bytes that fails, and a list with room
+//! for bytes.
+//!
+//! It is here once, and is proved once. A test checks results, and needs no contract, so most of
+//! this has none.
+#![tactic(auto)]
+
+mod counted;
+mod examples;
+mod lines;
+mod long_lists;
+mod replies;
+mod stores;
+mod writers;
+
+pub use counted::Counted;
+pub use examples::{COVERAGE, EQUAL_VALUES, EXAMPLES, LISTS, TEXTS, TWO_INDICES};
+pub use lines::{Answers, behind, check_lines};
+pub use long_lists::longest_list;
+pub use replies::{answer_lines, done_lines, list_of, reply_lines};
+pub use stores::{OUTSIDE_LIMITS, both_of, has_hundred_by_each, is_legal, numbered, pair_of};
+pub use writers::{Narrow, list_with_room};

@@ -1,0 +1,31 @@
+//! The longest reply of a script.
+use std::alloc::{AllocError, Global};
+
+/// A script that makes and lists 64 attributes of a node, and its replies.
+fn list_with_script(alloc: Global) -> Result<(String, String), AllocError> {
+    let name = "\\n".repeat(alloc, 61)?;
+    let value = "\\n".repeat(alloc, 255)?;
+    let mut script = String::from_str(alloc, "new\n")?;
+    let mut replies = String::from_str(alloc, "node 1\n")?;
+    let mut list = String::from_str(alloc, "attrs 64\n")?;
+    for n in 10..74u64 {
+        let attribute = format!(in alloc; "\"{name}{n}\" CSTR \"{value}\"\n")?;
+        script.push_str("set 1 ")?;
+        script.push_str(attribute.as_str())?;
+        replies.push_str("ok\n")?;
+        list.push_str(attribute.as_str())?;
+    }
+    script.push_str("attrs 1\n")?;
+    replies.push_str(list.as_str())?;
+    Ok((script, replies))
+}
+
+/// A script that lists 64 attributes with the longest names and values, in which each LF is printed
+/// as two characters; and its replies, the last of them with 41,289 bytes. Both are made again
+/// after running out of memory.
+pub fn longest_list(alloc: Global) -> Result<(String, String), AllocError> {
+    match list_with_script(alloc) {
+        Err(_) => list_with_script(alloc),
+        texts => texts,
+    }
+}

@@ -1,8 +1,0 @@
-//! Tests of the public calls of the crates from be_value to be_journal: values from outside, printed texts, sizes at
-//! their bounds, counted reads, and calls after a refused request for memory.
-//!
-//! They stand here, and not in the crates that they test, since a crate is proved once more with its own tests.
-#![tactic(auto)]
-
-#[cfg(test)]
-mod tests;

@@ -1,0 +1,16 @@
+//! The operations that make a volume again from the empty one.
+//!
+//! A process that runs for long may leave its history behind: it reads the operations that make the
+//! present volume, applies them to a new store, and goes on with a short journal.
+#![tactic(auto)]
+
+mod laws;
+mod lists;
+mod pieces;
+mod plain;
+mod whole;
+
+pub use laws::{fewest, made_again, numbered};
+pub use lists::{Place, next_list};
+pub use plain::{WholeVolume, whole_volume};
+pub use whole::Whole;

@@ -1,0 +1,64 @@
+//! What a volume is read through.
+//!
+//! A whole is read by four calls, and each may change the reader itself, as a cursor moves. `kept`
+//! names what no call changes, and `answers_for` is the relation between the reader and the volume
+//! that it reads: a reader of pages encodes a volume but can't compute it.
+ghost use Rattle.std.specs.FinMap as map;
+ghost use Rattle.std.specs.Option.{option_map};
+ghost use Rattle.std.specs.Prelude.{◌≡◌, IfOk};
+ghost use Rattle.be_volume.specs.Reading.{index_kinds};
+ghost use Rattle.be_volume.specs.Volume.{State};
+ghost use Rattle.be_volume_state.specs.Rebuilding.{is_held};
+
+use be_value::{Kind, Name, Value};
+use std::alloc::AllocError;
+
+/// A reader of one whole volume. Its calls may change the reader itself, but neither the volume nor
+/// what the reader keeps. Each call asks that the reader answers for some volume, and its clauses
+/// hold of every volume for which it does.
+pub trait Whole {
+    /// The facts of the reader that no call changes.
+    ghost Kept: { Type 0 };
+
+    ghost kept: { Self → Kept };
+
+    /// Whether the reader answers for this volume.
+    ghost answers_for: { Self → State → Type 0 };
+
+    /// The number that the next node gets.
+    fn next(&mut self) -> u64
+        requires { (volume : State) × answers_for self.old volume }
+        ensures answer { (volume : State) → answers_for self.old volume → result ≡ volume.next }
+        ensures stays { kept self.new ≡ kept self.old }
+        ensures answers { (volume : State) → answers_for self.old volume
+            → answers_for self.new volume };
+
+    /// The attributes of a node, by ascending bytes of their names, and none if the node isn't
+    /// there.
+    fn attrs(&mut self, node: u64) -> Result<Option<Vec<(Name, Value)>>, AllocError>
+        requires { (volume : State) × answers_for self.old volume }
+        ensures answer { (volume : State) → answers_for self.old volume →
+            IfOk result (λ list. option_map (λ l. l.items) list
+            ≡ option_map map.entries (map.get volume.nodes node)) }
+        ensures stays { kept self.new ≡ kept self.old }
+        ensures answers { (volume : State) → answers_for self.old volume
+            → answers_for self.new volume };
+
+    /// The names and kinds of the indices, by ascending bytes of the names.
+    fn indices(&mut self) -> Result<Vec<(Name, Kind)>, AllocError>
+        requires { (volume : State) × answers_for self.old volume }
+        ensures answer { (volume : State) → answers_for self.old volume
+            → IfOk result (λ list. list.items ≡ index_kinds volume) }
+        ensures stays { kept self.new ≡ kept self.old }
+        ensures answers { (volume : State) → answers_for self.old volume
+            → answers_for self.new volume };
+
+    /// Whether the index of that name has the node. It takes no memory.
+    fn is_held(&mut self, node: u64, name: &Name) -> bool
+        requires { (volume : State) × answers_for self.old volume }
+        ensures answer { (volume : State) → answers_for self.old volume → result
+            ≡ is_held volume node name.now }
+        ensures stays { kept self.new ≡ kept self.old }
+        ensures answers { (volume : State) → answers_for self.old volume
+            → answers_for self.new volume };
+}
