@@ -5,6 +5,4 @@ pub mod SlotLists
 pub mod Neighbours
 pub mod Children
 pub mod Joins
-pub mod Alone
 pub mod Writes
-pub mod Sides

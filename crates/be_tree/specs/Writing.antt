@@ -1,7 +1,10 @@
 -- What a node in hand takes to be written, and what is made of it.
-use Rattle.std.specs.Prelude.{◌≡◌, ◌≢◌, ℕ, suc, ◌≤◌, List, ◌∷◌, ◌++◌, length, All, IsTrue}
+use Rattle.std.specs.Prelude.{◌≡◌, ◌≢◌, ℕ, suc, ◌≤◌, List, ◌∷◌, ◌++◌, length, All, IsTrue, Result}
+use Rattle.std.specs.Prelude.{OnErr, IfErr}
 use Rattle.be_pages.specs.declared.room.Standing.{Standing}
-use Rattle.be_pages.specs.Pages.{is_kept, times}
+use Rattle.be_pages.specs.Pages.{is_kept, times, KeepsStart}
+use Rattle.be_pages.specs.Refusal.{IsFullOf}
+use Rattle.be_value.specs.declared.refusals.Refusal.{Refusal}
 use Rattle.be_tree.specs.declared.slot.Slot.{Slot}
 use Rattle.be_tree.specs.Page.{items_of}
 use Rattle.be_tree.specs.Pair.{Pair}
@@ -58,3 +61,10 @@ Changes kept_of standing_of words_of level page change given slots old new =
     (pages_below level (words_of old) (items_of (words_of old page)))
     (change (pairs_at level (words_of old) page)) level (pairs_of (words_of new) given slots) old
     new
+
+-- Where a write is refused, what stood when it began stands once it is undone, and no page was
+-- left.
+abbrev pub Refuses : {S K A : Type 0} → (S → K) → (S → ℕ → Standing) → (S → ℕ → ℕ → ℕ)
+    → (full : S → ℕ → Type 0) → Result A Refusal → S → S → Type 0
+Refuses kept_of standing_of words_of full result old new = OnErr result
+    (KeepsStart kept_of standing_of words_of old new) × IfErr result (IsFullOf (full new))

@@ -311,7 +311,7 @@ pub(crate) fn store_item<R: Room>(room: &mut R, page: u64, at: usize, item: &Ite
 
 /// Copies the words of an item to a place of a page that has a word filled. An item that stands
 /// there is left alone.
-fn copy_item<R: Room>(room: &mut R, page: u64, at: usize, from: u64, place: usize)
+pub(crate) fn copy_item<R: Room>(room: &mut R, page: u64, at: usize, from: u64, place: usize)
     requires filled { R.standing room.old page ≡ Filled }
     requires in_page { at + 42 ≤ 512 }
     requires readable { IsTrue (is_readable (R.standing room.old from)) }
@@ -362,7 +362,7 @@ fn store_branch<R: Room>(room: &mut R, page: u64, at: usize, child: u64)
 }
 
 /// Writes the item of a slot at a place of a page that has a word filled.
-fn store_slot<R: Room>(room: &mut R, page: u64, at: usize, slot: Slot, pair: &Item)
+pub(crate) fn store_slot<R: Room>(room: &mut R, page: u64, at: usize, slot: Slot, pair: &Item)
     requires filled { R.standing room.old page ≡ Filled }
     requires in_page { at + 42 ≤ 512 }
     requires ready { IsReady (R.standing room.old) (R.words room.old) slot }
@@ -478,52 +478,6 @@ fn stands_to(page: u64, place: usize, slot: Slot) -> bool
         Slot::Branch(child) => child as u64 != page,
         Slot::New => true,
     }
-}
-
-/// Whether a slot's item is the one at this place of this page.
-fn stands_at(page: u64, place: usize, slot: Slot) -> bool
-    ensures { result ≡ true → slot ≡ At place page }
-{
-    match slot {
-        Slot::At(at, from) => from as u64 == page && at as usize == place,
-        Slot::Branch(_) | Slot::New => false,
-    }
-}
-
-/// Whether a node's items are the first ones of this page, each at its place.
-fn all_stand_at(page: u64, slots: &[Slot]) -> bool
-    requires { length slots.now ≤ 12 }
-    ensures { result ≡ true → StandsWhole page slots.now }
-{
-    for j in 0..slots.len() {
-        if !stands_at(page, HEADER_WORDS + ITEM_WORDS * j, slots[j]) {
-            return false;
-        }
-    }
-    true
-}
-
-/// Whether a node is what stands on this page already.
-pub(crate) fn is_whole<L: Look>(look: &mut L, level: u64, page: u64, slots: &[Slot]) -> bool
-    requires readable { IsTrue (is_readable (L.standing look.old page)) }
-    requires few { length slots.now ≤ 12 }
-    requires ready { All (IsReady (L.standing look.old) (L.words look.old)) slots.now }
-    ensures page { result ≡ true → IsPage (L.words look.old page) }
-    ensures level { result ≡ true → level_of (L.words look.old page) ≡ level }
-    ensures items { result ≡ true → (given : Pair) → items_of (L.words look.old page)
-        ≡ pairs_of (L.words look.old) given slots.now }
-    ensures unchanged { IsUnchanged L.kept L.standing L.words look.old look.new }
-{
-    let count = look.word(page, 1) as usize;
-    let len = slots.len();
-    if count != len {
-        return false;
-    }
-    let found = look.word(page, 0);
-    if found != level {
-        return false;
-    }
-    all_stand_at(page, slots)
 }
 
 /// Whether those of a node's items that stand on a page move down there, or stay.

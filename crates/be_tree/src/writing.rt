@@ -7,8 +7,7 @@
 //! they stand are left alone, and the others are moved within the page. They are moved in the order
 //! of their numbers where all move down, as when one was taken out, and from the last one on where
 //! all move up, as when one was put in. Where some move down and others up, the node is written to
-//! another page. Above a page that was written over, and whose least key is the same, each page
-//! stays as it is.
+//! another page.
 //!
 //! # Two pages
 //! A node of more than twelve items is written in two pages, of which the first is the old one
@@ -21,19 +20,20 @@ ghost use Rattle.be_pages.specs.declared.room.Standing.TheVariants.{Filled};
 ghost use Rattle.be_pages.specs.Pages.{is_kept, is_readable, is_taken, IsUnchanged, StandsAt};
 ghost use Rattle.be_pages.specs.Pages.{Swaps, KeepsStart};
 ghost use Rattle.be_pages.specs.Refusal.{IsFullOf};
-ghost use Rattle.be_tree.specs.Page.{IsPage, item_place, items_of, level_of};
-ghost use Rattle.be_tree.specs.Slot.{IsBranchSlot, IsReady, Moves, StandsFrom, branch_to, pairs_of};
-ghost use Rattle.be_tree.specs.Tree.{IsBelow, IsWritten, BecomesTree, least_of_root};
+ghost use Rattle.be_tree.specs.Page.{item_place};
+ghost use Rattle.be_tree.specs.Slot.{IsBranchSlot, IsReady, Moves, StandsFrom, branch_to, pair_of};
+ghost use Rattle.be_tree.specs.Slot.{pairs_of};
+ghost use Rattle.be_tree.specs.Tree.{IsBelow, IsWritten, BecomesTree, child, least_of_root};
 ghost use Rattle.be_tree.specs.Writing.{AreApart, CanBeWritten, IsApart, Replaces, ReplacesTree};
 
 use crate::item::Item;
 use crate::page::{
-    HEADER_WORDS, ITEM_WORDS, LEAST_ITEMS, MOST_ITEMS, is_whole, move_down, move_up, stands_from,
+    HEADER_WORDS, ITEM_WORDS, LEAST_ITEMS, MOST_ITEMS, child_at, move_down, move_up, stands_from,
     store_from_last, store_node,
 };
 use crate::slot::{Node, Slot, Way};
 use arrayvec::ArrayVec;
-use be_pages::Room;
+use be_pages::{Look, Room};
 use be_value::Refusal;
 
 /// Writes a node to a page of its own, and gives the page.
@@ -131,51 +131,7 @@ fn write_changed<R: Room>(room: &mut R, old: u64, node: Node<'_>) -> Result<u64,
     Ok(page)
 }
 
-/// Whether a node is what stands on its page already. It is asked only of a page that this write
-/// has taken, since on another one something is changed.
-fn stands_whole<R: Room>(room: &mut R, page: u64, node: Node<'_>) -> bool
-    requires readable { IsTrue (is_readable (R.standing room.old page)) }
-    requires few { length node.slots.now ≤ 12 }
-    requires ready { All (IsReady (R.standing room.old) (R.words room.old)) node.slots.now }
-    ensures page { result ≡ true → IsPage (R.words room.old page) }
-    ensures level { result ≡ true → level_of (R.words room.old page) ≡ node.entry.level }
-    ensures items { result ≡ true → items_of (R.words room.old page)
-        ≡ pairs_of (R.words room.old) node.entry.pair.now node.entry.slots.now }
-    ensures unchanged { IsUnchanged R.kept R.standing R.words room.old room.new }
-{
-    let in_hand = room.is_taken(page);
-    if !in_hand {
-        return false;
-    }
-    is_whole(room, node.level, page, node.slots)
-}
-
-/// Writes a node as `write_changed` does, or leaves its page as it is, where nothing of it is
-/// changed. So it is above a page that was written over where it stood.
-fn rewrite<R: Room>(room: &mut R, old: u64, node: Node<'_>) -> Result<u64, Refusal>
-    requires some { 0 < length node.slots.now }
-    requires few { length node.slots.now ≤ 12 }
-    requires ready { All (IsReady (R.standing room.old) (R.words room.old)) node.slots.now }
-    requires kept { IsTrue (is_kept (R.standing room.old old)) }
-    requires key_fits { length node.pair.now.key ≤ 264 }
-    requires open { IsTrue (R.is_open (R.kept room.old)) }
-    ensures ok { IfOk result (λ page. IsWritten node.entry.level (R.words room.new)
-        (pairs_of (R.words room.old) node.entry.pair.now node.entry.slots.now)
-        (branch_to (R.words room.new) page)) }
-    ensures swaps { IfOk result (λ page. Swaps R.kept R.standing R.words (old ∷ []) (page ∷ [])
-        room.old room.new) }
-    ensures small { IfOk result (λ page. page < 2 ^ 32) }
-    ensures err { OnErr result (KeepsStart R.kept R.standing R.words room.old room.new) }
-    ensures full { IfErr result (IsFullOf (R.full room.new)) }
-{
-    if stands_whole(room, old, node) {
-        return Ok(old);
-    }
-    let page = write_changed(room, old, node)?;
-    Ok(page)
-}
-
-/// Writes a node with what stands below it, as `rewrite` does, and gives its page.
+/// Writes a node with what stands below it, as `write_changed` does, and gives its page.
 pub(crate) fn write_branch<R: Room>(room: &mut R, old: u64, node: Node<'_>) -> Result<u64, Refusal>
     requires node { CanBeWritten node.level (R.standing room.old) (R.words room.old) node.pair.now
         node.slots.now }
@@ -190,12 +146,12 @@ pub(crate) fn write_branch<R: Room>(room: &mut R, old: u64, node: Node<'_>) -> R
     ensures err { OnErr result (KeepsStart R.kept R.standing R.words room.old room.new) }
     ensures full { IfErr result (IsFullOf (R.full room.new)) }
 {
-    let page = rewrite(room, old, node)?;
+    let page = write_changed(room, old, node)?;
     Ok(page)
 }
 
 /// Writes a node in hand in two pages, the first `cut` items in the first, and gives them. The
-/// second one is taken, and written before the first one is written as `rewrite` does.
+/// second one is taken, and written before the first one is written as `write_changed` does.
 fn write_parts<R: Room>(
     room: &mut R,
     old: u64,
@@ -222,7 +178,7 @@ fn write_parts<R: Room>(
     let slots = back;
     let right = write_node(room, Node { level, slots, pair })?;
     let slots = front;
-    let left = rewrite(room, old, Node { level, slots, pair })?;
+    let left = write_changed(room, old, Node { level, slots, pair })?;
     Ok((left, right))
 }
 
@@ -313,7 +269,7 @@ fn all_stand_from(page: u64, place: usize, slots: &[Slot]) -> bool
 }
 
 /// Writes two nodes whose items stood in two neighbours: the first over the first neighbour, where
-/// it leaves what the second one needs, and the second as `rewrite` does.
+/// it leaves what the second one needs, and the second as `write_changed` does.
 fn write_two_over<R: Room>(
     room: &mut R,
     level: u64,
@@ -349,12 +305,12 @@ fn write_two_over<R: Room>(
     let slots = front;
     write_over(room, left, way, Node { level, slots, pair });
     let slots = back;
-    let page = rewrite(room, right, Node { level, slots, pair })?;
+    let page = write_changed(room, right, Node { level, slots, pair })?;
     Ok(page)
 }
 
 /// Writes two nodes whose items stood in two neighbours: the first to a page of its own, and the
-/// second as `rewrite` does. The first neighbour is given up.
+/// second as `write_changed` does. The first neighbour is given up.
 fn write_two_anew<R: Room>(
     room: &mut R,
     level: u64,
@@ -385,7 +341,7 @@ fn write_two_anew<R: Room>(
     let slots = front;
     let first = write_node(room, Node { level, slots, pair })?;
     let slots = back;
-    let second = rewrite(room, right, Node { level, slots, pair })?;
+    let second = write_changed(room, right, Node { level, slots, pair })?;
     room.give_up(left);
     Ok((first, second))
 }
@@ -442,12 +398,9 @@ pub(crate) fn pack_two<R: Room>(
     ensures ok { IfOk result (λ branches. Replaces R.kept R.standing R.words node.entry.level
         node.entry.pair.now node.entry.slots.now (left ∷ right ∷ [])
         (pairs_of (R.words room.new) node.entry.pair.now branches.items) room.old room.new) }
-    ensures ready { IfOk result (λ branches. All (IsReady (R.standing room.new) (R.words room.new))
-        branches.items) }
+    ensures branches { IfOk result (λ branches. All IsBranchSlot branches.items) }
     ensures some { IfOk result (λ branches. (0 < length branches.items)
         × (length branches.items ≤ 2)) }
-    ensures two { IfOk result (λ branches. 12 < length node.entry.slots.now → length branches.items
-        ≡ 2) }
     ensures err { OnErr result (KeepsStart R.kept R.standing R.words room.old room.new) }
     ensures full { IfErr result (IsFullOf (R.full room.new)) }
 {
@@ -508,7 +461,7 @@ pub(crate) fn write_root<R: Room>(room: &mut R, old: u64, node: Node<'_>) -> Res
     ensures full { IfErr result (IsFullOf (R.full room.new)) }
 {
     if node.slots.len() <= MOST_ITEMS {
-        let top = rewrite(room, old, node)?;
+        let top = write_changed(room, old, node)?;
         return Ok(top + 1);
     }
     let (left, right) = write_parts(room, old, node, first_of_two(node.slots.len()))?;
@@ -520,4 +473,48 @@ pub(crate) fn write_root<R: Room>(room: &mut R, old: u64, node: Node<'_>) -> Res
     };
     let top = write_node(room, above)?;
     Ok(top + 1)
+}
+
+/// Writes what is left of a root as a tree, and gives its root: none where nothing is left, and the
+/// page of the one branch that is left of an inner root. The old root's page is given up where it
+/// isn't written over.
+pub(crate) fn write_rest<R: Room>(room: &mut R, old: u64, node: Node<'_>) -> Result<u64, Refusal>
+    requires low { node.level < 2 ^ 32 }
+    requires node { CanBeWritten node.level (R.standing room.old) (R.words room.old) node.pair.now
+        node.slots.now }
+    requires few { length node.slots.now ≤ 18 }
+    requires old { IsApart node.level (R.standing room.old) (R.words room.old) node.pair.now
+        node.slots.now old }
+    requires open { IsTrue (R.is_open (R.kept room.old)) }
+    ensures ok { IfOk result (λ root. ReplacesTree R.kept R.standing R.words node.entry.level
+        node.entry.pair.now node.entry.slots.now old root room.old room.new) }
+    ensures err { OnErr result (KeepsStart R.kept R.standing R.words room.old room.new) }
+    ensures full { IfErr result (IsFullOf (R.full room.new)) }
+{
+    let Node { level, slots, pair } = node;
+    if slots.len() == 0 {
+        room.give_up(old);
+        return Ok(0);
+    }
+    if level > 0 && slots.len() == 1 {
+        let child = child_of(room, slots[0], pair);
+        room.give_up(old);
+        return Ok(child + 1);
+    }
+    let root = write_root(room, old, node)?;
+    Ok(root)
+}
+
+/// The page that a slot's branch names.
+fn child_of<L: Look>(look: &mut L, slot: Slot, pair: &Item) -> u64
+    requires ready { IsReady (L.standing look.old) (L.words look.old) slot }
+    requires names_page { length (pair_of (L.words look.old) pair.now slot).payload ≡ 8 }
+    ensures child { result ≡ child (pair_of (L.words look.old) pair.now slot) }
+    ensures unchanged { IsUnchanged L.kept L.standing L.words look.old look.new }
+{
+    match slot {
+        Slot::At(place, page) => child_at(look, page as u64, place as usize),
+        Slot::Branch(page) => page as u64,
+        Slot::New => pair.child(),
+    }
 }

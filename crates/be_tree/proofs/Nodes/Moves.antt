@@ -98,14 +98,3 @@ stands_else s t page u stands q ne = stands q ∙ other u (s q)
   where
     other : (t u : Standing) → (if q == page then t else u) ≡ u
     other t u = grind (arith, nat_tests)
-
--- a word of an item that is being copied, which is still to be read
-pub still_there : {S K : Type 0} (kept_of : S → K) (standing_of : S → ℕ → Standing) (words_of : S → ℕ → ℕ → ℕ) (page at from place i : ℕ) (old now : S) → OnlyWrites kept_of standing_of words_of page at (at + 1 + i) old now
-    → (from ≡ page → (at ≤ place) ⊎ (place + 42 ≤ at)) → i < 41 → words_of now from (place + 1 + i) ≡ words_of old from (place + 1 + i)
-still_there kept_of standing_of words_of page at from place i old now only moves lt = elim (cases_eq from page) [
-  | inl e ↦ subst (λ q. words_of now q (place + 1 + i) ≡ words_of old q (place + 1 + i)) (sym e) (elim (moves e) [
-    | inl down ↦ only.after (place + 1 + i) (omega (arith, down))
-    | inr up ↦ only.before (place + 1 + i) (omega (arith, up, lt))
-  ])
-  | inr ne ↦ ap (λ u. u (place + 1 + i)) (only.others from ne)
-]

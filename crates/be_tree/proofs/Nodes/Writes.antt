@@ -28,7 +28,7 @@ written_same level v w items page small same some written =
     some
 
 -- a page that was free is none that is in use
-free_other : (s : ℕ → Standing) (free used : ℕ) → s free ≡ Free → IsTrue (is_kept (s used)) → free ≢ used
+pub free_other : (s : ℕ → Standing) (free used : ℕ) → s free ≡ Free → IsTrue (is_kept (s used)) → free ≢ used
 free_other s free used is kept e = false≢true (ap is_kept (sym is) ∙ ap (λ q. is_kept (s q)) e ∙ kept)
 
 some_page : (p : ℕ) → 0 < times p (p ∷ [])

@@ -130,25 +130,6 @@ module _ {S K : Type 0} (kept_of : S → K) (standing_of : S → ℕ → Standin
       here : (t u : Standing) → (if page == page then t else u) ≡ t
       here t u = grind (arith, nat_tests)
 
-  -- a pair put into a tree, which is then written in the place of its old root
-  pub tree_put : (root page level least new_root : ℕ) (pair given : Pair) (xs : List Pair) (old read mid new : S)
-      → root ≡ suc page → level ≡ level_of (words_of old page) → IsUnchanged kept_of standing_of words_of old read → pair ≡ given
-      → IsTreeAt level least (standing_of read) (words_of read) page
-      → Becomes kept_of standing_of words_of (pages_below level (words_of read) (items_of (words_of read page))) (put pair (pairs_at level (words_of read) page)) level xs read mid
-      → BecomesTree kept_of standing_of words_of (page ∷ pages_below level (words_of mid) xs) (pairs_below level (words_of mid) xs) new_root mid new
-      → BecomesTree kept_of standing_of words_of (pages (words_of old) root) (put given (pairs (words_of old) root)) new_root old new
-  tree_put root page level least new_root pair given xs old read mid new e at same is tree first written =
-      let all = tree_over kept_of standing_of words_of (pages_below level (words_of read) (items_of (words_of read page))) (put pair (pairs_at level (words_of read) page)) level page xs new_root read mid new first tree.page_once tree.below.once tree.page_in_use written in
-      let before = subst (λ w. BecomesTree kept_of standing_of words_of (pages_at level w page) (put pair (pairs_at level w page)) new_root read new) same.words all in
-      let put_given = subst (λ p. BecomesTree kept_of standing_of words_of (pages_at level (words_of old) page) (put p (pairs_at level (words_of old) page)) new_root read new) is before in
-      let here = subst (λ n. BecomesTree kept_of standing_of words_of (pages_at n (words_of old) page) (put given (pairs_at n (words_of old) page)) new_root read new) at put_given in
-      let rooted = subst (λ r. BecomesTree kept_of standing_of words_of (pages (words_of old) r) (put given (pairs (words_of old) r)) new_root read new) (sym e) here in
-      record {
-        tree = rooted.tree;
-        has_pairs = rooted.has_pairs;
-        swaps = swaps_since kept_of standing_of words_of (pages (words_of old) root) (pages (words_of new) new_root) old read new same rooted.swaps;
-      }
-
 pub same_pair : (pair : Pair) (k p : List ℕ) → pair.key ≡ k → pair.payload ≡ p → pair ≡ record { key = k; payload = p }
 same_pair pair k p ek ep =
     let with_key : List ℕ → Pair = λ x. record { key = x; payload = pair.payload } in

@@ -19,26 +19,26 @@ left_alone g c = λ i d lt.
 filled : (g : Over) (c : After-write_over g) → IsTrue (is_readable (g.R.Look.standing c.write_over.new.room c.args.left))
 filled g c = subst (λ s. IsTrue (is_readable s)) (sym (stands_at (g.R.Look.standing c.args.room.now) (g.R.Look.standing c.write_over.new.room) c.args.left Filled c.write_over.ensures.standing)) refl
 
-pub rewrite-requires-clause-ready : goal.rewrite-requires-clause-ready
-rewrite-requires-clause-ready g c =
-    let at = (goal.at.rewrite-requires-clause-ready g c).After-write_over in
+pub write_changed-requires-clause-ready : goal.write_changed-requires-clause-ready
+write_changed-requires-clause-ready g c =
+    let at = (goal.at.write_changed-requires-clause-ready g c).After-write_over in
     let s = g.R.Look.standing c.args.room.now in
     let t = g.R.Look.standing c.write_over.new.room in
     all_untouched_ready c.args.left s t (g.R.Look.words c.args.room.now) (g.R.Look.words c.write_over.new.room) (stands_else s t c.args.left Filled c.write_over.ensures.standing) c.write_over.ensures.others (filled g at)
     c.args.back.now (left_alone g at) c.requires.back_ready
 
-pub rewrite-requires-clause-kept : goal.rewrite-requires-clause-kept
-rewrite-requires-clause-kept g c =
+pub write_changed-requires-clause-kept : goal.write_changed-requires-clause-kept
+write_changed-requires-clause-kept g c =
     subst (λ s. IsTrue (is_kept s))
     (sym (stands_else (g.R.Look.standing c.args.room.now) (g.R.Look.standing c.write_over.new.room) c.args.left Filled c.write_over.ensures.standing c.args.right (λ e. c.requires.two.1.1 (sym e))))
     c.requires.two.1.0.0
 
-pub rewrite-requires-clause-open : goal.rewrite-requires-clause-open
-rewrite-requires-clause-open g c = subst (λ k. IsTrue (g.R.Look.is_open k)) (sym c.write_over.ensures.swaps.kept) c.requires.open
+pub write_changed-requires-clause-open : goal.write_changed-requires-clause-open
+write_changed-requires-clause-open g c = subst (λ k. IsTrue (g.R.Look.is_open k)) (sym c.write_over.ensures.swaps.kept) c.requires.open
 
 pub returns-in_err-page-clause-err : goal.returns-in_err-page-clause-err
 returns-in_err-page-clause-err g c =
-    on_err _ (start_trans g.R.Look.kept g.R.Look.standing g.R.Look.words c.args.room.now c.write_over.new.room c.rewrite.new.room
+    on_err _ (start_trans g.R.Look.kept g.R.Look.standing g.R.Look.words c.args.room.now c.write_over.new.room c.write_changed.new.room
     (swaps_start g.R.Look.kept g.R.Look.standing g.R.Look.words (c.args.left ∷ []) (c.args.left ∷ []) c.args.room.now c.write_over.new.room c.write_over.ensures.swaps)
     c.in_err-page.ensures.err)
 
@@ -49,6 +49,6 @@ returns-clause-ok g c =
     let t = g.R.Look.standing c.write_over.new.room in
     let same = untouched_pairs c.args.left s t (g.R.Look.words c.args.room.now) (g.R.Look.words c.write_over.new.room) (stands_else s t c.args.left Filled c.write_over.ensures.standing) c.write_over.ensures.others (filled g at)
     c.args.pair.now c.args.back.now (left_alone g at) c.requires.back_ready in
-    over_written g.R.Look.kept g.R.Look.standing g.R.Look.words c.args.level c.args.pair.now c.args.front.now c.args.back.now c.args.left c.args.right c.in_ok-page.page c.args.room.now c.write_over.new.room c.rewrite.new.room
+    over_written g.R.Look.kept g.R.Look.standing g.R.Look.words c.args.level c.args.pair.now c.args.front.now c.args.back.now c.args.left c.args.right c.in_ok-page.page c.args.room.now c.write_over.new.room c.write_changed.new.room
     c.requires.below c.requires.first.0 c.requires.second.0 c.requires.two.0.0 c.requires.two.1.0.0 c.requires.two.1.1 c.requires.two.0.1 c.requires.two.1.0.1
     c.write_over.ensures.written c.write_over.ensures.small c.write_over.ensures.swaps same c.in_ok-page.ensures.ok c.in_ok-page.ensures.small c.in_ok-page.ensures.swaps
