@@ -1,13 +1,14 @@
 -- A node that is settled, on the way up a tree.
 use Rattle.std.proofs.Common.{◌≡◌, ◌≢◌, ℕ, suc, ◌+◌, ◌-◌, ◌<◌, ◌≤◌, ◌⊎◌, List, [], ◌∷◌, ◌++◌, Bool, true, eqb, length, get_or, map, take, drop, All, IsTrue, ap, sym, subst, ◌∙◌, refl, inl, inr, arith, length-append, length-drop}
 use Rattle.std.specs.List.{range_with_len, take-map, drop-map}
-use Rattle.std.proofs.Math.Seq.{take-suc}
+use Rattle.std.proofs.Math.Seq.{take-length, take-suc}
 use Rattle.std.proofs.lemmas.Bool.Decides.{nat_tests}
-use Rattle.std.proofs.lemmas.List.{get_or-map, length-map, length-take-le, map-append, take-append-drop}
+use Rattle.std.proofs.lemmas.List.{get_or-map, length-map, length-take-le, map-append, take-append-drop, take-take}
 use Rattle.std.proofs.lemmas.List.Elements.{All-append}
 use Rattle.std.proofs.lemmas.List.FromFn.{length-map-range_with_len}
 use Rattle.be_pages.specs.declared.room.Standing.{Standing}
-use Rattle.be_pages.specs.Pages.{IsUnchanged, Swaps, is_kept, is_readable, times}
+use Rattle.be_pages.specs.declared.room.Standing.TheVariants.{Filled, Free, GivenUp, Old, Taken}
+use Rattle.be_pages.specs.Pages.{IsUnchanged, KeepsStart, Swaps, after_undo, is_from_before, is_kept, is_readable, times}
 use Rattle.be_tree.specs.declared.path.Step.{Step}
 use Rattle.be_tree.specs.declared.rising.Changed.{Changed}
 use Rattle.be_tree.specs.declared.settling.Settled.{Settled}
@@ -18,12 +19,12 @@ use Rattle.be_tree.specs.Pair.{Pair}
 use Rattle.be_tree.specs.Key.{IsRising}
 use Rattle.be_tree.specs.Page.{IsPage, item_at, item_place, items_of, level_of}
 use Rattle.be_tree.specs.Path.{BecomesNode, IsChanged, IsInHand, IsWayIn, KeepsLeast, around, least_at, whole}
-use Rattle.be_tree.specs.Settling.{IsChildInHand, IsSettled, beside}
+use Rattle.be_tree.specs.Settling.{IsAbove, IsChildInHand, IsSettled, beside}
 use Rattle.be_tree.specs.Slot.{IsBranchSlot, IsReady, branch_to, loaded, pair_of, pairs_of}
 use Rattle.be_tree.specs.Splicing.{CanBeSpliced, IsOff, IsSpliced, spliced}
 use Rattle.be_tree.specs.Tree.{Becomes, BecomesTree, IsBelow, IsTreeAt, child, least_of_root, pages, pages_at, pages_below, pairs_at, pairs_below}
 use Rattle.be_tree.specs.Writing.{IsApart}
-use Rattle.be_tree.proofs.Frame.{readable_kept, swaps_same, swaps_stands}
+use Rattle.be_tree.proofs.Frame.{readable_kept, swaps_same, swaps_start}
 use Rattle.be_tree.proofs.Nodes.Neighbours.{ready_until}
 use Rattle.be_tree.proofs.Nodes.Slots.{branches_ready, child_branch, items_count, loaded_pairs, loaded_ready}
 use Rattle.be_tree.proofs.Putting.Puts.{becomes_until, given_up_page, kept_after}
@@ -52,6 +53,31 @@ length_slots cut xs more in_range =
 
 pub loaded_length : (page n : ℕ) → length (loaded page n) ≡ n
 loaded_length page n = length-map-range_with_len (λ (j : ℕ). At (item_place j) page) 0 n
+
+-- how many items a page keeps that isn't the root
+pub least_six : (above : List Step) (level : ℕ) → 0 < length above → least_at above level ≡ 6
+least_six [] level some = absurd (omega (arith, some))
+least_six (s ∷ below) level some = refl
+
+-- what stood at first stands still after another change
+begun_before : (s t : Standing) → after_undo t ≡ after_undo s → IsTrue (is_from_before s) → IsTrue (is_from_before t)
+begun_before s t e old = same t ∙ ap is_from_before e ∙ sym (same s) ∙ old
+  where
+    same : (s : Standing) → is_from_before s ≡ is_from_before (after_undo s)
+    same Free = refl
+    same Old = refl
+    same GivenUp = refl
+    same Taken = refl
+    same Filled = refl
+
+pub start_back : {S K : Type 0} (kept_of : S → K) (standing_of : S → ℕ → Standing) (words_of : S → ℕ → ℕ → ℕ) (start mid new : S) → KeepsStart kept_of standing_of words_of start mid → KeepsStart kept_of standing_of words_of start new → KeepsStart kept_of standing_of words_of mid new
+start_back kept_of standing_of words_of start mid new one other = record {
+  kept = other.kept ∙ sym one.kept;
+  undone = λ q. other.undone q ∙ sym (one.undone q);
+  words = λ q old.
+      let begun = begun_before (standing_of mid q) (standing_of start q) (sym (one.undone q)) old in
+      other.words q begun ∙ sym (one.words q begun);
+}
 
 module _ {S K : Type 0} (kept_of : S → K) (standing_of : S → ℕ → Standing) (words_of : S → ℕ → ℕ → ℕ) (root : ℕ) (front : List Step) (step : Step) (was level : ℕ) (given : Pair) (slots : List Slot) (start mid : S)
     (h : IsInHand kept_of standing_of words_of root (front ++ step ∷ []) was given slots level start mid) where
@@ -121,6 +147,25 @@ module _ {S K : Type 0} (kept_of : S → K) (standing_of : S → ℕ → Standin
 
     pub now_count : words_of new step.page 1 ≡ words_of start step.page 1
     now_count = ap (λ (w : ℕ → ℕ). w 1) now_same
+
+    -- how many items the page has with them
+    pub settled_count : length (spliced settled.cut (items_of (words_of start step.page)) (pairs_of (words_of new) given settled.branches.items)) + settled.cut.gone ≡ words_of new step.page 1 + length settled.branches.items
+    settled_count = omega (
+      arith,
+      length_slots settled.cut (items_of (words_of start step.page)) (pairs_of (words_of new) given settled.branches.items) (omega (arith, s.in_range, items_count (words_of start step.page))),
+      items_count (words_of start step.page),
+      length-map settled.branches.items (pair_of (words_of new) given),
+      now_count,
+    )
+
+    -- what stood at first stands
+    pub settled_start : KeepsStart kept_of standing_of words_of mid new
+    settled_start =
+        let before = pages_below (suc level) (words_of start) (items_of (words_of start step.page)) in
+        let after = pages_below (suc level) (words_of new) (spliced settled.cut (items_of (words_of start step.page)) (pairs_of (words_of new) given settled.branches.items)) in
+        start_back kept_of standing_of words_of start mid new
+        (swaps_start kept_of standing_of words_of (pages_below level (words_of start) (items_of (words_of start was))) (pages_below level (words_of mid) (pairs_of (words_of mid) given slots)) start mid h.node.swaps)
+        (swaps_start kept_of standing_of words_of before after start new s.becomes.swaps)
 
     branches_below : IsBelow (suc level) (standing_of new) (words_of new) (pairs_of (words_of new) given settled.branches.items)
     branches_below =
@@ -219,7 +264,7 @@ module _ {S K : Type 0} (kept_of : S → K) (standing_of : S → ℕ → Standin
           (all_spliced (IsReady (standing_of new) (words_of new)) settled.cut (loaded step.page (words_of new step.page 1)) settled.branches.items
           (loaded_ready (standing_of new) (words_of new) step.page (words_of new step.page 1) refl (readable_kept (standing_of new step.page) now_kept) now_page) now_ready)))
 
-      pub out_count : length out + settled.cut.gone ≡ words_of start step.page 1 + length settled.branches.items
+      out_count : length out + settled.cut.gone ≡ words_of start step.page 1 + length settled.branches.items
       out_count = omega (
         arith,
         ap length is,
@@ -232,10 +277,10 @@ module _ {S K : Type 0} (kept_of : S → K) (standing_of : S → ℕ → Standin
       out_has = ap (pairs_below (suc level) (words_of read)) out_pairs
           ∙ ap (λ w. pairs_below (suc level) w (spliced settled.cut (items_of (words_of start step.page)) (pairs_of (words_of new) given settled.branches.items))) same.words ∙ s.becomes.has_pairs
 
-      pub out_whole : whole (words_of start) front (pairs_below (suc level) (words_of read) (pairs_of (words_of read) given out)) ≡ whole (words_of start) (front ++ step ∷ []) (pairs_below level (words_of mid) (pairs_of (words_of mid) given slots))
+      out_whole : whole (words_of start) front (pairs_below (suc level) (words_of read) (pairs_of (words_of read) given out)) ≡ whole (words_of start) (front ++ step ∷ []) (pairs_below level (words_of mid) (pairs_of (words_of mid) given slots))
       out_whole = ap (whole (words_of start) front) out_has ∙ sym (whole_beside (pairs_below level (words_of mid) (pairs_of (words_of mid) given slots)))
 
-      pub out_in_hand : IsInHand kept_of standing_of words_of root front step.page given out (suc level) start read
+      out_in_hand : IsInHand kept_of standing_of words_of root front step.page given out (suc level) start read
       out_in_hand =
           let before = pages_below (suc level) (words_of start) (items_of (words_of start step.page)) in
           let us = spliced settled.cut (items_of (words_of start step.page)) (pairs_of (words_of new) given settled.branches.items) in
@@ -250,7 +295,15 @@ module _ {S K : Type 0} (kept_of : S → K) (standing_of : S → ℕ → Standin
             rising = subst IsRising (sym out_whole) h.rising;
           }
 
--- how many items a page keeps at the end of the steps before one
+      pub out_above : (all : List Pair) → whole (words_of start) (front ++ step ∷ []) (pairs_below level (words_of mid) (pairs_of (words_of mid) given slots)) ≡ all → IsAbove kept_of standing_of words_of root front step.page given out all start read
+      out_above all is_all = record {
+        in_hand = subst (λ n. IsInHand kept_of standing_of words_of root front step.page given out n start read) (sym up) out_in_hand;
+        same = ap (λ n. whole (words_of start) front (pairs_below n (words_of read) (pairs_of (words_of read) given out))) up ∙ out_whole ∙ is_all;
+        few = omega (arith, out_count, s.gone, s.some, above_tree.node.is_page.few);
+        some = λ some. omega (arith, out_count, s.gone, s.some, above_tree.node.enough, least_six front (suc level) some, items_count (words_of start step.page));
+      }
+
+-- or one that may be
 pub least_front : (above : List Step) (m level n : ℕ) → m < length above → 2 ≤ n → (eqb m 0 ≡ true) ⊎ (6 ≤ n) → least_at (take m above) (suc level) ≤ n
 least_front above zero level n lt two six = omega (arith, two)
 least_front [] (suc m) level n lt two six = absurd (omega (arith, lt))
@@ -261,15 +314,6 @@ least_front (s ∷ below) (suc m) level n lt two six = elim six [
   where
     not_zero : (m : ℕ) → eqb (suc m) 0 ≡ true → ⊥
     not_zero m e = grind (arith, nat_tests)
-
-pub least_six : (above : List Step) → 0 < length above → least_at above 0 ≡ 6
-least_six [] some = absurd (omega (arith, some))
-least_six (s ∷ below) some = refl
-
-pub six_below : (above : List Step) (m level : ℕ) → m < length above → 0 < m → least_at (take m above) (suc level) ≡ 6
-six_below above zero level lt some = absurd (omega (arith, some))
-six_below [] (suc m) level lt some = absurd (omega (arith, lt))
-six_below (s ∷ below) (suc m) level lt some = refl
 
 module _ {S K : Type 0} (kept_of : S → K) (standing_of : S → ℕ → Standing) (words_of : S → ℕ → ℕ → ℕ) (root : ℕ) (above : List Step) (was level : ℕ) (given : Pair) (slots : List Slot) (start mid : S)
     (h : IsInHand kept_of standing_of words_of root above was given slots level start mid) where
@@ -331,31 +375,47 @@ settled_read kept_of standing_of words_of step level given all settled start new
       becomes = subst (λ w. Becomes kept_of standing_of words_of before all (suc level) (us w) start read) (sym same.words) (becomes_until kept_of standing_of words_of before all (suc level) (us (words_of new)) start new read same s.becomes);
     }
 
--- the lowest step that is left, and the node in hand below it once its page's level was read
-pub last_step : (xs : List Step) (i : ℕ) → i < length xs → take (length xs - i) xs ≡ take (length xs - 1 - i) xs ++ get_or xs (length xs - 1 - i) (record { page = 0; at = 0 }) ∷ []
-last_step xs i lt =
-    let e : length xs - i ≡ suc (length xs - 1 - i) = omega (arith, lt) in
-    ap (λ n. take n xs) e ∙ take-suc xs (length xs - 1 - i) (record { page = 0; at = 0 }) (omega (arith, lt))
+-- the lowest step
+pub last_step : (xs : List Step) → 0 < length xs → take (length xs - 1) xs ++ get_or xs (length xs - 1) (record { page = 0; at = 0 }) ∷ [] ≡ xs
+last_step xs some =
+    let e : suc (length xs - 1) ≡ length xs = omega (arith, some) in
+    sym (take-suc xs (length xs - 1) (record { page = 0; at = 0 }) (omega (arith, some))) ∙ ap (λ n. take n xs) e ∙ take-length xs
 
-module _ {S K : Type 0} (kept_of : S → K) (standing_of : S → ℕ → Standing) (words_of : S → ℕ → ℕ → ℕ) (root : ℕ) (above : List Step) (i was level : ℕ) (given : Pair) (slots : List Slot) (room read : S)
-    (same : IsUnchanged kept_of standing_of words_of room read) (is : level ≡ words_of room was 0) where
-  pub read_hand : (start : S) → IsInHand kept_of standing_of words_of root (take (length above - i) above) was given slots (level_of (words_of start was)) start room
-      → IsInHand kept_of standing_of words_of root (take (length above - i) above) was given slots level start read
-  read_hand start h =
-      let e : level_of (words_of start was) ≡ level = sym (is ∙ ap (λ (w : ℕ → ℕ). w 0) (hand_same kept_of standing_of words_of root (take (length above - i) above) was (level_of (words_of start was)) given slots start room h)) in
-      subst (λ n. IsInHand kept_of standing_of words_of root (take (length above - i) above) was given slots n start read) e
-      (hand_read kept_of standing_of words_of root (take (length above - i) above) was (level_of (words_of start was)) given slots start room h read same)
+-- the steps above it
+pub steps_above : (xs : List Step) (i : ℕ) → i < length xs → take (length (take (length xs - i) xs) - 1) (take (length xs - i) xs) ≡ take (length xs - (i + 1)) xs
+steps_above xs i lt =
+    let e : length (take (length xs - i) xs) - 1 ≡ length xs - (i + 1) = omega (arith, length-take-le (length xs - i) xs (omega arith)) in
+    ap (λ n. take n (take (length xs - i) xs)) e ∙ take-take (length xs - (i + 1)) (length xs - i) xs (omega arith)
 
-  pub turn_hand : i < length above → (start : S) → IsInHand kept_of standing_of words_of root (take (length above - i) above) was given slots (level_of (words_of start was)) start room
-      → IsInHand kept_of standing_of words_of root (take (length above - 1 - i) above ++ get_or above (length above - 1 - i) (record { page = 0; at = 0 }) ∷ []) was given slots level start read
-  turn_hand lt start h = subst (λ xs. IsInHand kept_of standing_of words_of root xs was given slots level start read) (last_step above i lt) (read_hand start h)
+-- a node in hand, once its page's level was read
+module _ {S K : Type 0} (kept_of : S → K) (standing_of : S → ℕ → Standing) (words_of : S → ℕ → ℕ → ℕ) (root : ℕ) (above : List Step) (was level : ℕ) (given : Pair) (slots : List Slot) (room read : S)
+    (same : IsUnchanged kept_of standing_of words_of room read) (is : level ≡ words_of room was 0) (start : S) (h : IsInHand kept_of standing_of words_of root above was given slots (level_of (words_of start was)) start room) where
+  level_is : level_of (words_of start was) ≡ level
+  level_is = sym (is ∙ ap (λ (w : ℕ → ℕ). w 0) (hand_same kept_of standing_of words_of root above was (level_of (words_of start was)) given slots start room h))
 
-  -- what its pairs make of the tree's is as it was
-  pub turn_same : i < length above → (start : S) → IsInHand kept_of standing_of words_of root (take (length above - i) above) was given slots (level_of (words_of start was)) start room
-      → whole (words_of start) (take (length above - 1 - i) above ++ get_or above (length above - 1 - i) (record { page = 0; at = 0 }) ∷ []) (pairs_below level (words_of read) (pairs_of (words_of read) given slots))
-      ≡ whole (words_of start) (take (length above - i) above) (pairs_below (level_of (words_of start was)) (words_of room) (pairs_of (words_of room) given slots))
-  turn_same lt start h =
-      let e : level_of (words_of start was) ≡ level = sym (is ∙ ap (λ (w : ℕ → ℕ). w 0) (hand_same kept_of standing_of words_of root (take (length above - i) above) was (level_of (words_of start was)) given slots start room h)) in
-      ap (λ xs. whole (words_of start) xs (pairs_below level (words_of read) (pairs_of (words_of read) given slots))) (sym (last_step above i lt))
-      ∙ ap (λ n. whole (words_of start) (take (length above - i) above) (pairs_below n (words_of read) (pairs_of (words_of read) given slots))) (sym e)
-      ∙ ap (λ w. whole (words_of start) (take (length above - i) above) (pairs_below (level_of (words_of start was)) w (pairs_of w given slots))) same.words
+  pub read_hand : IsInHand kept_of standing_of words_of root above was given slots level start read
+  read_hand =
+      subst (λ n. IsInHand kept_of standing_of words_of root above was given slots n start read) level_is
+      (hand_read kept_of standing_of words_of root above was (level_of (words_of start was)) given slots start room h read same)
+
+  -- its pairs make the same of the tree
+  pub read_same : whole (words_of start) above (pairs_below level (words_of read) (pairs_of (words_of read) given slots)) ≡ whole (words_of start) above (pairs_below (level_of (words_of start was)) (words_of room) (pairs_of (words_of room) given slots))
+  read_same =
+      ap (λ n. whole (words_of start) above (pairs_below n (words_of read) (pairs_of (words_of read) given slots))) (sym level_is)
+      ∙ ap (λ w. whole (words_of start) above (pairs_below (level_of (words_of start was)) w (pairs_of w given slots))) same.words
+
+  module _ (some : 0 < length above) where
+    pub once_hand : IsInHand kept_of standing_of words_of root (take (length above - 1) above ++ get_or above (length above - 1) (record { page = 0; at = 0 }) ∷ []) was given slots level start read
+    once_hand = subst (λ xs. IsInHand kept_of standing_of words_of root xs was given slots level start read) (sym (last_step above some)) read_hand
+
+    pub once_same : whole (words_of start) (take (length above - 1) above ++ get_or above (length above - 1) (record { page = 0; at = 0 }) ∷ []) (pairs_below level (words_of read) (pairs_of (words_of read) given slots))
+        ≡ whole (words_of start) above (pairs_below (level_of (words_of start was)) (words_of room) (pairs_of (words_of room) given slots))
+    once_same = ap (λ xs. whole (words_of start) xs (pairs_below level (words_of read) (pairs_of (words_of read) given slots))) (last_step above some) ∙ read_same
+
+-- what stood where one node was in hand stands where another is
+pub hands_start : {S K : Type 0} (kept_of : S → K) (standing_of : S → ℕ → Standing) (words_of : S → ℕ → ℕ → ℕ) (root : ℕ) (above then : List Step) (was page : ℕ) (given : Pair) (slots out : List Slot) (level up : ℕ) (start mid new : S)
+    → IsInHand kept_of standing_of words_of root above was given slots level start mid → IsInHand kept_of standing_of words_of root then page given out up start new → KeepsStart kept_of standing_of words_of mid new
+hands_start kept_of standing_of words_of root above then was page given slots out level up start mid new one other =
+    start_back kept_of standing_of words_of start mid new
+    (swaps_start kept_of standing_of words_of (pages_below level (words_of start) (items_of (words_of start was))) (pages_below level (words_of mid) (pairs_of (words_of mid) given slots)) start mid one.node.swaps)
+    (swaps_start kept_of standing_of words_of (pages_below up (words_of start) (items_of (words_of start page))) (pages_below up (words_of new) (pairs_of (words_of new) given out)) start new other.node.swaps)

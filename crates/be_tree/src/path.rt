@@ -2,13 +2,17 @@
 //!
 //! A change goes down a tree once. It keeps which page it met on each level and which branch it
 //! took there, so it goes up again with no other search.
-ghost use Rattle.std.specs.Prelude.{◌≡◌, ◌≤◌, ◌<◌, [], length};
-ghost use Rattle.be_pages.specs.Pages.{IsUnchanged};
+ghost use Rattle.std.specs.Prelude.{◌≡◌, ◌≤◌, ◌<◌, [], IfOk, IfErr, IsTrue};
+ghost use Rattle.std.specs.declared.cmp.Ordering.TheVariants.{Equal};
+ghost use Rattle.be_pages.specs.Pages.{IsUnchanged, is_readable};
+ghost use Rattle.be_tree.specs.Key.{IsGap, key_cmp};
+ghost use Rattle.be_tree.specs.Page.{IsPage, item_at, item_place, items_of};
 ghost use Rattle.be_tree.specs.Path.{IsPathTo};
 ghost use Rattle.be_tree.specs.Tree.{IsTree};
+ghost use Rattle.be_tree.specs.Words.{IsFirst};
 
-use crate::lookup::{branch_for, search};
-use crate::page::{HEADER_WORDS, ITEM_WORDS, child_at, first_word};
+use crate::lookup::{branch_for, end_of, item_number, search};
+use crate::page::{child_at, first_word};
 use arrayvec::ArrayVec;
 use be_pages::Look;
 
@@ -50,6 +54,28 @@ impl Path {
     }
 }
 
+/// Where a key is among a page's items, by number: which one has it, or how many have lesser keys.
+fn search_number<L: Look>(
+    look: &mut L,
+    page: u64,
+    key: &[u8],
+    first: u64,
+) -> Result<usize, usize>
+    requires readable { IsTrue (is_readable (L.standing look.old page)) }
+    requires page { IsPage (L.words look.old page) }
+    requires first { IsFirst key.now first }
+    ensures in_range { IfOk result (λ at. at < L.words look.old page 1) }
+    ensures same { IfOk result (λ at. key_cmp (item_at (L.words look.old page) (item_place at)).key
+        key.now ≡ Equal) }
+    ensures absent { IfErr result (IsGap key.now (items_of (L.words look.old page))) }
+    ensures unchanged { IsUnchanged L.kept L.standing L.words look.old look.new }
+{
+    match search(look, page, key, first) {
+        Ok(place) => Ok(item_number(place)),
+        Err(place) => Err(item_number(place)),
+    }
+}
+
 /// Goes down a tree that isn't empty to a key, and keeps the way in an empty path. It costs one
 /// descent.
 pub(crate) fn find_path<L: Look>(look: &mut L, root: u64, key: &[u8], path: &mut Path)
@@ -63,11 +89,13 @@ pub(crate) fn find_path<L: Look>(look: &mut L, root: u64, key: &[u8], path: &mut
     let mut page = root - 1;
     let mut level = look.word(page, 0);
     while level > 0 {
-        let at = branch_for(look, page, key, first);
+        let end = end_of(look, page);
+        let place = branch_for(look, page, end, key, first);
+        let at = item_number(place);
         path.above.push(Step { page, at });
-        page = child_at(look, page, HEADER_WORDS + ITEM_WORDS * at);
+        page = child_at(look, page, place);
         level -= 1;
     }
     path.leaf = page;
-    path.place = search(look, page, key, first);
+    path.place = search_number(look, page, key, first);
 }

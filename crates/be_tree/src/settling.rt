@@ -11,7 +11,7 @@ ghost use Rattle.std.specs.Prelude.{length, true, IfOk, IsTrue};
 ghost use Rattle.be_pages.specs.Pages.{IsUnchanged, is_readable};
 ghost use Rattle.be_tree.specs.Page.{IsPage, item_at, item_place, level_of};
 ghost use Rattle.be_tree.specs.Path.{IsInHand, whole};
-ghost use Rattle.be_tree.specs.Settling.{IsChildInHand, IsSettled, beside};
+ghost use Rattle.be_tree.specs.Settling.{IsChildInHand, IsSettled, IsTurned, beside};
 ghost use Rattle.be_tree.specs.Slot.{loaded, pairs_of};
 ghost use Rattle.be_tree.specs.Splicing.{spliced};
 ghost use Rattle.be_tree.specs.Tree.{BecomesTree, child, pages, pairs_below};
@@ -266,10 +266,60 @@ fn fits(count: usize, is_root: bool) -> bool
     is_root || count >= LEAST_ITEMS
 }
 
+/// What a node in hand has become once it was settled.
+#[derive(Drop)]
+pub(crate) enum Turn {
+    /// The tree is whole, and has this root.
+    Whole(u64),
+    /// The page above has too many items now, or too few, and these slots are to be written for it.
+    Above(u64, ArrayVec<Slot, 24>),
+}
+
+/// Settles a node in hand that isn't the root, and writes what is above where that can be.
+fn settle_once<R: Room>(
+    room: &mut R,
+    root: u64,
+    above: &[Step],
+    was: u64,
+    slots: &[Slot],
+    pair: &Item,
+) -> Result<Turn, Refusal>
+    requires in_hand { (start : R) × IsInHand R.kept R.standing R.words root above.now was pair.now
+        slots.now (level_of (R.words start was)) start room.old }
+    requires below { 0 < length above.now }
+    requires size { (5 ≤ length slots.now) × (length slots.now ≤ 13) }
+    requires open { IsTrue (R.is_open (R.kept room.old)) }
+    ensures ok { IfOk result (λ turn. (start : R)
+        → IsInHand R.kept R.standing R.words root above.now was pair.now slots.now
+        (level_of (R.words start was)) start room.old
+        → IsTurned R.kept R.standing R.words root above.now pair.now (whole (R.words start)
+        above.now (pairs_below (level_of (R.words start was)) (R.words room.old)
+        (pairs_of (R.words room.old) pair.now slots.now))) turn start room.new) }
+    ensures refused { Refuses R.kept R.standing R.words R.full result room.old room.new }
+{
+    let level = room.word(was, 0);
+    let last = above.len() - 1;
+    let step = above[last];
+    let node = Node { level, slots, pair };
+    let settled = settle_child(room, step, was, node)?;
+    let count = count_of(room, step.page) - settled.cut.gone + settled.branches.len();
+    if fits(count, last == 0) {
+        let page = splice(room, step.page, settled.cut, &settled.branches, pair)?;
+        let changed = Changed {
+            was: step.page,
+            page,
+            same_least: settled.cut.at > 0,
+        };
+        let whole = rise(room, root, &above[..last], changed)?;
+        return Ok(Turn::Whole(whole));
+    }
+    let slots = slots_with(room, step.page, settled);
+    Ok(Turn::Above(step.page, slots))
+}
+
 /// Settles a node in hand and the pages above it that have too many items or too few then, and
 /// writes the others above. Gives the new root.
 #[inline(never)]
-#[tactic(none)]
 pub(crate) fn settle<R: Room>(
     room: &mut R,
     root: u64,
@@ -295,27 +345,15 @@ pub(crate) fn settle<R: Room>(
     let mut slots = in_hand;
     let mut was = was;
     for i in 0..above.len() {
-        let level = room.word(was, 0);
-        let over = above.len() - 1 - i;
-        let step = above[over];
-        let node = Node {
-            level,
-            slots: &slots,
-            pair,
-        };
-        let settled = settle_child(room, step, was, node)?;
-        let count = count_of(room, step.page) - settled.cut.gone + settled.branches.len();
-        if fits(count, over == 0) {
-            let page = splice(room, step.page, settled.cut, &settled.branches, pair)?;
-            let changed = Changed {
-                was: step.page,
-                page,
-                same_least: settled.cut.at > 0,
-            };
-            return rise(room, root, &above[..over], changed);
+        let left = &above[..above.len() - i];
+        let turn = settle_once(room, root, left, was, &slots, pair)?;
+        match turn {
+            Turn::Whole(new) => return Ok(new),
+            Turn::Above(page, items) => {
+                was = page;
+                slots = items;
+            }
         }
-        slots = slots_with(room, step.page, settled);
-        was = step.page;
     }
     let level = room.word(was, 0);
     let node = Node {

@@ -1,5 +1,4 @@
 use Rattle.std.proofs.Common.{◌≡◌, ℕ, ◌-◌, ◌<◌, ◌≤◌, length, take}
-use Rattle.be_pages.specs.Pages.{KeepsStart}
 use Rattle.be_tree.specs.Page.{level_of}
 use Rattle.be_tree.specs.Path.{IsInHand, whole}
 use Rattle.be_tree.specs.Slot.{pairs_of}
@@ -9,8 +8,6 @@ use Rattle.be_tree.proofs.settling.settle.Given as goal
 -- the node that is left to settle has come up so far, of whatever tree it is
 abbrev pub invariant-loop-i : goal.invariant-loop-i
 invariant-loop-i g l = record {
-  kept : g.R.Look.kept l.room ≡ g.R.Look.kept l.fn.room;
-  starts : KeepsStart g.R.Look.kept g.R.Look.standing g.R.Look.words l.fn.room l.room;
   in_hand : (start : g.row.R.Denot) → IsInHand g.R.Look.kept g.R.Look.standing g.R.Look.words l.root l.above l.fn.was l.pair l.fn.in_hand.items (level_of (g.R.Look.words start l.fn.was)) start l.fn.room
       → IsInHand g.R.Look.kept g.R.Look.standing g.R.Look.words l.root (take (length l.above - l.i) l.above) l.was l.pair l.slots.items (level_of (g.R.Look.words start l.was)) start l.room;
   same : (start : g.row.R.Denot) → IsInHand g.R.Look.kept g.R.Look.standing g.R.Look.words l.root l.above l.fn.was l.pair l.fn.in_hand.items (level_of (g.R.Look.words start l.fn.was)) start l.fn.room

@@ -87,7 +87,7 @@ settle-requires-clause-few g c = omega (arith, c.remove.ensures.len, c.fill_slot
 pub settle-requires-clause-some : goal.settle-requires-clause-some
 settle-requires-clause-some g c = λ some.
     let at = takes g (goal.at.settle-requires-clause-some g c).Start in
-    omega (arith, c.remove.ensures.len, c.fill_slots.ensures.len, at.leafy.tree.node.enough, items_count (g.R.Look.words c.args.room.now c.args.path.now.leaf), least_six c.args.path.now.above.items (omega (arith, some, ap length c.deref.ensures.0)))
+    omega (arith, c.remove.ensures.len, c.fill_slots.ensures.len, at.leafy.tree.node.enough, items_count (g.R.Look.words c.args.room.now c.args.path.now.leaf), least_six c.args.path.now.above.items 0 (omega (arith, some, ap length c.deref.ensures.0)))
 
 pub settle-requires-clause-open : goal.settle-requires-clause-open
 settle-requires-clause-open g c = subst (λ k. IsTrue (g.R.Look.is_open k)) (sym c.fill_slots.ensures.unchanged.kept) c.requires.open
