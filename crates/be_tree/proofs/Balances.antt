@@ -20,8 +20,8 @@ use Rattle.be_tree.specs.Key.{IsRising}
 use Rattle.be_tree.specs.Page.{IsPage, item_at, item_place, items_of, level_of}
 use Rattle.be_tree.specs.Path.{BecomesNode, IsChanged, IsInHand, IsWayIn, KeepsLeast, around, least_at, whole}
 use Rattle.be_tree.specs.Settling.{IsAbove, IsChildInHand, IsSettled, beside}
-use Rattle.be_tree.specs.Slot.{IsBranchSlot, IsReady, branch_to, loaded, pair_of, pairs_of}
-use Rattle.be_tree.specs.Splicing.{CanBeSpliced, IsOff, IsSpliced, spliced}
+use Rattle.be_tree.specs.Slot.{IsBranchSlot, IsOff, IsReady, branch_to, loaded, pair_of, pairs_of}
+use Rattle.be_tree.specs.Splicing.{CanBeSpliced, IsSpliced, spliced}
 use Rattle.be_tree.specs.Tree.{Becomes, BecomesTree, IsBelow, IsTreeAt, child, least_of_root, pages, pages_at, pages_below, pairs_at, pairs_below}
 use Rattle.be_tree.specs.Writing.{IsApart}
 use Rattle.be_tree.proofs.Frame.{readable_kept, swaps_same, swaps_start}

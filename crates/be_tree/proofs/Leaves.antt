@@ -18,8 +18,8 @@ use Rattle.be_tree.specs.Pair.{Pair}
 use Rattle.be_tree.specs.Key.{IsBranchFor, IsGap, IsRising, StartsAt, key_cmp, payload_at, put, put_before, without}
 use Rattle.be_tree.specs.Page.{IsPage, item_at, item_place, items_of, level_of}
 use Rattle.be_tree.specs.Path.{BecomesNode, IsChanged, IsInHand, IsPathTo, IsWayIn, KeepsLeast, least_at, whole}
-use Rattle.be_tree.specs.Slot.{IsReady, pairs_of}
-use Rattle.be_tree.specs.Splicing.{CanBeSpliced, IsOff, IsSpliced, spliced}
+use Rattle.be_tree.specs.Slot.{IsOff, IsReady, pairs_of}
+use Rattle.be_tree.specs.Splicing.{CanBeSpliced, IsSpliced, spliced}
 use Rattle.be_tree.specs.Writing.{Refuses}
 use Rattle.be_tree.specs.Tree.{BecomesTree, IsBelow, IsTree, IsTreeAt, least_of_root, pages, pages_at, pages_below, pairs, pairs_at, pairs_below}
 use Rattle.be_tree.proofs.Frame.{one_page, start_trans, swaps_since}

@@ -11,8 +11,8 @@ use Rattle.be_tree.specs.Pair.{Pair}
 use Rattle.be_tree.specs.Key.{IsRising, StartsAt}
 use Rattle.be_tree.specs.Page.{IsPage, item_at, item_place, items_of, level_of}
 use Rattle.be_tree.specs.Path.{BecomesNode, IsChanged, IsWay, IsWayIn, KeepsLeast, around, least_at, whole}
-use Rattle.be_tree.specs.Slot.{IsReady, branch_to}
-use Rattle.be_tree.specs.Splicing.{CanBeSpliced, IsOff, IsSpliced}
+use Rattle.be_tree.specs.Slot.{IsOff, IsReady, branch_to}
+use Rattle.be_tree.specs.Splicing.{CanBeSpliced, IsSpliced}
 use Rattle.be_tree.specs.Tree.{Becomes, BecomesTree, IsBranch, IsTree, IsTreeAt, child, least_of_root, pages, pages_at, pages_below, pairs, pairs_at, pairs_below}
 use Rattle.be_tree.proofs.Frame.{readable_kept, same_page, swaps_same, times-cons}
 use Rattle.be_tree.proofs.Nodes.Slots.{child_branch, item_get, items_count}

@@ -11,12 +11,12 @@ use Rattle.be_tree.specs.declared.slot.Slot.{Slot}
 use Rattle.be_tree.specs.declared.slot.Slot.TheVariants.{At, Branch, New}
 use Rattle.be_tree.specs.Page.{IsItem, IsPage, item_at, item_place, items_of}
 use Rattle.be_tree.specs.Pair.{Pair}
-use Rattle.be_tree.specs.Slot.{IsReady, MayMove, pair_of}
+use Rattle.be_tree.specs.Slot.{IsOff, IsReady, pair_of}
 use Rattle.be_tree.specs.declared.splicing.Cut.{Cut}
-use Rattle.be_tree.specs.Splicing.{AreCopies, HasGap, IsOff, IsStored, spliced}
+use Rattle.be_tree.specs.Splicing.{AreCopies, HasGap, IsStored, spliced}
 use Rattle.be_tree.proofs.Bytes.Zeros.{IsItem_same}
 use Rattle.be_tree.proofs.Codec.{item_at_same}
-use Rattle.be_tree.proofs.Nodes.Moves.{stands_at, stands_else}
+use Rattle.be_tree.proofs.Nodes.Stands.{stands_at, stands_else}
 use Rattle.be_tree.proofs.Nodes.Slots.{branch_same, item_get, items_count}
 
 -- what a page has once its header is written and the items before and after a cut are copied
@@ -61,11 +61,6 @@ only_since kept_of standing_of words_of page lo hi old read now kept standing wo
 
 pub filled_word : (i x y : ℕ) → (if i == i then x else y) ≡ x
 filled_word i x y = grind (arith, nat_tests)
-
-pub off_moves : (page place : ℕ) (slot : Slot) → IsOff page slot → MayMove page place slot
-off_moves page place (At at from) off = λ e. absurd (off e)
-off_moves page place (Branch child) off = off
-off_moves page place New off = tt
 
 module _ {S K : Type 0} (kept_of : S → K) (standing_of : S → ℕ → Standing) (words_of : S → ℕ → ℕ → ℕ) (page lo hi : ℕ) (old now : S) (only : OnlyWrites kept_of standing_of words_of page lo hi old now) where
   -- an item that wasn't written

@@ -5,21 +5,14 @@ use Rattle.be_pages.specs.declared.room.Standing.{Standing}
 use Rattle.be_pages.specs.declared.room.Standing.TheVariants.{Free, Filled}
 use Rattle.be_pages.specs.Pages.{is_kept, StandsAt, Swaps}
 use Rattle.be_tree.specs.declared.slot.Slot.{Slot}
-use Rattle.be_tree.specs.declared.slot.Slot.TheVariants.{At, Branch, New}
 use Rattle.be_tree.specs.declared.splicing.Cut.{Cut}
 use Rattle.be_tree.specs.Pair.{Pair}
 use Rattle.be_tree.specs.Page.{IsItem, IsPage, item_at, item_place, items_of, level_of}
-use Rattle.be_tree.specs.Slot.{IsReady, pairs_of}
+use Rattle.be_tree.specs.Slot.{IsOff, IsReady, pairs_of}
 
 -- a list with others in the place of a cut
 abbrev pub spliced : {A : Type 0} → Cut → List A → List A → List A
 spliced cut xs more = take cut.at xs ++ (more ++ drop (cut.at + cut.gone) xs)
-
--- the slot's item is on another page than this one
-abbrev pub IsOff : (page : ℕ) → Slot → Type 0
-IsOff page (At at from) = from ≢ page
-IsOff page (Branch child) = child ≢ page
-IsOff page New = Unit {0}
 
 -- item number j of a page is this pair
 abbrev pub IsStored : (words : ℕ → ℕ) (j : ℕ) → Pair → Type 0

@@ -9,8 +9,8 @@ ghost use Rattle.be_pages.specs.declared.room.Standing.TheVariants.{Filled};
 ghost use Rattle.be_pages.specs.Pages.{OnlyWrites, is_kept, is_readable};
 ghost use Rattle.be_tree.specs.declared.slot.Slot.{Slot as Slots};
 ghost use Rattle.be_tree.specs.Page.{IsItem, IsPage, item_place};
-ghost use Rattle.be_tree.specs.Slot.{IsReady, pair_of};
-ghost use Rattle.be_tree.specs.Splicing.{AreCopies, CanBeSpliced, HasGap, IsOff, IsSpliced};
+ghost use Rattle.be_tree.specs.Slot.{IsOff, IsReady, pair_of};
+ghost use Rattle.be_tree.specs.Splicing.{AreCopies, CanBeSpliced, HasGap, IsSpliced};
 ghost use Rattle.be_tree.specs.Splicing.{IsStored, IsTaken};
 ghost use Rattle.be_tree.specs.Writing.{Refuses};
 
@@ -136,7 +136,7 @@ fn open_copy<R: Room>(room: &mut R, page: u64, cut: Cut, more: usize) -> Result<
 }
 
 /// Writes slots one after the other, the first as a page's item of this number.
-fn store_slots<R: Room>(room: &mut R, page: u64, at: usize, slots: &[Slot], pair: &Item)
+pub(crate) fn store_slots<R: Room>(room: &mut R, page: u64, at: usize, slots: &[Slot], pair: &Item)
     requires filled { R.standing room.old page ≡ Filled }
     requires in_page { at + length slots.now ≤ 12 }
     requires ready { All (IsReady (R.standing room.old) (R.words room.old)) slots.now }

@@ -1,37 +1,22 @@
-//! A node in hand is written.
+//! A node in hand is written to pages of its own.
 //!
-//! # Over its page
-//! A page that was there when the write began keeps its words, so its node is written to a page
-//! that is taken for it, and the old one is given up. A page that the write has taken before, as
-//! for the last change of a list, is written over where it is: of its items those that stay where
-//! they stand are left alone, and the others are moved within the page. They are moved in the order
-//! of their numbers where all move down, as when one was taken out, and from the last one on where
-//! all move up, as when one was put in. Where some move down and others up, the node is written to
-//! another page.
-//!
-//! # Two pages
-//! A node of more than twelve items is written in two pages, of which the first is the old one
-//! where it can be. Of two neighbours the first one is written before the second, since it only
-//! takes items from there, and gives its last ones.
+//! This is what becomes of a node that has too many items or too few: its items stand on one page or
+//! on two, and go to one that is taken for them, or to two. The pages where they stood are given up
+//! then, since a node that is split or joined has new pages anyway.
 ghost use Rattle.std.specs.Prelude.{◌≡◌, ◌≢◌, ℕ, ◌+◌, ◌-◌, ◌^◌, ◌<◌, ◌≤◌, [], ◌∷◌, ◌++◌, true};
 ghost use Rattle.std.specs.Prelude.{false, length, take, drop, All, IfOk, OnErr, IfErr, IfSome};
 ghost use Rattle.std.specs.Prelude.{IsTrue};
-ghost use Rattle.be_pages.specs.declared.room.Standing.TheVariants.{Filled};
-ghost use Rattle.be_pages.specs.Pages.{is_kept, is_readable, is_taken, IsUnchanged, StandsAt};
+ghost use Rattle.be_pages.specs.Pages.{is_kept, IsUnchanged};
 ghost use Rattle.be_pages.specs.Pages.{Swaps, KeepsStart};
 ghost use Rattle.be_pages.specs.Refusal.{IsFullOf};
-ghost use Rattle.be_tree.specs.Page.{item_place};
-ghost use Rattle.be_tree.specs.Slot.{IsBranchSlot, IsReady, Moves, StandsFrom, branch_to, pair_of};
-ghost use Rattle.be_tree.specs.Slot.{pairs_of};
+ghost use Rattle.be_tree.specs.Slot.{IsBranchSlot, IsReady, branch_to, pair_of, pairs_of};
 ghost use Rattle.be_tree.specs.Tree.{IsBelow, IsWritten, BecomesTree, child, least_of_root};
 ghost use Rattle.be_tree.specs.Writing.{AreApart, CanBeWritten, IsApart, Replaces, ReplacesTree};
 
 use crate::item::Item;
-use crate::page::{
-    HEADER_WORDS, ITEM_WORDS, LEAST_ITEMS, MOST_ITEMS, child_at, move_down, move_up, stands_from,
-    store_from_last, store_node,
-};
-use crate::slot::{Node, Slot, Way};
+use crate::page::{LEAST_ITEMS, MOST_ITEMS, child_at};
+use crate::slot::{Node, Slot};
+use crate::splicing::store_slots;
 use arrayvec::ArrayVec;
 use be_pages::{Look, Room};
 use be_value::Refusal;
@@ -53,59 +38,13 @@ fn write_node<R: Room>(room: &mut R, node: Node<'_>) -> Result<u64, Refusal>
     ensures full { IfErr result (IsFullOf (R.full room.new)) }
 {
     let page = room.take()?;
-    store_node(room, page, node.level, node.slots, node.pair);
+    room.fill(page, 0, node.level);
+    room.fill(page, 1, node.slots.len() as u64);
+    store_slots(room, page, 0, node.slots, node.pair);
     Ok(page)
 }
 
-/// Which way a node's items move on its page, if it can be written over: this write has taken the
-/// page, and of the items that stand there none would be written over before it is copied.
-fn way_over<R: Room>(room: &R, page: u64, slots: &[Slot]) -> Option<Way>
-    requires readable { IsTrue (is_readable (R.standing room.now page)) }
-    requires few { length slots.now ≤ 12 }
-    ensures taken { IfSome result (λ way. IsTrue (is_taken (R.standing room.now page))) }
-    ensures moves { IfSome result (λ way. Moves way page slots.now) }
-{
-    if !room.is_taken(page) {
-        return None;
-    }
-    if move_down(page, slots) {
-        return Some(Way::Down);
-    }
-    if move_up(page, slots) {
-        return Some(Way::Up);
-    }
-    None
-}
-
-/// Writes a node over its page, which this write has taken. What stands behind its items there
-/// stays.
-fn write_over<R: Room>(room: &mut R, page: u64, way: Way, node: Node<'_>)
-    requires some { 0 < length node.slots.now }
-    requires few { length node.slots.now ≤ 12 }
-    requires ready { All (IsReady (R.standing room.old) (R.words room.old)) node.slots.now }
-    requires kept { IsTrue (is_kept (R.standing room.old page)) }
-    requires taken { IsTrue (is_taken (R.standing room.old page)) }
-    requires moves { Moves way page node.slots.now }
-    requires key_fits { length node.pair.now.key ≤ 264 }
-    requires open { IsTrue (R.is_open (R.kept room.old)) }
-    ensures written { IsWritten node.entry.level (R.words room.new)
-        (pairs_of (R.words room.old) node.entry.pair.now node.entry.slots.now)
-        (branch_to (R.words room.new) page) }
-    ensures swaps { Swaps R.kept R.standing R.words (page ∷ []) (page ∷ []) room.old room.new }
-    ensures behind { (i : ℕ) → item_place (length node.entry.slots.now) ≤ i
-        → R.words room.new page i ≡ R.words room.old page i }
-    ensures standing { StandsAt (R.standing room.old) (R.standing room.new) page Filled }
-    ensures others { (q : ℕ) → q ≢ page → R.words room.new q ≡ R.words room.old q }
-    ensures small { page < 2 ^ 32 }
-{
-    match way {
-        Way::Down => store_node(room, page, node.level, node.slots, node.pair),
-        Way::Up => store_from_last(room, page, node.level, node.slots, node.pair),
-    }
-}
-
-/// Writes a node that is changed over its old page where that can be, else to a page of its own,
-/// and gives the old one up. Gives the page.
+/// Writes a node that is changed to a page of its own, and gives the old one up. Gives the page.
 fn write_changed<R: Room>(room: &mut R, old: u64, node: Node<'_>) -> Result<u64, Refusal>
     requires some { 0 < length node.slots.now }
     requires few { length node.slots.now ≤ 12 }
@@ -122,10 +61,6 @@ fn write_changed<R: Room>(room: &mut R, old: u64, node: Node<'_>) -> Result<u64,
     ensures err { OnErr result (KeepsStart R.kept R.standing R.words room.old room.new) }
     ensures full { IfErr result (IsFullOf (R.full room.new)) }
 {
-    if let Some(way) = way_over(room, old, node.slots) {
-        write_over(room, old, way, node);
-        return Ok(old);
-    }
     let page = write_node(room, node)?;
     room.give_up(old);
     Ok(page)
@@ -230,159 +165,8 @@ pub(crate) fn pack<R: Room>(
     Ok(branches)
 }
 
-/// Writes a node in hand whose items stood in two neighbours in one page, the first one where it
-/// can be, and gives it. The second one is given up.
-fn write_joined<R: Room>(
-    room: &mut R,
-    left: u64,
-    right: u64,
-    node: Node<'_>,
-) -> Result<u64, Refusal>
-    requires node { CanBeWritten node.level (R.standing room.old) (R.words room.old) node.pair.now
-        node.slots.now }
-    requires size { (6 ≤ length node.slots.now) × (length node.slots.now ≤ 12) }
-    requires two { AreApart node.level (R.standing room.old) (R.words room.old) node.pair.now
-        node.slots.now left right }
-    requires open { IsTrue (R.is_open (R.kept room.old)) }
-    ensures ok { IfOk result (λ page. Replaces R.kept R.standing R.words node.entry.level
-        node.entry.pair.now node.entry.slots.now (left ∷ right ∷ [])
-        (branch_to (R.words room.new) page ∷ []) room.old room.new) }
-    ensures small { IfOk result (λ page. page < 2 ^ 32) }
-    ensures err { OnErr result (KeepsStart R.kept R.standing R.words room.old room.new) }
-    ensures full { IfErr result (IsFullOf (R.full room.new)) }
-{
-    let page = write_branch(room, left, node)?;
-    room.give_up(right);
-    Ok(page)
-}
-
-/// Whether nothing before a place of a page is an item of these slots.
-fn all_stand_from(page: u64, place: usize, slots: &[Slot]) -> bool
-    ensures { result ≡ true → All (StandsFrom page place) slots.now }
-{
-    for j in 0..slots.len() {
-        if !stands_from(page, place, slots[j]) {
-            return false;
-        }
-    }
-    true
-}
-
-/// Writes two nodes whose items stood in two neighbours: the first over the first neighbour, where
-/// it leaves what the second one needs, and the second as `write_changed` does.
-fn write_two_over<R: Room>(
-    room: &mut R,
-    level: u64,
-    left: u64,
-    right: u64,
-    front: &[Slot],
-    way: Way,
-    back: &[Slot],
-    pair: &Item,
-) -> Result<u64, Refusal>
-    requires first { (6 ≤ length front.now) × (length front.now ≤ 12) }
-    requires second { (6 ≤ length back.now) × (length back.now ≤ 12) }
-    requires below { IsBelow level (R.standing room.old) (R.words room.old)
-        (pairs_of (R.words room.old) pair.now (front.now ++ back.now)) }
-    requires front_ready { All (IsReady (R.standing room.old) (R.words room.old)) front.now }
-    requires back_ready { All (IsReady (R.standing room.old) (R.words room.old)) back.now }
-    requires taken { IsTrue (is_taken (R.standing room.old left)) }
-    requires moves { Moves way left front.now }
-    requires leaves { All (StandsFrom left (item_place (length front.now))) back.now }
-    requires two { AreApart level (R.standing room.old) (R.words room.old) pair.now
-        (front.now ++ back.now) left right }
-    requires key_fits { length pair.now.key ≤ 264 }
-    requires open { IsTrue (R.is_open (R.kept room.old)) }
-    ensures ok { IfOk result (λ page. Replaces R.kept R.standing R.words level pair.now
-        (front.now ++ back.now) (left ∷ right ∷ [])
-        (branch_to (R.words room.new) left ∷ branch_to (R.words room.new) page ∷ []) room.old
-        room.new) }
-    ensures first_small { left < 2 ^ 32 }
-    ensures small { IfOk result (λ page. page < 2 ^ 32) }
-    ensures err { OnErr result (KeepsStart R.kept R.standing R.words room.old room.new) }
-    ensures full { IfErr result (IsFullOf (R.full room.new)) }
-{
-    let slots = front;
-    write_over(room, left, way, Node { level, slots, pair });
-    let slots = back;
-    let page = write_changed(room, right, Node { level, slots, pair })?;
-    Ok(page)
-}
-
-/// Writes two nodes whose items stood in two neighbours: the first to a page of its own, and the
-/// second as `write_changed` does. The first neighbour is given up.
-fn write_two_anew<R: Room>(
-    room: &mut R,
-    level: u64,
-    left: u64,
-    right: u64,
-    front: &[Slot],
-    back: &[Slot],
-    pair: &Item,
-) -> Result<(u64, u64), Refusal>
-    requires first { (6 ≤ length front.now) × (length front.now ≤ 12) }
-    requires second { (6 ≤ length back.now) × (length back.now ≤ 12) }
-    requires below { IsBelow level (R.standing room.old) (R.words room.old)
-        (pairs_of (R.words room.old) pair.now (front.now ++ back.now)) }
-    requires front_ready { All (IsReady (R.standing room.old) (R.words room.old)) front.now }
-    requires back_ready { All (IsReady (R.standing room.old) (R.words room.old)) back.now }
-    requires two { AreApart level (R.standing room.old) (R.words room.old) pair.now
-        (front.now ++ back.now) left right }
-    requires key_fits { length pair.now.key ≤ 264 }
-    requires open { IsTrue (R.is_open (R.kept room.old)) }
-    ensures ok { IfOk result (λ both. Replaces R.kept R.standing R.words level pair.now
-        (front.now ++ back.now) (left ∷ right ∷ [])
-        (branch_to (R.words room.new) both.0 ∷ branch_to (R.words room.new) both.1 ∷ []) room.old
-        room.new) }
-    ensures small { IfOk result (λ both. (both.0 < 2 ^ 32) × (both.1 < 2 ^ 32)) }
-    ensures err { OnErr result (KeepsStart R.kept R.standing R.words room.old room.new) }
-    ensures full { IfErr result (IsFullOf (R.full room.new)) }
-{
-    let slots = front;
-    let first = write_node(room, Node { level, slots, pair })?;
-    let slots = back;
-    let second = write_changed(room, right, Node { level, slots, pair })?;
-    room.give_up(left);
-    Ok((first, second))
-}
-
-/// Writes a node in hand whose items stood in two neighbours in two pages, the first `cut` items in
-/// the first, and gives them. Each neighbour is written over where it can be, else given up.
-fn write_two<R: Room>(
-    room: &mut R,
-    left: u64,
-    right: u64,
-    cut: usize,
-    node: Node<'_>,
-) -> Result<(u64, u64), Refusal>
-    requires node { CanBeWritten node.level (R.standing room.old) (R.words room.old) node.pair.now
-        node.slots.now }
-    requires first { (6 ≤ cut) × (cut ≤ 12) }
-    requires second { (cut + 6 ≤ length node.slots.now) × (length node.slots.now ≤ cut + 12) }
-    requires two { AreApart node.level (R.standing room.old) (R.words room.old) node.pair.now
-        node.slots.now left right }
-    requires open { IsTrue (R.is_open (R.kept room.old)) }
-    ensures ok { IfOk result (λ both. Replaces R.kept R.standing R.words node.entry.level
-        node.entry.pair.now node.entry.slots.now (left ∷ right ∷ [])
-        (branch_to (R.words room.new) both.0 ∷ branch_to (R.words room.new) both.1 ∷ []) room.old
-        room.new) }
-    ensures small { IfOk result (λ both. (both.0 < 2 ^ 32) × (both.1 < 2 ^ 32)) }
-    ensures err { OnErr result (KeepsStart R.kept R.standing R.words room.old room.new) }
-    ensures full { IfErr result (IsFullOf (R.full room.new)) }
-{
-    let (front, back) = node.slots.split_at(cut);
-    if let Some(way) = way_over(room, left, front) {
-        if all_stand_from(left, HEADER_WORDS + ITEM_WORDS * cut, back) {
-            let page = write_two_over(room, node.level, left, right, front, way, back, node.pair)?;
-            return Ok((left, page));
-        }
-    }
-    let both = write_two_anew(room, node.level, left, right, front, back, node.pair)?;
-    Ok(both)
-}
-
-/// Writes a node in hand whose items stood in two neighbours, and gives the branches to its pages.
-/// Each neighbour is written over where it can be, else given up.
+/// Writes a node in hand whose items stood in two neighbours, gives both up, and gives the branches
+/// to its pages.
 pub(crate) fn pack_two<R: Room>(
     room: &mut R,
     left: u64,
@@ -404,16 +188,8 @@ pub(crate) fn pack_two<R: Room>(
     ensures err { OnErr result (KeepsStart R.kept R.standing R.words room.old room.new) }
     ensures full { IfErr result (IsFullOf (R.full room.new)) }
 {
-    let mut branches = ArrayVec::new();
-    if node.slots.len() <= MOST_ITEMS {
-        let page = write_joined(room, left, right, node)?;
-        branches.push(Slot::Branch(page as u32));
-        return Ok(branches);
-    }
-    let cut = first_of_two(node.slots.len());
-    let (first, second) = write_two(room, left, right, cut, node)?;
-    branches.push(Slot::Branch(first as u32));
-    branches.push(Slot::Branch(second as u32));
+    let branches = pack(room, left, node)?;
+    room.give_up(right);
     Ok(branches)
 }
 

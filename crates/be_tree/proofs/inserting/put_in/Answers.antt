@@ -4,8 +4,7 @@ use Rattle.std.proofs.lemmas.Result.{IfOk-weaker}
 use Rattle.be_tree.specs.declared.slot.Slot.TheVariants.{New}
 use Rattle.be_tree.specs.Key.{put}
 use Rattle.be_tree.specs.Page.{items_of}
-use Rattle.be_tree.specs.Slot.{IsReady}
-use Rattle.be_tree.specs.Splicing.{IsOff}
+use Rattle.be_tree.specs.Slot.{IsOff, IsReady}
 use Rattle.be_tree.specs.Path.{IsPathTo}
 use Rattle.be_tree.specs.Tree.{BecomesTree, pages, pairs}
 use Rattle.be_tree.proofs.Frame.{readable_kept, unchanged_start}

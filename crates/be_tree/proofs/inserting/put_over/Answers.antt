@@ -10,8 +10,8 @@ use Rattle.be_tree.specs.declared.splicing.Cut.{Cut}
 use Rattle.be_tree.specs.Key.{IsBranchFor, key_cmp, put}
 use Rattle.be_tree.specs.Page.{item_at, item_place, items_of, level_of}
 use Rattle.be_tree.specs.Path.{IsChanged, IsWayIn, whole}
-use Rattle.be_tree.specs.Slot.{IsReady, pairs_of}
-use Rattle.be_tree.specs.Splicing.{CanBeSpliced, IsOff, spliced}
+use Rattle.be_tree.specs.Slot.{IsOff, IsReady, pairs_of}
+use Rattle.be_tree.specs.Splicing.{CanBeSpliced, spliced}
 use Rattle.be_tree.specs.Tree.{BecomesTree, pages, pairs, pairs_at}
 use Rattle.be_tree.proofs.Frame.{swaps_start}
 use Rattle.be_tree.proofs.Leaves.{ChangesLeaf, all_is, all_rise, keeps_equal, length_spliced, put_equal, put_leaf}

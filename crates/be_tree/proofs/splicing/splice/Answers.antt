@@ -6,7 +6,7 @@ use Rattle.be_tree.specs.Page.{IsPage, items_of, level_of}
 use Rattle.be_tree.specs.Slot.{pair_of}
 use Rattle.be_tree.specs.Splicing.{IsStored}
 use Rattle.be_tree.proofs.Frame.{filled_is, rewritten_swaps, written_swaps}
-use Rattle.be_tree.proofs.Nodes.Moves.{stands_at, stands_else}
+use Rattle.be_tree.proofs.Nodes.Stands.{stands_at, stands_else}
 use Rattle.be_tree.proofs.Putting.Puts.{held_after, swaps_given_up}
 use Rattle.be_tree.proofs.Splices.{off_free, off_pair, off_ready, spliced_items, spliced_page}
 use Rattle.be_tree.proofs.splicing.splice.Given.{Over}

@@ -5,7 +5,7 @@ use Rattle.be_tree.specs.declared.slot.Slot.{Slot}
 use Rattle.be_tree.specs.Page.{item_place}
 use Rattle.be_tree.specs.Slot.{pair_of}
 use Rattle.be_tree.specs.Splicing.{IsStored}
-use Rattle.be_tree.proofs.Splices.{off_moves, off_pair, off_ready, only_then, there}
+use Rattle.be_tree.proofs.Splices.{off_pair, off_ready, only_then, there}
 use Rattle.be_tree.proofs.splicing.store_slots.Goals as goal
 
 pub store_slot-requires-clause-ready : goal.store_slot-requires-clause-ready
@@ -13,8 +13,8 @@ store_slot-requires-clause-ready g c =
     off_ready c.args.page (g.R.Look.standing c.args.room.now) (g.R.Look.standing c.loop-i.room) (g.R.Look.words c.args.room.now) (g.R.Look.words c.loop-i.room)
     (λ q ne. c.loop-i.invariant.only.standing q) c.loop-i.invariant.only.others _ (c.requires.off c.loop-i.i _ (omega (arith, c.loop-i-test.true))) (c.requires.ready c.loop-i.i _ (omega (arith, c.loop-i-test.true)))
 
-pub store_slot-requires-clause-may_move : goal.store_slot-requires-clause-may_move
-store_slot-requires-clause-may_move g c = off_moves c.args.page (item_place (c.args.at + c.loop-i.i)) _ (c.requires.off c.loop-i.i _ (omega (arith, c.loop-i-test.true)))
+pub store_slot-requires-clause-off : goal.store_slot-requires-clause-off
+store_slot-requires-clause-off g c = c.requires.off c.loop-i.i _ (omega (arith, c.loop-i-test.true))
 
 pub loop-i-preserved : goal.loop-i-preserved
 loop-i-preserved g c =

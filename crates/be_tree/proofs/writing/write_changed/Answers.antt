@@ -3,7 +3,7 @@ use Rattle.be_pages.specs.Pages.{after_give_up}
 use Rattle.be_tree.specs.Slot.{branch_to, pairs_of}
 use Rattle.be_tree.specs.Tree.{IsWritten}
 use Rattle.be_tree.proofs.Frame.{readable_kept}
-use Rattle.be_tree.proofs.Nodes.Moves.{stands_at, stands_else}
+use Rattle.be_tree.proofs.Nodes.Stands.{stands_at, stands_else}
 use Rattle.be_tree.proofs.Putting.Puts.{held_after, swaps_given_up}
 use Rattle.be_tree.proofs.writing.write_changed.Goals as goal
 
