@@ -74,7 +74,7 @@ pub record BecomesNode {S K : Type 0} (kept_of : S → K) (standing_of : S → �
   pub tree : IsTreeAt level least (standing_of new) (words_of new) page
   pub swaps : Swaps kept_of standing_of words_of before (pages_at level (words_of new) page) old new
 
--- of a tree the page at the end of a way, with what stands below it, has become another
+-- of a tree the page at the end of a way, with what is below it, has become another
 pub record IsChanged {S K : Type 0} (kept_of : S → K) (standing_of : S → ℕ → Standing)
     (words_of : S → ℕ → ℕ → ℕ)
     (root : ℕ) (above : List Step) (changed : Changed) (level : ℕ) (start now : S) : Type 0 where
@@ -87,8 +87,8 @@ pub record IsChanged {S K : Type 0} (kept_of : S → K) (standing_of : S → ℕ
       (pairs_at level (words_of now) changed.page)
   pub rising : IsRising (whole (words_of start) above (pairs_at level (words_of now) changed.page))
 
--- slots in the place of a cut of a leaf leave it enough items, and the tree's keys rise; where it
--- says so, the first key is the same
+-- slots in the place of a cut of a leaf leave it enough items, and the tree's keys rise; if it says
+-- so, the first key is the same
 pub record IsEdit (words : ℕ → ℕ → ℕ) (above : List Step) (leaf : ℕ) (edit : Edit) (given : Pair)
     (slots : List Slot) : Type 0 where
   pub is_leaf : level_of (words leaf) ≡ 0
@@ -99,7 +99,7 @@ pub record IsEdit (words : ℕ → ℕ → ℕ) (above : List Step) (leaf : ℕ)
   pub rising : IsRising (whole words above
       (spliced edit.cut (items_of (words leaf)) (pairs_of words given slots)))
 
--- what stands below that page has become what stands below these slots' items
+-- what was below that page has become what is below these slots' items
 pub record IsInHand {S K : Type 0} (kept_of : S → K) (standing_of : S → ℕ → Standing)
     (words_of : S → ℕ → ℕ → ℕ)
     (root : ℕ) (above : List Step) (was : ℕ) (given : Pair) (slots : List Slot) (level : ℕ)

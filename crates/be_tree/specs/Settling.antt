@@ -21,7 +21,7 @@ beside level words step ps =
     pairs_below level words (take step.at (items_of (words step.page)))
     ++ (ps ++ pairs_below level words (drop (suc step.at) (items_of (words step.page))))
 
--- what stood below a step's child has become what stands below the items of these slots
+-- what was below a step's child has become what is below the items of these slots
 pub record IsChildInHand {S K : Type 0} (kept_of : S → K) (standing_of : S → ℕ → Standing)
     (words_of : S → ℕ → ℕ → ℕ)
     (step : Step) (was level : ℕ) (given : Pair) (slots : List Slot) (start now : S) : Type 0 where
@@ -38,8 +38,8 @@ pub record IsChildInHand {S K : Type 0} (kept_of : S → K) (standing_of : S →
   pub rising : IsRising (beside (suc level) (words_of start) step
       (pairs_below level (words_of now) (pairs_of (words_of now) given slots)))
 
--- what stood below the step's page has become what stands below its items with other branches among
--- them, which have these pairs
+-- what was below the step's page has become what is below its items with other branches among them,
+-- which have these pairs
 pub record IsSettled {S K : Type 0} (kept_of : S → K) (standing_of : S → ℕ → Standing)
     (words_of : S → ℕ → ℕ → ℕ)
     (step : Step) (level : ℕ) (given : Pair) (all : List Pair) (settled : Settled) (start now : S) :

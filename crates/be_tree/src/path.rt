@@ -54,7 +54,7 @@ impl Path {
     }
 }
 
-/// Where a key is among a page's items, by number: which one has it, or how many have lesser keys.
+/// The place of a key among a page's items: which one has it, or how many have lesser keys.
 fn search_number<L: Look>(
     look: &mut L,
     page: u64,

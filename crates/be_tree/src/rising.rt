@@ -1,7 +1,7 @@
 //! The pages above a page that was changed are changed, as far as they have to be.
 //!
 //! A page that is copied has another number, so the branch to it is changed. A page of which the
-//! least key is another one is named by it above. Where neither is, the pages above stay as they
+//! least key is another one is named by it above. If neither is so, the pages above stay as they
 //! are.
 ghost use Rattle.std.specs.Prelude.{◌≡◌, ◌+◌, ◌<◌, ◌⊎◌, IfOk, IsTrue, true};
 ghost use Rattle.be_tree.specs.Page.{items_of, level_of};

@@ -1,9 +1,9 @@
 //! A node that has too many items or too few is settled: it is split, or shares items with a
 //! neighbour, or joins one.
 //!
-//! A node of thirteen items is written with those of its left neighbour, where that one has room:
-//! it takes all that it can hold. Else it is split. A node of five is written with those of a
-//! neighbour, the next one where there is one: in one page where they fit, else in two. So the page
+//! A node of thirteen items is written with those of its left neighbour, if that one has room:
+//! it takes all that it can hold. Otherwise it is split. A node of five is written with those of a
+//! neighbour, the next one if there is one: to one page if they fit, otherwise to two. So the page
 //! above has one branch more or less, or as many as before, and may be too large or too small in
 //! turn.
 ghost use Rattle.std.specs.Prelude.{◌≡◌, ◌≤◌, ◌+◌, ◌-◌, ◌<◌, ◌⊎◌, ◌++◌, [], suc, take, drop};
@@ -29,8 +29,7 @@ use arrayvec::ArrayVec;
 use be_pages::{Look, Room};
 use be_value::Refusal;
 
-/// What stands in the place of some of a node's branches: the branches to the pages that were
-/// written.
+/// What is in the place of some of a node's branches: the branches to the pages that were written.
 #[derive(Drop)]
 pub(crate) struct Settled {
     pub(crate) cut: Cut,
@@ -235,7 +234,7 @@ fn insert_all(slots: &mut ArrayVec<Slot, 24>, at: usize, mut more: ArrayVec<Slot
     }
 }
 
-/// Puts slots in the place of the one at a number. Where one replaces one, as mostly, no other is
+/// Puts slots in the place of the one at a number. If one replaces one, as mostly, no other is
 /// moved.
 fn replace_at(slots: &mut ArrayVec<Slot, 24>, at: usize, mut more: ArrayVec<Slot, 2>)
     requires in_range { at < length slots.old.items }

@@ -160,7 +160,7 @@ pub(crate) fn store_slots<R: Room>(room: &mut R, page: u64, at: usize, slots: &[
     }
 }
 
-/// Puts slots in the place of a cut: on the page itself, where this write has taken it, else on a
+/// Puts slots in the place of a cut: on the page itself, if this write has taken it, otherwise on a
 /// copy, and the page is given up. Gives the page that has the items then.
 pub(crate) fn splice<R: Room>(
     room: &mut R,

@@ -1,8 +1,7 @@
 //! A node in hand is written to pages of its own.
 //!
-//! This is what becomes of a node that has too many items or too few: its items stand on one page or
-//! on two, and go to one that is taken for them, or to two. The pages where they stood are given up
-//! then, since a node that is split or joined has new pages anyway.
+//! This is what becomes of a node that has too many items or too few: its items are on one page or
+//! on two, and go to one that is taken for them, or to two. The pages where they were are given up.
 ghost use Rattle.std.specs.Prelude.{◌≡◌, ◌≢◌, ℕ, ◌+◌, ◌-◌, ◌^◌, ◌<◌, ◌≤◌, [], ◌∷◌, ◌++◌, true};
 ghost use Rattle.std.specs.Prelude.{false, length, take, drop, All, IfOk, OnErr, IfErr, IfSome};
 ghost use Rattle.std.specs.Prelude.{IsTrue};
@@ -66,7 +65,7 @@ fn write_changed<R: Room>(room: &mut R, old: u64, node: Node<'_>) -> Result<u64,
     Ok(page)
 }
 
-/// Writes a node with what stands below it, as `write_changed` does, and gives its page.
+/// Writes a node with what is below it, as `write_changed` does, and gives its page.
 pub(crate) fn write_branch<R: Room>(room: &mut R, old: u64, node: Node<'_>) -> Result<u64, Refusal>
     requires node { CanBeWritten node.level (R.standing room.old) (R.words room.old) node.pair.now
         node.slots.now }
@@ -85,8 +84,8 @@ pub(crate) fn write_branch<R: Room>(room: &mut R, old: u64, node: Node<'_>) -> R
     Ok(page)
 }
 
-/// Writes a node in hand in two pages, the first `cut` items in the first, and gives them. The
-/// second one is taken, and written before the first one is written as `write_changed` does.
+/// Writes a node in hand to two pages, the first `cut` items to the first, and gives them. The old
+/// page is given up.
 fn write_parts<R: Room>(
     room: &mut R,
     old: u64,
@@ -131,8 +130,8 @@ fn first_of_two(len: usize) -> usize
     }
 }
 
-/// Writes a node in hand, in one page or in two, of which the first is the old one where it can be,
-/// and gives the branches to them. The old page is given up where it isn't among them.
+/// Writes a node in hand to one page or to two, and gives the branches to them. The old page is
+/// given up.
 pub(crate) fn pack<R: Room>(
     room: &mut R,
     old: u64,
@@ -165,8 +164,7 @@ pub(crate) fn pack<R: Room>(
     Ok(branches)
 }
 
-/// Writes a node in hand whose items stood in two neighbours, gives both up, and gives the branches
-/// to its pages.
+/// The same of a node in hand whose items are on two neighbours. Both are given up.
 pub(crate) fn pack_two<R: Room>(
     room: &mut R,
     left: u64,
@@ -220,8 +218,7 @@ pub(crate) fn write_first_root<R: Room>(
     Ok(top + 1)
 }
 
-/// Writes items as a tree of their own, over the old root's page where that can be, else it is
-/// given up. Gives the root.
+/// Writes items as a tree of their own, and gives its root. The old root's page is given up.
 pub(crate) fn write_root<R: Room>(room: &mut R, old: u64, node: Node<'_>) -> Result<u64, Refusal>
     requires node { CanBeWritten node.level (R.standing room.old) (R.words room.old) node.pair.now
         node.slots.now }
@@ -251,9 +248,8 @@ pub(crate) fn write_root<R: Room>(room: &mut R, old: u64, node: Node<'_>) -> Res
     Ok(top + 1)
 }
 
-/// Writes what is left of a root as a tree, and gives its root: none where nothing is left, and the
-/// page of the one branch that is left of an inner root. The old root's page is given up where it
-/// isn't written over.
+/// Writes what is left of a root as a tree, and gives its root: none if nothing is left, and the
+/// page of the one branch that is left of an inner root. The old root's page is given up.
 pub(crate) fn write_rest<R: Room>(room: &mut R, old: u64, node: Node<'_>) -> Result<u64, Refusal>
     requires low { node.level < 2 ^ 32 }
     requires node { CanBeWritten node.level (R.standing room.old) (R.words room.old) node.pair.now
