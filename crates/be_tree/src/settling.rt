@@ -319,7 +319,6 @@ fn settle_once<R: Room>(
 /// Settles a node in hand and the pages above it that have too many items or too few then, and
 /// writes the others above. Gives the new root.
 #[inline(never)]
-#[tactic(none)]
 pub(crate) fn settle<R: Room>(
     room: &mut R,
     root: u64,

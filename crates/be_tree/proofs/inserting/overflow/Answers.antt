@@ -29,9 +29,11 @@ fill_slots-requires-clause-readable g c = readable_kept (g.R.Look.standing c.arg
 pub fill_slots-requires-clause-page : goal.fill_slots-requires-clause-page
 fill_slots-requires-clause-page g c = (puts g (goal.at.fill_slots-requires-clause-page g c).Start).leafy.tree.node.is_page
 
-pub insert-requires-clause-in_bounds : goal.insert-requires-clause-in_bounds
-insert-requires-clause-in_bounds g c =
-    omega (arith, (puts g (goal.at.insert-requires-clause-in_bounds g c).Start).in_range, c.fill_slots.ensures.len, items_count (g.R.Look.words c.args.room.now c.args.path.now.leaf))
+pub insert-requires : goal.insert-requires
+insert-requires g c =
+    let in_bounds : c.args.at ≤ length c.fill_slots.new.slots.items = omega (arith, (puts g (goal.at.insert-requires g c).Start).in_range, c.fill_slots.ensures.len, items_count (g.R.Look.words c.args.room.now c.args.path.now.leaf)) in
+    let room : length c.fill_slots.new.slots.items < 24 = omega (arith, c.fill_slots.ensures.few) in
+    assumption (in_bounds, room)
 
 -- the leaf's slots with the pair among them
 module _ (g : Over) (c : After-insert g) (at : PutsAt (g.R.Look.standing c.args.room.now) (g.R.Look.words c.args.room.now) c.args.root c.args.path.now c.args.pair.now (record { at = c.args.at; gone = 0 })) where

@@ -18,7 +18,7 @@ use Rattle.be_tree.proofs.Shape.Roots.{root_tree, root_some}
 use Rattle.be_tree.proofs.Ways.{branch_child, branch_names, way_push}
 use Rattle.be_tree.proofs.path.find_path.Given.{Over}
 use Rattle.be_tree.proofs.path.find_path.Goals as goal
-use Rattle.be_tree.proofs.path.find_path.Goals.{After-branch_for-place, After-item_number-at}
+use Rattle.be_tree.proofs.path.find_path.Goals.{After-branch_for-place}
 
 pub loop-level-init : goal.loop-level-init
 loop-level-init g c =
@@ -51,10 +51,6 @@ at_item : (g : Over) (c : After-branch_for-place g) → (found g c).number < g.L
 at_item g c =
     let branch = (found g c).is_branch in
     omega (arith, branch.before, branch.is_rank.in_range, c.loop-level.invariant.tree.node.enough, c.loop-level.invariant.some, items_count (g.L.Look.words c.args.look.now c.loop-level.page))
-
--- its number
-number : (g : Over) (c : After-item_number-at g) (at : After-branch_for-place g) → c.item_number-at.result ≡ (found g at).number
-number g c at = c.item_number-at.ensures ∙ number_back c.branch_for-place.result (found g at).number (found g at).is_place
 
 inner : (g : Over) (c : After-branch_for-place g) → IsTreeAt (suc (c.loop-level.level - 1)) c.loop-level.invariant.least (g.L.Look.standing c.args.look.now) (g.L.Look.words c.args.look.now) c.loop-level.page
 inner g c =
@@ -100,7 +96,7 @@ loop-level-preserved g c =
     let page = c.loop-level.page in
     let down = c.loop-level.level - 1 in
     let next = c.item_number-at.result in
-    let is_next : next ≡ of.number = number g (goal.at.loop-level-preserved g c).After-item_number-at at in
+    let is_next : next ≡ of.number = c.item_number-at.ensures ∙ number_back c.branch_for-place.result of.number of.is_place in
     let lt : next < words page 1 = omega (arith, is_next, at_item g at) in
     let steps = c.loop-level.path.above.items in
     let step : Step = record { page = page; at = next } in

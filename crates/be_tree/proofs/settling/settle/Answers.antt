@@ -80,26 +80,26 @@ module _ (g : Over) (c : After-deref g) (start : g.row.R.Denot) (h : Begun g c s
       → BecomesTree g.R.Look.kept g.R.Look.standing g.R.Look.words (pages (g.R.Look.words start) c.args.root) (all g c start) root start new
   whole_now root new made = subst (λ ps. BecomesTree g.R.Look.kept g.R.Look.standing g.R.Look.words (pages (g.R.Look.words start) c.args.root) ps root start new) same made
 
-pub settle_once-turn-requires-clause-in_hand : goal.settle_once-turn-requires-clause-in_hand
-settle_once-turn-requires-clause-in_hand g c = (c.requires.in_hand.0, hand g (goal.at.settle_once-turn-requires-clause-in_hand g c).After-deref c.requires.in_hand.0 c.requires.in_hand.1)
+pub settle_once-requires-clause-in_hand : goal.settle_once-requires-clause-in_hand
+settle_once-requires-clause-in_hand g c = (c.requires.in_hand.0, hand g (goal.at.settle_once-requires-clause-in_hand g c).After-deref c.requires.in_hand.0 c.requires.in_hand.1)
 
-pub settle_once-turn-requires-clause-below : goal.settle_once-turn-requires-clause-below
-settle_once-turn-requires-clause-below g c = omega (arith, c.loop-i-test.true, length-take-le (length c.args.above.now - c.loop-i.i) c.args.above.now (omega arith))
+pub settle_once-requires-clause-below : goal.settle_once-requires-clause-below
+settle_once-requires-clause-below g c = omega (arith, c.loop-i-test.true, length-take-le (length c.args.above.now - c.loop-i.i) c.args.above.now (omega arith))
 
-pub settle_once-turn-requires-clause-size : goal.settle_once-turn-requires-clause-size
-settle_once-turn-requires-clause-size g c =
+pub settle_once-requires-clause-size : goal.settle_once-requires-clause-size
+settle_once-requires-clause-size g c =
     (omega (arith, c.loop-i.invariant.some c.loop-i-test.true, ap length c.deref.ensures.0), omega (arith, c.loop-i.invariant.few, ap length c.deref.ensures.0))
 
-pub settle_once-turn-requires-clause-open : goal.settle_once-turn-requires-clause-open
-settle_once-turn-requires-clause-open g c =
-    let at = (goal.at.settle_once-turn-requires-clause-open g c).After-deref in
+pub settle_once-requires-clause-open : goal.settle_once-requires-clause-open
+settle_once-requires-clause-open g c =
+    let at = (goal.at.settle_once-requires-clause-open g c).After-deref in
     subst (λ k. IsTrue (g.R.Look.is_open k)) (sym (starts g at c.requires.in_hand.0 c.requires.in_hand.1).kept) c.requires.open
 
 pub loop-i-preserved : goal.loop-i-preserved
 loop-i-preserved g c =
     let at = (goal.at.loop-i-preserved g c).After-deref in
-    let new = c.settle_once-turn.new.room in
-    let page = c.in-Above.field-0 in
+    let new = c.settle_once.new.room in
+    let page = c.in-Above.page in
     let out = c.in-Above.items.items in
     let turned = λ (start : g.row.R.Denot) (h : Begun g at start).
     up g at start h page out new c.loop-i-test.true
@@ -117,7 +117,7 @@ loop-i-preserved g c =
 pub returns-in-Whole-clause-ok : goal.returns-in-Whole-clause-ok
 returns-in-Whole-clause-ok g c = λ start h.
     let at = (goal.at.returns-in-Whole-clause-ok g c).After-deref in
-    let new = c.settle_once-turn.new.room in
+    let new = c.settle_once.new.room in
     whole_now g at start h c.in-Whole.new new
     (subst (λ (t : Turn). IsTurned g.R.Look.kept g.R.Look.standing g.R.Look.words c.args.root (left c.args.above.now c.loop-i.i) c.args.pair.now
     (whole (g.R.Look.words start) (left c.args.above.now c.loop-i.i) (pairs_below (level_of (g.R.Look.words start c.loop-i.was)) (g.R.Look.words c.loop-i.room) (pairs_of (g.R.Look.words c.loop-i.room) c.args.pair.now c.deref.result.now))) t start new) c.in-Whole.is
@@ -126,7 +126,7 @@ returns-in-Whole-clause-ok g c = λ start h.
 pub returns-in_err-turn-clause-refused : goal.returns-in_err-turn-clause-refused
 returns-in_err-turn-clause-refused g c =
     let at = (goal.at.returns-in_err-turn-clause-refused g c).After-deref in
-    let P = start_trans g.R.Look.kept g.R.Look.standing g.R.Look.words c.args.room.now c.loop-i.room c.settle_once-turn.new.room (starts g at c.requires.in_hand.0 c.requires.in_hand.1) c.in_err-turn.ensures.refused.0 in
+    let P = start_trans g.R.Look.kept g.R.Look.standing g.R.Look.words c.args.room.now c.loop-i.room c.settle_once.new.room (starts g at c.requires.in_hand.0 c.requires.in_hand.1) c.in_err-turn.ensures.refused.0 in
     (on_err _ P, search rules)
 
 pub word-level-requires-clause-readable : goal.word-level-requires-clause-readable
@@ -185,20 +185,20 @@ write_rest-requires-clause-low g c =
 pub write_rest-requires-clause-node : goal.write_rest-requires-clause-node
 write_rest-requires-clause-node g c =
     let at = (goal.at.write_rest-requires-clause-node g c).After-word-level in
-    let h = subst (λ xs. IsInHand g.R.Look.kept g.R.Look.standing g.R.Look.words c.args.root (left c.args.above.now c.loop-i.i) c.loop-i.was c.args.pair.now xs c.word-level.result c.requires.in_hand.0 c.word-level.new.self) (sym c.deref.ensures.0)
+    let h = subst (λ xs. IsInHand g.R.Look.kept g.R.Look.standing g.R.Look.words c.args.root (left c.args.above.now c.loop-i.i) c.loop-i.was c.args.pair.now xs c.word-level.result c.requires.in_hand.0 c.word-level.new.self) (sym c.deref-2.ensures.0)
     (last_hand g at c.requires.in_hand.0 c.requires.in_hand.1) in
     (h.node.below, (h.ready, h.key_fits))
 
 pub write_rest-requires-clause-few : goal.write_rest-requires-clause-few
-write_rest-requires-clause-few g c = omega (arith, c.loop-i.invariant.few, ap length c.deref.ensures.0)
+write_rest-requires-clause-few g c = omega (arith, c.loop-i.invariant.few, ap length c.deref-2.ensures.0)
 
 pub write_rest-requires-clause-old : goal.write_rest-requires-clause-old
 write_rest-requires-clause-old g c =
     let at = (goal.at.write_rest-requires-clause-old g c).After-word-level in
     let start = c.requires.in_hand.0 in
-    let h = subst (λ xs. IsInHand g.R.Look.kept g.R.Look.standing g.R.Look.words c.args.root (left c.args.above.now c.loop-i.i) c.loop-i.was c.args.pair.now xs c.word-level.result start c.word-level.new.self) (sym c.deref.ensures.0)
+    let h = subst (λ xs. IsInHand g.R.Look.kept g.R.Look.standing g.R.Look.words c.args.root (left c.args.above.now c.loop-i.i) c.loop-i.was c.args.pair.now xs c.word-level.result start c.word-level.new.self) (sym c.deref-2.ensures.0)
     (last_hand g at start c.requires.in_hand.1) in
-    hand_apart g.R.Look.kept g.R.Look.standing g.R.Look.words c.args.root (left c.args.above.now c.loop-i.i) c.loop-i.was c.word-level.result c.args.pair.now c.deref.result.now start c.word-level.new.self h
+    hand_apart g.R.Look.kept g.R.Look.standing g.R.Look.words c.args.root (left c.args.above.now c.loop-i.i) c.loop-i.was c.word-level.result c.args.pair.now c.deref-2.result.now start c.word-level.new.self h
 
 pub write_rest-requires-clause-open : goal.write_rest-requires-clause-open
 write_rest-requires-clause-open g c =
@@ -214,11 +214,11 @@ returns-clause-ok g c =
     let words = g.R.Look.words read in
     let level = c.word-level.result in
     let becomes = λ (xs : List Slot) (root : ℕ). BecomesTree g.R.Look.kept g.R.Look.standing g.R.Look.words (c.loop-i.was ∷ pages_below level words (pairs_of words c.args.pair.now xs)) (pairs_below level words (pairs_of words c.args.pair.now xs)) root read c.write_rest.new.room in
-    IfOk-weaker c.write_rest.result (becomes c.deref.result.now)
+    IfOk-weaker c.write_rest.result (becomes c.deref-2.result.now)
     (λ root. (start : g.row.R.Denot) → IsInHand g.R.Look.kept g.R.Look.standing g.R.Look.words c.args.root above c.args.was c.args.pair.now c.args.in_hand.items (level_of (g.R.Look.words start c.args.was)) start c.args.room.now
     → BecomesTree g.R.Look.kept g.R.Look.standing g.R.Look.words (pages (g.R.Look.words start) c.args.root)
     (whole (g.R.Look.words start) above (pairs_below (level_of (g.R.Look.words start c.args.was)) (g.R.Look.words c.args.room.now) (pairs_of (g.R.Look.words c.args.room.now) c.args.pair.now c.args.in_hand.items))) root start c.write_rest.new.room)
-    (λ root made start h. made_last g at start h (ap (λ n. take n above) none) root c.write_rest.new.room (subst (λ xs. becomes xs root) c.deref.ensures.0 made))
+    (λ root made start h. made_last g at start h (ap (λ n. take n above) none) root c.write_rest.new.room (subst (λ xs. becomes xs root) c.deref-2.ensures.0 made))
     c.write_rest.ensures.ok
 
 pub returns-clause-refused : goal.returns-clause-refused

@@ -193,9 +193,9 @@ enough above level n gone len count some two six le is =
     let least = least_front above (length above - 1) level (n - gone + len) (omega (arith, some)) two six in
     omega (arith, least, le, is)
 
-pub rise-whole-requires-clause-changed : goal.rise-whole-requires-clause-changed
-rise-whole-requires-clause-changed g c =
-    let at = (goal.at.rise-whole-requires-clause-changed g c).After-word-level in
+pub rise-requires-clause-changed : goal.rise-requires-clause-changed
+rise-requires-clause-changed g c =
+    let at = (goal.at.rise-requires-clause-changed g c).After-word-level in
     let start = c.requires.in_hand.0 in
     let h = c.requires.in_hand.1 in
     let settled = c.in_ok-settled.settled in
@@ -207,9 +207,9 @@ rise-whole-requires-clause-changed g c =
     c.requires.below (c.fits.ensures.least c.if-fits.true) (c.fits.ensures.least_below c.if-fits.true) (omega (arith, in_range g at start h settled now after, n, c.count_of.ensures.count)) (omega (arith, count g at start h settled now after, n, c.count_of.ensures.count, c.len.ensures)) in
     (start, changed g at start h settled now after c.deref.result.now c.deref.ensures.0 c.in_ok-page.page c.splice.new.room c.in_ok-page.ensures.ok many (ltb 0 settled.cut.at) (above_zero settled.cut.at))
 
-pub rise-whole-requires-clause-open : goal.rise-whole-requires-clause-open
-rise-whole-requires-clause-open g c =
-    let at = (goal.at.rise-whole-requires-clause-open g c).After-word-level in
+pub rise-requires-clause-open : goal.rise-requires-clause-open
+rise-requires-clause-open g c =
+    let at = (goal.at.rise-requires-clause-open g c).After-word-level in
     let start = c.requires.in_hand.0 in
     let h = c.requires.in_hand.1 in
     let settled = c.in_ok-settled.settled in
@@ -268,7 +268,7 @@ returns-then-fits-clause-ok g c = λ start h.
     let n = ap (λ (w : ℕ → ℕ → ℕ). w (last c.args.above.now).page 1) c.count_of.ensures.unchanged.words in
     let many = enough c.args.above.now c.word-level.result c.count_of.result settled.cut.gone c.len.result (length (spliced settled.cut (items_of (g.R.Look.words start (last c.args.above.now).page)) (pairs_of (g.R.Look.words now) c.args.pair.now settled.branches.items)))
     c.requires.below (c.fits.ensures.least c.if-fits.true) (c.fits.ensures.least_below c.if-fits.true) (omega (arith, in_range g at start h settled now after, n, c.count_of.ensures.count)) (omega (arith, count g at start h settled now after, n, c.count_of.ensures.count, c.len.ensures)) in
-    tree g at start h settled now after c.deref.result.now c.deref.ensures.0 c.in_ok-page.page c.splice.new.room c.in_ok-page.ensures.ok many c.in_ok-whole.whole c.rise-whole.new.room
+    tree g at start h settled now after c.deref.result.now c.deref.ensures.0 c.in_ok-page.page c.splice.new.room c.in_ok-page.ensures.ok many c.in_ok-whole.whole c.rise.new.room
     (c.in_ok-whole.ensures.ok start (changed g at start h settled now after c.deref.result.now c.deref.ensures.0 c.in_ok-page.page c.splice.new.room c.in_ok-page.ensures.ok many (ltb 0 settled.cut.at) (above_zero settled.cut.at)))
 
 pub returns-in_err-settled-clause-refused : goal.returns-in_err-settled-clause-refused
@@ -295,7 +295,7 @@ returns-in_err-whole-clause-refused g c =
     let s = c.in_ok-settled.ensures.ok start (node g at start h) in
     let now = c.count_of.new.look in
     let after = read g at start h c.in_ok-settled.settled c.settle_child.new.room s now c.count_of.ensures.unchanged in
-    let P = start_trans g.R.Look.kept g.R.Look.standing g.R.Look.words c.args.room.now now c.rise-whole.new.room (starts g at start h c.in_ok-settled.settled now after)
-    (start_trans g.R.Look.kept g.R.Look.standing g.R.Look.words now c.splice.new.room c.rise-whole.new.room
+    let P = start_trans g.R.Look.kept g.R.Look.standing g.R.Look.words c.args.room.now now c.rise.new.room (starts g at start h c.in_ok-settled.settled now after)
+    (start_trans g.R.Look.kept g.R.Look.standing g.R.Look.words now c.splice.new.room c.rise.new.room
     (swaps_start g.R.Look.kept g.R.Look.standing g.R.Look.words ((last c.args.above.now).page ∷ []) (c.in_ok-page.page ∷ []) now c.splice.new.room c.in_ok-page.ensures.ok.swaps) c.in_err-whole.ensures.refused.0) in
     (on_err _ P, search rules)

@@ -3,7 +3,7 @@ use Rattle.std.proofs.lemmas.Bool.Decides.{nat_tests}
 use Rattle.std.proofs.lemmas.Result.{IfOk-weaker}
 use Rattle.be_tree.specs.Key.{without}
 use Rattle.be_tree.specs.Page.{items_of}
-use Rattle.be_tree.specs.Path.{IsPathTo}
+use Rattle.be_tree.specs.Path.{IsPathTo, least_at}
 use Rattle.be_tree.specs.Tree.{BecomesTree, pages, pairs}
 use Rattle.be_tree.proofs.Frame.{readable_kept, unchanged_start}
 use Rattle.be_tree.proofs.Leaves.{TakesAt, all_is, all_rise, keeps_front, length_spliced, path_read, refuses_since, takes_at, tree_since}
@@ -63,7 +63,16 @@ change_leaf-requires-clause-edit g c =
     let take_at = after g at in
     record {
       is_leaf = (path g at).is_leaf;
-      enough = ?;
+      enough = omega (
+          arith,
+          c.if-count_of-least_of_leaf.false,
+          c.least_of_leaf.ensures,
+          ap (λ xs. least_at xs 0) c.deref.ensures.0,
+          length_spliced (record { at = c.args.at; gone = 1 }) items [] (omega (arith, take_at.in_range)),
+          items_count (words c.args.path.now.leaf),
+          c.count_of.ensures.count,
+          ap (λ (w : ℕ → ℕ → ℕ). w c.args.path.now.leaf 1) c.count_of.ensures.unchanged.words,
+        );
       least = λ e. keeps_front c.args.at items (drop (c.args.at + 1) items) (above_zero c.args.at e);
       rising = all_rise (without key) (rising_without key) (g.R.Look.standing c.count_of.new.look) words c.args.root c.args.path.now.above.items c.args.path.now.leaf (record { at = c.args.at; gone = 1 }) [] take_at.leafy take_at.is;
     }
