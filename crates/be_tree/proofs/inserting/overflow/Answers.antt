@@ -1,4 +1,4 @@
-use Rattle.std.proofs.Common.{◌≡◌, ◌∙◌, ℕ, suc, ◌+◌, ◌<◌, ◌≤◌, [], ◌∷◌, ◌++◌, All, IfOk, IsTrue, List, map, take, drop, length, sym, subst, ap, refl, arith}
+use Rattle.std.proofs.Common.{◌≡◌, ◌∙◌, ℕ, suc, ◌+◌, ◌<◌, ◌≤◌, [], ◌∷◌, ◌++◌, All, IfOk, IsTrue, List, map, take, drop, length, sym, subst, ap, refl, arith, rules}
 use Rattle.std.proofs.lemmas.Result.{IfOk-weaker}
 use Rattle.be_tree.specs.declared.path.Step.{Step}
 use Rattle.be_tree.specs.declared.slot.Slot.{Slot}
@@ -33,7 +33,7 @@ pub insert-requires : goal.insert-requires
 insert-requires g c =
     let in_bounds : c.args.at ≤ length c.fill_slots.new.slots.items = omega (arith, (puts g (goal.at.insert-requires g c).Start).in_range, c.fill_slots.ensures.len, items_count (g.R.Look.words c.args.room.now c.args.path.now.leaf)) in
     let room : length c.fill_slots.new.slots.items < 24 = omega (arith, c.fill_slots.ensures.few) in
-    assumption (in_bounds, room)
+    search (rules, in_bounds, room)
 
 -- the leaf's slots with the pair among them
 module _ (g : Over) (c : After-insert g) (at : PutsAt (g.R.Look.standing c.args.room.now) (g.R.Look.words c.args.room.now) c.args.root c.args.path.now c.args.pair.now (record { at = c.args.at; gone = 0 })) where
