@@ -55,12 +55,7 @@ impl Path {
 }
 
 /// The place of a key among a page's items: which one has it, or how many have lesser keys.
-fn search_number<L: Look>(
-    look: &mut L,
-    page: u64,
-    key: &[u8],
-    first: u64,
-) -> Result<usize, usize>
+fn search_number<L: Look>(look: &mut L, page: u64, key: &[u8], first: u64) -> Result<usize, usize>
     requires readable { IsTrue (is_readable (L.standing look.old page)) }
     requires page { IsPage (L.words look.old page) }
     requires first { IsFirst key.now first }

@@ -53,12 +53,12 @@ change_leaf-requires-clause-cut g c =
       in_use = leafy.tree.page_in_use;
       in_range = omega (arith, (after g at).in_range, items_count words);
       few = omega (
-          arith,
-          leafy.tree.node.is_page.few,
-          c.if-count_of-eq-MOST_ITEMS.false,
-          c.count_of.ensures.count,
-          ap (λ (w : ℕ → ℕ → ℕ). w c.args.path.now.leaf 1) c.count_of.ensures.unchanged.words,
-        );
+        arith,
+        leafy.tree.node.is_page.few,
+        c.if-count_of-eq-MOST_ITEMS.false,
+        c.count_of.ensures.count,
+        ap (λ (w : ℕ → ℕ → ℕ). w c.args.path.now.leaf 1) c.count_of.ensures.unchanged.words,
+      );
       ready = all_one (IsReady (g.R.Look.standing c.count_of.new.look) (g.R.Look.words c.count_of.new.look)) New tt;
       off = all_one (IsOff c.args.path.now.leaf) New tt;
       key_fits = c.requires.key_fits;

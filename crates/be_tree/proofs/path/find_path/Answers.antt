@@ -102,7 +102,7 @@ loop-level-preserved g c =
     let step : Step = record { page = page; at = next } in
     let i = c.loop-level.invariant in
     let is = c.child_at-page.ensures.child ∙ ap (λ (w : ℕ → ℕ → ℕ). child (item_at (w page) c.branch_for-place.result)) (words_same g at)
-        ∙ ap (λ (p : ℕ). child (item_at (words page) p)) (of.is_place ∙ ap item_place (sym is_next)) in
+    ∙ ap (λ (p : ℕ). child (item_at (words page) p)) (of.is_place ∙ ap item_place (sym is_next)) in
     let here : IsStep words page step = record { is_page = refl; inner = omega (arith, i.tree.node.at_level, c.loop-level-test.true); in_range = lt } in
     let for = λ (s : Step). IsBranchFor c.args.key.now (items_of (words s.page)) s.at in
     let is_for = subst (λ (n : ℕ). IsBranchFor c.args.key.now (items_of (words page)) n) (sym is_next) of.is_branch in

@@ -64,15 +64,15 @@ change_leaf-requires-clause-edit g c =
     record {
       is_leaf = (path g at).is_leaf;
       enough = omega (
-          arith,
-          c.if-count_of-least_of_leaf.false,
-          c.least_of_leaf.ensures,
-          ap (λ xs. least_at xs 0) c.deref.ensures.0,
-          length_spliced (record { at = c.args.at; gone = 1 }) items [] (omega (arith, take_at.in_range)),
-          items_count (words c.args.path.now.leaf),
-          c.count_of.ensures.count,
-          ap (λ (w : ℕ → ℕ → ℕ). w c.args.path.now.leaf 1) c.count_of.ensures.unchanged.words,
-        );
+        arith,
+        c.if-count_of-least_of_leaf.false,
+        c.least_of_leaf.ensures,
+        ap (λ xs. least_at xs 0) c.deref.ensures.0,
+        length_spliced (record { at = c.args.at; gone = 1 }) items [] (omega (arith, take_at.in_range)),
+        items_count (words c.args.path.now.leaf),
+        c.count_of.ensures.count,
+        ap (λ (w : ℕ → ℕ → ℕ). w c.args.path.now.leaf 1) c.count_of.ensures.unchanged.words,
+      );
       least = λ e. keeps_front c.args.at items (drop (c.args.at + 1) items) (above_zero c.args.at e);
       rising = all_rise (without key) (rising_without key) (g.R.Look.standing c.count_of.new.look) words c.args.root c.args.path.now.above.items c.args.path.now.leaf (record { at = c.args.at; gone = 1 }) [] take_at.leafy take_at.is;
     }
