@@ -1,6 +1,6 @@
 -- A node that is settled, on the way up a tree.
 use Rattle.std.proofs.Common.{◌≡◌, ℕ, zero, suc, ◌+◌, ◌-◌, ◌<◌, ◌≤◌, ◌⊎◌, List, [], ◌∷◌, ◌++◌, Bool, true, eqb, length, get_or, map, take, drop, All, IsTrue, ap, sym, subst, ◌∙◌, refl, inl, inr, arith, length-append, length-drop}
-use Rattle.std.specs.List.{range_with_len, take-map, drop-map}
+use Rattle.std.specs.List.{take-map, drop-map}
 use Rattle.std.proofs.Math.Seq.{take-length, take-suc}
 use Rattle.std.proofs.lemmas.Bool.Decides.{nat_tests}
 use Rattle.std.proofs.lemmas.List.{get_or-map, length-map, length-take-le, map-append, take-append-drop, take-take}
@@ -8,21 +8,20 @@ use Rattle.std.proofs.lemmas.List.Elements.{All-append}
 use Rattle.std.proofs.lemmas.List.FromFn.{length-map-range_with_len}
 use Rattle.be_pages.specs.declared.room.Standing.{Standing}
 use Rattle.be_pages.specs.declared.room.Standing.TheVariants.{Filled, Free, GivenUp, Old, Taken}
-use Rattle.be_pages.specs.Pages.{IsUnchanged, KeepsStart, Swaps, after_undo, is_from_before, is_kept, is_readable, times}
+use Rattle.be_pages.specs.Pages.{IsUnchanged, KeepsStart, after_undo, is_from_before, is_kept, times}
 use Rattle.be_tree.specs.declared.path.Step.{Step}
-use Rattle.be_tree.specs.declared.rising.Changed.{Changed}
 use Rattle.be_tree.specs.declared.settling.Settled.{Settled}
 use Rattle.be_tree.specs.declared.slot.Slot.{Slot}
 use Rattle.be_tree.specs.declared.slot.Slot.TheVariants.{At, Branch, New}
 use Rattle.be_tree.specs.declared.splicing.Cut.{Cut}
 use Rattle.be_tree.specs.Pair.{Pair}
 use Rattle.be_tree.specs.Key.{IsRising}
-use Rattle.be_tree.specs.Page.{IsPage, item_at, item_place, items_of, level_of}
+use Rattle.be_tree.specs.Page.{IsPage, item_place, items_of, level_of}
 use Rattle.be_tree.specs.Path.{BecomesNode, IsChanged, IsInHand, IsWayIn, KeepsLeast, around, least_at, whole}
 use Rattle.be_tree.specs.Settling.{IsAbove, IsChildInHand, IsSettled, beside}
 use Rattle.be_tree.specs.Slot.{IsBranchSlot, IsOff, IsReady, branch_to, loaded, pair_of, pairs_of}
 use Rattle.be_tree.specs.Splicing.{CanBeSpliced, IsSpliced, spliced}
-use Rattle.be_tree.specs.Tree.{Becomes, BecomesTree, IsBelow, IsTreeAt, child, least_of_root, pages, pages_at, pages_below, pairs_at, pairs_below}
+use Rattle.be_tree.specs.Tree.{Becomes, BecomesTree, IsBelow, IsTreeAt, child, pages, pages_at, pages_below, pairs_at, pairs_below}
 use Rattle.be_tree.specs.Writing.{IsApart}
 use Rattle.be_tree.proofs.Frame.{readable_kept, swaps_same, swaps_start}
 use Rattle.be_tree.proofs.Nodes.Neighbours.{ready_until}

@@ -1,6 +1,6 @@
 -- A leaf at the end of a path that has changed.
-use Rattle.std.proofs.Common.{◌≡◌, ◌≢◌, ℕ, zero, suc, ◌+◌, ◌-◌, ◌<◌, ◌≤◌, ◌^◌, List, [], ◌∷◌, ◌++◌, Bool, true, length, get_or, take, drop, All, Result, IfOk, IfErr, Ok, Err, None, is_some, ap, sym, subst, ◌∙◌, refl, arith, append_assoc, if◌then◌else◌, length-append, length-drop}
-use Rattle.std.specs.declared.cmp.Ordering.TheVariants.{Less, Equal, Greater}
+use Rattle.std.proofs.Common.{◌≡◌, ◌≢◌, ℕ, zero, suc, ◌+◌, ◌-◌, ◌<◌, ◌≤◌, List, [], ◌∷◌, ◌++◌, Bool, true, length, get_or, take, drop, All, Result, IfOk, IfErr, Ok, Err, None, is_some, ap, sym, subst, ◌∙◌, refl, arith, append_assoc, if◌then◌else◌, length-append, length-drop}
+use Rattle.std.specs.declared.cmp.Ordering.TheVariants.{Equal, Greater}
 use Rattle.std.specs.List.{flat_map}
 use Rattle.std.specs.Ordering.{is_eq}
 use Rattle.std.proofs.Math.Seq.{take-suc}
@@ -11,21 +11,20 @@ use Rattle.be_value.specs.declared.refusals.Refusal.{Refusal}
 use Rattle.be_pages.specs.Pages.{IsUnchanged, KeepsStart, Swaps}
 use Rattle.be_tree.specs.declared.path.Path.{Path}
 use Rattle.be_tree.specs.declared.path.Step.{Step}
-use Rattle.be_tree.specs.declared.rising.Changed.{Changed}
 use Rattle.be_tree.specs.declared.slot.Slot.{Slot}
 use Rattle.be_tree.specs.declared.splicing.Cut.{Cut}
 use Rattle.be_tree.specs.Pair.{Pair}
-use Rattle.be_tree.specs.Key.{IsBranchFor, IsGap, IsRising, StartsAt, key_cmp, payload_at, put, put_before, without}
-use Rattle.be_tree.specs.Page.{IsPage, item_at, item_place, items_of, level_of}
+use Rattle.be_tree.specs.Key.{IsBranchFor, IsGap, IsRising, key_cmp, payload_at, put, put_before, without}
+use Rattle.be_tree.specs.Page.{item_at, item_place, items_of, level_of}
 use Rattle.be_tree.specs.Path.{BecomesNode, IsChanged, IsInHand, IsPathTo, IsWayIn, KeepsLeast, least_at, whole}
-use Rattle.be_tree.specs.Slot.{IsOff, IsReady, pairs_of}
-use Rattle.be_tree.specs.Splicing.{CanBeSpliced, IsSpliced, spliced}
+use Rattle.be_tree.specs.Slot.{IsReady, pairs_of}
+use Rattle.be_tree.specs.Splicing.{IsSpliced, spliced}
 use Rattle.be_tree.specs.Writing.{Refuses}
-use Rattle.be_tree.specs.Tree.{BecomesTree, IsBelow, IsTree, IsTreeAt, least_of_root, pages, pages_at, pages_below, pairs, pairs_at, pairs_below}
+use Rattle.be_tree.specs.Tree.{BecomesTree, IsBelow, IsTreeAt, least_of_root, pages, pairs, pairs_at, pairs_below}
 use Rattle.be_tree.proofs.Frame.{one_page, start_trans, swaps_since}
 use Rattle.be_tree.proofs.Nodes.Slots.{item_get, items_count}
 use Rattle.be_tree.proofs.Order.{key_exact}
-use Rattle.be_tree.proofs.Putting.Puts.{put_at_item, rising_put}
+use Rattle.be_tree.proofs.Putting.Puts.{put_at_item}
 use Rattle.be_tree.proofs.Raises.{top, tree_on_way}
 use Rattle.be_tree.proofs.Reading.Cursors.{root_pairs}
 use Rattle.be_tree.proofs.Removing.Clears.{swaps_none}

@@ -1,19 +1,18 @@
 -- A branch to a page that has changed is written above it.
-use Rattle.std.proofs.Common.{◌≡◌, ◌≢◌, ℕ, suc, ◌+◌, ◌-◌, ◌<◌, ◌≤◌, ◌^◌, ◌⊎◌, List, [], ◌∷◌, ◌++◌, Bool, true, length, get_or, take, drop, IsTrue, ap, sym, subst, ◌∙◌, refl, inl, inr, arith, length-append, length-drop}
+use Rattle.std.proofs.Common.{◌≡◌, ◌≢◌, ℕ, suc, ◌+◌, ◌-◌, ◌<◌, ◌≤◌, ◌^◌, ◌⊎◌, List, [], ◌∷◌, ◌++◌, Bool, true, length, get_or, take, drop, ap, sym, subst, ◌∙◌, refl, inl, inr, arith, length-append, length-drop}
 use Rattle.std.proofs.lemmas.List.{length-take-le}
 use Rattle.be_pages.specs.declared.room.Standing.{Standing}
-use Rattle.be_pages.specs.Pages.{Swaps, is_kept, times}
+use Rattle.be_pages.specs.Pages.{Swaps, times}
 use Rattle.be_tree.specs.declared.path.Step.{Step}
 use Rattle.be_tree.specs.declared.rising.Changed.{Changed}
 use Rattle.be_tree.specs.declared.slot.Slot.TheVariants.{Branch}
-use Rattle.be_tree.specs.declared.splicing.Cut.{Cut}
 use Rattle.be_tree.specs.Pair.{Pair}
 use Rattle.be_tree.specs.Key.{IsRising, StartsAt}
 use Rattle.be_tree.specs.Page.{IsPage, item_at, item_place, items_of, level_of}
 use Rattle.be_tree.specs.Path.{BecomesNode, IsChanged, IsWay, IsWayIn, KeepsLeast, around, least_at, whole}
 use Rattle.be_tree.specs.Slot.{IsOff, IsReady, branch_to}
 use Rattle.be_tree.specs.Splicing.{CanBeSpliced, IsSpliced}
-use Rattle.be_tree.specs.Tree.{Becomes, BecomesTree, IsBranch, IsTree, IsTreeAt, child, least_of_root, pages, pages_at, pages_below, pairs, pairs_at, pairs_below}
+use Rattle.be_tree.specs.Tree.{Becomes, BecomesTree, IsBranch, IsTree, IsTreeAt, child, least_of_root, pages, pages_at, pages_below, pairs_at, pairs_below}
 use Rattle.be_tree.proofs.Frame.{readable_kept, same_page, swaps_same, times-cons}
 use Rattle.be_tree.proofs.Nodes.Slots.{child_branch, item_get, items_count}
 use Rattle.be_tree.proofs.Putting.Puts.{given_up_page, kept_after}

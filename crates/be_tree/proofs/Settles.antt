@@ -1,5 +1,5 @@
 -- A node in hand that is settled among the children of a page.
-use Rattle.std.proofs.Common.{◌≡◌, ◌≢◌, ℕ, suc, ◌+◌, ◌-◌, ◌<◌, ◌≤◌, List, [], ◌∷◌, ◌++◌, length, map, take, drop, All, IsTrue, Result, IfOk, ap, sym, subst, ◌∙◌, refl, arith, append_assoc}
+use Rattle.std.proofs.Common.{◌≡◌, ℕ, suc, ◌+◌, ◌<◌, ◌≤◌, List, [], ◌∷◌, ◌++◌, length, map, take, drop, IsTrue, Result, IfOk, ap, sym, subst, ◌∙◌, refl, arith}
 use Rattle.std.proofs.lemmas.List.{append-nil}
 use Rattle.be_pages.specs.declared.room.Standing.{Standing}
 use Rattle.std.specs.List.{range_with_len}
@@ -10,16 +10,15 @@ use Rattle.be_tree.specs.declared.path.Step.{Step}
 use Rattle.be_tree.specs.declared.settling.Settled.{Settled}
 use Rattle.be_tree.specs.declared.slot.Slot.{Slot}
 use Rattle.be_tree.specs.declared.slot.Slot.TheVariants.{At}
-use Rattle.be_tree.specs.declared.splicing.Cut.{Cut}
 use Rattle.be_tree.specs.Pair.{Pair}
 use Rattle.be_tree.specs.Key.{IsRising}
-use Rattle.be_tree.specs.Page.{IsItem, IsPage, item_at, item_place, items_of}
+use Rattle.be_tree.specs.Page.{IsPage, item_at, item_place, items_of}
 use Rattle.be_tree.specs.Settling.{IsChildInHand, IsSettled, beside}
-use Rattle.be_tree.specs.Slot.{IsReady, pairs_of}
+use Rattle.be_tree.specs.Slot.{pairs_of}
 use Rattle.be_tree.specs.Splicing.{spliced}
 use Rattle.be_tree.specs.Tree.{AreNeighbours, Becomes, IsBelow, IsTreeAt, child, pages_at, pages_below, pairs_at, pairs_below}
 use Rattle.be_tree.specs.Writing.{AreApart, CanBeWritten, IsApart}
-use Rattle.be_tree.proofs.Frame.{readable_kept, swaps_same, swaps_stands, times-cons}
+use Rattle.be_tree.proofs.Frame.{readable_kept, swaps_same, times-cons}
 use Rattle.be_tree.proofs.Nodes.Children.{first_changed, names_page, second_changed, second_rising, two_in_three, two_neighbours, whole_below}
 use Rattle.be_tree.proofs.Nodes.Joins.{left_changed, left_in_hand, left_length, right_changed, right_in_hand, right_length}
 use Rattle.be_tree.proofs.Nodes.Neighbours.{apart, becomes_times, left_page, left_readable, neighbour_times, ready_until, right_page, right_readable}

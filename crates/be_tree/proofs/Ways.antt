@@ -1,5 +1,5 @@
 -- The way down a tree: its steps, the trees and the pairs below them.
-use Rattle.std.proofs.Common.{◌≡◌, ℕ, zero, suc, ◌+◌, ◌-◌, ◌<◌, ◌≤◌, List, [], ◌∷◌, ◌++◌, length, get_or, take, drop, All, ap, sym, subst, ◌∙◌, refl, inl, inr, arith, append_assoc}
+use Rattle.std.proofs.Common.{◌≡◌, ℕ, zero, suc, ◌-◌, ◌<◌, List, [], ◌∷◌, ◌++◌, length, get_or, take, drop, All, ap, sym, subst, ◌∙◌, refl, arith}
 use Rattle.std.proofs.lemmas.List.{append-nil}
 use Rattle.be_pages.specs.declared.room.Standing.{Standing}
 use Rattle.be_tree.specs.declared.path.Step.{Step}
@@ -7,7 +7,7 @@ use Rattle.be_tree.specs.Pair.{Pair}
 use Rattle.be_tree.specs.Key.{IsBranchFor, IsRising, payload_at, put, without}
 use Rattle.be_tree.specs.Page.{item_at, item_place, items_of, level_of}
 use Rattle.be_tree.specs.Path.{IsStep, IsWay, around, whole}
-use Rattle.be_tree.specs.Tree.{IsBelow, IsBranch, IsTreeAt, child, pages_at, pairs_at, pairs_below}
+use Rattle.be_tree.specs.Tree.{IsBelow, IsBranch, IsTreeAt, child, pairs_at, pairs_below}
 use Rattle.be_tree.proofs.Nodes.Slots.{item_get, items_count}
 use Rattle.be_tree.proofs.Order.{IsRising_left, IsRising_right}
 use Rattle.be_tree.proofs.Putting.Puts.{put_at_item}

@@ -9,15 +9,15 @@
 //!
 //! No page may have more than 12 items, and each but the root has 6 at least. So a tree of fewer
 //! than 2^32 pages has no level above 13, and the way down has at most 14 places.
-ghost use Rattle.std.specs.Prelude.{◌≡◌, ◌≢◌, ℕ, [], ◌+◌, ◌<◌, ◌≤◌, ◌++◌, IsTrue, length};
+ghost use Rattle.std.specs.Prelude.{◌≡◌, ℕ, [], ◌+◌, ◌<◌, ◌≤◌, ◌++◌, IsTrue, length};
 ghost use Rattle.std.specs.Prelude.{option_map, drop, IfNone, IfSome, Some, slice_get};
 ghost use Rattle.be_pages.specs.declared.room.Standing.{Standing as Stands};
 ghost use Rattle.be_pages.specs.Pages.{IsUnchanged, is_readable};
-ghost use Rattle.be_tree.specs.Cursor.{IsCursor, IsPath, IsPlace, pairs_along, pairs_past};
+ghost use Rattle.be_tree.specs.Cursor.{IsCursor, IsPlace, pairs_past};
 ghost use Rattle.be_tree.specs.Cursor.{remaining};
-ghost use Rattle.be_tree.specs.Page.{IsItem, IsPage, item_at, items_of};
+ghost use Rattle.be_tree.specs.Page.{IsItem, item_at, items_of};
 ghost use Rattle.be_tree.specs.Range.{pair_in, pairs_from};
-ghost use Rattle.be_tree.specs.Tree.{IsTree, IsTreeAt, pairs, pairs_at};
+ghost use Rattle.be_tree.specs.Tree.{IsTree, IsTreeAt, pairs};
 ghost use Rattle.be_tree.specs.Words.{IsFirst};
 
 use crate::lookup::{branch_for, end_of, item_number, search};

@@ -1,5 +1,5 @@
 //! A pair is put where a path leads.
-ghost use Rattle.std.specs.Prelude.{◌≡◌, ◌+◌, ◌<◌, ◌≤◌, IfOk, IsTrue, Ok, Err, length};
+ghost use Rattle.std.specs.Prelude.{◌≡◌, ◌<◌, ◌≤◌, IfOk, IsTrue, Ok, Err, length};
 ghost use Rattle.be_tree.specs.Key.{put};
 ghost use Rattle.be_tree.specs.Path.{IsPathTo};
 ghost use Rattle.be_tree.specs.Tree.{BecomesTree, pages, pairs};

@@ -12,7 +12,6 @@ ghost use Rattle.std.specs.Prelude.{is_some, IfNone, IfSome, IfOk, IfErr, None, 
 ghost use Rattle.std.specs.Prelude.{◌/◌, IsTrue};
 ghost use Rattle.std.specs.Ordering.{is_eq, is_gt};
 ghost use Rattle.be_pages.specs.Pages.{IsUnchanged, is_readable};
-ghost use Rattle.std.specs.declared.cmp.Ordering.TheVariants.{Equal};
 ghost use Rattle.be_tree.specs.Page.{IsItem, IsPage, item_at, item_place, items_of};
 ghost use Rattle.be_tree.specs.Key.{IsRank, key_cmp, payload_at};
 ghost use Rattle.be_tree.specs.Places.{IsBranchAt, IsFoundAt, IsGapAt};

@@ -1,16 +1,15 @@
 //! Items read from a page and written to it.
-ghost use Rattle.std.specs.Prelude.{◌≡◌, ◌≢◌, ℕ, [], ◌+◌, ◌-◌, ◌*◌, ◌/◌, ◌%◌, ◌<◌, ◌≤◌, ◌++◌, All};
-ghost use Rattle.std.specs.Prelude.{IsTrue, length, take, drop, map, slice_index};
+ghost use Rattle.std.specs.Prelude.{◌≡◌, ◌≢◌, [], ◌+◌, ◌-◌, ◌*◌, ◌/◌, ◌%◌, ◌<◌, ◌≤◌, ◌++◌};
+ghost use Rattle.std.specs.Prelude.{IsTrue, length, drop, map, slice_index};
 ghost use Rattle.std.specs.List.{range_with_len};
 ghost use Rattle.std.specs.Int.{from_be_bytes, to_be_bytes, w64};
-ghost use Rattle.be_pages.specs.Pages.{is_readable, is_taken, IsUnchanged, OnlyWrites, StandsAt};
+ghost use Rattle.be_pages.specs.Pages.{is_readable, IsUnchanged, OnlyWrites};
 ghost use Rattle.be_pages.specs.declared.room.Standing.TheVariants.{Filled};
 ghost use Rattle.be_tree.specs.Page.{IsItem, IsPadded, IsPage, item_at, bytes_at, key_len};
-ghost use Rattle.be_tree.specs.Page.{level_of, items_of, words_for};
+ghost use Rattle.be_tree.specs.Page.{words_for};
 ghost use Rattle.be_tree.specs.Page.{item_place};
-ghost use Rattle.std.specs.Prelude.{◌^◌, ◌⊎◌, true};
+ghost use Rattle.std.specs.Prelude.{◌^◌, ◌⊎◌};
 ghost use Rattle.be_tree.specs.declared.slot.Slot.TheVariants.{At};
-ghost use Rattle.be_tree.specs.Pair.{Pair};
 ghost use Rattle.be_tree.specs.Slot.{IsOff, IsReady, branch_to, pair_of};
 ghost use Rattle.be_tree.specs.Key.{key_cmp};
 ghost use Rattle.be_tree.specs.Words.{IsFirst};

@@ -3,7 +3,7 @@
 //! A page that this write has taken is changed where it is: the items after the place are moved up
 //! or down, and the others stay. A page that was there when the write began keeps its words: its
 //! items are copied to a page that is taken for them, each to the place that it has then.
-ghost use Rattle.std.specs.Prelude.{◌≡◌, ◌≢◌, ℕ, ◌+◌, ◌<◌, ◌≤◌, All, IfOk, IsTrue, length};
+ghost use Rattle.std.specs.Prelude.{◌≡◌, ℕ, ◌+◌, ◌<◌, ◌≤◌, All, IfOk, IsTrue, length};
 ghost use Rattle.std.specs.Prelude.{slice_index_or};
 ghost use Rattle.be_pages.specs.declared.room.Standing.TheVariants.{Filled};
 ghost use Rattle.be_pages.specs.Pages.{OnlyWrites, is_kept, is_readable};

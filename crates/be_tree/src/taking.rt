@@ -1,5 +1,5 @@
 //! The item that a path leads to is taken out.
-ghost use Rattle.std.specs.Prelude.{◌≡◌, ◌<◌, ◌≤◌, IfOk, IsTrue, Ok, length};
+ghost use Rattle.std.specs.Prelude.{◌≡◌, ◌<◌, IfOk, IsTrue, Ok};
 ghost use Rattle.be_tree.specs.Key.{without};
 ghost use Rattle.be_tree.specs.Path.{IsPathTo, least_at};
 ghost use Rattle.be_tree.specs.Tree.{BecomesTree, pages, pairs};

@@ -2,8 +2,8 @@
 //!
 //! This is what becomes of a node that has too many items or too few: its items are on one page or
 //! on two, and go to one that is taken for them, or to two. The pages where they were are given up.
-ghost use Rattle.std.specs.Prelude.{◌≡◌, ◌≢◌, ℕ, ◌+◌, ◌-◌, ◌^◌, ◌<◌, ◌≤◌, [], ◌∷◌, ◌++◌, true};
-ghost use Rattle.std.specs.Prelude.{false, length, take, drop, All, IfOk, OnErr, IfErr, IfSome};
+ghost use Rattle.std.specs.Prelude.{◌≡◌, ◌+◌, ◌-◌, ◌^◌, ◌<◌, ◌≤◌, [], ◌∷◌};
+ghost use Rattle.std.specs.Prelude.{length, take, All, IfOk, OnErr, IfErr};
 ghost use Rattle.std.specs.Prelude.{IsTrue};
 ghost use Rattle.be_pages.specs.Pages.{is_kept, IsUnchanged};
 ghost use Rattle.be_pages.specs.Pages.{Swaps, KeepsStart};

@@ -1,22 +1,17 @@
 -- Two neighbours among the items of an inner node, whose children became others.
-use Rattle.std.proofs.Common.{◌≡◌, ℕ, suc, ◌+◌, ◌<◌, ◌≤◌, List, [], ◌∷◌, ◌++◌, length, take, drop, IsTrue, ap, sym, subst, ◌∙◌, arith}
+use Rattle.std.proofs.Common.{◌≡◌, ℕ, suc, ◌+◌, ◌<◌, ◌≤◌, List, [], ◌∷◌, ◌++◌, length, take, drop, ap, sym, subst, ◌∙◌, arith}
 use Rattle.std.specs.List.{flat_map}
 use Rattle.std.proofs.lemmas.List.{append-nil, append_assoc, drop_more, take_more, take-append-drop}
 use Rattle.std.proofs.lemmas.List.Concat.{flat_map-append}
 use Rattle.be_pages.specs.declared.room.Standing.{Standing}
-use Rattle.be_pages.specs.Pages.{is_readable, times, IsUnchanged}
-use Rattle.be_tree.specs.declared.slot.Slot.{Slot}
 use Rattle.be_tree.specs.Pair.{Pair}
 use Rattle.be_tree.specs.Key.{IsRising}
-use Rattle.be_tree.specs.Page.{item_at, items_of, item_place, IsPage}
-use Rattle.be_tree.specs.Slot.{pairs_of}
-use Rattle.be_tree.specs.Tree.{AreNeighbours, child, pairs_at, pairs_below, pages_below, IsBelow, IsTreeAt, Becomes}
+use Rattle.be_tree.specs.Page.{item_at, items_of, item_place}
+use Rattle.be_tree.specs.Tree.{AreNeighbours, child, pairs_at, pairs_below, IsBelow, IsTreeAt}
 use Rattle.be_tree.proofs.Order.{IsRising_left, IsRising_right}
-use Rattle.be_tree.proofs.Frame.{readable_kept, swaps_same, swaps_stands, unchanged_trans}
-use Rattle.be_tree.proofs.Shape.Below.{below_left, below_right, times_pages}
+use Rattle.be_tree.proofs.Shape.Below.{below_left, below_right}
 use Rattle.be_tree.proofs.Nodes.Slots.{item_get, items_count}
-use Rattle.be_tree.proofs.Shape.Parts.{becomes_part}
-use Rattle.be_tree.proofs.Nodes.Neighbours.{are_neighbours, becomes_children, slots_until}
+use Rattle.be_tree.proofs.Nodes.Neighbours.{are_neighbours}
 
 module _ (level below least page : ℕ) (standing : ℕ → Standing) (words : ℕ → ℕ → ℕ) (e : level ≡ suc below) (tree : IsTreeAt level least standing words page) where
   inner : IsBelow (suc below) standing words (items_of (words page))

@@ -1,9 +1,7 @@
 -- Lists of slots, from which some were taken.
-use Rattle.std.proofs.Common.{◌≡◌, ℕ, suc, ◌+◌, ◌<◌, ◌≤◌, List, [], ◌∷◌, set, ◌++◌, length, take, drop, map, All, ap, sym, subst, ◌∙◌, arith}
-use Rattle.std.specs.List.{remove, refill, take-map, drop-map}
-use Rattle.std.proofs.lemmas.List.{map-append, length-append, length-take-le, take_at, drop_at, drop-drop, take-append-drop, take-set, drop-set, append_assoc}
-use Rattle.std.proofs.lemmas.List.Elements.{All-append, All-cons}
-use Rattle.be_tree.proofs.Shape.Below.{all_left, all_right}
+use Rattle.std.proofs.Common.{◌≡◌, ℕ, suc, ◌+◌, ◌<◌, List, [], ◌∷◌, set, ◌++◌, length, take, drop, ap, sym, ◌∙◌, arith}
+use Rattle.std.specs.List.{refill}
+use Rattle.std.proofs.lemmas.List.{take_at, take-set, drop-set, append_assoc}
 
 both_same : {A : Type 0} {a b c d : List A} → a ≡ b → c ≡ d → a ++ c ≡ b ++ d
 both_same p q = cc

@@ -1,24 +1,20 @@
 -- A pair put below a page.
-use Rattle.std.proofs.Common.{◌≡◌, ℕ, zero, suc, ◌-◌, ◌<◌, ◌≤◌, List, [], ◌∷◌, ◌++◌, length, get_or, take, drop, All, IsTrue, ap, sym, subst, ◌∙◌, refl, inl, inr, arith}
+use Rattle.std.proofs.Common.{◌≡◌, ℕ, zero, suc, ◌-◌, ◌<◌, ◌≤◌, List, [], ◌∷◌, ◌++◌, length, get_or, take, drop, IsTrue, ap, sym, subst, ◌∙◌, refl, inl, inr, arith}
 use mathlib.Core.Bool.{false≢true}
 use Rattle.std.specs.List.{flat_map, remove}
 use Rattle.std.specs.declared.cmp.Ordering.TheVariants.{Less, Equal, Greater}
 use Rattle.std.proofs.lemmas.Bool.{cases_eq}
-use Rattle.std.proofs.lemmas.List.{append-nil, length-take-le}
-use Rattle.std.proofs.Math.Seq.{take-append_seam, drop-append_seam}
-use Rattle.std.proofs.lemmas.List.Elements.{All-cons}
+use Rattle.std.proofs.lemmas.List.{append-nil}
 use Rattle.be_pages.specs.declared.room.Standing.{Standing}
 use Rattle.be_pages.specs.declared.room.Standing.TheVariants.{Free, Old, GivenUp, Taken, Filled}
 use Rattle.be_pages.specs.Pages.{is_kept, is_held, times, after_give_up, PageStep, untouched, unused, fresh, given_old, given_new, stays_old, stays_new, Swaps, IsUnchanged}
 use Rattle.be_tree.specs.Pair.{Pair}
 use Rattle.be_tree.specs.Key.{key_cmp, AllAbove, IsRising, IsRank, put, put_before}
 use Rattle.be_tree.specs.Page.{items_of}
-use Rattle.be_tree.specs.Tree.{child, pairs_at, pairs_below, pages_at, pages_below, AreShaped, IsBelow, IsTreeAt, Becomes}
+use Rattle.be_tree.specs.Tree.{child, pairs_at, pairs_below, pages_below, AreShaped, IsBelow, IsTreeAt, Becomes}
 use Rattle.be_tree.proofs.Order.{key_exact, key_cmp_flip_less, AllAbove_trans}
 use Rattle.be_tree.proofs.Frame.{times_append, times-cons, times_other, same_page, swaps_fresh, swaps_trans, swaps_stands, swaps_with, readable_kept}
 use Rattle.be_tree.proofs.TreeFacts.{in_three, IsSplit, put_split, inner_split, leaf_split, as_branches, branch_tree}
-use Rattle.be_tree.proofs.Shape.Below.{times_pages, below_left, below_right}
-use Rattle.be_tree.proofs.Shape.Parts.{becomes_part, all_one}
 
 -- a put keeps the order
 above_put : (k : List ℕ) (pair : Pair) (xs : List Pair) → key_cmp pair.key k ≡ Greater → AllAbove k xs → AllAbove k (put pair xs)

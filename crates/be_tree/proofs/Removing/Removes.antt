@@ -1,20 +1,15 @@
 -- A key taken out below a page: what a removal stands on.
-use Rattle.std.proofs.Common.{◌≡◌, ℕ, zero, suc, ◌-◌, ◌<◌, ◌≤◌, List, [], ◌∷◌, ◌++◌, length, get_or, take, drop, All, IsTrue, if◌then◌else◌, ap, sym, subst, ◌∙◌, refl, arith, Some, None}
+use Rattle.std.proofs.Common.{◌≡◌, ℕ, zero, suc, ◌≤◌, List, [], ◌∷◌, ◌++◌, length, get_or, take, drop, All, if◌then◌else◌, ap, ◌∙◌, refl, arith}
 use Rattle.std.specs.List.{flat_map}
 use Rattle.std.specs.Ordering.{is_eq}
 use Rattle.std.specs.declared.cmp.Ordering.TheVariants.{Less, Equal, Greater}
 use Rattle.std.proofs.lemmas.List.Elements.{All-cons}
 use Rattle.be_pages.specs.declared.room.Standing.{Standing}
-use Rattle.be_pages.specs.Pages.{is_readable, untouched}
 use Rattle.be_tree.specs.Pair.{Pair}
-use Rattle.be_tree.specs.Key.{key_cmp, AllAbove, AllBelow, IsRising, IsRank, payload_at, without}
-use Rattle.be_tree.specs.Page.{item_at, items_of, item_place}
-use Rattle.be_tree.specs.Tree.{child, pairs_at, pairs_below, pages_below, least_of_root, IsBelow, IsTreeAt, Becomes}
+use Rattle.be_tree.specs.Key.{key_cmp, AllAbove, AllBelow, IsRising, without}
+use Rattle.be_tree.specs.Tree.{least_of_root, IsTreeAt}
 use Rattle.be_tree.proofs.Order.{AllAbove_left, AllAbove_right}
-use Rattle.be_tree.proofs.TreeFacts.{flat_map_in_three, found_in_leaf, IsSplit, inner_split, leaf_split, as_branches, steps_down}
-use Rattle.be_tree.proofs.Frame.{readable_kept}
-use Rattle.be_tree.proofs.Shape.Roots.{root_some}
-use Rattle.be_tree.proofs.Nodes.Slots.{item_get, items_count}
+use Rattle.be_tree.proofs.TreeFacts.{flat_map_in_three, IsSplit}
 
 -- a key out of a list in three parts
 without_above : (k : List ℕ) (xs : List Pair) → AllAbove k xs → without k xs ≡ xs

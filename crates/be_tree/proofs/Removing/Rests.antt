@@ -8,13 +8,11 @@ use Rattle.be_pages.specs.declared.room.Standing.{Standing}
 use Rattle.be_pages.specs.Pages.{is_kept, times, PageStep, untouched, Swaps, IsUnchanged}
 use Rattle.be_tree.specs.Pair.{Pair}
 use Rattle.be_tree.specs.Key.{key_cmp, payload_at, without}
-use Rattle.be_tree.specs.Page.{items_of, level_of}
-use Rattle.be_tree.specs.Tree.{child, pairs, pages, pairs_at, pairs_below, pages_at, pages_below, IsBelow, IsTree, IsTreeAt, Becomes, BecomesTree, least_of_root}
-use Rattle.be_tree.proofs.Frame.{swaps_frame, swaps_since}
+use Rattle.be_tree.specs.Tree.{child, pairs, pages, pairs_at, pairs_below, pages_at, pages_below, IsBelow, IsTree, IsTreeAt, BecomesTree, least_of_root}
+use Rattle.be_tree.proofs.Frame.{swaps_frame}
 use Rattle.be_tree.proofs.TreeFacts.{branch_tree}
 use Rattle.be_tree.proofs.Shape.Parts.{becomes_same}
 use Rattle.be_tree.proofs.Removing.Removes.{tree_least}
-use Rattle.be_tree.proofs.Shape.Roots.{tree_over}
 use Rattle.be_tree.proofs.Trees.{root_in_use, root_once}
 
 some_none : {A : Type 0} (x : A) → Some x ≡ None → ⊥

@@ -3,13 +3,12 @@ use Rattle.std.proofs.Common.{◌≡◌, ℕ, zero, suc, ◌+◌, ◌≤◌, Lis
 use Rattle.be_pages.specs.declared.room.Standing.{Standing}
 use Rattle.std.proofs.lemmas.Bool.{cases_eq}
 use Rattle.std.proofs.lemmas.Bool.Decides.{nat_tests}
-use Rattle.be_pages.specs.Pages.{is_kept, times, after_give_up, StandsAt, Swaps, IsUnchanged}
+use Rattle.be_pages.specs.Pages.{is_kept, times, after_give_up, StandsAt, Swaps}
 use Rattle.be_tree.proofs.Putting.Puts.{swaps_given_up, given_up_page}
 use Rattle.be_tree.specs.Pair.{Pair}
-use Rattle.be_tree.specs.Key.{put}
 use Rattle.be_tree.specs.Page.{items_of, level_of}
 use Rattle.be_tree.specs.Tree.{child, pairs, pages, pairs_at, pairs_below, pages_at, pages_below, IsNode, IsBelow, IsTreeAt, IsTree, IsWritten, Becomes, BecomesTree, least_of_root}
-use Rattle.be_tree.proofs.Frame.{times_append, times-cons, times_itself, same_page, swaps_trans, swaps_frame, swaps_with, swaps_after, swaps_since}
+use Rattle.be_tree.proofs.Frame.{times_append, times-cons, times_itself, same_page, swaps_trans, swaps_frame, swaps_with, swaps_after}
 use Rattle.be_tree.proofs.Shape.Below.{beside_pairs, beside_pages, beside_below, beside_apart}
 
 module _ {S K : Type 0} (kept_of : S → K) (standing_of : S → ℕ → Standing) (words_of : S → ℕ → ℕ → ℕ) where

@@ -1,19 +1,11 @@
-use Rattle.std.proofs.Common.{◌≡◌, ◌∙◌, ℕ, suc, true, ◌+◌, ◌<◌, ◌≤◌, [], ◌∷◌, ◌++◌, All, IfOk, List, get_or, length, take, drop, sym, subst, ap, refl, arith, length-append, length-drop}
-use Rattle.std.proofs.lemmas.List.{length-take-le}
-use Rattle.std.proofs.lemmas.Result.{IfOk-weaker}
+use Rattle.std.proofs.Common.{◌≡◌, ◌∙◌, ◌+◌, ◌<◌, [], ◌∷◌, IfOk, get_or, length, drop, sym, subst, ap, arith}
 use Rattle.std.specs.declared.cmp.Ordering.TheVariants.{Equal}
-use Rattle.be_tree.specs.declared.path.Step.{Step}
-use Rattle.be_tree.specs.declared.rising.Changed.{Changed}
-use Rattle.be_tree.specs.declared.slot.Slot.{Slot}
 use Rattle.be_tree.specs.declared.slot.Slot.TheVariants.{New}
-use Rattle.be_tree.specs.declared.splicing.Cut.{Cut}
-use Rattle.be_tree.specs.Key.{IsBranchFor, key_cmp, put}
-use Rattle.be_tree.specs.Page.{item_at, item_place, items_of, level_of}
-use Rattle.be_tree.specs.Path.{IsChanged, IsWayIn, whole}
+use Rattle.be_tree.specs.Key.{key_cmp, put}
+use Rattle.be_tree.specs.Page.{item_at, item_place, items_of}
 use Rattle.be_tree.specs.Slot.{IsOff, IsReady, pairs_of}
-use Rattle.be_tree.specs.Splicing.{CanBeSpliced, spliced}
-use Rattle.be_tree.specs.Tree.{BecomesTree, pages, pairs, pairs_at}
-use Rattle.be_tree.proofs.Frame.{swaps_start}
+use Rattle.be_tree.specs.Splicing.{spliced}
+use Rattle.be_tree.specs.Tree.{BecomesTree, pages}
 use Rattle.be_tree.proofs.Leaves.{ChangesLeaf, all_is, all_rise, keeps_equal, length_spliced, put_equal, put_leaf}
 use Rattle.be_tree.proofs.Nodes.Slots.{item_get, items_count}
 use Rattle.be_tree.proofs.Putting.Puts.{rising_put}

@@ -1,11 +1,10 @@
-use Rattle.std.proofs.Common.{◌≡◌, ◌∙◌, suc, ◌-◌, ◌<◌, ◌+◌, ◌*◌, [], ◌∷◌, ◌++◌, length, List, All, Result, Ok, Err, IfOk, IfErr, refl, ap, sym, subst, ℕ, arith}
+use Rattle.std.proofs.Common.{◌≡◌, ◌∙◌, suc, ◌-◌, ◌<◌, ◌+◌, ◌*◌, [], ◌∷◌, ◌++◌, length, All, Result, Ok, Err, IfOk, IfErr, refl, ap, sym, subst, ℕ, arith}
 use Rattle.std.proofs.lemmas.List.{length-append}
 use Rattle.std.proofs.lemmas.List.Elements.{All-append}
 use Rattle.std.specs.declared.cmp.Ordering.TheVariants.{Equal}
-use Rattle.be_pages.specs.declared.room.Standing.{Standing}
 use Rattle.be_tree.specs.declared.path.Step.{Step}
 use Rattle.be_tree.specs.Key.{IsBranchFor, IsGap, key_cmp}
-use Rattle.be_tree.specs.Page.{items_of, item_at, item_place, IsItem, level_of}
+use Rattle.be_tree.specs.Page.{items_of, item_at, item_place, IsItem}
 use Rattle.be_tree.specs.Path.{IsStep, IsWay}
 use Rattle.be_tree.specs.Places.{IsBranchAt}
 use Rattle.be_tree.specs.Tree.{IsTreeAt, child, least_of_root}

@@ -1,7 +1,7 @@
-use Rattle.std.proofs.Common.{◌≡◌, ℕ, ◌+◌, ◌-◌, ◌<◌, ◌≤◌, All, length}
+use Rattle.std.proofs.Common.{ℕ, ◌+◌, ◌-◌, ◌<◌, ◌≤◌, All, length}
 use Rattle.be_pages.specs.Pages.{IsUnchanged}
 use Rattle.be_tree.specs.Key.{IsBranchFor}
-use Rattle.be_tree.specs.Page.{items_of, level_of}
+use Rattle.be_tree.specs.Page.{items_of}
 use Rattle.be_tree.specs.Path.{IsWay}
 use Rattle.be_tree.specs.Tree.{IsTreeAt}
 use Rattle.be_tree.proofs.path.find_path.Given as goal

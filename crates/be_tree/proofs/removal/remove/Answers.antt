@@ -1,4 +1,4 @@
-use Rattle.std.proofs.Common.{◌≡◌, ◌∙◌, ℕ, List, IfOk, None, refl, subst, sym}
+use Rattle.std.proofs.Common.{◌≡◌, ℕ, List, None, refl, subst, sym}
 use Rattle.std.proofs.lemmas.Result.{IfOk-weaker}
 use Rattle.be_tree.specs.Pair.{Pair}
 use Rattle.be_tree.specs.Key.{payload_at, without}

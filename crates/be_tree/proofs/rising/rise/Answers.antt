@@ -1,4 +1,4 @@
-use Rattle.std.proofs.Common.{◌≡◌, ◌∙◌, ℕ, suc, ◌+◌, ◌-◌, ◌<◌, ◌≤◌, ◌^◌, [], ◌∷◌, ◌++◌, List, length, get_or, take, ap, sym, subst, arith, rules}
+use Rattle.std.proofs.Common.{◌≡◌, ◌∙◌, ℕ, suc, ◌+◌, ◌-◌, ◌<◌, ◌≤◌, [], ◌∷◌, ◌++◌, List, length, get_or, take, ap, sym, subst, arith, rules}
 use Rattle.std.proofs.Math.Seq.{take-suc}
 use Rattle.be_tree.specs.declared.path.Step.{Step}
 use Rattle.be_tree.specs.declared.rising.Changed.{Changed}
@@ -9,7 +9,6 @@ use Rattle.be_tree.proofs.Frame.{start_trans, swaps_start}
 use Rattle.be_tree.proofs.Raises.{can_raise, changed_here, changed_root, raised, raised_whole}
 use Rattle.be_tree.proofs.Shape.Levels.{kept_not_free}
 use Rattle.be_tree.proofs.Shape.Parts.{on_err}
-use Rattle.be_tree.proofs.rising.rise.Given.{Over}
 use Rattle.be_tree.proofs.rising.rise.Goals as goal
 
 -- the lowest step that is left

@@ -1,4 +1,4 @@
-use Rattle.std.proofs.Common.{◌≡◌, ◌∙◌, ℕ, suc, ◌+◌, ◌-◌, ◌++◌, take, drop, sym, ap, arith}
+use Rattle.std.proofs.Common.{◌≡◌, ◌∙◌, suc, ◌+◌, ◌-◌, ◌++◌, take, drop, ap, arith}
 use Rattle.be_tree.proofs.settling.leave_one.Goals as goal
 
 pub returns-then-cut-eq2 : goal.returns-then-cut-eq2

@@ -1,4 +1,4 @@
-use Rattle.std.proofs.Common.{◌≡◌, ◌∙◌, ℕ, suc, ◌+◌, ◌-◌, ◌<◌, ◌≤◌, ◌^◌, List, [], ◌∷◌, ◌++◌, IfOk, IsTrue, length, take, ap, sym, subst, arith, rules}
+use Rattle.std.proofs.Common.{◌≡◌, ◌∙◌, ℕ, ◌+◌, ◌-◌, ◌<◌, List, [], ◌∷◌, IsTrue, length, take, ap, sym, subst, arith, rules}
 use Rattle.std.proofs.Math.Seq.{take-length}
 use Rattle.std.proofs.lemmas.List.{length-take-le}
 use Rattle.std.proofs.lemmas.Result.{IfOk-weaker}
@@ -6,7 +6,7 @@ use Rattle.be_pages.specs.Pages.{IsUnchanged, KeepsStart}
 use Rattle.be_tree.specs.declared.path.Step.{Step}
 use Rattle.be_tree.specs.declared.settling.Turn.{Turn}
 use Rattle.be_tree.specs.declared.slot.Slot.{Slot}
-use Rattle.be_tree.specs.Page.{items_of, level_of}
+use Rattle.be_tree.specs.Page.{level_of}
 use Rattle.be_tree.specs.Pair.{Pair}
 use Rattle.be_tree.specs.Path.{IsInHand, least_at, whole}
 use Rattle.be_tree.specs.Settling.{IsAbove, IsTurned}

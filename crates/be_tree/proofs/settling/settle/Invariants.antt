@@ -1,4 +1,4 @@
-use Rattle.std.proofs.Common.{◌≡◌, ℕ, ◌-◌, ◌<◌, ◌≤◌, length, take}
+use Rattle.std.proofs.Common.{◌≡◌, ◌-◌, ◌<◌, ◌≤◌, length, take}
 use Rattle.be_tree.specs.Page.{level_of}
 use Rattle.be_tree.specs.Path.{IsInHand, whole}
 use Rattle.be_tree.specs.Slot.{pairs_of}

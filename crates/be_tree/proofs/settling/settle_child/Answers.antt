@@ -1,4 +1,4 @@
-use Rattle.std.proofs.Common.{◌≡◌, ◌∙◌, ℕ, ◌+◌, ◌-◌, ◌<◌, ◌≤◌, IsTrue, length, refl, ap, sym, subst, arith}
+use Rattle.std.proofs.Common.{ℕ, ◌+◌, ◌-◌, ◌<◌, ◌≤◌, IsTrue, length, refl, sym, subst, arith}
 use Rattle.be_tree.specs.Page.{item_at, item_place}
 use Rattle.be_tree.specs.Tree.{child}
 use Rattle.be_tree.proofs.Frame.{readable_kept}

@@ -1,15 +1,14 @@
-use Rattle.std.proofs.Common.{◌≡◌, ◌∙◌, ℕ, suc, ◌+◌, ◌-◌, ◌*◌, ◌<◌, ◌≤◌, ◌++◌, List, IsTrue, length, map, ap, sym, subst, arith}
+use Rattle.std.proofs.Common.{◌≡◌, ◌∙◌, ℕ, suc, ◌+◌, ◌++◌, List, IsTrue, length, map, ap, sym, subst, arith}
 use Rattle.std.specs.List.{range_with_len}
 use Rattle.be_pages.specs.Pages.{IsUnchanged, is_readable}
 use Rattle.be_tree.specs.declared.slot.Slot.{Slot}
 use Rattle.be_tree.specs.declared.slot.Slot.TheVariants.{At}
-use Rattle.be_tree.specs.Page.{IsPage, item_at, item_place, items_of}
+use Rattle.be_tree.specs.Page.{IsPage, item_place}
 use Rattle.be_tree.specs.Settling.{IsChildInHand, beside}
 use Rattle.be_tree.specs.Slot.{pairs_of}
-use Rattle.be_tree.specs.Tree.{child, pairs_below}
-use Rattle.be_tree.proofs.Frame.{readable_kept, start_trans, unchanged_start, unchanged_trans}
+use Rattle.be_tree.specs.Tree.{pairs_below}
+use Rattle.be_tree.proofs.Frame.{readable_kept, unchanged_trans}
 use Rattle.be_tree.proofs.Settles.{TwoInHand, above_kept, above_names, above_page, above_same, after_count, after_in_hand, after_page, after_readable}
-use Rattle.be_tree.proofs.Leaves.{refuses_since}
 use Rattle.be_tree.proofs.settling.settle_right.Given.{Over}
 use Rattle.be_tree.proofs.settling.settle_right.Goals as goal
 use Rattle.be_tree.proofs.settling.settle_right.Goals.{After-deref-2}

@@ -1,4 +1,4 @@
-use Rattle.std.proofs.Common.{◌+◌, arith}
+use Rattle.std.proofs.Common.{arith}
 use Rattle.be_tree.specs.Slot.{pairs_of}
 use Rattle.be_tree.proofs.Settles.{alone_apart, alone_settled}
 use Rattle.be_tree.proofs.settling.settle_split.Goals as goal

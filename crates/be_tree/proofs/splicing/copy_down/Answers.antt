@@ -1,9 +1,8 @@
-use Rattle.std.proofs.Common.{◌≡◌, ℕ, ◌+◌, ◌∙◌, sym, subst, inl, inr, arith}
+use Rattle.std.proofs.Common.{◌≡◌, ◌+◌, ◌∙◌, subst, inl, inr, arith}
 use Rattle.std.proofs.lemmas.Bool.{cases_lt}
-use Rattle.be_tree.specs.Page.{IsItem, item_at, item_place}
+use Rattle.be_tree.specs.Page.{item_place}
 use Rattle.be_tree.specs.Splicing.{IsCopy}
 use Rattle.be_tree.proofs.Splices.{only_then, there}
-use Rattle.be_tree.proofs.splicing.copy_down.Given.{Over}
 use Rattle.be_tree.proofs.splicing.copy_down.Goals as goal
 
 pub copy_item-requires-clause-item : goal.copy_item-requires-clause-item

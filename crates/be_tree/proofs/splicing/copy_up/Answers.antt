@@ -1,7 +1,6 @@
-use Rattle.std.proofs.Common.{◌≡◌, ℕ, ◌+◌, ◌-◌, ◌∙◌, sym, subst, inl, inr, arith}
+use Rattle.std.proofs.Common.{◌≡◌, ◌+◌, ◌-◌, ◌∙◌, subst, inl, inr, arith}
 use Rattle.std.proofs.lemmas.Bool.{cases_lt}
-use Rattle.be_pages.specs.Pages.{OnlyWrites}
-use Rattle.be_tree.specs.Page.{IsItem, item_at, item_place}
+use Rattle.be_tree.specs.Page.{item_place}
 use Rattle.be_tree.specs.Splicing.{IsCopy}
 use Rattle.be_tree.proofs.Splices.{only_then, there}
 use Rattle.be_tree.proofs.splicing.copy_up.Goals as goal

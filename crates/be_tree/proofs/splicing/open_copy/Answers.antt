@@ -1,9 +1,8 @@
-use Rattle.std.proofs.Common.{◌≡◌, ◌≢◌, ℕ, ◌+◌, ◌-◌, ◌<◌, ◌≤◌, ◌∙◌, IsTrue, ap, sym, subst, inl, inr, arith}
-use Rattle.be_pages.specs.Pages.{OnlyWrites, is_kept}
-use Rattle.be_tree.specs.Page.{IsItem, item_at, item_place}
+use Rattle.std.proofs.Common.{◌≡◌, ◌≢◌, ◌+◌, ◌-◌, ◌∙◌, ap, sym, subst, inr, arith}
+use Rattle.be_tree.specs.Page.{item_place}
 use Rattle.be_tree.specs.Splicing.{AreCopies, IsCopy}
 use Rattle.be_tree.proofs.Nodes.Writes.{free_other}
-use Rattle.be_tree.proofs.Splices.{fill_only, filled_word, gap_of, only_then, other_word, there}
+use Rattle.be_tree.proofs.Splices.{filled_word, gap_of, other_word, there}
 use Rattle.be_tree.proofs.splicing.open_copy.Given.{Over}
 use Rattle.be_tree.proofs.splicing.open_copy.Goals as goal
 use Rattle.be_tree.proofs.splicing.open_copy.Goals.{After-copy_down-2}

@@ -1,4 +1,4 @@
-use Rattle.std.proofs.Common.{◌≡◌, ◌∙◌, ℕ, true, ltb, ◌+◌, ◌<◌, ◌≤◌, [], ◌∷◌, IfOk, length, drop, ap, sym, subst, arith}
+use Rattle.std.proofs.Common.{◌≡◌, ℕ, true, ltb, ◌+◌, ◌<◌, [], IfOk, length, drop, ap, sym, subst, arith}
 use Rattle.std.proofs.lemmas.Bool.Decides.{nat_tests}
 use Rattle.std.proofs.lemmas.Result.{IfOk-weaker}
 use Rattle.be_tree.specs.Key.{without}
