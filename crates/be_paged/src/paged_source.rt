@@ -18,9 +18,10 @@ ghost use Rattle.be_paged.specs.Entry.{Entry as AnyEntry};
 
 use crate::on_page::{FoundIndex, known_index};
 use crate::reading::{get, holds_in};
+use crate::texts::nodes_passing;
 use arrayvec::ArrayVec;
 use be_pages::Look;
-use be_plan::{KeyRange, Source};
+use be_plan::{KeyRange, Source, TextTest};
 use be_query::Comparison;
 use be_tree::{Cursor, has_key, is_key_at, key_at, numbers_within};
 use be_value::{Kind, Name, Refusal, Value};
@@ -137,6 +138,19 @@ impl<L: Look> Source for PagedSource<L> {
         };
         numbers_within(&mut self.look, index.root, keys.low, keys.high, found)?;
         Ok(())
+    }
+
+    fn nodes_passing(
+        &mut self,
+        keys: KeyRange<'_>,
+        test: &TextTest<'_>,
+        found: &mut Vec<u64>,
+    ) -> Result<bool, Refusal> {
+        let Some(index) = known_index(&mut self.look, self.page, keys.name, &mut self.known) else {
+            return Ok(true);
+        };
+        nodes_passing(&mut self.look, index.root, keys.low, keys.high, test, found)?;
+        Ok(true)
     }
 
     fn has_key(&mut self, name: &Name, key: &[u8]) -> bool {

@@ -1,14 +1,15 @@
 //! What answers for a volume.
 //!
-//! A source is read by six calls, and each may change the source itself: a cursor moves, a reader
+//! A source is read by seven calls, and each may change the source itself: a cursor moves, a reader
 //! counts its steps. What stays is said in two ways. `kept` names the facts of the source that no
 //! call changes, and `answers_for` is the relation between the source and the volume that it reads.
 //! It is a relation and not a function, since a reader of pages encodes a volume but can't compute
 //! it: a contract says what holds of each volume in that relation, and the caller, who knows the
 //! volume, names it.
-ghost use Rattle.std.specs.Prelude.{◌≡◌, true, OnOk, IfErr};
+ghost use Rattle.std.specs.Prelude.{◌≡◌, true, Some, OnOk, IfErr, IfOk};
 ghost use Rattle.std.specs.Option.{option_copied, option_map};
 ghost use Rattle.be_value.specs.declared.refusals.Refusal.TheVariants.{OutOfMemory};
+ghost use Rattle.be_value.specs.declared.values.Kind.TheVariants.{Cstr};
 ghost use Rattle.be_query.specs.Grammar.{Leaf};
 ghost use Rattle.be_query.specs.View.{literal};
 ghost use Rattle.be_volume.specs.Query.{sat};
@@ -16,8 +17,9 @@ ghost use Rattle.be_volume.specs.Reading.{attribute, index_kind};
 ghost use Rattle.be_volume.specs.Volume.{State};
 ghost use Rattle.be_volume.specs.Keys.{IsKey, IsNextKey};
 ghost use Rattle.be_volume.specs.Sound.{IsSound};
-ghost use Rattle.be_plan.specs.Walk.{HasNodes, HasOnly, Keeps};
+ghost use Rattle.be_plan.specs.Walk.{HasNodes, HasOnly, HasOnlyTrue, HasWithin, Keeps};
 
+use crate::TextTest;
 use arrayvec::ArrayVec;
 use be_query::Comparison;
 use be_value::{Kind, Name, Refusal, Value, key_of};
@@ -77,6 +79,29 @@ pub trait Source {
         ensures stays { kept self.new ≡ kept self.old }
         ensures answers { (volume : State) → answers_for self.old volume
             → answers_for self.new volume };
+
+    /// Adds the node of each of these keys of whose text the comparison is true, if the source tests texts where they are, and says
+    /// whether it does; if not, the caller goes from key to key. The index has to be one of texts. Of another kind it adds nodes of its keys.
+    fn nodes_passing(
+        &mut self,
+        keys: KeyRange<'_>,
+        test: &TextTest<'_>,
+        found: &mut Vec<u64>,
+    ) -> Result<bool, Refusal>
+        requires { (volume : State) × answers_for self.old volume }
+        ensures memory { IfErr result (λ e. e ≡ OutOfMemory) }
+        ensures keeps { Keeps found.old.items found.new.items }
+        ensures only { (volume : State) → answers_for self.old volume → index_kind volume keys.entry.name.now ≡ Some Cstr →
+            HasOnlyTrue volume (Leaf keys.entry.name.now test.now.0 test.now.1) keys.entry.name.now keys.entry.low.now (option_copied keys.entry.high)
+            found.old.items found.new.items }
+        ensures has { IfOk result (λ tests. tests ≡ true → (volume : State) → answers_for self.old volume → index_kind volume keys.entry.name.now ≡ Some Cstr →
+            HasWithin volume (Leaf keys.entry.name.now test.now.0 test.now.1) keys.entry.name.now keys.entry.low.now (option_copied keys.entry.high)
+            found.new.items) }
+        ensures stays { kept self.new ≡ kept self.old }
+        ensures answers { (volume : State) → answers_for self.old volume → answers_for self.new volume }
+    {
+        Ok(false)
+    }
 
     /// Whether the index of that name has the key; false without an index.
     fn has_key(&mut self, name: &Name, key: &[u8]) -> bool

@@ -22,7 +22,7 @@ ghost use Rattle.be_volume.specs.Sound.{IsSound};
 ghost use Rattle.be_volume.specs.Volume.{State};
 ghost use Rattle.be_plan.specs.Narrow.{LeavesRest, high_of};
 ghost use Rattle.be_plan.specs.Texts.{IsKeyOf};
-ghost use Rattle.be_plan.specs.Walk.{IsNodeWithin, Keeps, HasWithin};
+ghost use Rattle.be_plan.specs.Walk.{HasOnlyTrue, HasWithin, IsNodeWithin, Keeps};
 
 use crate::evaluating::{asks_name, is_true, satisfies};
 use crate::ranges::Range;
@@ -158,6 +158,36 @@ fn visit_texts<S: Source>(
     Ok(())
 }
 
+/// The same, by the source if it tests texts where they are.
+fn test_texts<S: Source>(
+    source: &mut S,
+    test: &TextTest<'_>,
+    name: &Name,
+    range: &Range,
+    found: &mut Vec<u64>,
+) -> Result<(), Refusal>
+    ghost volume: { State }
+    requires answers { S.answers_for source.old volume }
+    requires kind { index_kind volume name.now ≡ Some Cstr }
+    ensures stays { S.kept source.new ≡ S.kept source.old }
+    ensures answers { S.answers_for source.new volume }
+    ensures memory { IfErr result (λ e. e ≡ OutOfMemory) }
+    ensures keeps { Keeps found.old.items found.new.items }
+    ensures only { HasOnlyTrue volume (Leaf name.now test.now.0 test.now.1) name.now range.now.low.items (high_of range.now) found.old.items found.new.items }
+    ensures has { OnOk result (HasWithin volume (Leaf name.now test.now.0 test.now.1) name.now range.now.low.items
+        (high_of range.now) found.new.items) }
+{
+    let keys = KeyRange {
+        name,
+        low: range.low(),
+        high: range.high(),
+    };
+    if source.nodes_passing(keys, test, found)? {
+        return Ok(());
+    }
+    visit_texts(source, test, name, range, found)
+}
+
 /// Adds the node, if the tree is true of it. The source is asked for each comparison.
 fn add_if_true<S: Source>(
     source: &mut S,
@@ -267,7 +297,7 @@ fn walk_rest<S: Source>(
 {
     if let Some(comparison) = asked_of_texts(rest, name, kind) {
         let test = TextTest::new(alloc, comparison)?;
-        return visit_texts(source, &test, name, range, found);
+        return test_texts(source, &test, name, range, found);
     }
     if asks_name(rest, name) {
         visit_all(source, tree, name, kind, range, found)
