@@ -10,6 +10,7 @@ ghost use Rattle.be_pages.specs.Pages.{IsUnchanged};
 ghost use Rattle.be_tree.specs.Cursor.{IsCursor, remaining};
 ghost use Rattle.be_tree.specs.Range.{pairs_from};
 ghost use Rattle.be_tree.specs.Tree.{IsTree, pairs};
+ghost use Rattle.be_value.specs.declared.values.Kind.TheVariants.{Cstr};
 ghost use Rattle.be_volume.specs.Volume.{State};
 ghost use Rattle.be_paged.specs.Page.{contents_of};
 ghost use Rattle.be_paged.specs.Source.{StandsBehind};
@@ -38,6 +39,13 @@ pub struct PagedSource<L> {
     cursor: Cursor,
     place: usize,
     last: (u64, usize),
+}
+
+/// Whether the keys of an index of a kind have texts.
+fn has_texts(kind: Kind) -> bool
+    ensures { result ≡ true → kind ≡ Cstr }
+{
+    kind == Kind::Cstr
 }
 
 /// The version of a page as a source. It reads nothing yet, and keeps the look until `into_look`.
@@ -147,8 +155,11 @@ impl<L: Look> Source for PagedSource<L> {
         found: &mut Vec<u64>,
     ) -> Result<bool, Refusal> {
         let Some(index) = known_index(&mut self.look, self.page, keys.name, &mut self.known) else {
-            return Ok(true);
+            return Ok(false);
         };
+        if !has_texts(index.kind) {
+            return Ok(false);
+        }
         nodes_passing(&mut self.look, index.root, keys.low, keys.high, test, found)?;
         Ok(true)
     }

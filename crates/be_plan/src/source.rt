@@ -6,10 +6,9 @@
 //! It is a relation and not a function, since a reader of pages encodes a volume but can't compute
 //! it: a contract says what holds of each volume in that relation, and the caller, who knows the
 //! volume, names it.
-ghost use Rattle.std.specs.Prelude.{◌≡◌, true, Some, OnOk, IfErr, IfOk};
+ghost use Rattle.std.specs.Prelude.{◌≡◌, true, false, OnOk, IfErr, IfOk};
 ghost use Rattle.std.specs.Option.{option_copied, option_map};
 ghost use Rattle.be_value.specs.declared.refusals.Refusal.TheVariants.{OutOfMemory};
-ghost use Rattle.be_value.specs.declared.values.Kind.TheVariants.{Cstr};
 ghost use Rattle.be_query.specs.Grammar.{Leaf};
 ghost use Rattle.be_query.specs.View.{literal};
 ghost use Rattle.be_volume.specs.Query.{sat};
@@ -80,8 +79,9 @@ pub trait Source {
         ensures answers { (volume : State) → answers_for self.old volume
             → answers_for self.new volume };
 
-    /// Adds the node of each of these keys of whose text the comparison is true, if the source tests texts where they are, and says
-    /// whether it does; if not, the caller goes from key to key. The index has to be one of texts. Of another kind it adds nodes of its keys.
+    /// Adds the node of each of these keys of whose text the comparison is true, and returns true,
+    /// if the source tests texts where they are and the index is one of texts. Otherwise it adds
+    /// nothing and returns false, and the caller goes from key to key.
     fn nodes_passing(
         &mut self,
         keys: KeyRange<'_>,
@@ -91,14 +91,20 @@ pub trait Source {
         requires { (volume : State) × answers_for self.old volume }
         ensures memory { IfErr result (λ e. e ≡ OutOfMemory) }
         ensures keeps { Keeps found.old.items found.new.items }
-        ensures only { (volume : State) → answers_for self.old volume → index_kind volume keys.entry.name.now ≡ Some Cstr →
-            HasOnlyTrue volume (Leaf keys.entry.name.now test.now.0 test.now.1) keys.entry.name.now keys.entry.low.now (option_copied keys.entry.high)
+        ensures only { (volume : State) → answers_for self.old volume →
+            HasOnlyTrue volume (Leaf keys.entry.name.now test.now.0 test.now.1)
+            keys.entry.name.now keys.entry.low.now (option_copied keys.entry.high)
             found.old.items found.new.items }
-        ensures has { IfOk result (λ tests. tests ≡ true → (volume : State) → answers_for self.old volume → index_kind volume keys.entry.name.now ≡ Some Cstr →
-            HasWithin volume (Leaf keys.entry.name.now test.now.0 test.now.1) keys.entry.name.now keys.entry.low.now (option_copied keys.entry.high)
+        ensures has { IfOk result (λ tested. tested ≡ true → (volume : State)
+            → answers_for self.old volume →
+            HasWithin volume (Leaf keys.entry.name.now test.now.0 test.now.1)
+            keys.entry.name.now keys.entry.low.now (option_copied keys.entry.high)
             found.new.items) }
+        ensures none { IfOk result (λ tested. tested ≡ false
+            → found.new.items ≡ found.old.items) }
         ensures stays { kept self.new ≡ kept self.old }
-        ensures answers { (volume : State) → answers_for self.old volume → answers_for self.new volume }
+        ensures answers { (volume : State) → answers_for self.old volume
+            → answers_for self.new volume }
     {
         Ok(false)
     }

@@ -158,7 +158,8 @@ fn visit_texts<S: Source>(
     Ok(())
 }
 
-/// The same, by the source if it tests texts where they are.
+/// Adds the nodes of the keys in the range of whose texts the comparison is true: by one call, if
+/// the source tests texts where they are, otherwise from key to key.
 fn test_texts<S: Source>(
     source: &mut S,
     test: &TextTest<'_>,
@@ -173,8 +174,10 @@ fn test_texts<S: Source>(
     ensures answers { S.answers_for source.new volume }
     ensures memory { IfErr result (λ e. e ≡ OutOfMemory) }
     ensures keeps { Keeps found.old.items found.new.items }
-    ensures only { HasOnlyTrue volume (Leaf name.now test.now.0 test.now.1) name.now range.now.low.items (high_of range.now) found.old.items found.new.items }
-    ensures has { OnOk result (HasWithin volume (Leaf name.now test.now.0 test.now.1) name.now range.now.low.items
+    ensures only { HasOnlyTrue volume (Leaf name.now test.now.0 test.now.1) name.now
+        range.now.low.items (high_of range.now) found.old.items found.new.items }
+    ensures has { OnOk result (HasWithin volume (Leaf name.now test.now.0 test.now.1) name.now
+        range.now.low.items
         (high_of range.now) found.new.items) }
 {
     let keys = KeyRange {
@@ -182,7 +185,8 @@ fn test_texts<S: Source>(
         low: range.low(),
         high: range.high(),
     };
-    if source.nodes_passing(keys, test, found)? {
+    let tested = source.nodes_passing(keys, test, found)?;
+    if tested {
         return Ok(());
     }
     visit_texts(source, test, name, range, found)
