@@ -1,5 +1,5 @@
 -- Runs of literal parts in a list, with any run of the list between two.
-use Rattle.std.proofs.Common.{◌≡◌, ℕ, ◌+◌, ◌-◌, ◌<◌, ◌≤◌, Bool, true, false, List, [], ◌∷◌, ◌++◌, map, length, drop, ◌&&◌, ◌||◌, refl, sym, ap, ◌∙◌, subst, arith, zero, suc, take, length-append, length-drop}
+use Rattle.std.proofs.Common.{◌≡◌, ℕ, ◌+◌, ◌-◌, ◌<◌, ◌≤◌, Bool, true, false, List, [], ◌∷◌, ◌++◌, map, length, drop, ◌&&◌, ◌||◌, get_or, refl, sym, ap, ◌∙◌, subst, arith, zero, suc, take, length-append, length-drop}
 use Rattle.std.specs.Bool.{Decides}
 use Rattle.std.specs.Cmp.{both_ways}
 use Rattle.std.specs.Prelude.{nat_eq}
@@ -68,6 +68,21 @@ first_serves r after ps = both_ways _ _ there back
 -- where a run isn't, the next place is tried
 pub next_place : (p : List ℕ → Bool) (c : ℕ) (cs : List ℕ) → p (c ∷ cs) ≡ false → some_tail p (c ∷ cs) ≡ some_tail p cs
 next_place p c cs h = ap (λ b. b || some_tail p cs) h
+
+-- where the first of a run isn't, the run doesn't begin
+pub other_first : (first : ℕ) (others cs : List ℕ) (k : ℕ) (ps : List Part) → k < length cs → (get_or cs k 0 ≡ first → ⊥) → matches (map Only (first ∷ others) ++ ps) (drop k cs) ≡ false
+other_first first others [] k ps lt no = absurd (omega (arith, lt))
+other_first first others (c ∷ cs) zero ps lt no = run_missing (first ∷ others) (c ∷ cs) ps (λ rest e. no (head (others ++ rest) e))
+  where
+    head : (rest : List ℕ) → c ∷ cs ≡ first ∷ rest → c ≡ first
+    head rest e = cc
+other_first first others (c ∷ cs) (suc k) ps lt no = other_first first others cs k ps (omega (arith, lt)) no
+
+-- such places are passed
+pub places_passed : (p : List ℕ → Bool) (n : ℕ) (cs : List ℕ) → ((k : ℕ) → k < n → p (drop k cs) ≡ false) → some_tail p (drop n cs) ≡ some_tail p cs
+places_passed p zero cs h = refl
+places_passed p (suc n) [] h = refl
+places_passed p (suc n) (c ∷ cs) h = places_passed p n cs (λ k lt. h (suc k) (omega (arith, lt))) ∙ sym (next_place p c cs (h zero (omega arith)))
 
 -- a list that is shorter than the run doesn't have it
 pub run_too_long : (r cs : List ℕ) (ps : List Part) → length cs < length r → some_tail (matches (map Only r ++ ps)) cs ≡ false
