@@ -40,7 +40,7 @@ returns-then-tested-clause-has g c =
     subst H c.high.ensures (subst L c.low.ensures (c.in_ok-tested.ensures.has c.if-tested.true g.volume c.requires.1.0))
 
 pub visit_texts-requires : goal.visit_texts-requires
-visit_texts-requires g c = (c.nodes_passing.ensures.answers g.volume c.requires.1.0, c.requires.1.1)
+visit_texts-requires g c κs within = (within, (c.nodes_passing.ensures.answers g.volume c.requires.1.0, c.requires.1.1))
 
 pub returns-clause-keeps : goal.returns-clause-keeps
 returns-clause-keeps g c = λ n h. c.visit_texts.ensures.keeps n (c.nodes_passing.ensures.keeps n h)
