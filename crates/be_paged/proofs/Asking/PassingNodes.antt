@@ -138,11 +138,11 @@ each_node Q op literal (x ∷ xs) high all n has = by (is_past high x.key) refl 
 -- the node of a key that passes is there
 has_node : (op : Cmp) (literal : Literal) (xs : List Pair) (high : Option (List ℕ)) (k : List ℕ) → IsRising xs → is_some (payload_at xs k) ≡ true → is_past high k ≡ false → passes op literal k ≡ true
     → Contains (nodes_passing_to op literal xs high) (number_of k)
-has_node op literal [] high k rising some h yes = absurd (never some)
+has_node op literal [] high k rising some h holds = absurd (never some)
   where
     never : false ≡ true → ⊥
     never e = cc
-has_node op literal (x ∷ xs) high k rising some h yes = by (key_cmp x.key k) refl some (λ s. has_node op literal xs high k rising.1 s h yes)
+has_node op literal (x ∷ xs) high k rising some h holds = by (key_cmp x.key k) refl some (λ s. has_node op literal xs high k rising.1 s h holds)
   where
     by : (o : Ordering) → key_cmp x.key k ≡ o → is_some (cond (is_eq o) (Some x.payload) (payload_at xs k)) ≡ true → (is_some (payload_at xs k) ≡ true → Contains (nodes_passing_to op literal xs high) (number_of k))
         → Contains (nodes_passing_to op literal (x ∷ xs) high) (number_of k)
@@ -152,7 +152,7 @@ has_node op literal (x ∷ xs) high k rising some h yes = by (key_cmp x.key k) r
     by Equal e s rest =
         let same : x.key ≡ k = key_exact x.key k e in
         let here : Contains (if passes op literal k then number_of k ∷ [] else []) (number_of k) =
-        subst (λ (b : Bool). Contains (if b then number_of k ∷ [] else []) (number_of k)) (sym yes) (Contains-push [] (number_of k)) in
+        subst (λ (b : Bool). Contains (if b then number_of k ∷ [] else []) (number_of k)) (sym holds) (Contains-push [] (number_of k)) in
         subst (λ (l : List ℕ). Contains l (number_of k)) (sym (opened (node_if_passing op literal) x xs high (ap (is_past high) same ∙ h)))
         (Contains-append_left (node_if_passing op literal x) (nodes_passing_to op literal xs high) (number_of k)
         (subst (λ (q : List ℕ). Contains (if passes op literal q then number_of q ∷ [] else []) (number_of k)) (sym same) here))
@@ -197,7 +197,7 @@ module _ (w : ℕ → ℕ → ℕ) (c : Contents) (volume : State) (name : List 
         let all = pairs w (get_or c.entries i d).root in
         let found = named_found w c.entries (fin.entries volume.indices) name i spells.indices at in
         each_node (λ (m : ℕ). IsNodeWithin volume name low high m × (sat volume (Leaf name op literal) m ≡ true)) op literal (pairs_from all low false) high
-        (λ j e lt not_past yes.
+        (λ j e lt not_past holds.
         let both = all_from (IsPairOf found.index) low false all (found.entry d).keys.only j e lt in
         let p = both.0 in
         let x = get_or (pairs_from all low false) j e in
@@ -212,7 +212,7 @@ module _ (w : ℕ → ℕ → ℕ) (c : Contents) (volume : State) (name : List 
             within = record { from_low = not_true _ (same_from low false x.key ∙ both.1); to_high = sym (past_above high x.key) ∙ not_past };
             node_is = node;
           },
-          ap (sat volume (Leaf name op literal)) (sym node) ∙ sym (passes_if x.key key) ∙ yes,
+          ap (sat volume (Leaf name op literal)) (sym node) ∙ sym (passes_if x.key key) ∙ holds,
         ))
         n has
 

@@ -34,6 +34,6 @@ loop-i-preserved g c =
 pub returns-clause-bytes : goal.returns-clause-bytes
 returns-clause-bytes g c =
     let bytes = λ (i : ℕ). flat_map (to_be_bytes w64) (map (λ (k : ℕ). g.L.Look.words c.args.look.now c.args.page (c.args.at + k)) (range_with_len 0 i)) in
-    let end : c.loop-i.i ≡ words_for c.args.n = omega (arith, c.loop-i-test.false, c.loop-i.auto.i, c.loop-i.auto.i-end) in
+    let end : c.loop-i.i ≡ words_for c.args.n = omega (arith, c.loop-i-test.false, c.loop-i.auto.i-end) in
     sym (take_take c.args.n (8 * c.loop-i.i) c.loop-i.room (omega (arith, end)))
     ∙ ap (take c.args.n) (c.loop-i.invariant.bytes ∙ ap bytes end)
