@@ -1,4 +1,4 @@
-use Rattle.std.proofs.Common.{◌≡◌, ◌∙◌, ◌++◌, ◌∷◌, ◌≤◌, [], ℕ, Bool, List, length, true, false, ap, sym, subst, IsUtf8, if◌then◌else◌}
+use Rattle.std.proofs.Common.{◌≡◌, ◌∙◌, ◌++◌, ◌∷◌, ◌≤◌, [], ℕ, Bool, List, length, ap, sym, subst, IsUtf8, if◌then◌else◌}
 use Rattle.std.proofs.lemmas.List.{append-nil}
 use Rattle.be_plan.specs.Texts.{text_in}
 use Rattle.be_tree.specs.Page.{IsItem, item_at}

@@ -1,9 +1,9 @@
-use Rattle.std.proofs.Common.{◌≡◌, ◌∙◌, ◌<◌, ◌≤◌, ◌+◌, ◌*◌, ◌||◌, ◌++◌, ◌∷◌, ℕ, List, [], false, true, length, drop, refl, ap, sym, subst, arith}
+use Rattle.std.proofs.Common.{◌≡◌, ◌∙◌, ◌<◌, ◌+◌, ◌*◌, ◌||◌, ◌++◌, ℕ, List, [], false, drop, refl, ap, sym, subst, arith}
 use Rattle.std.specs.Option.{option_copied}
 use Rattle.std.proofs.lemmas.List.{append-nil}
 use Rattle.be_tree.specs.Pair.{Pair}
 use Rattle.be_tree.specs.Page.{IsItem, item_at, items_of}
-use Rattle.be_tree.specs.Range.{HasFirst, is_past}
+use Rattle.be_tree.specs.Range.{is_past}
 use Rattle.be_tree.proofs.Frame.{unchanged_trans}
 use Rattle.be_tree.proofs.Reading.Leaves.{any_past, none_left, rest_at}
 use Rattle.be_paged.specs.Texts.{IsTextKey, node_if_passing, nodes_passing_to}

@@ -11,7 +11,7 @@ use Rattle.be_tree.proofs.Nodes.Slots.{items_count}
 use Rattle.be_tree.proofs.Reading.Leaves.{any_past, got_first, leaf_same}
 use Rattle.be_tree.proofs.Shape.Below.{all_left, all_right}
 use Rattle.be_paged.specs.Texts.{AreTexts, IsTextKey, node_if_passing, nodes_passing_to}
-use Rattle.be_paged.proofs.Asking.PassingNodes.{first_of_two, got_whole, last_leaf, whole_leaf}
+use Rattle.be_paged.proofs.Asking.PassingNodes.{first_of_two, last_leaf, whole_leaf}
 use Rattle.be_paged.proofs.texts.test_rest.Given.{Over}
 use Rattle.be_paged.proofs.texts.test_rest.Goals as goal
 use Rattle.be_paged.proofs.texts.test_rest.Goals.{After-test_leaf}

@@ -1,10 +1,9 @@
-use Rattle.std.proofs.Common.{◌≡◌, List, ℕ, subst, inl, inr}
+use Rattle.std.proofs.Common.{List, ℕ, subst, inl, inr}
 use Rattle.std.specs.Option.{option_copied}
 use Rattle.std.specs.declared.option.Option.{Option}
-use Rattle.be_query.specs.Grammar.{Formula, Leaf}
+use Rattle.be_query.specs.Grammar.{Leaf}
 use Rattle.be_plan.specs.Narrow.{high_of}
 use Rattle.be_plan.specs.Walk.{HasOnlyTrue, HasWithin}
-use Rattle.be_plan.proofs.Reaching.{on_ok}
 use Rattle.be_plan.proofs.walks.test_texts.Given.{Over}
 use Rattle.be_plan.proofs.walks.test_texts.Goals as goal
 use Rattle.be_plan.proofs.walks.test_texts.Goals.{After-nodes_passing}

@@ -1,4 +1,4 @@
-use Rattle.std.proofs.Common.{◌≡◌, ℕ, List, [], false, true, inl, sym, subst, ◌∙◌, get_or}
+use Rattle.std.proofs.Common.{ℕ, List, [], false, inl, sym, subst, ◌∙◌, get_or}
 use Rattle.std.specs.List.{Contains}
 use Rattle.std.specs.Option.{option_copied}
 use Rattle.std.proofs.lemmas.List.Elements.{Contains-append_right}
