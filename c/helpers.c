@@ -440,12 +440,13 @@ static void in_child(void)
     bes_pass passes[3];
     bes_prepared prepared = BES_PREPARED_INIT;
     bes_place place = BES_PLACE_INIT;
+    bes_witness witness = BES_WITNESS_INIT;
     uint64_t number = 0, node = 0;
     int status = 0;
     pid_t child;
     open_three(passes, 64);
     CHECK(bes_prepare_text("count>0", &prepared, &number) == BES_OK && bes_pin(&passes[0], &number) == BES_OK);
-    CHECK(bes_batch_state(&passes[0], &place, &batch) == BES_OK);
+    CHECK(bes_batch_state(&passes[0], &place, &batch) == BES_OK && bes_witness_of(&passes[0], &witness) == BES_OK);
     fflush(NULL);
     child = fork();
     CHECK(child >= 0);
@@ -454,7 +455,9 @@ static void in_child(void)
             bes_forget(&passes[i]);
         bes_forget_prepared(&prepared);
         bes_forget_place(&place);
+        bes_forget_witness(&witness);
         CHECK(bes_new_node(&passes[0], &node) == BES_CLOSED && bes_release(&prepared) == BES_CLOSED && bes_leave(&place) == BES_CLOSED);
+        CHECK(bes_dismiss(&witness) == BES_CLOSED);
         open_three(passes, 64);
         close_three(passes);
         execlp("true", "true", (char *)NULL); /* which leaves no leak to be found */
@@ -462,7 +465,7 @@ static void in_child(void)
     }
     CHECK(waitpid(child, &status, 0) == child && WIFEXITED(status) && WEXITSTATUS(status) == 0);
     CHECK(bes_new_node(&passes[1], &node) == BES_OK && node == 2);
-    CHECK(bes_leave(&place) == BES_OK && bes_release(&prepared) == BES_OK);
+    CHECK(bes_leave(&place) == BES_OK && bes_release(&prepared) == BES_OK && bes_dismiss(&witness) == BES_OK);
     close_three(passes);
 }
 

@@ -328,6 +328,7 @@ static void forked()
     auto pin = other.pin();
     auto state = pin.state();
     auto entries = store.journal_from();
+    Witness witness = store.witness();
     std::fflush(nullptr);
     const pid_t child = fork();
     CHECK(child >= 0);
@@ -339,6 +340,9 @@ static void forked()
         refused(BES_CLOSED, [&] { store.change([](Change &) {}); });
         refused(BES_CLOSED, [&] { state.begin(); });
         refused(BES_CLOSED, [&] { entries.begin(); });
+        refused(BES_CLOSED, [&] { (void)store.witness(); });
+        refused(BES_CLOSED, [&] { store.join(witness); });
+        { Witness ends = std::move(witness); }
         pin.unpin();
         store.close();
         Store own({64, 1, 100});
@@ -350,6 +354,7 @@ static void forked()
     int status = 0;
     CHECK(waitpid(child, &status, 0) == child && WIFEXITED(status) && WEXITSTATUS(status) == 0);
     CHECK(store.new_node() == 1 && pin.nodes().empty() && store.status().oldest->pass_number == 1);
+    CHECK(store.join(witness) == 1);
 }
 
 int main()

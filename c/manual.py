@@ -26,9 +26,9 @@ CPP = """\
 .Sh C++
 .In bestore.hpp
 has the same calls for C++17.
-.Vt bestore::Store , Pass , Pin , Prepared
+.Vt bestore::Store , Pass , Pin , Prepared , Live
 and
-.Vt Live
+.Vt Witness
 close themselves; they can be moved and not copied.
 A call throws a
 .Vt bestore::Refusal

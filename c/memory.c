@@ -44,6 +44,7 @@ int __wrap_sched_yield(void)
 static bes_pass mine, theirs, opened;
 static bes_prepared by_text, by_items, kept, moved;
 static bes_place place, elsewhere;
+static bes_witness witness, handed;
 static uint64_t journal_length;
 
 /* What calls write. */
@@ -69,6 +70,7 @@ static const bes_operation list[] = {
 
 static uint32_t call_open(void) { return bes_open(8, 1, 10, &opened); }
 static uint32_t call_another(void) { return bes_another(&mine, &theirs); }
+static uint32_t call_witness_of(void) { return bes_witness_of(&mine, &witness); }
 static uint32_t call_prepare(void) { return bes_prepare(query, sizeof query - 1, &by_text, &out.count); }
 static uint32_t call_prepare_items(void) { return bes_prepare_items(less, 3, parts, 11, &by_items, &out.count); }
 static uint32_t call_apply(void) { return bes_apply(&mine, list, 2, parts, 11, out.nodes, 4, &out.number); }
@@ -120,6 +122,11 @@ static uint32_t call_move_place(void)
 {
     return bes_move_place(&place, &elsewhere) == BES_OK ? bes_move_place(&elsewhere, &place) : BES_OPEN;
 }
+static uint32_t call_join(void) { return bes_join(&mine, &witness, &out.number); }
+static uint32_t call_move_witness(void)
+{
+    return bes_move_witness(&witness, &handed) == BES_OK ? bes_move_witness(&handed, &witness) : BES_OPEN;
+}
 static uint32_t call_move(void) { return bes_move(&mine, &opened) == BES_OK ? bes_move(&opened, &mine) : BES_OPEN; }
 
 /* Whether nothing was written, except 0 to the number of a call. */
@@ -156,11 +163,13 @@ static unsigned refuse_each(uint32_t (*call)(void))
 static void refuse_all(void)
 {
     uint32_t (*const with_requests[])(void) = {
-        call_another, call_prepare, call_prepare_items, call_query, call_items, call_prepared, call_explain, call_attributes,
-        call_indices, call_nodes, call_state, call_journal, call_journal_from, call_prepared_text, call_apply, call_retry
+        call_another, call_witness_of, call_prepare, call_prepare_items, call_query, call_items, call_prepared, call_explain,
+        call_attributes, call_indices, call_nodes, call_state, call_journal, call_journal_from, call_prepared_text, call_apply,
+        call_retry
     };
     uint32_t (*const without[])(void) = {call_changes, call_found, call_get, call_columns, call_status, call_next, call_number,
-                                         call_move_prepared, call_move_place, call_unpin, call_pin, call_move};
+                                         call_join, call_move_witness, call_move_prepared, call_move_place, call_unpin, call_pin,
+                                         call_move};
     CHECK(bes_open(64, 2, 100, &mine) == BES_OK);
     CHECK(bes_make_index(&mine, "size", BES_INT32_TYPE) == BES_OK && bes_make_index(&mine, "name", BES_STRING_TYPE) == BES_OK);
     CHECK(bes_new_node(&mine, &out.number) == BES_OK && bes_set_int32(&mine, 1, "size", 1) == BES_OK);
@@ -322,6 +331,7 @@ int main(void)
     meet_while_locked();
     state_without_pin();
     CHECK(bes_release(&kept) == BES_OK && bes_release(&by_text) == BES_OK && bes_release(&by_items) == BES_OK);
+    CHECK(bes_dismiss(&witness) == BES_OK);
     /* A pass that was given back isn't lost if there is no memory for its handle. */
     CHECK(bes_close(&theirs) == BES_OK && refuse_each(call_another) > 0);
     CHECK(bes_close(&mine) == BES_OK && bes_close(&theirs) == BES_OK);

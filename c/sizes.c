@@ -423,6 +423,7 @@ static void many_passes(void)
 {
     static bes_pass passes[64];
     AT_EACH_SIZE {
+        bes_witness witness = BES_WITNESS_INIT;
         uint64_t node = 0, written = 1, seen = 0;
         OK(bes_open(512, size, 10000, &passes[0]) || bes_new_node(&passes[0], &node));
         for (int round = 0; round < 3; round++) {
@@ -431,6 +432,7 @@ static void many_passes(void)
                 OK(bes_close(&passes[round == 1 ? size - i : i]));
             CHECK(bes_meet(&passes[0], &seen) == (size > 1 ? BES_OK : BES_NO_PASS));
             CHECK(size == 1 || (seen > 0 && seen <= written));
+            OK(bes_witness_of(&passes[0], &witness) || bes_join(&passes[0], &witness, &seen) || bes_dismiss(&witness));
         }
         take_all(passes, size, false, node, &written);
         for (uint64_t i = 0; i < size; i++)

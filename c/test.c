@@ -637,6 +637,37 @@ static void states(void)
     CHECK(bes_leave(&place) == BES_OK && bes_new_node(&next, &number) == BES_OK && number == 3 && bes_close(&next) == BES_OK);
 }
 
+/* A witness shows one pass what another has seen, and outlives their store. */
+static void joining(void)
+{
+    bes_pass mine = BES_PASS_INIT, theirs = BES_PASS_INIT;
+    bes_witness witness = BES_WITNESS_INIT, later = BES_WITNESS_INIT, moved = BES_WITNESS_INIT;
+    uint64_t number = 7, node = 0, nodes[4];
+    CHECK(bes_witness_of(&mine, &witness) == BES_CLOSED && bes_dismiss(&witness) == BES_CLOSED);
+    CHECK(bes_join(&mine, &witness, &number) == BES_CLOSED && number == 0);
+    CHECK(bes_open(64, 2, 10, &mine) == BES_OK && bes_another(&mine, &theirs) == BES_OK);
+    number = 7;
+    LEAVES(&mine, bes_join(&mine, &witness, &number), BES_CLOSED);
+    CHECK(number == 0 && bes_witness_of(&mine, &witness) == BES_OK);
+    LEAVES(&mine, bes_witness_of(&mine, &witness), BES_OPEN);
+    number = 7;
+    LEAVES(&theirs, bes_join(&theirs, &witness, &number), BES_OK);
+    CHECK(number == 0 && bes_new_node(&mine, &node) == BES_OK && bes_witness_of(&mine, &later) == BES_OK);
+    CHECK(bes_join(&theirs, &later, &number) == BES_OK && number == 1);
+    CHECK(bes_new_node(&theirs, &node) == BES_OK && bes_join(&theirs, &witness, &number) == BES_OK && number == 2);
+    CHECK(bes_pin(&mine, &number) == BES_OK && number == 2 && bes_new_node(&theirs, &node) == BES_OK);
+    CHECK(bes_join(&theirs, &later, &number) == BES_OK && number == 3);
+    CHECK(bes_join(&mine, &later, &number) == BES_OK && number == 3 && bes_pin(&mine, &number) == BES_PINNED);
+    CHECK(bes_nodes(&mine, 0, nodes, 4, &number) == BES_OK && number == 2 && bes_unpin(&mine) == BES_OK);
+    CHECK(bes_join(&mine, &witness, &number) == BES_OK && number == 3);
+    CHECK(bes_pin(&mine, &number) == BES_OK && number == 3 && bes_close(&mine) == BES_OK);
+    number = 7;
+    CHECK(bes_join(&mine, &later, &number) == BES_CLOSED && number == 0 && bes_close(&theirs) == BES_OK);
+    CHECK(bes_move_witness(&later, &witness) == BES_OPEN && bes_dismiss(&witness) == BES_OK);
+    CHECK(bes_move_witness(&later, &moved) == BES_OK && bes_move_witness(&later, &moved) == BES_CLOSED);
+    CHECK(bes_dismiss(&later) == BES_CLOSED && bes_dismiss(&moved) == BES_OK && bes_dismiss(&moved) == BES_CLOSED);
+}
+
 /* What is free, what waits for a pin, and whose that is. */
 static void usage(void)
 {
@@ -782,6 +813,7 @@ int main(void)
     opening();
     giving_back();
     meeting();
+    joining();
     wrong_writes();
     most();
     full_batch();

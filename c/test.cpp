@@ -9,7 +9,8 @@ using Nodes = std::vector<Node>;
 
 template <class T> constexpr bool moves_only = std::is_nothrow_move_constructible_v<T> && std::is_nothrow_move_assignable_v<T> &&
                                                !std::is_copy_constructible_v<T> && !std::is_copy_assignable_v<T>;
-static_assert(moves_only<Store> && moves_only<Pass> && moves_only<Pin> && moves_only<State> && moves_only<Prepared> && moves_only<Live>);
+static_assert(moves_only<Store> && moves_only<Pass> && moves_only<Pin> && moves_only<State> && moves_only<Prepared> && moves_only<Live> &&
+              moves_only<Witness>);
 
 static void c_header()
 {
@@ -233,6 +234,34 @@ static void pins()
     CHECK(again.pin().number() == 3);
 }
 
+// A witness shows a pass what another one has seen, also in another thread; it outlives its store, and is of no other.
+static void witnesses()
+{
+    Store next({64, 1, 100});
+    std::optional<Witness> kept;
+    {
+        Store store({64, 2, 100});
+        Pass other = store.another();
+        store.new_node();
+        Witness witness = store.witness();
+        std::thread([other = std::move(other), moved = std::move(witness)]() mutable {
+            CHECK(other.join(moved) == 1 && other.join(moved) == 1 && other.pin().number() == 1);
+            CHECK(other.apply(Batch().new_node()).number == 2 && other.join(moved) == 2);
+        }).join();
+        refused(BES_CLOSED, [&] { store.join(witness); });
+        refused(BES_CLOSED, [&] { other.witness(); });
+        kept = store.witness();
+        CHECK(store.join(*kept) == 1 && store.pin().number() == 2);
+    }
+    bool is_thrown = false;
+    try {
+        next.join(*kept);
+    } catch (const std::invalid_argument &) {
+        is_thrown = true;
+    }
+    CHECK(is_thrown && next.pin().number() == 0);
+}
+
 static void nodes_and_status()
 {
     Store store = numbered();
@@ -354,6 +383,7 @@ int main()
     predicates();
     live_queries();
     pins();
+    witnesses();
     nodes_and_status();
     states();
     full();

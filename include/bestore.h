@@ -4,20 +4,22 @@
  *
  * HANDLES. A bes_pass is a session: one thread's handle on a store. It writes, pins a snapshot and reads it. A bes_prepared is a
  * parsed query. It belongs to no store, and any pass may ask it. A bes_place is a position in the list of operations that make a
- * snapshot again. The memory of a handle is yours. Start it with BES_PASS_INIT, BES_PREPARED_INIT or BES_PLACE_INIT, which are
- * zero bytes. Never copy it and never change its fields: bes_move, bes_move_prepared and bes_move_place move it. Close it with
- * bes_close, bes_release or bes_leave. The store is freed with its last open pass.
+ * snapshot again. A bes_witness is what a pass has seen, for a pass of the same store in another thread. The memory of a handle is
+ * yours. Start it with BES_PASS_INIT, BES_PREPARED_INIT, BES_PLACE_INIT or BES_WITNESS_INIT, which are zero bytes. Never copy it and
+ * never change its fields: bes_move, bes_move_prepared, bes_move_place and bes_move_witness move it. Close it with bes_close,
+ * bes_release, bes_leave or bes_dismiss. The store is freed with its last open pass.
  *
  * THREADS. Give each thread a pass of its own. Calls on different passes run at the same time, and none waits for another. A pass,
- * a prepared query and a place take one call at a time. You may hand each to another thread if that thread's calls come after
- * yours (a join, a lock, a started thread). Call nothing here from a signal handler. No call is a cancellation point: a thread that
- * is cancelled in the deferred way, as threads are by default, ends between two calls. Close its pass in a cleanup handler. A
+ * a prepared query, a place and a witness take one call at a time. You may hand each to another thread if that thread's calls come
+ * after yours (a join, a lock, a started thread). Call nothing here from a signal handler. No call is a cancellation point: a thread
+ * that is cancelled in the deferred way, as threads are by default, ends between two calls. Close its pass in a cleanup handler. A
  * thread that ends inside a call, by asynchronous cancellation or a longjmp, leaves a handle that may not be used again. Its pin
  * stays for good. If it was writing, each later write to the store returns BES_BUSY.
  *
  * FORK. A forked child has a copy of the store, and what it writes there nobody else sees. If another thread was in a call at the
  * fork, the copy may be locked or half written. So a child calls nothing here with a handle that its parent opened. It clears each
- * by bes_forget, bes_forget_prepared or bes_forget_place, which free nothing, and may then open a store of its own.
+ * by bes_forget, bes_forget_prepared, bes_forget_place or bes_forget_witness, which free nothing, and may then open a store of its
+ * own.
  *
  * ERRORS. Each call returns BES_OK or the number of an error. A call's comment lists its errors in the order in which the call
  * looks for them; if two hold, the first is returned. After an error the store, the handles and your memory are as they were, if
@@ -70,6 +72,14 @@ typedef struct bes_place {
 } bes_place;
 
 #define BES_PLACE_INIT { false, NULL }
+
+/* Both fields are the library's. */
+typedef struct bes_witness {
+    bool live;
+    void *at;
+} bes_witness;
+
+#define BES_WITNESS_INIT { false, NULL }
 
 /* What calls return. */
 enum {
@@ -264,6 +274,31 @@ uint32_t bes_number(bes_pass *pass, uint64_t *number);
  * BES_CLOSED, BES_NO_PASS (none was given back, or another thread is at it).
  * Cost: three steps, and a look at each pass. */
 uint32_t bes_meet(bes_pass *pass, uint64_t *seen);
+
+/* Opens a witness of all transactions that the pass has seen so far, its own among them. Hand it to another thread, whose pass joins
+ * it. Needs no pin. A witness holds no part of the store and keeps no page.
+ * [out] witness  a closed handle, which is opened
+ * BES_CLOSED (of pass), BES_OPEN (of witness), BES_NO_MEMORY.
+ * Cost: one step, and some memory until bes_dismiss. */
+uint32_t bes_witness_of(bes_pass *pass, bes_witness *witness);
+
+/* Joins a witness, pinned or not: the pass and the witness have then both seen what either had. So each later snapshot of the pass
+ * includes all that the witness's pass had seen, and each later commit number of the pass is greater than those. A pin stays where it
+ * is. The witness stays open: it may be handed on, and joined again.
+ * [in,out] witness  a witness of a pass of the same store. The library can't test that: with one of another store the behaviour is
+ *                undefined.
+ * [out] seen     how many transactions both have now seen
+ * BES_CLOSED (of pass, then of witness).
+ * Cost: three steps. */
+uint32_t bes_join(bes_pass *pass, bes_witness *witness, uint64_t *seen);
+
+/* Closes the witness and frees its memory. BES_CLOSED. */
+uint32_t bes_dismiss(bes_witness *witness);
+
+/* Moves a witness into other, and closes its handle.
+ * [out] other    a closed handle, which is opened
+ * BES_CLOSED (of witness), BES_OPEN (of other). */
+uint32_t bes_move_witness(bes_witness *witness, bes_witness *other);
 
 /* Pins the current snapshot.
  * [out] number   the snapshot's number: how many transactions it includes

@@ -11,7 +11,7 @@
 //
 // What bestore.h says of each call holds here too: its errors, its cost, threads. A call that returns an error there throws a Refusal
 // here, which has the number that goes with the error. Nothing has changed then.
-// Store, Pass, Pin, State, Prepared and Live can be moved and not copied. A Pin has to go before its pass, and a State before its Pin;
+// Store, Pass, Pin, State, Prepared, Live and Witness can be moved and not copied. A Pin has to go before its pass, and a State before its Pin;
 // the pass may be moved meanwhile. Each thread has a Pass of its own, and an object takes one call at a time.
 // In a forked child the objects of the parent are dead: their calls throw BES_CLOSED, and their ends do nothing.
 #ifndef BESTORE_HPP
@@ -20,6 +20,7 @@
 #include "bestore_snapshot.hpp"
 
 #include <map>
+#include <stdexcept>
 
 namespace bestore {
 
@@ -191,7 +192,7 @@ public:
     // handed out by each.
     Pass another()
     {
-        Pass other;
+        Pass other(store_);
         detail::check(bes_another(handle(), other.handle()));
         return other;
     }
@@ -201,6 +202,26 @@ public:
     {
         std::uint64_t seen = 0;
         detail::check(bes_meet(handle(), &seen));
+        return seen;
+    }
+
+    // A witness of all transactions that the pass has seen so far, its own among them. Move it to another thread, whose pass joins it.
+    Witness witness()
+    {
+        Witness witness(store_);
+        detail::check(bes_witness_of(handle(), witness.handle()));
+        return witness;
+    }
+
+    // Joins a witness: the pass and the witness have then both seen what either had. So each later snapshot of the pass includes all that
+    // the witness's pass had seen, and each later commit number of the pass is greater than those. Returns how many transactions both
+    // have seen. Throws std::invalid_argument if the witness is of another store.
+    std::uint64_t join(Witness &witness)
+    {
+        std::uint64_t seen = 0;
+        if (witness.store_ != store_)
+            throw std::invalid_argument("the witness is of another store");
+        detail::check(bes_join(handle(), witness.handle(), &seen));
         return seen;
     }
 
@@ -310,7 +331,7 @@ public:
     void close() noexcept { handle_.reset(); }
 
 protected:
-    Pass() = default;
+    explicit Pass(std::uint64_t store) : store_(store) {}
 
     bes_pass *handle() const { return handle_.get(); }
 
@@ -353,7 +374,15 @@ private:
     }
 
     detail::Handle<bes_pass, bes_close> handle_;
+    std::uint64_t store_; // which store it is of
 };
+
+namespace detail {
+
+// How many stores this process has made.
+inline std::atomic<std::uint64_t> stores{0};
+
+} // namespace detail
 
 // How large a store may grow.
 struct Limits {
@@ -365,7 +394,7 @@ struct Limits {
 // A new store, as its first pass. The store goes with its last pass.
 class Store : public Pass {
 public:
-    explicit Store(const Limits &limits = {})
+    explicit Store(const Limits &limits = {}) : Pass(detail::stores++)
     {
         detail::check(bes_open(limits.pages, limits.passes, limits.commits, handle()));
     }

@@ -80,6 +80,13 @@ static inline void bes_forget_place(bes_place *place)
     place->at = NULL;
 }
 
+/* As bes_forget, for a witness. */
+static inline void bes_forget_witness(bes_witness *witness)
+{
+    witness->live = false;
+    witness->at = NULL;
+}
+
 /* A batch with room for 64 operations of any kind. It starts cleared: by BES_BATCH_INIT, which sets all its 23 KB to zero, or by
  * bes_batch_clear, which sets two words. Fill it by the helpers below, apply it, and clear it for the next one.
  * BES_BAD_COUNT: the batch has 64 operations. BES_NAME_LENGTH, BES_DATA_LENGTH: the name has more than 63 bytes, the value more

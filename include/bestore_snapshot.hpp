@@ -169,6 +169,19 @@ private:
     detail::Handle<bes_prepared, bes_release> handle_;
 };
 
+// What a pass has seen of its store, for a pass of the same store in another thread: Pass::witness makes one, and Pass::join joins it.
+class Witness {
+private:
+    friend class Pass;
+
+    explicit Witness(std::uint64_t store) : store_(store) {}
+
+    bes_witness *handle() const { return handle_.get(); }
+
+    detail::Handle<bes_witness, bes_dismiss> handle_;
+    std::uint64_t store_; // as that of a pass
+};
+
 // Which nodes came into the result of a live query and which went, each ascending.
 struct Updates {
     std::vector<Node> created;

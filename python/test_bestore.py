@@ -2,6 +2,7 @@
 
 import gc
 import os
+import queue
 import subprocess
 import sys
 import threading
@@ -226,6 +227,47 @@ class Passes(unittest.TestCase):
             with other.another() as third:
                 third.new_node()
                 self.assertTrue(store.journal().endswith("2 by 0 new -> node 1\n"), store.journal())
+
+
+    def test_witness(self):
+        told, heard = queue.Queue(), []
+
+        def write(user):
+            for _ in range(100):
+                user.new_node()
+                told.put((user.committed, user.witness()))
+            told.put(None)
+
+        with bestore.open(512, 2, 1000) as store, store.another() as other:
+            thread = threading.Thread(target=write, args=[other])
+            thread.start()
+            for number, witness in iter(told.get, None):
+                with witness:
+                    self.assertGreaterEqual(store.join(witness), number)
+                with store.pin() as version:
+                    heard.append(version.number - number)
+                store.new_node()
+                heard.append(store.committed - number - 1)
+            thread.join()
+            self.assertEqual((len(heard), min(heard) >= 0), (200, True))
+
+    def test_witness_is_of_one_store(self):
+        with bestore.open(64, 2, 100) as store, bestore.open(64, 1, 100) as next_store:
+            with store.another() as other:
+                other.new_node()
+                witness = other.witness()
+            self.assertEqual((store.join(witness), store.join(witness)), (1, 1))
+            self.assertRaises(bestore.OtherStore, next_store.join, witness)
+            with bestore.open_shelf(1, 64, 1, 100) as shelf:
+                self.assertRaises(bestore.OtherStore, next_store.join, shelf.witness())
+            self.assertRaises(TypeError, store.join, store)
+        self.assertRaises(bestore.Closed, store.witness)
+        self.assertRaises(bestore.Closed, store.join, witness)
+        witness.close()
+        witness.close()
+        with bestore.open(64, 1, 100) as store, store.witness() as witness:
+            witness.close()
+            self.assertRaises(bestore.Closed, store.join, witness)
 
 
 class WrongUse(unittest.TestCase):

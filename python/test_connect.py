@@ -34,6 +34,8 @@ UNFIT = {
     "test_limits": "the limits are the server's",
     "test_closed_is_given_again": "it meets a pass",
     "test_numbers": "it meets a pass",
+    "test_witness": "it makes witnesses",
+    "test_witness_is_of_one_store": "it makes witnesses",
     "test_long": "each attribute is a round trip",
     "test_many_names": "each attribute is a round trip",
     "test_gone_beside_a_call": "it makes calls of the library",
@@ -156,7 +158,10 @@ class Connecting(WithServer):
         watch.close()
 
     def test_not_through_a_server(self):
-        for call, error in [(self.store.meet, bestore.Unavailable), (self.store.flush, bestore.NotKept)]:
+        for call, error in [
+            (self.store.meet, bestore.Unavailable), (self.store.witness, bestore.Unavailable),
+            (lambda: self.store.join(None), bestore.Unavailable), (self.store.flush, bestore.NotKept),
+        ]:
             with self.assertRaises(error) as fault:
                 call()
             self.assertEqual(fault.exception.path, self.server.path)

@@ -38,10 +38,12 @@ class Forks(unittest.TestCase):
         with bestore.open(64, 2, 100) as store, bestore.prepare("k==1") as query:
             store.make_index("k", bestore.INT64)
             version = store.pin()
+            witness = store.witness()
 
             def work():
                 for use in (
-                    store.new_node, store.another, store.pin, store.status, store.journal, store.meet, lambda: store.number,
+                    store.new_node, store.another, store.pin, store.status, store.journal, store.meet, store.witness,
+                    lambda: store.join(witness), lambda: store.number,
                     lambda: version.query("k==1"), lambda: version.get(1, "k"), lambda: version.query_prepared(query),
                     lambda: query.text, lambda: version.refresh(query), lambda: version.count(query),
                     lambda: store.change(lambda change: change.new()),
@@ -49,7 +51,7 @@ class Forks(unittest.TestCase):
                 ):
                     with self.assertRaises(bestore.Forked):
                         use()
-                with store, query, version:
+                with store, query, version, witness:
                     pass
             self.in_child(work)
             self.assertEqual((version.query("k==1"), store.status().oldest), ([], (1, store.number)))
@@ -59,14 +61,14 @@ class Forks(unittest.TestCase):
     def test_destructors_do_nothing(self):
         with bestore.open(64, 3, 100) as store:
             kept = [store.another(), bestore.prepare("k==1")]
-            kept.append(kept[0].pin())
+            kept += [kept[0].pin(), kept[0].witness()]
 
             def work():
                 kept.clear()
                 gc.collect()
             self.in_child(work)
             kept[0].new_node()
-            self.assertEqual((kept[2].nodes(), kept[0].status().entries), ([], 1))
+            self.assertEqual((kept[2].nodes(), kept[0].status().entries, kept[0].join(kept[3])), ([], 1, 1))
 
     def test_lock_of_a_thread_that_is_not_there(self):
         """A thread of the parent is in a call as the child is forked. The child doesn't wait for it."""

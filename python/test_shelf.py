@@ -275,6 +275,19 @@ class LocalWrites(InProcess, Writes, unittest.TestCase):
             self.assertEqual((alone.volumes, alone.apply(bestore.Batch().new_node(), volume=0)[1]), (1, [1]))
             self.assertEqual((alone.reach(1, 0), alone.statuses()), ((1,), [alone.status()]))
 
+    def test_witness(self):
+        store = self.shelf(2, passes=2)
+        with store.another() as other:
+            for volume in 0, 0, 1:
+                other.apply(bestore.Batch().new_node(), volume=volume)
+            witness = other.witness()
+        with witness:
+            self.assertEqual(store.join(witness), 3)
+            for another in self.shelf(2), self.shelf(1), store.volume(1):
+                self.assertRaises(bestore.OtherStore, another.join, witness)
+            self.assertRaises(bestore.OtherStore, store.join, store.volume(0).witness())
+        self.assertRaises(bestore.Closed, store.join, witness)
+
     def test_fork(self):
         store = self.indexed(2)
         child = os.fork()

@@ -184,6 +184,14 @@ FIELD(bes_cell, number, 8, uint64_t)
 FIELD(bes_cell, offset, 16, uint64_t)
 FIELD(bes_cell, length, 24, uint64_t)
 
+SIZE(bes_witness, 16)
+FIELD(bes_witness, live, 0, bool)
+FIELD(bes_witness, at, 8, void *)
+CALL(bes_witness_of, bes_pass *, bes_witness *)
+CALL(bes_join, bes_pass *, bes_witness *, uint64_t *)
+CALL(bes_dismiss, bes_witness *)
+CALL(bes_move_witness, bes_witness *, bes_witness *)
+
 int main(void)
 {
     return 0;

@@ -37,7 +37,7 @@ from .errors import (
     BadBytes, BadCount, BadItems, BadLimits, BadPart, BadPattern, Busy, Closed, CommitsSpent, Conflict, DataLength,
     Error, ErrorNumber, Forked, Full, HasNul, IndexExists, NameLength, Nested, NoAttribute, NoIndex, NoItem, NoKind,
     NoMemory, NoNode, NoOperation, NoPass, NotCovered, NotIndexable, NotPinned, NotReached, NotUTF8, NoValue, NoVolume, Opened,
-    OtherVolume, PartialIndex, Pinned, QueryError, QueryNotUTF8, QuerySyntax, Refusal, TooDeep, TooLong, TooMany, TooManyAttempts, TooManyAttributes,
+    OtherStore, OtherVolume, PartialIndex, Pinned, QueryError, QueryNotUTF8, QuerySyntax, Refusal, TooDeep, TooLong, TooMany, TooManyAttempts, TooManyAttributes,
     TooManyIndices, WrongKind,
 )
 from .language import Comparison, Hint, any_case, escape
@@ -49,7 +49,7 @@ from .operations import (
 from .queries import Item, Name, Operator, Prepared, prepare, prepare_items
 from .shelf import Shelf, ShelfVersion
 from .shelf import open as open_shelf
-from .store import Entry, Held, Pass, Status
+from .store import Entry, Held, Pass, Status, Witness
 from .values import Int32, Int64, Integer, Kind, Typed, UInt32, UInt64, Value
 from .versions import Attributes, Version
 
@@ -63,11 +63,12 @@ __all__ = [
     "Hint", "INT32", "INT64", "IndexExists", "Int32", "Int64", "Integer", "Item", "Kind", "LineTooLong", "MIME",
     "MOST_OPERATIONS", "MakeIndex", "Name", "NameLength", "Nested", "NewNode", "NoAttribute", "NoIndex", "NoItem",
     "NoKind", "NoMemory", "NoNode", "NoOperation", "NoPass", "NoServer", "NoValue", "NoVolume", "NoWatch", "NotAllowed",
-    "NotCovered", "NotIndexable", "NotKept", "NotPinned", "NotReached", "NotUTF8", "Opened", "Operation", "Operator", "OtherVolume",
+    "NotCovered", "NotIndexable", "NotKept", "NotPinned", "NotReached", "NotUTF8", "Opened", "Operation", "Operator", "OtherStore",
+    "OtherVolume",
     "PartialIndex", "Pass", "Pinned", "Prepared", "ProtocolError", "QueryError", "QueryNotUTF8", "QuerySyntax", "RAW",
     "Refusal", "RemoveIndex", "RemoveNode", "STRING", "ServerError", "ServerRefusal", "SetAttribute", "Shelf",
     "ShelfVersion", "Status", "TimedOut", "TooDeep", "TooLong", "TooMany", "TooManyAttempts", "TooManyAttributes",
     "TooManyIndices", "TooManyWatches", "Typed", "UINT32", "UINT64", "UInt32", "UInt64", "Unavailable",
-    "UnsetAttribute", "Value", "Version", "WrongKind", "any_case", "connect", "escape", "node_in", "number_of", "open",
+    "UnsetAttribute", "Value", "Version", "Witness", "WrongKind", "any_case", "connect", "escape", "node_in", "number_of", "open",
     "open_shelf", "prepare", "prepare_items", "volume_of",
 ]

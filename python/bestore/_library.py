@@ -22,7 +22,7 @@ VERSION = "0.2.0"
 
 
 class Handle(ctypes.Structure):
-    """A bes_pass, a bes_prepared or a bes_place, which are alike."""
+    """A bes_pass, a bes_prepared, a bes_place or a bes_witness, which are alike."""
 
     _fields_ = [("live", ctypes.c_bool), ("at", ctypes.c_void_p)]
 
@@ -107,6 +107,9 @@ def _arguments() -> dict[str, List[Any]]:
         "bes_another": [handle, handle],
         "bes_close": [handle],
         "bes_meet": [handle, words],
+        "bes_witness_of": [handle, handle],
+        "bes_join": [handle, handle, words],
+        "bes_dismiss": [handle],
         "bes_number": [handle, words],
         "bes_pin": [handle, words],
         "bes_unpin": [handle],

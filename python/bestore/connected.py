@@ -43,7 +43,7 @@ from .local import refreshed
 from .nodes import within
 from .operations import MOST_OPERATIONS, NEW, Batch
 from .queries import Prepared, prepare_items
-from .store import TRIES, Entry, Held, Status, ThreadPass
+from .store import TRIES, Entry, Held, Status, ThreadPass, Witness
 from .values import RANGES, Kind, Typed, plain
 from .versions import Query, Row, Version, not_covered
 
@@ -415,6 +415,16 @@ class ConnectedPass(LockOwner, ThreadPass):
         """`Unavailable`: a pass of a server has seen what its replies have."""
         self._check_process()
         raise Unavailable(self.path, "meet")
+
+    def witness(self) -> Witness:
+        """`Unavailable`: a pass of a server has seen what its replies have."""
+        self._check_process()
+        raise Unavailable(self.path, "witness")
+
+    def join(self, witness: Witness) -> int:
+        """`Unavailable`, as `witness`. `reach` waits for a commit number."""
+        self._check_process()
+        raise Unavailable(self.path, "join")
 
     def pin(self) -> ConnectedVersion:
         return ConnectedVersion(self)

@@ -138,6 +138,13 @@ class PartialIndex(Error, ValueError):
         return f"an index is made in all volumes, in a batch of its own (operation {self.operation}, counted from 0)"
 
 
+class OtherStore(Error):
+    """The witness is of a pass of another store."""
+
+    def __str__(self) -> str:
+        return "the witness is of another store"
+
+
 class NotReached(Error):
     """The journals were shorter than expected at the end of the time."""
 

@@ -14,7 +14,7 @@ from .errors import Forked
 
 _Self = TypeVar("_Self", bound="Owner")
 
-PASS, PREPARED, CURSOR = 1, 2, 3
+PASS, PREPARED, CURSOR, WITNESS = 1, 2, 3, 4
 """What a handle of the library is of."""
 
 

@@ -9,11 +9,11 @@ from typing import Any, Callable, Dict, Iterator, List, Optional, Set, Tuple, Ty
 
 from . import _native
 from ._library import Usage, calls, check
-from .errors import BadLimits, ErrorNumber, NotCovered, NoVolume, Refusal, encoded_query, refusal
-from .handles import CURSOR, PASS, HandleOwner
+from .errors import BadLimits, ErrorNumber, NotCovered, NoVolume, OtherStore, Refusal, encoded_query, refusal
+from .handles import CURSOR, PASS, WITNESS, HandleOwner
 from .operations import Batch
 from .queries import Prepared, encode_items
-from .store import PAUSES, TRIES, Entry, Held, Pass, StandingBack, Status
+from .store import PAUSES, TRIES, Entry, Held, Pass, StandingBack, Status, Witness
 from .values import RANGES, Kind, Typed, Value
 from .versions import Query, Version
 
@@ -139,11 +139,29 @@ def refreshed(prepared: Prepared, version: Version) -> Tuple[List[int], List[int
     return sorted(found - seen), sorted(seen - found)
 
 
+class LocalWitness(HandleOwner, Witness):
+    """A witness of a pass of a store in this process."""
+
+    def __init__(self, store: object) -> None:
+        super().__init__(WITNESS)
+        self._store = store
+
+    def close(self) -> None:
+        self._give_up(calls.bes_dismiss)
+
+
 class LocalPass(HandleOwner, Pass):
     """A pass of a store in this process."""
 
+    _store: object  # the same for all passes of one store
+
     def __init__(self) -> None:
         super().__init__(PASS)
+
+    def _open_by(self, user: LocalPass) -> None:
+        """Opens the handle as another pass of the store of `user`."""
+        check(user._call(calls.bes_another, self._pointer))
+        self._store = user._store
 
     def _tried(self, tries: int, call: Callable[..., int], *arguments: Any) -> int:
         """Makes a call, up to so many times while another pass is writing, and once at least."""
@@ -216,7 +234,7 @@ class LocalPass(HandleOwner, Pass):
 
     def another(self) -> LocalPass:
         other = LocalPass()
-        check(self._call(calls.bes_another, other._pointer))
+        other._open_by(self)
         return other
 
     def close(self) -> None:
@@ -225,6 +243,20 @@ class LocalPass(HandleOwner, Pass):
     def meet(self) -> int:
         seen = ctypes.c_uint64()
         check(self._call(calls.bes_meet, ctypes.byref(seen)))
+        return seen.value
+
+    def witness(self) -> LocalWitness:
+        witness = LocalWitness(self._store)
+        check(self._call(calls.bes_witness_of, witness._pointer))
+        return witness
+
+    def join(self, witness: Witness) -> int:
+        if not isinstance(witness, Witness):
+            raise TypeError(f"{witness!r} is no witness")
+        if not isinstance(witness, LocalWitness) or witness._store is not self._store:
+            raise OtherStore()
+        seen = ctypes.c_uint64()
+        check(witness._call(lambda pointer: self._call(calls.bes_join, pointer, ctypes.byref(seen))))
         return seen.value
 
     def pin(self) -> LocalVersion:
@@ -268,4 +300,5 @@ def open(pages: int = 4096, passes: int = 8, commits: int = 2**32 - 1) -> LocalP
         raise BadLimits()
     user = LocalPass()
     check(calls.bes_open(pages, passes, commits, user._pointer))
+    user._store = object()
     return user

@@ -32,7 +32,7 @@ from typing import Any, Dict, List, Optional, Sequence, Tuple, Type, Union
 
 from . import local as _local
 from . import shelf as _shelf
-from ._library import calls, check
+from ._library import check
 from ._saved_errors import (
     Differs, DiskFull, Fewer, Foreign, Held, Newer, NoFile, NotSaved, SavedError, SqliteError, Stopped, TooLarge, refused)
 from ._saved_file import File, Row
@@ -242,7 +242,7 @@ class SavedPass(_local.LocalPass):
     def another(self) -> SavedPass:
         """A pass of the same store for another thread, by any pass and in any thread. `NoPass` if there is none."""
         other = SavedPass(self._saver, self._first)
-        check(self._saver.own._call(calls.bes_another, other._pointer))
+        other._open_by(self._saver.own)
         return other
 
     def flush(self) -> None:
@@ -268,7 +268,7 @@ class Saved(SavedPass):
 
     def __init__(self, saver: _Saver) -> None:
         super().__init__(saver)
-        check(saver.own._call(calls.bes_another, self._pointer))
+        self._open_by(saver.own)
 
     def another(self) -> SavedPass:
         other = super().another()

@@ -27,19 +27,19 @@ from types import TracebackType
 from typing import Callable, Dict, Iterable, Iterator, List, Optional, Sequence, Tuple, Type, TypeVar, Union
 
 from . import local as _local
-from .errors import BadCount, BadLimits, IndexExists, NoIndex, NoNode, NotCovered, NoVolume, PartialIndex, Refusal
+from .errors import BadCount, BadLimits, IndexExists, NoIndex, NoNode, NotCovered, NoVolume, OtherStore, PartialIndex, Refusal
 from .local import refreshed
 from .nodes import MOST_VOLUMES, NUMBERS, indices_in, node_in, number_of, of_volume, volume_of, within
 from .operations import MOST_OPERATIONS, Batch, MakeIndex, Operation
 from .queries import Prepared
-from .store import TRIES, Entry, Pass, Status, ThreadPass
+from .store import TRIES, Entry, Pass, Status, ThreadPass, Witness
 from .values import Kind, Typed, Value
 from .versions import Query, Version
 
 __all__ = ["MOST_VOLUMES", "Shelf", "ShelfVersion", "node_in", "number_of", "open", "volume_of"]
 
 _Result = TypeVar("_Result")
-_Taken = TypeVar("_Taken", bound=Union[Pass, Version])
+_Taken = TypeVar("_Taken", bound=Union[Pass, Version, Witness])
 
 
 class ShelfVersion(Version):
@@ -181,6 +181,20 @@ def _in_volume(volume: int, numbers: List[int]) -> List[int]:
     return [before + number for number in numbers] if before else numbers
 
 
+class ShelfWitness(Witness):
+    """A witness of a pass of each volume."""
+
+    def __init__(self, witnesses: List[Witness]) -> None:
+        self._witnesses = witnesses
+
+    def close(self) -> None:
+        for witness in self._witnesses:
+            witness.close()
+
+    def __del__(self) -> None:
+        """Each witness ends with what names it."""
+
+
 class Shelf(ThreadPass):
     """A pass of a store that has several volumes: a pass of each. It may be made of passes that are open, and then owns them."""
 
@@ -235,6 +249,17 @@ class Shelf(ThreadPass):
     def meet(self) -> int:
         """Meets a pass that was closed, of each volume. Returns how many entries both have seen together."""
         return sum(user.meet() for user in self._passes)
+
+    def witness(self) -> ShelfWitness:
+        return ShelfWitness(taken(user.witness for user in self._passes))
+
+    def join(self, witness: Witness) -> int:
+        """Joins a witness of the shelf, volume by volume. Returns how many entries both have seen together."""
+        if not isinstance(witness, Witness):
+            raise TypeError(f"{witness!r} is no witness")
+        if not isinstance(witness, ShelfWitness) or len(witness._witnesses) != len(self._passes):
+            raise OtherStore()
+        return sum(user.join(it) for user, it in zip(self._passes, witness._witnesses))
 
     def pin(self) -> ShelfVersion:
         return ShelfVersion(self, taken(user.pin for user in self._passes))

@@ -83,6 +83,15 @@ class StandingBack:
         self.wait(random.randint(1, self._turns))
 
 
+class Witness(Owner, ABC):
+    """What a pass has seen of its store, for a pass of the same store in another thread: `Pass.witness` makes one, and `Pass.join`
+    joins it. It holds no part of the store."""
+
+    @abstractmethod
+    def close(self) -> None:
+        """Closes the witness, if it is open."""
+
+
 class Pass(Owner, ABC):
     """A session: one thread's handle on the store. `open` makes the first one of a store in this process, and `connect` one
     of a server's store; `another` makes the others.
@@ -123,6 +132,17 @@ class Pass(Owner, ABC):
     def meet(self) -> int:
         """Meets a pass that was closed: both have then seen what either had. Returns how many entries of the journal
         that is. `NoPass` if none is there, or another thread is at it."""
+
+    @abstractmethod
+    def witness(self) -> Witness:
+        """A witness of all entries of the journal that the pass has seen so far, its own among them. Hand it to another thread,
+        whose pass joins it. `NoMemory`."""
+
+    @abstractmethod
+    def join(self, witness: Witness) -> int:
+        """Joins a witness: the pass and the witness have then both seen what either had. So each later version of the pass
+        includes all that the witness's pass had seen, and each later commit number of the pass is greater than those. Returns how
+        many entries of the journal both have seen. `OtherStore` if the witness is of a pass of another store."""
 
     @abstractmethod
     def pin(self) -> Version:

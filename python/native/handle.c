@@ -122,7 +122,7 @@ void leave(Handle *handle)
 /* The handle that an object is, if it is of this sort. */
 Handle *handle_of(PyObject *object, enum Sort sort)
 {
-    static const char *const names[] = { "handle", "pass", "prepared query", "cursor" };
+    static const char *const names[] = { "handle", "pass", "prepared query", "cursor", "witness" };
     if (PyObject_TypeCheck(object, handle_type) && ((Handle *)object)->sort == sort)
         return (Handle *)object;
     PyErr_Format(PyExc_TypeError, "%R is no %s", object, names[sort]);
@@ -193,8 +193,8 @@ static int handle_init(PyObject *self, PyObject *arguments, PyObject *names)
     int sort;
     if (!PyArg_ParseTupleAndKeywords(arguments, names, "i:Handle", parameters, &sort))
         return -1;
-    if (sort < OF_PASS || sort > OF_CURSOR || (handle->sort != NO_SORT && (int)handle->sort != sort)) {
-        PyErr_SetString(PyExc_ValueError, "a handle is a pass, a prepared query or a cursor, and stays that");
+    if (sort < OF_PASS || sort > OF_WITNESS || (handle->sort != NO_SORT && (int)handle->sort != sort)) {
+        PyErr_SetString(PyExc_ValueError, "a handle is a pass, a prepared query, a cursor or a witness, and stays that");
         return -1;
     }
     handle->sort = (enum Sort)sort;
@@ -212,6 +212,8 @@ static void end_handle(Handle *handle)
         library.release(&handle->held.prepared);
     else if (handle->sort == OF_CURSOR)
         library.leave(&handle->held.place);
+    else if (handle->sort == OF_WITNESS)
+        library.dismiss(&handle->held.witness);
 }
 
 static void handle_dealloc(PyObject *self)

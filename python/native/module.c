@@ -15,8 +15,8 @@ typedef struct Named {
 #define CALL(field) { "bes_" #field, offsetof(Library, field) }
 
 static const Named calls[] = {
-    CALL(pin), CALL(unpin), CALL(close), CALL(release), CALL(leave), CALL(next), CALL(apply), CALL(apply_if), CALL(query),
-    CALL(query_items), CALL(query_prepared), CALL(found), CALL(refresh), CALL(changes), CALL(nodes), CALL(get), CALL(check_name),
+    CALL(pin), CALL(unpin), CALL(close), CALL(release), CALL(leave), CALL(dismiss), CALL(next), CALL(apply), CALL(apply_if),
+    CALL(query), CALL(query_items), CALL(query_prepared), CALL(found), CALL(refresh), CALL(changes), CALL(nodes), CALL(get), CALL(check_name),
     CALL(columns), CALL(attributes), CALL(indices), CALL(state), CALL(journal_from),
 };
 

@@ -27,6 +27,7 @@ typedef struct Library {
     uint32_t (*close)(bes_pass *);
     uint32_t (*release)(bes_prepared *);
     uint32_t (*leave)(bes_place *);
+    uint32_t (*dismiss)(bes_witness *);
     uint32_t (*next)(bes_pass *, uint64_t *);
     uint32_t (*apply)(bes_pass *, const bes_operation *, size_t, const uint8_t *, size_t, uint64_t *, size_t, uint64_t *);
     uint32_t (*apply_if)(
@@ -68,7 +69,7 @@ extern Known known;
 typedef struct Waiter Waiter;
 
 /* What a handle is of. */
-enum Sort { NO_SORT, OF_PASS, OF_PREPARED, OF_CURSOR };
+enum Sort { NO_SORT, OF_PASS, OF_PREPARED, OF_CURSOR, OF_WITNESS };
 
 /* A handle of the library, with what guards it: one thread at a time is at it, which may come in again. */
 typedef struct Handle {
@@ -77,6 +78,7 @@ typedef struct Handle {
         bes_pass pass;
         bes_prepared prepared;
         bes_place place;
+        bes_witness witness;
     } held;
     enum Sort sort;
     unsigned long forks; /* how many forks there were when it was made */

@@ -1,5 +1,5 @@
--- The reclamation machine: versions of a set of pages, a writer that takes and retires pages, and
--- passes that pin versions.
+-- The reclamation machine: versions of a set of pages, one writer, and passes that pin versions.
+-- The writer takes and retires pages.
 use Rattle.std.specs.Prelude.{◌≡◌, ◌≢◌, ℕ, suc, ◌+◌, ◌<◌, ◌≤◌, min, Bool, true, false, not, ◌&&◌}
 use Rattle.std.specs.Prelude.{◌||◌, ◌==◌, nat_lt, if◌then◌else◌, ◌⊎◌, List, [], ◌∷◌, AllPairs, All}
 use Rattle.std.specs.Prelude.{Option, Some, None, is_some, IsTrue, IsFalse, ⊤}
@@ -10,8 +10,8 @@ use Rattle.be_core.specs.declared.event.Event.{Event}
 use Rattle.be_core.specs.declared.event.Event.TheVariants.{Look, Announce, LookAgain, Read, Unpin}
 use Rattle.be_core.specs.declared.event.Event.TheVariants.{Lock, Scan, Fill, Publish, Unlock}
 
--- who holds the lock, how many announcements its scan has read, the least so far, and whether it
--- has published
+-- the holder of the lock, how many announcements its scan has read, the least so far, and whether
+-- it has published
 pub record Holder : Type 0 where
   pub pass : ℕ
   pub scanned : ℕ
@@ -265,7 +265,7 @@ after_return w p = record w { taken = update w.taken p false; free = update w.fr
 
 -- ## Schedules
 
--- what stands in a schedule: an event, or a page of T that goes back to F
+-- one entry of a schedule: an event, or a page of T that goes back to F
 pub data Move : Type 0 where
   happens : Event → Move
   returns : ℕ → Move

@@ -1,4 +1,4 @@
--- The state of the machine that a `State` shows, and what a step of it answers.
+-- The state of the machine that a `State` shows, and what a step of it returns.
 use Rattle.std.specs.Prelude.{◌≡◌, ℕ, Bool, true, false, Option, Some, None, slice_get, slice_index}
 use Rattle.std.specs.Prelude.{slice_index_or, vec_len, Vec, []}
 use Rattle.std.specs.declared.alloc.Global.{Global}
@@ -49,8 +49,8 @@ shown s image =
       phases = λ k. slice_index_or s.phases.items k Idle;
     }
 
--- The answer says whether the event may happen. If so, the new state shows what it makes of the old
--- one, else nothing changed
+-- The result says whether the event may happen. If so, the new state shows what it makes of the old
+-- one; otherwise nothing changed
 abbrev pub MakesStep : State → (World → Type 0) → (World → World) → Bool → State → Type 0
 MakesStep old may next true new = (image : Images) → may (shown old image)
     × (shown new (next (shown old image)).image ≡ next (shown old image))

@@ -1,5 +1,4 @@
-//! The laws of the machine, one for each event: where it is allowed, it keeps the invariant
-//! `Sound`.
+//! The laws of the machine, one for each event: if it is allowed, it keeps the invariant `Sound`.
 //!
 //! The functions do nothing; to use a law, call its function and take the fact from its contract.
 //! Each speaks of any state of the machine, so a table of words that shows one, without having it,

@@ -1,4 +1,4 @@
-//! A machine that runs: the events of any list are done one by one, and each answers whether it was
+//! A machine that runs: it does any list of events one by one, and returns whether each was
 //! allowed.
 //!
 //! A `State` shows a state of the machine (`shown`). It doesn't keep what the words were at each
@@ -14,8 +14,8 @@ use crate::event::{Event, Phase};
 use be_value::Refusal;
 use std::alloc::{AllocError, Global};
 
-/// Who holds the lock: its pass, how many announcements its scan has read, the least so far, and
-/// whether it has published.
+/// The holder of the lock: its pass, how many announcements its scan has read, the least so far,
+/// and whether it has published.
 #[derive(Clone, Copy)]
 struct Holder {
     pass: u64,
@@ -335,6 +335,8 @@ impl State {
         }
     }
 
+    /// Pass k takes the lock. False, and nothing changes, if there is no such pass or a pass holds
+    /// the lock.
     fn lock(&mut self, k: u64) -> bool
         ensures done { MakesStep self.old (λ w. MayLock w k) (λ w. after_lock w k) result self.new }
         ensures size { page_count self.new ≡ page_count self.old }
@@ -403,7 +405,7 @@ impl State {
         true
     }
 
-    /// The holder, where the pass k may read the announcement of the pass j.
+    /// The holder, if the pass k may read the announcement of the pass j.
     fn scanner(&self, k: u64, j: u64) -> Option<Holder>
         ensures some { IfSome result (λ h. (self.now.holder ≡ Some h)
             × MayScan (shown self.now blank) k j) }
@@ -430,6 +432,9 @@ impl State {
         }
     }
 
+    /// The holder k reads pass j's announcement, as the next one of its scan. After the last pass
+    /// it frees each page that is retired with a number below the least that it found. False, and
+    /// nothing changes, if the step isn't allowed.
     fn scan(&mut self, k: u64, j: u64) -> bool
         ensures done { MakesStep self.old (λ w. MayScan w k j) (λ w. after_scan w j) result
             self.new }
@@ -495,6 +500,8 @@ impl State {
         Ok(row)
     }
 
+    /// The holder k publishes a version: its pages are the current ones without those given, and
+    /// those that k took. False, and nothing changes, if it may not. The only error is OutOfMemory.
     fn publish(&mut self, k: u64, version: u64, given: &[u64]) -> Result<bool, Refusal>
         ensures done { IfOk result (λ done. MakesStep self.old
             (λ w. MayPublish w k version given.now) (λ w. after_publish w given.now) done
@@ -520,7 +527,7 @@ impl State {
         Ok(true)
     }
 
-    /// Does what the event says, and answers whether it was allowed.
+    /// Does what the event says, and returns whether it was allowed.
     fn happen(&mut self, event: &Event) -> Result<bool, Refusal>
         ensures done { IfOk result (λ done. MakesStep self.old (λ w. Allowed w event.now)
             (λ w. after_event w event.now) done self.new) }
@@ -541,9 +548,9 @@ impl State {
             Event::Unlock(k) => Ok(self.unlock(*k)),
         }
     }
-    /// Does what the event says, and answers whether it was allowed. It is not where a page, a
-    /// place in one or a pass is out of range. Refused with `OutOfMemory` alone, which only
-    /// `Publish` may be.
+    /// Does what the event says, and returns whether it was allowed. It isn't allowed if a page, a
+    /// place in one or a pass is out of range. The only error is `OutOfMemory`, which only
+    /// `Publish` may give.
     pub fn step(&mut self, event: &Event) -> Result<bool, Refusal>
         ensures done { IfOk result (λ done. MakesStep self.old (λ w. Allowed w event.now)
             (λ w. after_event w event.now) done self.new) }

@@ -26,7 +26,7 @@ number_bytes n =
 unfoldable pub counted_bytes : List ℕ → List ℕ
 counted_bytes bytes = number_bytes (length bytes) ++ bytes
 
--- the byte before a signed number: its kind's, with 128 more where it is negative
+-- the byte before a signed number: its kind's, with 128 more if it is negative
 abbrev pub sign_byte : ℕ → ℤ → ℕ
 sign_byte kind (pos n) = kind
 sign_byte kind (negsuc n) = kind + 128
@@ -55,7 +55,7 @@ form_of (Unset node name) = 3
 form_of (MkIndex name kind) = 4
 form_of (RmIndex name) = 5
 
--- what an operation has beside its form
+-- what an operation has besides its form
 unfoldable pub op_bytes : Op → List ℕ
 op_bytes New = []
 op_bytes (Drop node) = number_bytes node
@@ -64,27 +64,27 @@ op_bytes (Unset node name) = number_bytes node ++ counted_bytes name
 op_bytes (MkIndex name kind) = counted_bytes name ++ kind_number kind ∷ []
 op_bytes (RmIndex name) = counted_bytes name
 
--- An operation and its answer: the form, with 128 more where the answer is a node, then what the
+-- An operation and its outcome: the form, with 128 more if the outcome is a node, then what the
 -- operation has, and that node.
 unfoldable pub step_bytes : Op → Done → List ℕ
 step_bytes op (Node node) = (form_of op + 128) ∷ (op_bytes op ++ number_bytes node)
 step_bytes op Nothing = form_of op ∷ op_bytes op
 
--- operations and their answers, one after the other
+-- operations and their outcomes, end to end
 unfoldable pub steps_bytes : List Op → List Done → List ℕ
 steps_bytes [] dones = []
 steps_bytes (op ∷ ops) [] = []
 steps_bytes (op ∷ ops) (done ∷ dones) = step_bytes op done ++ steps_bytes ops dones
 
--- the pass, how many operations there are, and they with their answers
+-- the pass, how many operations there are, and the operations with their outcomes
 unfoldable pub entry_bytes : ℕ → List Op → List Done → List ℕ
 entry_bytes by ops dones = number_bytes by ++ (number_bytes (length ops) ++ steps_bytes ops dones)
 
--- the most bytes that an entry of so many operations has
+-- the most bytes that an entry with this many operations has
 abbrev pub most_bytes : ℕ → ℕ
 most_bytes count = 18 + 356 * count
 
--- the node that an operation calls is a number of 64 bits
+-- the node that an operation names is a number of 64 bits
 abbrev pub HasNode : Op → Type 0
 HasNode New = ⊤
 HasNode (Drop node) = node < 2 ^ 64
@@ -97,12 +97,12 @@ HasNode (RmIndex name) = ⊤
 abbrev pub CanBeOp : Op → Type 0
 CanBeOp op = IsOperation op × HasNode op
 
--- an answer of the program
+-- an outcome of the program
 abbrev pub CanBeDone : Done → Type 0
 CanBeDone (Node node) = node < 2 ^ 64
 CanBeDone Nothing = ⊤
 
--- an entry of the program: at most 64 operations, an answer for each, and the number of a pass
+-- an entry of the program: at most 64 operations, an outcome for each, and the number of a pass
 pub record CanBeEntry (by : ℕ) (ops : List Op) (dones : List Done) : Type 0 where
   pub pass : by < 2 ^ 64
   pub few : length ops ≤ 64

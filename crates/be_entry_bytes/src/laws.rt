@@ -7,7 +7,7 @@ ghost use Rattle.be_entry_bytes.specs.Encoding.{entry_bytes, most_bytes, CanBeEn
 ghost use Rattle.be_volume.specs.declared.ops.Done.{Done as AnyDone};
 ghost use Rattle.be_volume.specs.declared.ops.Op.{Op as AnyOp};
 
-/// A law: what is read where an entry was written is that entry, whatever stands behind it.
+/// A law: what is read of an entry that was written is that entry, whatever comes after it.
 pub fn entry_is_read()
     ensures { (by : ℕ) (ops : List AnyOp) (dones : List AnyDone) (rest : List ℕ)
         → CanBeEntry by ops dones →

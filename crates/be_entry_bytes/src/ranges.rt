@@ -1,5 +1,5 @@
-//! What is at hand is such of the program: a contract can't tell of a number or an operation that
-//! it is lent that it is in its type's range. Each function does nothing; its contract says so.
+//! Numbers and operations are in the ranges of their types. A contract can't see this of a number
+//! or an operation that is only borrowed. Each function does nothing; its contract says so.
 ghost use Rattle.std.specs.Prelude.{◌<◌, ◌^◌, All};
 ghost use Rattle.be_entry_bytes.specs.Encoding as spec;
 
@@ -37,7 +37,7 @@ fn done_can_be(done: &Done)
     }
 }
 
-/// Each of the answers is one of the program.
+/// Each of the outcomes is one of the program.
 pub(crate) fn dones_can_be(dones: &[Done])
     ensures { All spec.CanBeDone dones.now }
 {

@@ -1,7 +1,7 @@
 //! Reading an entry from its bytes.
 //!
-//! Each function reads one thing at the front of the bytes and gives it with the bytes behind it,
-//! or None where no such thing stands there.
+//! Each function reads one thing at the front of the bytes and returns it with the bytes after it,
+//! or None if there is no such thing.
 ghost use Rattle.std.specs.Prelude.{◌≡◌, ◌<◌, ◌^◌, ◌++◌, ℕ, List, IfOk, IfSome, negsuc};
 ghost use Rattle.std.specs.Int.{w16, w32, w64};
 ghost use Rattle.std.specs.Option.{option_map};
@@ -91,7 +91,7 @@ fn counted_of(bytes: &[u8]) -> Option<(&[u8], &[u8])>
     Some(rest.split_at(len as usize))
 }
 
-/// The text that the bytes spell, all of them.
+/// The text that the bytes are, all of them.
 fn text_in(bytes: &[u8]) -> Option<&str>
     ensures { option_map (λ x. x.now) result ≡ spec.text_in bytes.now }
 {
@@ -145,7 +145,7 @@ fn kind_of(bytes: &[u8]) -> Option<(Kind, &[u8])>
     Some((kind, rest))
 }
 
-/// The negative number that is so far below -1.
+/// The negative number that is `n` below -1.
 fn negative32(n: u64) -> i32
     requires { n < 2 ^ 31 }
     ensures { result ≡ negsuc n }
@@ -153,7 +153,7 @@ fn negative32(n: u64) -> i32
     (-1 - n as i64) as i32
 }
 
-/// The same of 64 bits.
+/// The same for 64 bits.
 fn negative64(n: u64) -> i64
     requires { n < 2 ^ 63 }
     ensures { result ≡ negsuc n }
@@ -161,6 +161,8 @@ fn negative64(n: u64) -> i64
     -1 - n as i64
 }
 
+/// The number of a value, after the byte of its kind and sign, and the bytes after it. None if no
+/// number has that byte, or if the number is too large for its kind.
 #[tactic(auto, unfolding(crate::specs::Decoding::number_value_at))]
 fn number_value_of(first: u8, rest: &[u8]) -> Option<(Value, &[u8])>
     ensures { option_map (λ x. (x.0, x.1.now)) result ≡ spec.number_value_at first rest.now }
@@ -194,6 +196,7 @@ fn number_value_of(first: u8, rest: &[u8]) -> Option<(Value, &[u8])>
     }
 }
 
+/// The value at the front of the bytes, and the bytes after it; None if there is none.
 #[tactic(auto, unfolding(crate::specs::Decoding::value_at))]
 fn value_of(bytes: &[u8]) -> Option<(Value, &[u8])>
     ensures { option_map (λ x. (x.0, x.1.now)) result ≡ spec.value_at bytes.now }
@@ -244,6 +247,8 @@ fn mkindex_of(bytes: &[u8]) -> Option<(Op, &[u8])>
     Some((Op::MkIndex(name, kind), rest))
 }
 
+/// The operation of this form at the front of the bytes, and the bytes after it; None if there is
+/// none.
 #[tactic(auto, unfolding(crate::specs::Decoding::op_at))]
 fn op_of(form: u8, bytes: &[u8]) -> Option<(Op, &[u8])>
     ensures { option_map (λ x. (x.0, x.1.now)) result ≡ spec.op_at form bytes.now }
@@ -282,8 +287,8 @@ fn answered_of(form: u8, bytes: &[u8]) -> Option<(Op, Done, &[u8])>
     Some((op, Done::Node(node), rest))
 }
 
-/// The operation at the front of the bytes with its answer, and the bytes after them; None if none
-/// is there. It takes no memory, and costs what the operation has.
+/// The operation at the front of the bytes with its outcome, and the bytes after them; None if
+/// there is none. It takes no memory, and costs what the operation has.
 #[tactic(auto, unfolding(crate::specs::Decoding::step_at))]
 pub fn read_step(bytes: &[u8]) -> Option<(Op, Done, &[u8])>
     ensures { option_map (λ x. (x.0, x.1, x.2.now)) result ≡ spec.step_at bytes.now }
@@ -296,8 +301,9 @@ pub fn read_step(bytes: &[u8]) -> Option<(Op, Done, &[u8])>
     }
 }
 
-/// So many operations from the front of the bytes on, the answer to each, and the bytes after them;
-/// None if there are fewer. Memory is taken for the two lists alone, and it costs what they have.
+/// The first `count` operations at the front of the bytes, the outcome of each, and the bytes after
+/// them; None if there are fewer. It takes memory for the two lists alone, and costs what they
+/// have.
 pub fn read_steps(
     alloc: Global,
     count: u64,
@@ -320,8 +326,8 @@ pub fn read_steps(
     Ok(Some((ops, dones, rest)))
 }
 
-/// The front of the entry at the front of the bytes: its pass, how many operations it has, and the
-/// bytes from the first of these on; None if no such numbers are there. It takes no memory, and
+/// The head of the entry at the front of the bytes: its pass, how many operations it has, and the
+/// bytes from the first of these on; None if there are no such numbers. It takes no memory, and
 /// costs a few steps.
 #[tactic(auto, unfolding(crate::specs::Decoding::head_at))]
 pub fn read_head(bytes: &[u8]) -> Option<(u64, u64, &[u8])>
@@ -349,9 +355,9 @@ fn entry_of(
     Ok(Some((by, ops, dones, rest)))
 }
 
-/// The entry at the front of the bytes, its pass, operations and answers, and the bytes behind it;
-/// None where none stands there. What `write_entry` appended is read back, whatever follows it.
-/// Memory is taken for the two lists alone, and it costs what the entry has.
+/// The entry at the front of the bytes, its pass, operations and outcomes, and the bytes after it;
+/// None if there is none. What `write_entry` appended is read back, whatever follows it. It takes
+/// memory for the two lists alone, and costs what the entry has.
 pub fn read_entry(
     alloc: Global,
     bytes: &[u8],
@@ -367,7 +373,7 @@ pub fn read_entry(
     entry_of(alloc, bytes)
 }
 
-/// The bytes behind so many operations with their answers.
+/// The bytes after the first `count` operations with their outcomes.
 fn behind_steps(count: u64, bytes: &[u8]) -> Option<&[u8]>
     ensures { option_map (λ x. x.now) result
         ≡ option_map (λ x. x.2) (spec.steps_at count bytes.now) }
@@ -380,7 +386,7 @@ fn behind_steps(count: u64, bytes: &[u8]) -> Option<&[u8]>
     Some(rest)
 }
 
-/// The bytes behind the entry at their front; None where none stands there. It takes no memory, and
+/// The bytes after the entry at their front; None if there is no entry. It takes no memory, and
 /// costs what the entry has.
 #[tactic(auto, unfolding(crate::specs::Decoding::entry_at))]
 pub fn skip_entry(bytes: &[u8]) -> Option<&[u8]>

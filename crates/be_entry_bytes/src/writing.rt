@@ -20,6 +20,8 @@ fn write_bytes(bytes: &mut Vec<u8>, part: &[u8])
     let _ = bytes.extend_from_slice(part);
 }
 
+/// Appends a number: one byte if it is below 253, and otherwise a byte for its length and 2, 4 or 8
+/// bytes.
 #[tactic(auto, unfolding(crate::specs::Encoding::number_bytes))]
 fn write_number(bytes: &mut Vec<u8>, n: u64)
     requires room { vec_len bytes.old + length (spec.number_bytes n) ≤ vec_capacity bytes.old }
@@ -93,6 +95,7 @@ fn magnitude(n: i64) -> u64
     if n < 0 { (-1 - n) as u64 } else { n as u64 }
 }
 
+/// Appends a value: the byte of its kind, and then its number or its bytes.
 #[tactic(auto, unfolding(crate::specs::Encoding::value_bytes))]
 fn write_value(bytes: &mut Vec<u8>, value: &Value)
     requires room { vec_len bytes.old + length (spec.value_bytes value.now)
@@ -130,7 +133,7 @@ fn form_of(op: &Op) -> u8
     }
 }
 
-/// Appends what an operation has beside its form.
+/// Appends what an operation has besides its form.
 #[tactic(auto, unfolding(crate::specs::Encoding::op_bytes))]
 fn write_op(bytes: &mut Vec<u8>, op: &Op)
     requires room { vec_len bytes.old + length (spec.op_bytes op.now) ≤ vec_capacity bytes.old }
@@ -158,6 +161,7 @@ fn write_op(bytes: &mut Vec<u8>, op: &Op)
     }
 }
 
+/// Appends an operation and its outcome.
 #[tactic(auto, unfolding(crate::specs::Encoding::step_bytes))]
 fn write_step(bytes: &mut Vec<u8>, op: &Op, done: &Done)
     requires room { vec_len bytes.old + length (spec.step_bytes op.now done.now)
@@ -204,7 +208,7 @@ fn write_parts(bytes: &mut Vec<u8>, by: u64, ops: &[Op], dones: &[Done])
     write_steps(bytes, ops, dones);
 }
 
-/// The most bytes that an entry of so many operations has.
+/// The most bytes that an entry with this many operations has.
 pub fn most_bytes(count: usize) -> usize
     requires { count ≤ 64 }
     ensures { result ≡ spec.most_bytes count }
@@ -212,8 +216,8 @@ pub fn most_bytes(count: usize) -> usize
     18 + 356 * count
 }
 
-/// Appends an entry to bytes that have room for the longest one of as many operations. It takes no
-/// memory, and what it appends is read back by `read_entry`. It costs what the entry has.
+/// Appends an entry to bytes that have room for the longest one with as many operations. It takes
+/// no memory, and `read_entry` reads back what it appends. It costs what the entry has.
 pub fn write_entry(bytes: &mut Vec<u8>, by: u64, ops: &[Op], dones: &[Done])
     requires few { length ops.now ≤ 64 }
     requires each { length dones.now ≡ length ops.now }

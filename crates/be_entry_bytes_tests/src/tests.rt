@@ -1,9 +1,9 @@
 //! Entries as bytes, and bytes that are no entry.
 //!
 //! A request is the line of an entry, as a journal's text has it, or `bytes` and bytes as numbers.
-//! Replied are the bytes of the entry that the line tells or that the bytes are. Each entry is
-//! written and read back with a byte behind it, and no front of its bytes is read. Every test
-//! passes with any one request for memory refused.
+//! The reply is the bytes of the entry in the line, or of the entry that the bytes are. Each entry
+//! is written and read back with a byte after it, and no shorter prefix of its bytes is read. Every
+//! test passes if any one request for memory is refused.
 use be_entry_bytes::{most_bytes, read_entry, write_entry};
 use be_journal::Entry;
 use be_journal_text::read_journal;
@@ -22,7 +22,7 @@ fn written(alloc: Global, by: u64, ops: &[Op], dones: &[Done]) -> Result<Vec<u8>
     Ok(bytes)
 }
 
-/// Whether the bytes are read as this entry, with these bytes behind it.
+/// Whether the bytes are read as this entry, with these bytes after it.
 fn is_read(alloc: Global, bytes: &[u8], entry: &Entry, behind: &[u8]) -> Result<bool, AllocError> {
     let Some((by, ops, dones, rest)) = read_entry(alloc, bytes)? else {
         return Ok(false);
@@ -35,7 +35,7 @@ fn is_read(alloc: Global, bytes: &[u8], entry: &Entry, behind: &[u8]) -> Result<
     )
 }
 
-/// Whether no front of the bytes is an entry.
+/// Whether no shorter prefix of the bytes is an entry.
 fn has_no_front(alloc: Global, bytes: &[u8]) -> Result<bool, AllocError> {
     for len in 0..bytes.len() {
         if read_entry(alloc, &bytes[..len])?.is_some() {
@@ -58,7 +58,7 @@ fn numbers(alloc: Global, bytes: &[u8]) -> Result<String, AllocError> {
     Ok(text)
 }
 
-/// The bytes of an entry; `lost` where they aren't read back.
+/// The bytes of an entry; `lost` if they aren't read back.
 fn bytes_of(alloc: Global, entry: &Entry) -> Result<String, Refusal> {
     let mut bytes = written(
         alloc,
@@ -75,7 +75,7 @@ fn bytes_of(alloc: Global, entry: &Entry) -> Result<String, Refusal> {
     Ok(String::from_str(alloc, "lost\n")?)
 }
 
-/// The bytes of the entry that a line tells.
+/// The bytes of the entry in a line.
 fn bytes_told(alloc: Global, line: &str) -> Result<String, Refusal> {
     let text = format!(in alloc; "{line}\n")?;
     let Some(entries) = read_journal(alloc, text.as_bytes())? else {
@@ -97,7 +97,7 @@ fn bytes_in(alloc: Global, text: &str) -> Result<Vec<u8>, AllocError> {
     Ok(bytes)
 }
 
-/// What an entry that is read is written as.
+/// The bytes as which an entry is written after it was read from these bytes.
 fn bytes_again(alloc: Global, text: &str) -> Result<String, Refusal> {
     let bytes = bytes_in(alloc, text)?;
     match read_entry(alloc, &bytes)? {
@@ -118,8 +118,7 @@ impl Answers for Encoder {
     }
 }
 
-/// Small numbers take a byte. A node that is answered takes its own bytes, and any other answer
-/// none.
+/// Small numbers take a byte. A node as an outcome takes its own bytes, and any other outcome none.
 #[test]
 fn entries_have_bytes(rt: HostRuntime) -> Result<(), Fail> {
     let lines = r#"1 by 0 set 1 "size" LONG 5 -> ok => 0 1 2 1 4 115 105 122 101 2 5
@@ -163,8 +162,8 @@ fn values_have_bytes(rt: HostRuntime) -> Result<(), Fail> {
     check_lines(rt.alloc(), &mut Encoder, lines)
 }
 
-/// Bytes that no entry has: another form or kind, a name with a zero byte or that is no UTF-8, a
-/// number that is too large for its kind, and fewer operations than were counted. A number that
+/// Bytes that are no entry: another form or kind, a name with a zero byte or that isn't UTF-8, a
+/// number that is too large for its kind, and fewer operations than the entry says. A number that
 /// takes more bytes than it needs is read all the same.
 #[test]
 fn other_bytes_are_no_entry(rt: HostRuntime) -> Result<(), Fail> {

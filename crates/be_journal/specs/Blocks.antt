@@ -15,45 +15,46 @@ use Rattle.be_journal.specs.declared.entries.Entry.{Entry}
 abbrev pub bytes_of : Entry → List ℕ
 bytes_of entry = entry_bytes entry.by entry.ops entry.dones
 
--- so many entries from the front of bytes on, as far as they stand there
+-- the first `count` entries at the front of the bytes, as far as the bytes have them
 unfoldable pub entries_at : ℕ → List ℕ → List Entry
 entries_at zero bytes = []
 entries_at (suc count) bytes = option_map_or
     (λ x. (record { by = x.0; ops = x.1; dones = x.2 }) ∷ entries_at count x.3) (entry_at bytes) []
 
--- so many operations with their answers, read from the front of bytes as far as these have them
+-- the first `count` operations with their outcomes at the front of the bytes, as far as the bytes
+-- have them
 unfoldable pub steps_in : ℕ → List ℕ → List (Op × Done)
 steps_in zero bytes = []
 steps_in (suc count) bytes = option_map_or (λ x. (x.0, x.1) ∷ steps_in count x.2) (step_at bytes) []
 
--- what every entry of a journal is
+-- what each entry of a journal is
 abbrev pub IsStored : Entry → Type 0
 IsStored entry = IsEntry entry × CanBeEntry entry.by entry.ops entry.dones
 
--- the bytes are those of so many entries, and no more
+-- the bytes are those of `count` entries, and no more
 pub record AreEntries (count : ℕ) (bytes : List ℕ) : Type 0 where
   pub whole : bytes ≡ flat_map bytes_of (entries_at count bytes)
   pub counted : length (entries_at count bytes) ≡ count
   pub stored : All IsStored (entries_at count bytes)
 
--- of so many entries in bytes, those behind the first ones begin at this place
+-- of `count` entries in bytes, those after the first `before` entries begin at this offset
 pub record IsPlace (before place count : ℕ) (bytes : List ℕ) : Type 0 where
   pub known : before ≤ count
   pub within : place ≤ length bytes
   pub behind : drop place bytes ≡ flat_map bytes_of (drop before (entries_at count bytes))
 
--- the places of every 16th entry, from the first on
+-- the offsets of every 16th entry, from the first on
 pub record ArePlaces (places : List ℕ) (count : ℕ) (bytes : List ℕ) : Type 0 where
   pub each : (k : ℕ) → k < length places → IsPlace (16 * k) (get_or places k 0) count bytes
   pub all : count ≤ 16 * length places
 
--- the places before one more of so many entries: its own is a new one where the others have 16
--- entries each
+-- the offsets before one more entry, which comes after `count` entries: it adds its own offset if
+-- the others have 16 entries each
 abbrev pub with_place : List ℕ → ℕ → ℕ → List ℕ
 with_place places count place = if nat_eq (count / 16) (length places) then places ++ place ∷ []
     else places
 
--- a block: its entries, and how many bytes are left
+-- a block: its entries, and how many bytes are free
 pub record Filled : Type 0 where
   pub entries : List Entry
   pub room : ℕ
@@ -62,7 +63,7 @@ abbrev pub coded_filled : Coded Filled
 coded_filled = code_by _ (coded× (coded_list coded_entry) coded_ℕ) (λ b. (b.entries, b.room))
     (λ p. record { entries = p.0; room = p.1 }) (λ _. refl)
 
--- the entries of blocks, one after the other
+-- the entries of blocks, in their order
 abbrev pub entries_of : List Filled → List Entry
 entries_of blocks = flat_map (λ b. b.entries) blocks
 
@@ -70,7 +71,7 @@ entries_of blocks = flat_map (λ b. b.entries) blocks
 abbrev pub AreFilled : List Filled → Type 0
 AreFilled blocks = All (λ b. 0 < length b.entries) blocks
 
--- whether the last of the blocks has room for any entry of so many operations
+-- whether the last of the blocks has room for any entry with this many operations
 abbrev pub has_room : ℕ → List Filled → Bool
 has_room count blocks = option_map_or (λ b. nat_le (most_bytes count) b.room)
     (slice_get blocks (length blocks - 1)) false

@@ -18,8 +18,8 @@ coded_entry = code_by _ (coded× coded_ℕ (coded× (coded_list coded_op) (coded
     (λ e. (e.by, (e.ops, e.dones)))
     (λ p. record { by = p.0; ops = p.1.0; dones = p.1.1 }) (λ _. refl)
 
--- The most entries that a journal may have, its entries, and how many operations have a place
--- reserved, 0 for none.
+-- The most entries that a journal may have, its entries, and the number of operations for which
+-- room is reserved, 0 for none.
 pub record Log : Type 0 where
   pub limit : ℕ
   pub entries : List Entry
@@ -37,44 +37,44 @@ extended log entry = record { limit = log.limit; entries = log.entries ++ entry 
 abbrev pub with_room : Log → ℕ → Log
 with_room log count = record { limit = log.limit; entries = log.entries; reserved = count }
 
--- a growth of the log was refused: at its limit, or for want of memory below it
+-- a growth of the log was refused: at its limit, or because memory ran out below it
 abbrev pub IsRefused : Log → Refusal → Type 0
 IsRefused log e = ((e ≡ CommitsSpent) × (length log.entries ≡ log.limit))
     ⊎ ((e ≡ OutOfMemory) × (length log.entries < log.limit))
 
--- A growth of the log below its limit gave the new log. Else nothing changed.
+-- A growth of the log below its limit gave the new log. Otherwise nothing changed.
 abbrev pub Grows : {X : Type 0} → Log → Log → Result X Refusal → Log → Type 0
 Grows old grown (Ok x) new = (new ≡ grown) × (length old.entries < old.limit)
 Grows old grown (Err e) new = (new ≡ old) × IsRefused old e
 
--- The volume after the entries, one after the other. An entry that the volume refuses changes
--- nothing as a whole.
+-- The volume after the entries, in their order. An entry that the volume refuses changes nothing as
+-- a whole.
 abbrev pub replay : List Entry → State
 replay entries = fold (λ s entry. state_after s entry.ops) empty entries
 
--- an entry tells what the volume answers
+-- an entry has the outcomes that the volume gives
 abbrev pub Agrees : State → Entry → Type 0
 Agrees s entry = (next : State) × (steps s entry.ops ≡ Ok (next, entry.dones))
 
--- each entry tells what the volume answers after the entries before it; none is refused
+-- each entry has the outcomes that the volume gives after the entries before it; none is refused
 abbrev pub IsLegal : List Entry → Type 0
 IsLegal entries = (i : ℕ) (entry : Entry) → i < length entries → entry ≡ get_or entries i entry
     → Agrees (replay (take i entries)) entry
 
--- the place of the first entry that does not tell what the volume answers after the entries before
--- it; none where the journal is legal
+-- the index of the first entry whose outcomes aren't those that the volume gives after the entries
+-- before it; none if the journal is legal
 abbrev pub IsFirstWrong : List Entry → Option ℕ → Type 0
 IsFirstWrong entries None = IsLegal entries
 IsFirstWrong entries (Some i) = (i < length entries) × IsLegal (take i entries)
     × ((entry : Entry) → entry ≡ get_or entries i entry → Agrees (replay (take i entries)) entry
     → ⊥)
 
--- an entry has 1 to 64 operations, and an answer for each
+-- an entry has 1 to 64 operations, and an outcome for each
 abbrev pub IsEntry : Entry → Type 0
 IsEntry entry = (1 ≤ length entry.ops) × (length entry.ops ≤ 64)
     × (length entry.dones ≡ length entry.ops)
 
--- an entry has at most 64 operations, and their names and values are such of the program
+-- an entry has at most 64 operations, and their names and values are ones of the program
 abbrev pub HasOperations : Entry → Type 0
 HasOperations entry = (length entry.ops ≤ 64) × All IsOperation entry.ops
 

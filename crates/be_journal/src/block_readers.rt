@@ -1,4 +1,4 @@
-//! Reading the entries of one block, one after the other.
+//! Reading the entries of one block in their order.
 ghost use Rattle.std.specs.Prelude.{◌≡◌, ◌<◌, ◌∷◌, length, drop, nat_eq, IfOk};
 ghost use Rattle.be_journal.specs.Blocks.{entries_at, AreEntries};
 ghost use Rattle.be_journal.specs.Journal.{IsEntry};
@@ -34,7 +34,7 @@ impl<'a> Model for BlockReader<'a> {
 }
 
 impl<'a> BlockReader<'a> {
-    /// A reader of so many entries, whose bytes these are.
+    /// A reader of `left` entries, whose bytes these are.
     pub(crate) fn new(bytes: &'a [u8], left: u64) -> BlockReader<'a>
         requires { AreEntries left bytes.now }
         ensures { result ≡ entries_at left bytes.now }
@@ -49,7 +49,7 @@ impl<'a> BlockReader<'a> {
         self.left == 0
     }
 
-    /// Goes past the next entry, of which there is one. It takes no memory.
+    /// Skips the next entry, of which there is one. It takes no memory.
     pub(crate) fn skip(&mut self)
         requires { 0 < length self.old }
         ensures { self.new ≡ drop 1 self.old }
@@ -72,7 +72,7 @@ impl<'a> BlockReader<'a> {
         EntryView::new(alloc, by, count, bytes)
     }
 
-    /// The next entry, of which there is one. Memory is taken for its two lists.
+    /// The next entry, of which there is one. It takes memory for its two lists.
     pub(crate) fn next(&mut self, alloc: Global) -> Result<Entry, AllocError>
         requires { 0 < length self.old }
         ensures next { IfOk result (λ entry. self.old ≡ entry ∷ self.new) }

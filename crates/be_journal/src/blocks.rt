@@ -1,7 +1,7 @@
 //! Blocks of entries in bytes.
 //!
-//! A block has its room from the start, so what lies in it is never moved. An entry lies in one
-//! block, whole.
+//! A block has its room from the start, so its content is never moved. An entry is in one block,
+//! whole.
 ghost use Rattle.std.specs.Prelude.{◌≡◌, ◌+◌, ◌≤◌, ◌<◌, ◌^◌, ◌++◌, ◌∷◌, [], true, false, length};
 ghost use Rattle.std.specs.Prelude.{get_or, nat_le, vec_len, vec_capacity, IfOk, OnOk, IsSome};
 ghost use Rattle.be_entry_bytes.specs.Encoding.{most_bytes as longest};
@@ -18,16 +18,17 @@ use std::marker::Model;
 /// The bytes of a block: 256 KiB.
 const ROOM: usize = 1 << 18;
 
-/// The places of a block. It has a place for each 16 entries, and an entry has four bytes or more.
+/// The most offsets of a block. It has one for each 16 entries, and an entry has four bytes or
+/// more.
 const PLACES: usize = ROOM / 64;
 
-/// Entries one after the other. A contract sees them, and how many bytes are left.
+/// Entries one after the other. A contract sees them, and how many bytes are free.
 #[derive(Drop)]
 pub(crate) struct Block {
     /// How many entries there are.
     count: u64,
     bytes: Vec<u8>,
-    /// Where the first entry begins, and the 16th after it, and so on.
+    /// The offset of the first entry, of the 16th after it, and so on.
     places: Vec<usize>,
 }
 
@@ -72,7 +73,7 @@ impl Block {
         self.count
     }
 
-    /// Whether there is room for any entry of so many operations.
+    /// Whether there is room for any entry with this many operations.
     pub(crate) fn has_room(&self, count: usize) -> bool
         requires { count ≤ 64 }
         ensures { result ≡ nat_le (longest count) self.now.room }
@@ -103,7 +104,7 @@ impl Block {
         BlockReader::new(self.bytes.as_slice(), self.count)
     }
 
-    /// The entry with this number in the block, from 0. Up to 15 others are gone past to find it.
+    /// The entry with this index in the block, from 0. It skips up to 15 others to find it.
     pub(crate) fn get(&self, alloc: Global, i: u64) -> EntryView<'_>
         requires { i < length self.now.entries }
         ensures { result ≡ get_or self.now.entries i result }
@@ -118,7 +119,7 @@ impl Block {
     }
 }
 
-/// Keeps the place of the next entry, where the places before have 16 entries each.
+/// Keeps the offset of the next entry, if the offsets before have 16 entries each.
 fn keep_place(places: &mut Vec<usize>, count: u64, place: usize)
     requires { vec_len places.old < vec_capacity places.old }
     ensures { places.new.items ≡ with_place places.old.items count place }
@@ -128,7 +129,7 @@ fn keep_place(places: &mut Vec<usize>, count: u64, place: usize)
     }
 }
 
-/// The block that has the entry with this number, from 0, and the entry's number there.
+/// The block that has the entry with this index, from 0, and the entry's index there.
 pub(crate) fn block_of(blocks: &[Block], i: u64) -> (&Block, u64)
     requires { i < length (entries_of blocks.now) }
     ensures within { result.1 < length result.0.now.entries }
@@ -145,7 +146,7 @@ pub(crate) fn block_of(blocks: &[Block], i: u64) -> (&Block, u64)
     unreachable!()
 }
 
-/// Whether the last of the blocks has room for any entry of so many operations.
+/// Whether the last of the blocks has room for any entry with this many operations.
 fn last_has_room(blocks: &[Block], count: usize) -> bool
     requires { count ≤ 64 }
     ensures { result ≡ has_room count blocks.now }
@@ -156,8 +157,7 @@ fn last_has_room(blocks: &[Block], count: usize) -> bool
     }
 }
 
-/// Sees to it that there is room for any entry of so many operations, in the last of the blocks or
-/// in a spare one.
+/// Makes room for any entry with this many operations, in the last of the blocks or in a spare one.
 pub(crate) fn make_spare(
     alloc: Global,
     blocks: &[Block],
@@ -192,8 +192,8 @@ fn push_last(blocks: &mut [Block], by: u64, ops: &[Op], dones: &[Done])
     blocks[last].push(by, ops, dones);
 }
 
-/// Appends an entry to the last of the blocks, or else to the spare one, which is the last from
-/// then on. It takes no memory.
+/// Appends an entry to the last of the blocks if it has room, and otherwise to the spare one, which
+/// is the last from then on. It takes no memory.
 pub(crate) fn append(
     blocks: &mut Vec<Block>,
     spare: &mut Option<Block>,

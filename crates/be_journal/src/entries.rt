@@ -1,13 +1,13 @@
 //! Entries of a journal.
 //!
 //! The lists of an entry are of a small type of this crate over a `Vec`, which contracts see as a
-//! list. It is made from a `Vec` and gives it back without memory.
+//! list. It is made from a `Vec` and returns it without memory.
 ghost use Rattle.std.specs.Prelude.{◌≡◌};
 
 use be_volume::{Done, Op};
 use std::marker::Model;
 
-/// Operations, or the answers to them, in their order. A contract sees the list.
+/// Operations, or their outcomes, in their order. A contract sees the list.
 #[derive(Drop)]
 pub struct Items<T> {
     items: Vec<T>,
@@ -25,14 +25,14 @@ impl<T> Model for Items<T> {
 }
 
 impl<T: Drop> Items<T> {
-    /// These items; no memory is taken.
+    /// These items; it takes no memory.
     pub fn from_vec(items: Vec<T>) -> Items<T>
         ensures { result ≡ items.items }
     {
         Items { items }
     }
 
-    /// The items; no memory is taken.
+    /// The items; it takes no memory.
     pub fn into_vec(self) -> Vec<T>
         ensures { result.items ≡ self }
     {
@@ -40,6 +40,7 @@ impl<T: Drop> Items<T> {
         items
     }
 
+    /// The items as a slice.
     pub fn as_slice(&self) -> &[T]
         ensures { result.now ≡ self.now }
     {
@@ -54,6 +55,6 @@ pub struct Entry {
     pub by: u64,
     /// Its 1 to 64 operations.
     pub ops: Items<Op>,
-    /// The answer to each.
+    /// The outcome of each.
     pub dones: Items<Done>,
 }

@@ -1,7 +1,7 @@
 //! The journal, its replay, and the test whether it is legal.
 //!
 //! An entry is appended in one of two ways. `push` takes the memory that it needs. A writer that
-//! must not fail once it has published takes the memory first, by `reserve`, and then appends by
+//! must not fail after it has published takes the memory first, by `reserve`. It then appends by
 //! `push_reserved`, which takes none.
 ghost use Rattle.std.specs.Prelude.{◌≡◌, ◌≤◌, ◌<◌, ◌^◌, ◌↔◌, ℕ, length, get_or, true, IfOk, IfErr};
 ghost use Rattle.std.specs.Prelude.{OnOk, Ok, [], ◌++◌, ◌+◌, vec_len, vec_capacity, All};
@@ -23,10 +23,10 @@ use be_volume::{Done, Op, Volume};
 use std::alloc::{AllocError, Global};
 use std::marker::Model;
 
-/// The accepted writes in their order. A contract sees a `Log`: the limit, the entries, and for how
-/// many operations a place is reserved.
+/// The accepted writes in their order. A contract sees a `Log`: the limit, the entries, and the
+/// number of operations for which room is reserved.
 ///
-/// The entries lie in blocks of bytes, which are never moved.
+/// The entries are in blocks of bytes, which are never moved.
 #[derive(Drop)]
 pub struct Journal {
     alloc: Global,
@@ -35,7 +35,7 @@ pub struct Journal {
     len: u64,
     /// The blocks, each with an entry. The last one may have room for more.
     blocks: Vec<Block>,
-    /// An empty block for an entry for which the last one has no room.
+    /// An empty block for an entry, if the last one has no room for it.
     spare: Option<Block>,
     /// The number of operations for which there is room.
     reserved: usize,
@@ -56,7 +56,7 @@ impl Model for Journal {
 }
 
 impl Journal {
-    /// A journal without entries, which takes so many, up to 2^32 - 1.
+    /// A journal without entries, which takes up to `limit` of them. The limit is at most 2^32 - 1.
     pub fn new(alloc: Global, limit: u64) -> Journal
         requires { limit < 2 ^ 32 }
         ensures { result ≡ record { limit = limit; entries = []; reserved = 0 } }
@@ -86,9 +86,8 @@ impl Journal {
         Reader::new(self.alloc, &self.blocks)
     }
 
-    /// The entry with this number, from 0, seen where it lies; it takes no memory. It goes from
-    /// block to block, each of which has some 20,000 small entries, and then past 15 entries at
-    /// most.
+    /// A view of the entry with this index, from 0; it takes no memory. It goes from block to
+    /// block, each of which has some 20,000 small entries, and then past up to 15 entries.
     pub fn get(&self, i: u64) -> EntryView<'_>
         requires { i < length self.now.entries }
         ensures { result ≡ get_or self.now.entries i result }
@@ -97,9 +96,9 @@ impl Journal {
         block.get(self.alloc, place)
     }
 
-    /// Appends an entry; what was reserved is given up. It is refused with CommitsSpent exactly
-    /// where the journal is at its limit, and with OutOfMemory below it; the journal is then as it
-    /// was, and the entry is dropped.
+    /// Appends an entry, and gives up any reservation. CommitsSpent exactly if the journal is at
+    /// its limit, and OutOfMemory only below it: then the journal is as it was, and the entry is
+    /// dropped.
     pub fn push(&mut self, entry: Entry) -> Result<(), Refusal>
         requires { model.IsEntry entry }
         ensures { model.Grows self.old (model.extended self.old entry) result self.new }
@@ -110,9 +109,9 @@ impl Journal {
         Ok(())
     }
 
-    /// Makes room for one entry of so many operations, 1 to 64, in place of any room made before.
-    /// It is refused with CommitsSpent exactly where the journal is at its limit, and with
-    /// OutOfMemory below it; the journal is then as it was.
+    /// Makes room for one entry of `count` operations, 1 to 64, in place of any room made before.
+    /// CommitsSpent exactly if the journal is at its limit, and OutOfMemory only below it: then the
+    /// journal is as it was.
     pub fn reserve(&mut self, count: usize) -> Result<(), Refusal>
         requires some { 1 ≤ count }
         requires few { count ≤ 64 }
@@ -142,8 +141,8 @@ impl Journal {
         self.reserved = 0;
     }
 
-    /// The volume after the entries, one after the other; an entry that the volume refuses changes
-    /// nothing as a whole. It is refused with OutOfMemory alone, and costs what the entries change.
+    /// The volume after the entries, in their order. An entry that the volume refuses changes
+    /// nothing as a whole. OutOfMemory is the only error. It costs what the entries change.
     pub fn replay(&self) -> Result<Volume, Refusal>
         ensures { Answers (λ volume. volume) result (Ok (model.replay self.now.entries)) }
     {
@@ -157,8 +156,8 @@ impl Journal {
     }
 
     /// The journal's text, a line for each entry, numbered from 1: the pass, the operations as
-    /// script lines with names quoted, and their answers, as in `2 by 0 set 1 "size" LONG 5 -> ok`.
-    /// It is refused with OutOfMemory alone.
+    /// script lines with names quoted, and their outcomes, as in
+    /// `2 by 0 set 1 "size" LONG 5 -> ok`. OutOfMemory is the only error.
     pub fn text(&self) -> Result<String, Refusal>
         ensures { Answers string_bytes result (Ok (lines_from 1 self.now.entries)) }
     {
@@ -172,8 +171,8 @@ impl Journal {
         Ok(text)
     }
 
-    /// Whether the journal is legal: each entry tells what the volume answers after the entries
-    /// before it, and none is refused. It is refused with OutOfMemory alone, and costs what the
+    /// Whether the journal is legal: each entry has the outcomes that the volume gives after the
+    /// entries before it, and none is refused. OutOfMemory is the only error. It costs what the
     /// entries change.
     pub fn check(&self) -> Result<bool, Refusal>
         ensures ok { IfOk result (λ legal. (legal ≡ true) ↔ model.IsLegal self.now.entries) }
@@ -193,7 +192,7 @@ impl Journal {
     }
 }
 
-/// The volume after an entry; the same volume where it refuses the operations.
+/// The volume after an entry; the same volume if it refuses the operations.
 fn enter(volume: Volume, entry: &Entry) -> Result<Volume, AllocError>
     requires entry { model.IsEntry entry.now }
     requires fits { volume.next + 64 < 2 ^ 64 }
@@ -204,7 +203,7 @@ fn enter(volume: Volume, entry: &Entry) -> Result<Volume, AllocError>
     Ok(volume)
 }
 
-/// The volume after an entry, and whether the entry tells what the volume answers.
+/// The volume after an entry, and whether the entry has the outcomes that the volume gives.
 fn enter_if_agreed(volume: Volume, entry: &Entry) -> Result<(Volume, bool), AllocError>
     requires entry { model.IsEntry entry.now }
     requires fits { volume.next + 64 < 2 ^ 64 }
@@ -223,9 +222,9 @@ fn enter_if_agreed(volume: Volume, entry: &Entry) -> Result<(Volume, bool), Allo
     }
 }
 
-/// The place of the first entry, from 0, that doesn't tell what the volume answers after the
-/// entries before it; None where there is no such entry, and so the journal is legal. It costs what
-/// the entries change.
+/// The index of the first entry, from 0, whose outcomes aren't those that the volume gives after
+/// the entries before it. None if there is no such entry, and so the journal is legal. It costs
+/// what the entries change.
 pub fn first_wrong(alloc: Global, entries: &[Entry]) -> Result<Option<u64>, AllocError>
     requires are { All model.IsEntry entries.now }
     requires few { length entries.now < 2 ^ 32 }
@@ -244,8 +243,8 @@ pub fn first_wrong(alloc: Global, entries: &[Entry]) -> Result<Option<u64>, Allo
     Ok(None)
 }
 
-/// The volume after these entries, one after the other, as `Journal::replay` makes it: an entry
-/// that the volume refuses changes nothing as a whole. It costs what the entries change.
+/// The volume after these entries, in their order, as `Journal::replay` makes it: an entry that the
+/// volume refuses changes nothing as a whole. It costs what the entries change.
 pub fn replay(alloc: Global, entries: &[Entry]) -> Result<Volume, AllocError>
     requires are { All model.IsEntry entries.now }
     requires few { length entries.now < 2 ^ 32 }

@@ -19,25 +19,27 @@ pub fn replay_sound()
         < 2 ^ 64 → IsSound (replay entries) }
 {}
 
-/// A law: a legal journal stays legal with an entry that tells what the volume answers after it.
+/// A law: a legal journal stays legal with one more entry, if that has the outcomes that the volume
+/// gives after the journal.
 pub fn legal_push()
     ensures { (entries : List AnyEntry) (entry : AnyEntry) → IsLegal entries
         → Agrees (replay entries) entry → IsLegal (entries ++ entry ∷ []) }
 {}
 
-/// A law: the last entry of a legal journal tells what the volume answers after the others.
+/// A law: the last entry of a legal journal has the outcomes that the volume gives after the
+/// others.
 pub fn legal_last()
     ensures { (entries : List AnyEntry) (entry : AnyEntry) → IsLegal (entries ++ entry ∷ [])
         → Agrees (replay entries) entry }
 {}
 
-/// A law: the first entries of a legal journal are one.
+/// A law: a prefix of a legal journal is legal.
 pub fn legal_front()
     ensures { (front rest : List AnyEntry) → IsLegal (front ++ rest) → IsLegal front }
 {}
 
-/// A law: the entries of a pass in two parts of a journal, one after the other, are its entries in
-/// the whole.
+/// A law: the entries of a pass in two parts of a journal, put end to end, are its entries in the
+/// whole.
 pub fn by_pass_append()
     ensures { (pass : ℕ) (front rest : List AnyEntry) → by_pass pass (front ++ rest)
         ≡ by_pass pass front ++ by_pass pass rest }

@@ -1,7 +1,7 @@
-//! The journal: which writes were accepted, by whom, and what they answered.
+//! The journal: which writes were accepted, by which pass, and with which outcomes.
 //!
-//! A journal is the history of a store told as that of one thread. Replayed on a plain volume it
-//! gives the store's contents, and it is legal where every answer in it is the one that the volume
+//! A journal is the history of a store, written as that of one thread. Replayed on a plain volume
+//! it gives the store's contents. It is legal if each outcome in it is the one that the volume
 //! gives at its place.
 #![tactic(auto)]
 

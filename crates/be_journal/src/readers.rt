@@ -1,4 +1,4 @@
-//! Reading the entries of blocks, one after the other.
+//! Reading the entries of blocks in their order.
 ghost use Rattle.std.specs.Prelude.{◌≡◌, ◌<◌, ◌∷◌, length, IfOk};
 ghost use Rattle.be_journal.specs.Blocks.{entries_of, AreFilled};
 ghost use Rattle.be_journal.specs.Journal.{IsEntry};
@@ -15,7 +15,7 @@ pub(crate) struct Reader<'a> {
     alloc: Global,
     /// What is still to be read of a block.
     front: BlockReader<'a>,
-    /// The blocks behind it.
+    /// The blocks after it.
     blocks: &'a [Block],
 }
 
@@ -48,7 +48,7 @@ impl<'a> Reader<'a> {
         }
     }
 
-    /// The next entry, of which there is one. Memory is taken for its two lists.
+    /// The next entry, of which there is one. It takes memory for its two lists.
     pub(crate) fn next(&mut self) -> Result<Entry, AllocError>
         requires { 0 < length self.old }
         ensures next { IfOk result (λ entry. self.old ≡ entry ∷ self.new) }

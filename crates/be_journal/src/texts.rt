@@ -99,7 +99,7 @@ pub fn op_text(alloc: Global, op: &Op) -> Result<String, AllocError>
     }
 }
 
-/// The answer of an operation, as replies and journals print it.
+/// The outcome of an operation, as replies and journals print it.
 pub fn done_text(alloc: Global, done: &Done) -> Result<String, AllocError>
     ensures { IfOk result (λ text. string_bytes text ≡ spec.done_text done.now) }
 {

@@ -2,7 +2,7 @@
 ghost use Rattle.std.specs.Prelude.{IfOk};
 ghost use Rattle.be_journal_text.specs.Finding as spec;
 
-use crate::told::journal_told;
+use crate::outputs::journal_told;
 use be_journal::{Entry, entry_line, first_wrong};
 use std::alloc::{AllocError, Global};
 

@@ -13,13 +13,13 @@ mod dumps;
 mod journals;
 pub mod laws;
 mod lists;
+mod outputs;
 mod parts;
 mod ranges;
 mod state_dumps;
-mod told;
 
 pub use checks::{Finding, check};
 pub use dumps::dump;
 pub use journals::read_journal;
+pub use outputs::journal_told;
 pub use state_dumps::{dump_state, push_write, volume_text};
-pub use told::journal_told;

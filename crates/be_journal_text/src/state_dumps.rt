@@ -13,8 +13,8 @@ ghost use Rattle.be_journal_text.specs.Finding.{AreChecked};
 ghost use Rattle.be_journal_text.specs.History.{CanBeOp};
 
 use crate::dumps::write_text;
+use crate::outputs::journal_told;
 use crate::ranges::ops_can_be;
-use crate::told::journal_told;
 use be_journal::{Entry, replay};
 use be_volume::{Op, Volume};
 use be_volume_state::{Place, WholeVolume, next_list, whole_volume};

@@ -32,7 +32,7 @@ abbrev pub value_at : Nodes → ℕ → List ℕ → Option Value
 value_at nodes node name = option_and_then (λ attributes. map.get attributes name)
     (map.get nodes node)
 
--- the payload that stands at the key of a node and a name: the mark's is empty
+-- the payload at the key of a node and a name: a mark's payload is empty
 abbrev pub stored : Nodes → ℕ → List ℕ → Option (List ℕ)
 stored nodes node [] = option_map (λ _. []) (map.get nodes node)
 stored nodes node (c ∷ name) = option_map payload_of (value_at nodes node (c ∷ name))
@@ -44,8 +44,8 @@ pub record IsCatalogKey (k : List ℕ) : Type 0 where
   pub fits : node < 2 ^ 64
   pub is : k ≡ catalog_key node name
 
--- The pairs are exactly the marks of the nodes and their attributes: at each key stands what the
--- nodes have there, and there are no other keys.
+-- The pairs are exactly the marks of the nodes and their attributes: each key has what the nodes
+-- have there, and there are no other keys.
 pub record IsCatalog (pairs : List Pair) (nodes : Nodes) : Type 0 where
   pub each : (node : ℕ) (name : List ℕ) → node < 2 ^ 64 → payload_at pairs (catalog_key node name)
       ≡ stored nodes node name

@@ -1,4 +1,4 @@
--- What is told of nodes at names: a cell for each, and the bytes of texts one after the other.
+-- What is written of nodes at names: a cell for each, and the bytes of texts one after the other.
 use Rattle.std.specs.Prelude.{◌≡◌, ◌≢◌, ◌≤◌, ◌⊎◌, ◌+◌, ◌*◌, ℕ, Bool, List, [], ◌∷◌, ◌++◌, None}
 use Rattle.std.specs.Prelude.{Some, Ok, Err, IfSome, length, take, drop, map as each, if◌then◌else◌}
 use Rattle.std.specs.FinMap as map
@@ -103,8 +103,8 @@ abbrev pub cells_from : ℕ → List (Result Value Refusal) → List Cell
 cells_from offset [] = []
 cells_from offset (x ∷ xs) = cell_of offset x ∷ cells_from (offset + length (data_in x)) xs
 
--- What was found is told: so many cells, and so many bytes, and of both as many as there are
--- places.
+-- The cells and bytes that were found are written: how many of each, and as many of both as there
+-- are places.
 pub record AreTold (found : List (Result Value Refusal)) (cell_places cells : List Cell)
     (byte_places bytes : List ℕ) (filled : Filled) : Type 0 where
   pub cells_are : cells ≡ over (cells_from 0 found) cell_places
@@ -135,16 +135,16 @@ pub record IsInRow (standing : ℕ → Standing) (words : ℕ → ℕ → ℕ) (
   pub is_known : (nodes : Nodes) → IsCatalog (pairs words root) nodes → AreValid nodes
       → IfSome known (λ there. there ≡ map.contains_key nodes node)
 
--- What a volume has of nodes at names is told: a cell for each node and name, and the bytes of all
--- texts, of both as many as there are places, and how many bytes that are.
+-- The cells of nodes at names in a volume are written, one for each node and name, and the bytes of
+-- all texts: of both as many as there are places, and how many bytes these are.
 pub record TellsColumns (volume : State) (nodes : List ℕ) (names : List (List ℕ))
     (cell_places cells : List Cell) (byte_places bytes : List ℕ) (needed : ℕ) : Type 0 where
   pub cells_are : cells ≡ over (cells_from 0 (found_in volume.nodes nodes names)) cell_places
   pub bytes_are : bytes ≡ over (all_data (found_in volume.nodes nodes names)) byte_places
   pub needed_is : needed ≡ length (all_data (found_in volume.nodes nodes names))
 
--- What a read of an attribute tells: its cell, and as many of its bytes as there are places; of an
--- attribute that isn't there nothing.
+-- What a read of an attribute writes: its cell, and as many of its bytes as there are places. It
+-- writes nothing of an attribute that isn't there.
 abbrev pub IsReadInto : Option Value → Option Cell → List ℕ → List ℕ → Type 0
 IsReadInto None told places bytes = (told ≡ None) × (bytes ≡ places)
 IsReadInto (Some value) told places bytes = IsValue value × (told ≡ Some (cell_of 0 (Ok value)))

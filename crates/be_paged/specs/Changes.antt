@@ -90,7 +90,7 @@ pub record Changes {S K : Type 0} (kept_of : S → K) (standing_of : S → ℕ �
   pub swaps : Swaps kept_of standing_of words_of (pages_of (words_of old) (roots before))
       (pages_of (words_of new) (roots after)) old new
 
--- an accepted operation on contents in hand: they spell what the step makes of the volume
+-- an accepted operation on contents in hand: they encode what the step makes of the volume
 pub record Steps (words : ℕ → ℕ → ℕ) (after : Contents) (volume : State) (op : Op) (done : Done) :
     Type 0 where
   pub made : State
@@ -105,7 +105,7 @@ pub record Reaches (words : ℕ → ℕ → ℕ) (after : Contents) (volume : St
   pub spells : Spells words after made
   pub sound : IsSound made
 
--- the contents spell a volume that differs from another only in what a node has: so many of its
+-- the contents encode a volume that differs from another only in what a node has: so many of its
 -- attributes are gone
 pub record IsThinned (words : ℕ → ℕ → ℕ) (c : Contents) (volume : State) (node gone : ℕ) : Type 0
   where
@@ -114,7 +114,7 @@ pub record IsThinned (words : ℕ → ℕ → ℕ) (c : Contents) (volume : Stat
     pub leaves : Leaves volume left node
     pub counted : map.len (attributes_of left.nodes node) + gone ≤ 64
 
--- the contents spell a volume that differs from another only in what a node has, which is bare:
+-- the contents encode a volume that differs from another only in what a node has, which is bare:
 -- without attributes
 pub record IsBare (words : ℕ → ℕ → ℕ) (c : Contents) (volume : State) (node : ℕ) : Type 0 where
   pub left : State
@@ -122,7 +122,7 @@ pub record IsBare (words : ℕ → ℕ → ℕ) (c : Contents) (volume : State) 
   pub leaves : Leaves volume left node
   pub bare : map.len (attributes_of left.nodes node) ≡ 0
 
--- the operation sets what stands: a Set that leaves the volume as it is, its indices too
+-- the operation sets what is there already: a Set that leaves the volume as it is, its indices too
 abbrev pub SetsWhatStands : State → Op → Type 0
 SetsWhatStands volume New = ⊥
 SetsWhatStands volume (Set node name value) = step volume (Set node name value)
@@ -132,10 +132,10 @@ SetsWhatStands volume (Drop node) = ⊥
 SetsWhatStands volume (Unset node name) = ⊥
 SetsWhatStands volume (RmIndex name) = ⊥
 
--- A list of operations on a version: the new version page spells what the steps make of the volume.
--- The pages of the old version have become exactly those of the new one, each of which is old or
--- filled, and the new version page is one that this write has taken. Where all of them set what
--- stands, each index has the root that it had.
+-- A list of operations on a version: the new version page encodes what the steps make of the
+-- volume. The pages of the old version have become exactly those of the new one, each of which is
+-- old or filled. The new version page is one that this write has taken. If all of them set what is
+-- there already, each index has the root that it had.
 pub record Applies {S K : Type 0} (kept_of : S → K) (standing_of : S → ℕ → Standing)
     (words_of : S → ℕ → ℕ → ℕ)
     (page new_page : ℕ) (volume : State) (ops : List Op) (dones : List Done) (old new : S) : Type 0
@@ -150,7 +150,8 @@ pub record Applies {S K : Type 0} (kept_of : S → K) (standing_of : S → ℕ �
         ≡ (contents_of (words_of old page)).entries
 
 -- A refused list: the steps refuse it so, and no page was taken, filled or given up; or the steps
--- accept it and no page was left, and what stood when the write began stands once it is undone.
+-- accept it and no page was left, and what was there when the write began is there again once it is
+-- undone.
 abbrev pub IsRefusedList : {S K : Type 0} (kept_of : S → K) (standing_of : S → ℕ → Standing)
     (words_of : S → ℕ → ℕ → ℕ) (full_of : S → ℕ → Type 0)
     (volume : State) (ops : List Op) (e : Refusal) (old new : S) → Type 0

@@ -1,4 +1,4 @@
--- An index as a version page tells it.
+-- An index as a version page has it.
 use Rattle.std.specs.Prelude.{◌≡◌, ℕ, ◌*◌, ◌^◌, ◌<◌, List, map, slice_index}
 use Rattle.std.specs.Int.{to_be_bytes, w64}
 use Rattle.std.specs.List.{range_with_len}
@@ -10,7 +10,7 @@ pub record Entry : Type 0 where
   pub root : ℕ
 
 -- The eight words have the bytes of a text, the first byte as the most significant of the first
--- word, and zeros behind the last.
+-- word, and zeros after the last.
 pub record HaveText (words : ℕ → ℕ) (text : List ℕ) : Type 0 where
   pub small : (j : ℕ) → j < 8 → words j < 2 ^ 64
   pub bytes : (j : ℕ) → j < 8 → to_be_bytes w64 (words j)

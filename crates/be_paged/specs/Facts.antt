@@ -1,4 +1,4 @@
--- What a version in hand tells of a volume.
+-- What a version in hand says about a volume.
 use Rattle.std.specs.Prelude.{◌≡◌, ℕ, IfSome}
 use Rattle.std.specs.Option.{option_map}
 use Rattle.std.specs.FinMap as map
@@ -12,7 +12,7 @@ use Rattle.be_paged.specs.Place.{IsAsked}
 use Rattle.be_paged.specs.declared.asked.Asked.{Asked}
 use Rattle.be_paged.specs.Version.{IsInHand, Spells}
 
--- the contents in hand spell this volume, which is sound
+-- the contents in hand encode this volume, which is sound
 pub record AnswersFor (standing : ℕ → Standing) (words : ℕ → ℕ → ℕ) (c : Contents) (volume : State)
     : Type 0 where
   pub in_hand : IsInHand standing words c

@@ -10,7 +10,7 @@ use Rattle.be_volume.specs.Volume.{State}
 abbrev pub nodes_from : State → (from most : ℕ) → List ℕ
 nodes_from s from most = take most (filter (nat_le from) (map.keys s.nodes))
 
--- the key is that of a node's mark: there is no name behind the node
+-- the key is that of a node's mark: there is no name after the node
 abbrev pub is_mark : List ℕ → Bool
 is_mark k = nat_eq (length k) 8
 

@@ -16,13 +16,13 @@ use Rattle.be_paged.specs.declared.version.Version.{Version}
 abbrev pub kind_numbered : ℕ → Kind
 kind_numbered n = kind_at (n - 1)
 
--- what a version page tells
+-- the contents of a version page
 pub record Contents : Type 0 where
   pub next : ℕ
   pub catalog : ℕ
   pub entries : List Entry
 
--- a version in hand tells the same
+-- a version in hand has the same contents
 abbrev pub contents : Version → Contents
 contents version = record {
   next = version.next;

@@ -1,4 +1,4 @@
--- Where an attribute stands in the catalog's tree, as far as that is known.
+-- The place of an attribute in the catalog's tree, as far as it is known.
 use Rattle.std.specs.Prelude.{◌≡◌, ℕ, List, Some, None, IfSome}
 use Rattle.std.specs.declared.option.Option.{Option}
 use Rattle.std.specs.declared.option.Option.TheVariants as options
@@ -10,7 +10,7 @@ use Rattle.be_paged.specs.Catalog.{catalog_key}
 use Rattle.be_paged.specs.Source.{IsItemAt}
 use Rattle.be_paged.specs.declared.asked.Asked.{Asked}
 
--- an item stands at the place of the page, and its payload is what the tree has at the key
+-- an item lies at the place of the page, and its payload is what the tree has at the key
 pub record IsPlaceOf (standing : ℕ → Standing) (words : ℕ → ℕ → ℕ) (root : ℕ) (key : List ℕ)
     (page at : ℕ) : Type 0 where
   pub item : IsItemAt standing words page at

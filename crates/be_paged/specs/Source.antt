@@ -20,14 +20,14 @@ use Rattle.be_paged.specs.Page.{contents_of, IsGapAt, IsNamedAt}
 use Rattle.be_paged.specs.Version.{IsVersion}
 use Rattle.be_paged.specs.declared.on_page.FoundIndex.{FoundIndex}
 
--- an item that can be read stands at a place of a page
+-- an item that can be read lies at a place of a page
 pub record IsItemAt (standing : ℕ → Standing) (words : ℕ → ℕ → ℕ) (page at : ℕ) : Type 0 where
   pub readable : IsTrue (is_readable (standing page))
   pub in_page : at + 42 ≤ 512
   pub fits : IsItem (words page) at
 
--- the cursor stands in the tree of the index at a place, behind the key of the item at a place of a
--- page; at a place past the indices it stands nowhere
+-- the cursor is in the tree of the index at a place, after the key of the item at a place of a
+-- page; at a place past the indices it is in no tree
 pub record StandsBehind (standing : ℕ → Standing) (words : ℕ → ℕ → ℕ) (entries : List Entry)
     (cursor : Cursor) (place : ℕ) (last_page last_at : ℕ) : Type 0 where
   pub can_go_on : place < length entries → IsCursor standing words cursor
@@ -58,8 +58,7 @@ IsKnown entries known = IfSome known (λ last. IsIndexOf entries last)
 abbrev pub has_pair : List Pair → ℕ → Value → Bool
 has_pair items node v = is_indexable (kind_of v) && is_some (payload_at items (key v node))
 
--- the page spells the volume, what is remembered is of that page, and the cursor stands where it
--- says
+-- the page encodes the volume, what is remembered is of that page, and the cursor is where it says
 pub record SourceOf (standing : ℕ → Standing) (words : ℕ → ℕ → ℕ) (page : ℕ)
     (known : Option FoundIndex)
     (cursor : Cursor) (place : ℕ) (last_page last_at : ℕ) (volume : State) : Type 0 where

@@ -1,4 +1,4 @@
--- The volume that a version page spells.
+-- The volume that a version page encodes.
 use Rattle.std.specs.Prelude.{◌≡◌, ℕ, ◌^◌, ◌<◌, ◌≤◌, List, [], ◌∷◌, length, All, IsTrue}
 use Rattle.std.specs.FinMap as map
 use Rattle.be_pages.specs.declared.room.Standing.{Standing}
@@ -19,14 +19,14 @@ pub record IsEntryOf (words : ℕ → ℕ → ℕ) (entry : Entry) (name : List 
     pub kind_is : entry.kind ≡ index.kind
     pub keys : IsIndexOf (pairs words entry.root) index
 
--- each entry is the index that stands at its place in the list
+-- each entry is the index at the same place in the list
 abbrev pub AreEntriesOf : (words : ℕ → ℕ → ℕ) → List Entry → List (List ℕ × Index) → Type 0
 AreEntriesOf words [] [] = Unit {0}
 AreEntriesOf words [] (i ∷ is) = ⊥
 AreEntriesOf words (e ∷ es) [] = ⊥
 AreEntriesOf words (e ∷ es) (i ∷ is) = IsEntryOf words e i.0 i.1 × AreEntriesOf words es is
 
--- The contents spell the volume: its next number, its nodes with their attributes, and its indices
+-- The contents encode the volume: its next number, its nodes with their attributes, and its indices
 -- by ascending names.
 pub record Spells (words : ℕ → ℕ → ℕ) (c : Contents) (volume : State) : Type 0 where
   pub next : c.next ≡ volume.next
@@ -40,7 +40,7 @@ pub record IsInHand (standing : ℕ → Standing) (words : ℕ → ℕ → ℕ) 
   pub named : All (λ e. IsName e.name) c.entries
   pub trees : AreTrees standing words (roots c)
 
--- the page is a version page, in use and in none of its trees, whose contents spell this volume
+-- the page is a version page, in use and in none of its trees, whose contents encode this volume
 pub record IsVersion (standing : ℕ → Standing) (words : ℕ → ℕ → ℕ) (page : ℕ) (volume : State) :
     Type 0 where
   pub in_use : IsTrue (is_kept (standing page))

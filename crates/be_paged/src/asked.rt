@@ -1,6 +1,6 @@
 //! The attribute that refusals looked for first.
 //!
-//! They are found before the first change. So where the first operation of a list is of that
+//! They are found before the first change. So if the first operation of a list is of that
 //! attribute, it needn't look for it again.
 ghost use Rattle.std.specs.Prelude.{◌≡◌, ℕ, Some};
 ghost use Rattle.std.specs.Option.{option_or};
@@ -9,8 +9,8 @@ ghost use Rattle.be_paged.specs.Place.{IsAsked, IsKnownOf};
 
 use be_value::Name;
 
-/// A node's attribute that was looked for, and the page and the place where it stands in the
-/// catalog, if the node has it.
+/// A node's attribute that was looked for, and its page and its place in the catalog, if the node
+/// has it.
 #[derive(Drop)]
 pub(crate) struct Asked {
     node: u64,

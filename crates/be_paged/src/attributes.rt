@@ -1,7 +1,7 @@
 //! Walks over the attributes of a node.
 //!
-//! In the catalog a node's mark comes first and its attributes follow by ascending names, so a walk
-//! begins behind the mark and ends at the first key of another node. A node has at most 64
+//! In the catalog a node's mark comes first and its attributes follow by ascending names. So a walk
+//! begins after the mark and ends at the first key of another node. A node has at most 64
 //! attributes, which bounds the walk.
 ghost use Rattle.std.specs.Prelude.{◌≡◌, ◌+◌, ◌≤◌, ◌<◌, ℕ, IsTrue, IfOk, IfSome, IfNone, length};
 ghost use Rattle.std.specs.Prelude.{option_map, drop, slice_get, is_some, true, Some, None, List};
@@ -27,7 +27,7 @@ use be_volume::MAX_ATTRIBUTES;
 use std::alloc::{AllocError, Global};
 use std::str;
 
-/// Whether the key of the item at a place begins with the node. Its first word tells.
+/// Whether the key of the item at a place begins with the node. Its first word decides.
 fn is_of_node<L: Look>(look: &mut L, page: u64, at: usize, node: u64) -> bool
     requires readable { IsTrue (is_readable (L.standing look.old page)) }
     requires in_page { at + 42 ≤ 512 }
@@ -113,7 +113,7 @@ pub(crate) fn attribute_count<L: Look>(look: &mut L, catalog: u64, node: u64) ->
     Some(count_rest(look, &mut cursor, node))
 }
 
-/// The name in the key of the item at a place of the catalog, behind its node.
+/// The name in the key of the item at a place of the catalog, after its node.
 fn name_at<L: Look>(look: &mut L, page: u64, at: usize) -> Option<Name>
     requires readable { IsTrue (is_readable (L.standing look.old page)) }
     requires in_page { at + 42 ≤ 512 }
@@ -128,7 +128,7 @@ fn name_at<L: Look>(look: &mut L, page: u64, at: usize) -> Option<Name>
     Name::new(str::from_utf8(key.get(8..)?).ok()?).ok()
 }
 
-/// The attribute that the item at a place of the catalog tells.
+/// The attribute that the item at a place of the catalog encodes.
 fn read_attribute<L: Look>(look: &mut L, page: u64, at: usize) -> Option<(Name, Value)>
     requires readable { IsTrue (is_readable (L.standing look.old page)) }
     requires in_page { at + 42 ≤ 512 }
@@ -215,8 +215,8 @@ fn next_name<L: Look>(look: &mut L, cursor: &mut Cursor, node: u64) -> Option<(N
     Some((name, (page, at)))
 }
 
-/// The name of the node's first attribute, and where that stands in the catalog's tree, if the node
-/// has one.
+/// The name of the node's first attribute, and its place in the catalog's tree, if the node has
+/// one.
 pub(crate) fn first_attribute<L: Look>(
     look: &mut L,
     catalog: u64,

@@ -30,10 +30,10 @@ pub(crate) fn catalog_key(node: u64, name: &Name) -> ArrayVec<u8, 72>
     key
 }
 
-/// The value that the payload of the item at a place tells, if it tells one. It is read where it
-/// stands: an integer from its one or two words, and a text is filled once before the value has it.
-/// Who asks for a value has it in place, and texts are read by functions of their own: so room for
-/// a text is cleared for texts alone, and a value isn't moved from call to call.
+/// The value that the payload of the item at a place encodes, if it encodes one. It is read in
+/// place: an integer from its one or two words, and a text is filled once before the value has it.
+/// A caller that asks for a value gets it in place, and texts are read by functions of their own.
+/// So room for a text is cleared for texts alone, and a value isn't moved from call to call.
 #[inline(always)]
 pub(crate) fn value_at<L: Look>(look: &mut L, page: u64, at: usize) -> Option<Value>
     requires readable { IsTrue (is_readable (L.standing look.old page)) }
@@ -55,7 +55,7 @@ pub(crate) fn value_at<L: Look>(look: &mut L, page: u64, at: usize) -> Option<Va
     }
 }
 
-/// The text behind a payload's first byte, as a value of one kind.
+/// The text after a payload's first byte, as a value of one kind.
 #[inline(never)]
 fn cstr_at<L: Look>(look: &mut L, page: u64, at: usize) -> Option<Value>
     requires readable { IsTrue (is_readable (L.standing look.old page)) }
@@ -81,7 +81,7 @@ fn mims_at<L: Look>(look: &mut L, page: u64, at: usize) -> Option<Value>
     Some(Value::Mims(text_at(look, page, at)?))
 }
 
-/// The bytes behind a payload's first byte as a value.
+/// The bytes after a payload's first byte as a value.
 #[inline(never)]
 fn rawt_at<L: Look>(look: &mut L, page: u64, at: usize) -> Option<Value>
     requires readable { IsTrue (is_readable (L.standing look.old page)) }
@@ -112,7 +112,7 @@ pub(crate) fn kind_at<L: Look>(look: &mut L, page: u64, at: usize) -> Option<Kin
     Kind::numbered(number)
 }
 
-/// The number behind a payload's first byte, where that has four bytes.
+/// The number after a payload's first byte, if it has four bytes.
 pub(crate) fn number32_at<L: Look>(look: &mut L, page: u64, at: usize) -> Option<u32>
     requires readable { IsTrue (is_readable (L.standing look.old page)) }
     requires in_page { at + 42 ≤ 512 }
@@ -128,7 +128,7 @@ pub(crate) fn number32_at<L: Look>(look: &mut L, page: u64, at: usize) -> Option
     Some(payload_number32_at(look, page, at, 1))
 }
 
-/// The number behind a payload's first byte, where that has eight bytes.
+/// The number after a payload's first byte, if it has eight bytes.
 pub(crate) fn number64_at<L: Look>(look: &mut L, page: u64, at: usize) -> Option<u64>
     requires readable { IsTrue (is_readable (L.standing look.old page)) }
     requires in_page { at + 42 ≤ 512 }
@@ -144,7 +144,7 @@ pub(crate) fn number64_at<L: Look>(look: &mut L, page: u64, at: usize) -> Option
     Some(payload_number_at(look, page, at, 1))
 }
 
-/// The text behind a payload's first byte, if it is one of a value.
+/// The text after a payload's first byte, if it is one of a value.
 fn text_at<L: Look>(look: &mut L, page: u64, at: usize) -> Option<Text>
     requires readable { IsTrue (is_readable (L.standing look.old page)) }
     requires in_page { at + 42 ≤ 512 }
@@ -166,7 +166,7 @@ fn text_of(payload: &[u8]) -> Option<Text>
     Text::new(str::from_utf8(text).ok()?).ok()
 }
 
-/// The bytes behind a payload's first byte, if they are few enough for a value.
+/// The bytes after a payload's first byte, if they are few enough for a value.
 fn bytes_at<L: Look>(look: &mut L, page: u64, at: usize) -> Option<Bytes>
     requires readable { IsTrue (is_readable (L.standing look.old page)) }
     requires in_page { at + 42 ≤ 512 }

@@ -1,5 +1,5 @@
-//! Values told where a caller has room for them: a cell for each, and the bytes of texts one after
-//! the other.
+//! Values written into a caller's room: a cell for each, and the bytes of texts one after the
+//! other.
 ghost use Rattle.std.specs.Prelude.{◌≡◌, ◌+◌, ◌-◌, ◌*◌, ◌^◌, ◌<◌, ◌≤◌, ℕ, ℤ, List, [], ◌∷◌, ◌++◌};
 ghost use Rattle.std.specs.Prelude.{Ok, Err, Some, IsTrue, drop, length};
 ghost use Rattle.std.specs.Int.{cast_unsigned, w32, w64};
@@ -22,7 +22,7 @@ use be_tree::{fill_payload, payload_len_at};
 use be_value::{Kind, Name, Refusal};
 
 /// A name as a caller holds it: its length, and its bytes at the front of the others. Nothing else
-/// is asked of it: bytes that are no name are no attribute's.
+/// is required of it: bytes that are no name are no attribute's.
 #[repr(C)]
 #[derive(Clone, Copy)]
 pub struct HeldName {
@@ -30,8 +30,8 @@ pub struct HeldName {
     pub bytes: [u8; 64],
 }
 
-/// What is told of a node's attribute: 0 and the value's type code, its number, and where its bytes
-/// begin and how many they are; or the number of the refusal. A signed number is in two's
+/// The cell of a node's attribute: error 0 and the value's type code, its number, and where its
+/// bytes begin and how many they are; or the number of the refusal. A signed number is in two's
 /// complement.
 #[repr(C)]
 #[derive(Clone, Copy)]
@@ -43,7 +43,7 @@ pub struct Cell {
     pub length: u64,
 }
 
-/// How many cells were told, and how many bytes.
+/// How many cells were written, and how many bytes.
 #[derive(Clone, Copy)]
 pub struct Filled {
     pub cells: usize,
@@ -180,8 +180,8 @@ fn widened(number: u32) -> u64
     (number.cast_signed() as i64).cast_unsigned()
 }
 
-/// The cell of the value at a place of the catalog, whose bytes begin at an offset, if its payload
-/// tells a value.
+/// The cell of the value at a place of the catalog, if its payload encodes a value. The value's
+/// bytes begin at this offset.
 fn value_cell<L: Look>(look: &mut L, page: u64, at: usize, offset: usize) -> Option<Cell>
     requires readable { IsTrue (is_readable (L.standing look.old page)) }
     requires in_page { at + 42 ≤ 512 }
@@ -292,8 +292,8 @@ pub(crate) fn tell_value<L: Look>(
     tell_data(look, page, at, cell, cells, bytes, filled);
 }
 
-/// The cell of the value at a place of the catalog, if its payload tells one, whose bytes are put
-/// to the front of the places.
+/// The cell of the value at a place of the catalog, if its payload encodes one. The value's bytes
+/// are written to the front of the places.
 pub(crate) fn read_into<L: Look>(
     look: &mut L,
     page: u64,

@@ -1,8 +1,8 @@
 //! Changes of the trees that a version in hand names.
 //!
 //! An attribute and its pair in an index change one after the other. Between the two the contents
-//! spell a volume of which an index says other than the attribute, so what is kept from one change
-//! to the next is that the trees stand, apart from what they say.
+//! encode a volume in which the index and the attribute disagree. So what is kept from one change
+//! to the next is that the trees are well formed, apart from what they say.
 ghost use Rattle.std.specs.Option.{option_copied};
 ghost use Rattle.std.specs.Prelude.{◌≡◌, ℕ, ◌<◌, length, IsTrue, IfOk, IfErr, OnOk, OnErr, IfSome};
 ghost use Rattle.std.specs.Prelude.{IfNone, Some, None, option_map, true, is_some, List};
@@ -51,7 +51,7 @@ fn key_in(kind: Kind, value: Option<&Value>, node: u64) -> Option<ArrayVec<u8, 2
     }
 }
 
-/// Whether a tree has the key that both of two are. Where they differ it isn't looked for.
+/// Whether a tree has the key that both of two are. If they differ, it isn't looked for.
 fn holds_both<L: Look>(
     look: &mut L,
     root: u64,
@@ -105,10 +105,10 @@ fn turn_key<R: Room>(
     }
 }
 
-/// Changes the node's pair in the tree of an index: that of the old value leaves, and that of the
-/// new one enters, each if it is of the index's kind. A pair that stands already isn't touched, and
-/// the root and the room are as they were: it is looked for only where the old value has it too,
-/// since an index has no pair of another value.
+/// Changes the node's pair in the tree of an index: the pair of the old value leaves, and that of
+/// the new one enters, each if it is of the index's kind. If the pair is there already, it isn't
+/// touched, and the root and the room are unchanged. It is looked for only if the old value has it
+/// too, since an index has no pair of another value.
 fn change_root<R: Room>(
     room: &mut R,
     root: u64,
@@ -185,7 +185,7 @@ fn change_at<R: Room>(
 }
 
 /// Changes the node's pair in the index of a name, if there is one. The value that the node has is
-/// read only then, and looked for only where nothing is known of it.
+/// read only then, and looked for only if nothing is known of it.
 pub(crate) fn change_entry<R: Room>(
     room: &mut R,
     version: &mut Version,

@@ -1,4 +1,4 @@
-//! Comparisons with values where they stand.
+//! Comparisons with values in place.
 //!
 //! A value in hand has room for the longest text, and costs that room at each move, whatever it is.
 //! So a comparison is asked of the item: an integer is read as a number, and of a text no more than
@@ -22,7 +22,7 @@ use be_value::Kind;
 use be_volume::{is_true_of, literal_number};
 use std::str;
 
-/// Whether a comparison is true of the value that the payload of the item at a place tells.
+/// Whether a comparison is true of the value that the payload of the item at a place encodes.
 pub(crate) fn holds_at<L: Look>(look: &mut L, page: u64, at: usize, comparison: &Comparison) -> bool
     requires readable { IsTrue (is_readable (L.standing look.old page)) }
     requires in_page { at + 42 ≤ 512 }
@@ -57,7 +57,7 @@ pub(crate) fn holds_at<L: Look>(look: &mut L, page: u64, at: usize, comparison: 
     }
 }
 
-/// Whether a comparison is true of the text behind a payload's first byte.
+/// Whether a comparison is true of the text after a payload's first byte.
 fn text_holds_at<L: Look>(look: &mut L, page: u64, at: usize, comparison: &Comparison) -> bool
     requires readable { IsTrue (is_readable (L.standing look.old page)) }
     requires in_page { at + 42 ≤ 512 }
@@ -72,7 +72,7 @@ fn text_holds_at<L: Look>(look: &mut L, page: u64, at: usize, comparison: &Compa
     payload_holds(comparison, &payload)
 }
 
-/// Whether a comparison is true of the text behind the first byte of a payload in hand.
+/// Whether a comparison is true of the text after the first byte of a payload in hand.
 fn payload_holds(comparison: &Comparison, payload: &[u8]) -> bool
     ensures { (k : ℕ) (t : List ℕ) → IsUtf8 t → payload.now ≡ k ∷ t → result
         ≡ holds_of_text comparison.now.op t (literal_of comparison.now.literal) }

@@ -1,7 +1,7 @@
 //! Operations on a version in hand.
 //!
-//! Refusals are found before, so each operation only does its work and fails for want of pages
-//! alone. What it leaves then is not said: the write is undone.
+//! Refusals are found before, so each operation only does its work, and the one error is that no
+//! page is free. The contracts don't say what it leaves after that: the write is undone.
 ghost use Rattle.std.specs.Prelude.{◌≡◌, [], ◌+◌, ◌≤◌, ◌<◌, ◌^◌, All, length, IsTrue, IfOk, IfErr};
 ghost use Rattle.std.specs.Prelude.{OnOk, OnErr, IsOk};
 ghost use Rattle.be_pages.specs.Pages.{KeepsStart};
@@ -148,7 +148,7 @@ fn remove_index<R: Room>(room: &mut R, version: &mut Version, name: &Name) -> Do
 }
 
 /// Takes all attributes of a node away, each with its pair. Of an attribute the name is read, and
-/// its value only where the name has an index.
+/// its value only if the name has an index.
 fn unset_all<R: Room>(room: &mut R, version: &mut Version, node: u64) -> Result<(), Refusal>
     requires in_hand { IsInHand (R.standing room.old) (R.words room.old) (contents version.old) }
     requires open { IsTrue (R.is_open (R.kept room.old)) }
@@ -231,9 +231,10 @@ fn edit<R: Room>(
     }
 }
 
-/// A list of operations that are accepted, one after the other, whose answers enter an empty list.
-/// It is filled where it stands, since a list that is given by value costs its whole capacity. What
-/// is remembered of an attribute serves the first operation, since the trees have changed after it.
+/// Does a list of operations that are accepted, one after the other. Their outcomes enter an empty
+/// list, which is filled in place, since a list that is passed by value costs its whole capacity.
+/// What is remembered of an attribute serves the first operation, since the trees have changed
+/// after it.
 pub(crate) fn edit_all<R: Room>(
     room: &mut R,
     version: &mut Version,

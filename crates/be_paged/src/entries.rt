@@ -11,7 +11,8 @@ use be_value::{Kind, Name};
 use std::alloc::{AllocError, Global};
 use std::cmp::Ordering;
 
-/// Where the index of a name stands among the entries; an error tells where it would be inserted.
+/// The place of the index of a name among the entries; the error is the place where it would be
+/// inserted.
 pub(crate) fn search(entries: &[Entry], name: &Name) -> Result<usize, usize>
     ensures found { IfOk result (IsNamedAt entries.now name.now) }
     ensures absent { IfErr result (IsGapAt entries.now name.now) }

@@ -1,4 +1,4 @@
-//! An index as a version page tells it.
+//! An index as a version page has it.
 ghost use Rattle.std.specs.Prelude.{◌≡◌, ℕ, ◌+◌, ◌<◌, ◌≤◌, IsTrue, slice_index};
 ghost use Rattle.be_pages.specs.Pages.{IsUnchanged, is_readable, OnlyWrites};
 ghost use Rattle.be_pages.specs.declared.room.Standing.TheVariants.{Filled};
@@ -15,8 +15,8 @@ use std::cmp::Ordering;
 use std::marker::Model;
 use std::str;
 
-/// An index of a version. Its name stands in eight words, as on the page. A contract sees the
-/// name's bytes, the kind and the root.
+/// An index of a version. Its name lies in eight words, as on the page. A contract sees the name's
+/// bytes, the kind and the root.
 #[derive(Drop)]
 pub(crate) struct Entry {
     len: usize,
@@ -160,8 +160,8 @@ impl Entry {
         bytes
     }
 
-    /// How the index's name compares with a name. The words behind a name are zeros, so the first
-    /// word that differs decides, and else the lengths.
+    /// How the index's name compares with a name. The words after a name are zeros, so the first
+    /// word that differs decides; if none differs, the lengths do.
     pub(crate) fn compare(&self, name: &Name) -> Ordering
         ensures { result ≡ name_cmp self.now.name name.now }
     {
@@ -184,7 +184,7 @@ impl Entry {
         Name::new(str::from_utf8(&self.bytes()).unwrap()).unwrap()
     }
 
-    /// The index that a place of a version page tells.
+    /// The index that a place of a version page encodes.
     #[tactic(auto, unfolding(crate::specs::Page::entry_at))]
     pub(crate) fn load<L: Look>(look: &mut L, page: u64, at: usize) -> Entry
         requires readable { IsTrue (is_readable (L.standing look.old page)) }

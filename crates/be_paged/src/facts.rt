@@ -1,8 +1,8 @@
 //! The facts of a version in hand on which refusals rest.
 //!
 //! A list of operations asks for the same node again and again, so a reader remembers what it found
-//! of the node last. It remembers too the first attribute that it looked for, so that who changes
-//! this one next needn't look for it again.
+//! of the node last. It remembers too the first attribute that it looked for, so that a caller that
+//! changes this one next needn't look for it again.
 ghost use Rattle.std.specs.Prelude.{◌≡◌, true};
 ghost use Rattle.std.specs.FinMap as map;
 ghost use Rattle.be_pages.specs.Pages.{IsUnchanged};
@@ -22,8 +22,8 @@ use be_pages::Look;
 use be_value::Name;
 use be_volume::Facts;
 
-/// A reader of these facts, with the node that it counted last and how many attributes that has, if
-/// it is there, and the first attribute that it looked for.
+/// A reader of these facts. It keeps the node that it counted last, with how many attributes that
+/// has, if it is there, and the first attribute that it looked for.
 #[derive(Drop)]
 pub(crate) struct PageFacts<'a, L: Look> {
     pub(crate) look: &'a mut L,
@@ -46,8 +46,8 @@ fn count_anew<L: Look>(look: &mut L, version: &Version, node: u64) -> Option<usi
     attribute_count(look, version.catalog, node)
 }
 
-/// The same, as it is remembered of the node that was counted last, or else by a look, and
-/// remembered.
+/// The same. If the node was counted last, the count is the remembered one; otherwise it is looked
+/// up, and remembered.
 fn count_of<L: Look>(
     look: &mut L,
     version: &Version,

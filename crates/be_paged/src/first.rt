@@ -7,7 +7,7 @@ ghost use Rattle.be_paged.specs.Version.{IsVersion};
 
 use be_pages::PAGE_WORDS;
 
-/// The words of a version page that spells the empty volume, wherever it stands. It reaches no
+/// The words of a version page that encodes the empty volume, on whichever page. It reaches no
 /// other page.
 pub fn first_page() -> [u64; PAGE_WORDS]
     ensures { (standing : ℕ → Standing) (words : ℕ → ℕ → ℕ) (page : ℕ)

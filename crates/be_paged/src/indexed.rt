@@ -1,8 +1,8 @@
 //! Values of the catalog in the trees of indices.
 //!
-//! Whether an index has a node's attribute is told by whether its tree has the key of it. The key
-//! of a 64-bit number with a sign, as sizes and times are, is made from the words in which the
-//! number stands; another value is taken in hand for it.
+//! An index has a node's attribute exactly if its tree has the attribute's key. The key of a signed
+//! 64-bit number, as sizes and times are, is made from the words that hold the number; any other
+//! value is first taken in hand.
 ghost use Rattle.std.specs.Prelude.{◌≡◌, ◌+◌, ◌≤◌, ◌++◌, IsTrue, is_some, length};
 ghost use Rattle.std.specs.Int.{to_be_bytes, w64};
 ghost use Rattle.be_pages.specs.Pages.{IsUnchanged, is_readable};
@@ -34,8 +34,9 @@ fn has_number<L: Look>(look: &mut L, index: u64, number: &[u8], node: u64) -> bo
     has_key(look, index, &key)
 }
 
-/// Whether the index of a tree has the value that the item at a place tells, with its node, by the
-/// value in hand. It stands by itself, since it needs room for the value and for its key.
+/// Whether the index of a tree has the value that the item at a place encodes, with its node, by
+/// the value in hand. It is a function of its own, since it needs room for the value and for its
+/// key.
 #[inline(never)]
 fn any_is_indexed_at<L: Look>(look: &mut L, index: u64, page: u64, at: usize, node: u64) -> bool
     requires tree { IsTree (L.standing look.old) (L.words look.old) index }
@@ -53,7 +54,7 @@ fn any_is_indexed_at<L: Look>(look: &mut L, index: u64, page: u64, at: usize, no
     value.kind().indexable() && has_key(look, index, key_of(&value, node).as_slice())
 }
 
-/// Whether the index of a tree has the value that the item at a place tells, with its node.
+/// Whether the index of a tree has the value that the item at a place encodes, with its node.
 pub(crate) fn is_indexed_at<L: Look>(
     look: &mut L,
     index: u64,

@@ -3,13 +3,13 @@
 //! # Versions
 //! A version of a volume is one page: the next node number, the root of the catalog's tree, and for
 //! each index its name, its kind and the root of its tree. The catalog has a pair for each node and
-//! one for each attribute; an index has a pair for each node that stands in it. All calls read or
-//! write through `Look` and `Room`, so they serve a pool in memory and a shared table alike.
+//! one for each attribute; an index has a pair for each node that is in it. All calls read or write
+//! through `Look` and `Room`, so they serve a pool in memory and a shared table alike.
 //!
 //! # What a page says
-//! That a page spells a volume is a relation, `IsVersion`: its pairs are exactly the volume's
+//! That a page encodes a volume is a relation, `IsVersion`: its pairs are exactly the volume's
 //! nodes, attributes and index keys. A reader can't compute that volume, so a contract speaks of
-//! every volume that the page spells.
+//! every volume that the page encodes.
 //!
 //! # A write
 //! The trees are copied on write, page by page, and the version page is written once, at the end.

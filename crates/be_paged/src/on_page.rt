@@ -1,9 +1,9 @@
-//! Indices where they stand on a version page.
+//! Indices in place on a version page.
 //!
-//! Who asks for one or two indices by name needs no version in hand, which has room for all 32 of
-//! them. Names are compared where they stand, and mostly their first words differ already. They
-//! ascend, so of 32 indices a search looks at six at most. Mostly the same name is asked for again,
-//! so the index that was found last is kept, and its name compared first.
+//! A caller that asks for one or two indices by name needs no version in hand, which has room for
+//! all 32 of them. Names are compared in place, and mostly their first words differ already. They
+//! ascend, so a search among 32 indices looks at no more than six. Mostly the same name is asked
+//! for again, so the index that was found last is kept, and its name is compared first.
 ghost use Rattle.std.specs.Prelude.{◌≡◌, ◌+◌, ◌<◌, ◌≤◌, IsTrue, length, map, slice_index};
 ghost use Rattle.std.specs.Prelude.{slice_index_or, true};
 ghost use Rattle.std.specs.Int.{to_be_bytes, w64};
@@ -137,7 +137,8 @@ fn middle(low: usize, high: usize) -> usize
 }
 
 /// How the name of the index at a place of a page compares with a name whose first word is at hand.
-/// The words behind a name are zeros, so the first word that differs decides, and else the lengths.
+/// The words after a name are zeros, so the first word that differs decides; if none differs, the
+/// lengths do.
 fn compare_at<L: Look>(look: &mut L, page: u64, at: usize, name: &[u8], first: u64) -> Ordering
     requires readable { IsTrue (is_readable (L.standing look.old page)) }
     requires in_page { at + 11 ≤ 512 }

@@ -78,7 +78,7 @@ impl<L: Look> PagedSource<L> {
     }
 
     /// Brings the cursor before the least key of an index at `from` or after it, or strictly after
-    /// it. Where it stands behind that very key nothing moves.
+    /// it. If it is just after that very key, nothing moves.
     fn walk_to(&mut self, index: FoundIndex, from: &[u8], after: bool)
         requires in_range { index.place < length
             (contents_of (L.words self.old.look self.old.page)).entries }
@@ -171,7 +171,7 @@ impl<L: Look> Source for PagedSource<L> {
         }
     }
 
-    // It stands by itself, so that who asks for values alone has room for one.
+    // It is a function of its own, so that a caller that asks for values alone has room for one.
     #[inline(never)]
     fn value(&mut self, node: u64, name: &Name) -> Option<Value> {
         get(&mut self.look, self.page, node, name)

@@ -1,7 +1,7 @@
 //! A version, read whole: what be_volume_state makes a volume again of.
 //!
-//! It keeps nothing of what it read. Whether an index has a node is asked of the index's tree by
-//! the key of the node's attribute, since a pair of an index is always its node's attribute.
+//! It keeps nothing of what it read. To find whether an index has a node, it looks for the key of
+//! the node's attribute in the index's tree. A pair of an index is always its node's attribute.
 ghost use Rattle.std.specs.Prelude.{◌≡◌, IfOk, None, true};
 ghost use Rattle.std.specs.FinMap as map;
 ghost use Rattle.std.specs.Option.{option_map};
@@ -86,8 +86,7 @@ impl<L: Look> Whole for PagedWhole<L> {
     }
 }
 
-/// The attributes of a node, by ascending bytes of their names, and none where the node isn't
-/// there.
+/// The attributes of a node, by ascending bytes of their names, and None if the node isn't there.
 fn attrs_of<L: Look>(
     alloc: Global,
     look: &mut L,
@@ -108,7 +107,7 @@ fn attrs_of<L: Look>(
     }
 }
 
-/// None where there is no node; every other refusal is a want of memory.
+/// None if there is no node; every other refusal is OutOfMemory.
 fn none_for(refusal: Refusal) -> Result<Option<Vec<(Name, Value)>>, AllocError>
     ensures { IfOk result (λ list. (option_map (λ l. l.items) list ≡ None) × (refusal ≡ NoNode)) }
 {

@@ -1,8 +1,8 @@
 //! Prepared queries on a version.
 //!
-//! The index of a prepared query mostly stands where it stood at the last asking, so its name is
-//! compared there first. Its range is at hand, and the nodes of its keys are the answer: no plan is
-//! made, and no source.
+//! The index of a prepared query is mostly where it was at the last call, so its name is compared
+//! there first. Its range is at hand, and the nodes of its keys are the answer: no plan is made,
+//! and no source.
 ghost use Rattle.std.specs.Prelude.{◌≡◌, ◌<◌, List, ℕ, true, Ok, Some, IfOk, IfErr, IfSome, OnOk};
 ghost use Rattle.std.specs.Option.{option_copied};
 ghost use Rattle.std.specs.List.Sorted.{IsStrictlyIncreasing};
@@ -75,10 +75,10 @@ fn nodes_of<L: Look>(
     Ok(())
 }
 
-/// Puts the nodes of which a prepared query is true into a list, ascending, in place of what it
-/// had, if a range of one index decides the query. If not, false, and the query is to be asked by a
-/// plan. It compares the index's name where the index stood last, and makes one descent. After
-/// false or `OutOfMemory` the list has any numbers.
+/// If a range of one index decides a prepared query, this writes the nodes of which it is true into
+/// a list, ascending, in place of what the list had. Otherwise it returns false, and the caller
+/// runs the query by a plan. It compares the index's name where the index was last, and makes one
+/// descent. After false or `OutOfMemory` the list has any numbers.
 #[inline(always)]
 pub fn answer_decided<L: Look>(
     alloc: Global,

@@ -34,8 +34,8 @@ use be_tree::{find_place, has_key};
 use be_value::{Kind, Name, Refusal, Value};
 use std::alloc::Global;
 
-/// Where a node's attribute stands in the catalog's tree, if the node has it: its page, and its
-/// place there. It costs one descent.
+/// The page and the place of a node's attribute in the catalog's tree, if the node has it. It costs
+/// one descent.
 pub(crate) fn attribute_place<L: Look>(
     look: &mut L,
     catalog: u64,
@@ -52,7 +52,7 @@ pub(crate) fn attribute_place<L: Look>(
     find_place(look, catalog, &catalog_key(node, name))
 }
 
-/// Where the item of a key stands, which is known or looked for.
+/// The place of the item of a key, which is known or looked up.
 #[inline(always)]
 fn place_of<L: Look>(
     look: &mut L,
@@ -72,8 +72,8 @@ fn place_of<L: Look>(
     }
 }
 
-/// A node's value at a name, from the catalog's tree. Where it is known whether and where the
-/// attribute stands, it makes no descent.
+/// A node's value at a name, from the catalog's tree. If the caller knows whether the attribute is
+/// there, and its place, it makes no descent.
 #[inline(always)]
 pub(crate) fn value_in<L: Look>(
     look: &mut L,
@@ -94,9 +94,9 @@ pub(crate) fn value_in<L: Look>(
     value_at(look, page, at)
 }
 
-/// Whether a comparison is true of what it sees of a node: of the node's value at its name, where
-/// no index has that name or its index has the value. The value is compared where it stands, and
-/// the index that was found last is looked at first.
+/// Whether a comparison is true of what it sees of a node: of the node's value at its name, if no
+/// index has that name or its index has the value. The value is compared in place, and the index
+/// that was found last is looked at first.
 pub(crate) fn holds_in<L: Look>(
     look: &mut L,
     version_page: u64,
@@ -153,9 +153,9 @@ pub fn get<L: Look>(look: &mut L, version_page: u64, node: u64, name: &Name) -> 
     value_in(look, catalog, node, name, None)
 }
 
-/// The attributes of a node, by ascending bytes of their names. It is refused with NoNode where the
-/// node isn't there, and with OutOfMemory only where it is. It walks over the node's pairs in the
-/// catalog's tree.
+/// The attributes of a node, by ascending bytes of their names. The errors are NoNode if the node
+/// isn't there, and OutOfMemory only if it is. It walks over the node's pairs in the catalog's
+/// tree.
 pub fn attrs<L: Look>(
     alloc: Global,
     look: &mut L,
@@ -202,9 +202,9 @@ pub fn indices<L: Look>(
     Ok(kinds(alloc, &version.entries)?)
 }
 
-/// The nodes from a number on, ascending, and so many of them at most; refused with OutOfMemory
-/// alone. It costs one descent of the catalog's tree, and a step for each node that it gives and
-/// for each of their attributes.
+/// Up to `most` nodes from a number on, ascending. The only error is OutOfMemory. It costs one
+/// descent of the catalog's tree, and a step for each node that it returns and for each of their
+/// attributes.
 pub fn nodes<L: Look>(
     alloc: Global,
     look: &mut L,

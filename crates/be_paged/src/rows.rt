@@ -1,8 +1,8 @@
 //! Many attributes in one call: the values of nodes at names.
 //!
-//! A row is what one node has at the names. One descent leads to the first of its attributes, and a
-//! cursor steps to the next name's as long as the names stand side by side, by ascending bytes. For
-//! any other name there is a descent. A node that has none of the names is looked for itself.
+//! A row is what one node has at the names. One descent leads to the first of its attributes. A
+//! cursor steps to the next name's as long as the names lie side by side, by ascending bytes. Any
+//! other name costs a descent. If a node has none of the names, the node itself is looked up.
 ghost use Rattle.std.specs.Prelude.{◌≡◌, ◌≢◌, ◌+◌, ◌*◌, ◌^◌, ◌<◌, ◌≤◌, ℕ, List, [], ◌∷◌, ◌++◌, Err};
 ghost use Rattle.std.specs.Prelude.{None, Some, IfSome, IfNone, drop, length, map as each};
 ghost use Rattle.std.specs.Prelude.{slice_get};
@@ -54,7 +54,7 @@ fn step_to<L: Look>(look: &mut L, cursor: &mut Cursor, key: &[u8]) -> Option<(u6
     Some((page, at))
 }
 
-/// Where the attribute with a key stands in the catalog's tree, if it is there: at the cursor, or
+/// The place of the attribute with a key in the catalog's tree, if it is there: at the cursor, or
 /// where a descent leads. The cursor is past it then.
 fn next_place<L: Look>(
     look: &mut L,
@@ -77,7 +77,7 @@ fn next_place<L: Look>(
     step_to(look, cursor, key)
 }
 
-/// Where the value of a node's attribute stands, if the node has it, as `next_place` finds it.
+/// The place of the value of a node's attribute, if the node has it, as `next_place` finds it.
 fn value_place<L: Look>(
     look: &mut L,
     catalog: u64,
@@ -222,8 +222,8 @@ fn tell_row<L: Look>(
 /// and so on, and the bytes of all texts end to end, of both as many as there are places. Returns
 /// how many bytes that are.
 ///
-/// It takes no memory. A node costs one descent if its attributes of these names stand side by
-/// side; a name that it hasn't costs one more, and so does a node that has none of them.
+/// It takes no memory. A node costs one descent if its attributes of these names lie side by side.
+/// A name that it hasn't costs one more, and so does a node that has none of them.
 pub fn columns<L: Look>(
     look: &mut L,
     version_page: u64,
@@ -249,8 +249,8 @@ pub fn columns<L: Look>(
     filled.bytes as u64
 }
 
-/// A node's attribute as a cell, if the node is there and has it. The bytes of a text are put to
-/// the front of the places, as many as there are places. It costs one descent of the catalog's
+/// A node's attribute as a cell, if the node is there and has it. The bytes of a text are written
+/// to the front of the places, as many as there are places. It costs one descent of the catalog's
 /// tree, and takes no memory.
 #[inline(always)]
 pub fn get_into<L: Look>(
@@ -272,7 +272,7 @@ pub fn get_into<L: Look>(
     read_into(look, page, at, bytes)
 }
 
-/// Where the value of a node's attribute stands, if the node has it. One descent.
+/// The place of the value of a node's attribute, if the node has it. One descent.
 #[inline(always)]
 fn found_value<L: Look>(
     look: &mut L,

@@ -1,8 +1,8 @@
-//! How a version page is spelled.
+//! How a version page is encoded.
 ghost use Rattle.std.specs.Prelude.{◌≡◌, ℕ, ◌+◌, ◌*◌, ◌<◌};
 ghost use Rattle.be_paged.specs.Page.{contents_of, IsVersionPage};
 
-/// A law: what a version page tells, its next number, its roots and its indices, fixes each word
+/// A law: the contents of a version page, its next number, its roots and its indices, fix each word
 /// that it uses. It does nothing.
 pub fn one_spelling()
     ensures { (words others : ℕ → ℕ) → IsVersionPage words → IsVersionPage others

@@ -17,8 +17,8 @@ pub(crate) struct Version {
     pub(crate) entries: ArrayVec<Entry, 32>,
 }
 
-/// Puts what a version page tells into contents that have no index yet. They are filled where they
-/// stand, since contents that are given by value cost their whole capacity.
+/// Reads a version page into contents that have no index yet. They are filled in place, since
+/// contents that are passed by value cost their whole capacity.
 pub(crate) fn fill_version<L: Look>(look: &mut L, page: u64, version: &mut Version)
     requires readable { IsTrue (is_readable (L.standing look.old page)) }
     requires page { IsVersionPage (L.words look.old page) }

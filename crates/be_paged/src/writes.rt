@@ -87,14 +87,14 @@ fn replace_version<R: Room>(room: &mut R, old_page: u64, version: &Version) -> R
     Ok(page)
 }
 
-/// Applies 1 to 64 operations to the version of a page, all or none, and gives the new version
-/// page; an answer for each operation enters an empty list. The new page is one that this write has
-/// taken, also where nothing changed. The list is filled where it stands, since one that is given
-/// by value costs its whole capacity.
+/// Applies 1 to 64 operations to the version of a page, all or none, and returns the new version
+/// page; an outcome for each operation enters an empty list. The new page is one that this write
+/// has taken, even if nothing changed. The list is filled in place, since one that is passed by
+/// value costs its whole capacity.
 ///
-/// The list is refused with NoNode to NotIndexable as the plain volume refuses it, before a page is
-/// taken, and the room is as it was; or with Full where no page is left, and what stood when the
-/// write began stands once it is undone. It takes no memory.
+/// The errors are those of the plain volume, NoNode to NotIndexable: they come before a page is
+/// taken, and the room is unchanged. If no page is left, the error is Full, and what was there when
+/// the write began is there again once it is undone. It takes no memory.
 pub fn apply_into<R: Room>(
     room: &mut R,
     version_page: u64,
@@ -127,7 +127,7 @@ pub fn apply_into<R: Room>(
     Ok(page)
 }
 
-/// The same, with the answers in a list of their own.
+/// The same, with the outcomes in a list of their own.
 pub fn apply<R: Room>(
     room: &mut R,
     version_page: u64,

@@ -54,7 +54,7 @@ is_held_page Current = true
 is_held_page GivenUp = false
 is_held_page (Retired n) = false
 
--- the number that a page is retired with, else 0
+-- the number that a page is retired with, otherwise 0
 abbrev pub retired_number : Place → ℕ
 retired_number Free = 0
 retired_number Reserved = 0

@@ -1,4 +1,4 @@
--- A room in memory, by where its pages stand and by their words.
+-- A room in memory, described by the states of its pages and by their words.
 use Rattle.std.specs.Prelude.{◌≡◌, ◌≢◌, ℕ, ◌+◌, ◌*◌, ◌<◌, ◌≤◌, ◌^◌, List, length, map, slice_index}
 use Rattle.std.specs.Prelude.{slice_index_or, if◌then◌else◌, nat_lt}
 use Rattle.std.specs.List.{range_with_len}
@@ -12,7 +12,7 @@ use Rattle.be_pages.specs.declared.page_pool.Place.{Place}
 use Rattle.be_pages.specs.declared.page_pool.Place.TheVariants.{Free, Reserved, Filled, Current}
 use Rattle.be_pages.specs.declared.page_pool.Place.TheVariants.{GivenUp, Retired}
 
--- where a page stands in the open write
+-- the state of a page with this place in the open write
 abbrev pub standing_of : Place → Stands
 standing_of Free = stands.Free
 standing_of Reserved = stands.Taken
@@ -21,11 +21,11 @@ standing_of Current = stands.Old
 standing_of GivenUp = stands.GivenUp
 standing_of (Retired n) = stands.Free
 
--- where page q stands; past the pool there is no page
+-- the state of page q; past the pool there is no page
 abbrev pub standing_in : List Place → ℕ → Stands
 standing_in places q = standing_of (slice_index_or places q Free)
 
--- where the pages of the pool stand, in order
+-- the states of the pool's pages, in order
 abbrev pub standings : List Place → List Stands
 standings places = map (standing_in places) (range_with_len 0 (length places))
 

@@ -6,11 +6,11 @@
 //! A retired page has the number of the last version that it is of.
 //!
 //! # Lists
-//! Three lists stand beside the places. The free pages lie on a stack: the page that was freed last
-//! is taken first, since its words are still near. The pages that the open write took or gave up
-//! lie on another, so the write ends by walking these alone. The retired pages stand in a queue,
-//! oldest first, so a sweep stops at the first one that has to wait. Each list has room for every
-//! page from the start: no call but `new` takes memory.
+//! The pool keeps three lists beside the places. The free pages lie on a stack: the page that was
+//! freed last is taken first, since its words are still near. The pages that the open write took or
+//! gave up lie on another, so the write ends by walking these alone. The retired pages lie in a
+//! queue, oldest first, so a sweep stops at the first one that has to wait. Each list has room for
+//! every page from the start: no call but `new` takes memory.
 ghost use Rattle.std.specs.Prelude.{◌≡◌, ◌≢◌, ℕ, ◌+◌, ◌<◌, ◌≤◌, List, Bool, true, false, length};
 ghost use Rattle.std.specs.Prelude.{vec_len, map, count_by, slice_set};
 ghost use Rattle.std.specs.Prelude.{slice_index, slice_index_or, IsTrue, IfOk, IfSome, IfNone};

@@ -1,9 +1,9 @@
 //! The two traits over pages.
 //!
-//! # Standings
-//! Where a page stands in a write is one function of the page, so the sets of pages that can be
-//! read, taken or given up cannot disagree. Ghost members tell it, with the words of each page and
-//! the facts that no call changes; none of them says who holds the words.
+//! # The states of pages
+//! A page's state in a write (`Standing`) is one function of the page, so the sets of pages that
+//! can be read, taken or given up cannot disagree. Ghost members give this function, the words of
+//! each page and the facts that no call changes; none of them says who holds the words.
 ghost use Rattle.std.specs.Prelude.{◌≡◌, ℕ, ◌<◌, ◌^◌, ◌==◌, ◌≢◌, if◌then◌else◌, IsTrue, Bool, IfOk};
 ghost use Rattle.std.specs.Prelude.{IfErr, OnErr};
 ghost use Rattle.be_pages.specs.declared.room.Standing.{Standing as Stands};
@@ -16,7 +16,7 @@ use be_value::Refusal;
 /// How many words a page has.
 pub const PAGE_WORDS: usize = 512;
 
-/// Where a page stands in a write.
+/// The state of a page in a write.
 #[derive(Clone, Copy, Debug, PartialEq, Eq)]
 pub enum Standing {
     /// Neither readable nor taken.
@@ -41,7 +41,7 @@ pub trait Look {
     /// Whether a reader with these facts may be written: its write is open.
     ghost is_open: { Kept → Bool };
 
-    /// Where each page stands.
+    /// The state of each page.
     ghost standing: { Self → ℕ → Stands };
 
     /// The word of a page at a place.
@@ -56,14 +56,14 @@ pub trait Look {
         ensures standing { standing self.new ≡ standing self.old }
         ensures words { words self.new ≡ words self.old };
 
-    // A page that stands somewhere has a small number: a root is one more than its page, and a new
-    // level fits too.
+    // A page that isn't free has a small number: a root is one more than its page, and a new level
+    // fits too.
     ghost pages_small: { (reader : Self) (q : ℕ) → standing reader q ≢ Free → q < 2 ^ 32 };
 }
 
 /// A reader that takes, fills and gives up pages, for one write.
 pub trait Room: Look {
-    /// What a room that has just refused a page tells of the refusal's number.
+    /// What a room that has just refused a page says about the refusal's number.
     ghost full: { Self → ℕ → Type 0 };
 
     /// Whether a page that can be read is one that this write has taken: such a page may be filled

@@ -1,5 +1,5 @@
-//! A room in memory: a pool's places, and the words of its pages one page after another. It stands
-//! for a table in tests, and where one thread alone reads and writes.
+//! A room in memory: a pool's places, and the words of its pages one page after another. Tests use
+//! it in place of a table, and so does code in which one thread alone reads and writes.
 ghost use Rattle.std.specs.Prelude.{◌≡◌, ◌≢◌, ℕ, ◌<◌, ◌≤◌, ◌*◌, false, length, vec_len, count_by};
 ghost use Rattle.std.specs.Prelude.{slice_index, IfOk, IfErr, OnErr, ◌^◌};
 ghost use Rattle.be_pages.specs.declared.room.Standing.TheVariants.{Free, Taken};
@@ -77,8 +77,8 @@ impl Room for VecRoom {
 }
 
 impl VecRoom {
-    /// A room whose pages are all free. `BadLimits` for a number of pages out of its range, else
-    /// `OutOfMemory` where a growth was refused.
+    /// A room whose pages are all free. `BadLimits` for a number of pages out of its range,
+    /// otherwise `OutOfMemory` if a growth was refused.
     pub fn new(alloc: Global, pages: u64) -> Result<VecRoom, Refusal>
         ensures ok { IfOk result (λ r. (8 ≤ pages) × (pages ≤ 16384)
             × (⟦<VecRoom as Look>⟧.kept r ≡ pages)) }
@@ -112,7 +112,7 @@ impl VecRoom {
         self.pool.keep();
     }
 
-    /// The write is undone: pages that it took are free, and pages that it gave up stand.
+    /// The write is undone: pages that it took are free, and pages that it gave up are old again.
     pub fn undo(&mut self)
         ensures standing { (q : ℕ) → ⟦<VecRoom as Look>⟧.standing self.new q
             ≡ after_undo (⟦<VecRoom as Look>⟧.standing self.old q) }

@@ -10,6 +10,7 @@ use Rattle.counted_slot.proofs.Counted.TheSendSync.{the_send as counted_send, th
 use Rattle.be_journal.specs.contracts.journals.Journal as Journal
 use Rattle.be_store.specs.contracts.store.Store as Store
 use Rattle.be_table.specs.contracts.seat.Seat as Seat
+use Rattle.be_table.specs.contracts.witness.Witness as Witness
 use Rattle.be_session.specs.contracts.session.Session as Session
 use Rattle.be_session.specs.contracts.shared.Returned as Returned
 use Rattle.be_session.specs.contracts.shared.Shared as Shared
@@ -46,3 +47,7 @@ shared_sync = search (sendable, crosses, store_sync, returned_send, returned_syn
 
 pub session : IsSend Session.the_row
 session = search (sendable, crosses, pass_send, shared_send, shared_sync) depth 20
+
+-- and so may a witness
+pub witness : IsSend Witness.the_row
+witness = search (sendable, crosses, badge_send) depth 20

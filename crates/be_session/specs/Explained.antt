@@ -1,4 +1,4 @@
--- What a query would be answered from.
+-- The index cover from which a query would be answered.
 use Rattle.std.specs.Prelude.{ℕ, Bool, List}
 use Rattle.std.specs.Result.{result_map_both}
 use Rattle.std.specs.declared.result.Result.{Result}
@@ -9,10 +9,11 @@ use Rattle.be_value.specs.declared.refusals.Refusal.{Refusal}
 use Rattle.be_volume.specs.Query.{has_index}
 use Rattle.be_volume.specs.Volume.{State}
 
--- what is said of the cover that is chosen where these names have an index, if one is
+-- the text of the cover that is chosen, if the names for which `indexed` is true have an index; or
+-- why none is chosen
 abbrev pub explanation_where : (List ℕ → Bool) → Formula → Result (List ℕ) Refusal
 explanation_where indexed f = result_map_both (explanation f) (λ e. e) (chosen indexed f)
 
--- the same of a volume's indices
+-- the same for a volume's indices
 abbrev pub explanation_in : State → Formula → Result (List ℕ) Refusal
 explanation_in volume f = explanation_where (has_index volume) f

@@ -1,4 +1,4 @@
--- The numbers of faults.
+-- The numbers of errors.
 use Rattle.std.specs.Prelude.{ℕ, unwrap_or}
 use Rattle.be_value.specs.Refusal.{carried, refusal_number}
 use Rattle.be_store.specs.declared.conditional.ApplyIfError.{ApplyIfError}
@@ -10,7 +10,7 @@ use Rattle.be_session.specs.declared.faults.Fault.TheVariants.{NotUtf8, NoOperat
 use Rattle.be_session.specs.declared.faults.Fault.TheVariants.{NoValue, BadPart, NoItem, Conflict}
 use Rattle.be_session.specs.declared.faults.Fault.TheVariants.{Refused}
 
--- the number by which other languages know a fault: a refusal's own, and 66 on for those of a
+-- the number by which other languages know an error: a refusal's own, and from 66 on those of a
 -- session
 abbrev pub fault_code : Fault → ℕ
 fault_code NotPinned = 66
@@ -26,8 +26,8 @@ fault_code NoItem = 75
 fault_code (Conflict length) = 76
 fault_code (Refused e) = refusal_number e
 
--- the number that goes with a fault: what a refusal carries, the length of a conflict, and 0 where
--- there is none
+-- the number that an error carries: what a refusal carries, the journal's length for a conflict,
+-- and otherwise 0
 abbrev pub fault_carried : Fault → ℕ
 fault_carried NotPinned = 0
 fault_carried AlreadyPinned = 0
@@ -42,7 +42,7 @@ fault_carried NoItem = 0
 fault_carried (Conflict length) = length
 fault_carried (Refused e) = unwrap_or (carried e) 0
 
--- the fault of a conditional write that the store did not make
+-- the error of a conditional write that the store did not make
 abbrev pub fault_of : ApplyIfError → Fault
 fault_of (errors.Conflict length) = Conflict length
 fault_of (errors.Refused e) = Refused e

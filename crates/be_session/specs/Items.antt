@@ -1,4 +1,4 @@
--- What a predicate in reverse Polish order means, as other languages spell it.
+-- What a predicate in reverse Polish order means, as other languages encode it.
 use Rattle.std.specs.Prelude.{◌≡◌, ◌⊎◌, ◌+◌, ◌++◌, ◌<◌, ◌==◌, ℕ, true, false, if◌then◌else◌, List}
 use Rattle.std.specs.Prelude.{[], ◌∷◌, length, take, IsUtf8, Ok, Err}
 use Rattle.std.specs.Fmt.{decimal, signed_decimal}
@@ -18,7 +18,7 @@ use Rattle.be_session.specs.declared.faults.Fault.TheVariants.{NotUtf8, NoItem, 
 use Rattle.be_session.specs.declared.items.PredicateItem.{PredicateItem}
 
 -- The item that a number means: an attribute by its name, a text, a number with or without a sign,
--- or what is done to those before.
+-- or an operator on the items before it.
 abbrev pub IsItemMeant : ℕ → ℕ → List ℕ → Item → Type 0
 IsItemMeant kind number bytes (Attr name) = (kind ≡ 0) × (name ≡ bytes)
 IsItemMeant kind number bytes (Given text) = (kind ≡ 1) × (text ≡ bytes)
@@ -47,7 +47,7 @@ IsNoItem kind bytes e =
     ⊎ ((kind ≡ 1) × (e ≡ NotUtf8) × (¬ (IsUtf8 bytes)))
     ⊎ (e ≡ Refused OutOfMemory)
 
--- the items that are spelled here, in their order
+-- the items that are encoded here, in their order
 abbrev pub AreItemsMeant : List PredicateItem → List ℕ → List Item → Type 0
 AreItemsMeant [] bytes [] = Unit {0}
 AreItemsMeant [] bytes (item ∷ items) = ⊥
@@ -55,17 +55,18 @@ AreItemsMeant (s ∷ ss) bytes [] = ⊥
 AreItemsMeant (s ∷ ss) bytes (item ∷ items) = IsItemMeant s.kind s.number (part bytes s.at s.length)
     item × AreItemsMeant ss bytes items
 
--- why this one means no item: its part isn't within the bytes, or else
+-- why this one means no item: its part isn't within the bytes, or its number or content is invalid
 abbrev pub IsItemMisspelt : PredicateItem → List ℕ → Fault → Type 0
 IsItemMisspelt s bytes e = ((e ≡ BadPart) × (length bytes < s.at + s.length))
     ⊎ IsNoItem s.kind (part bytes s.at s.length) e
 
--- what is told of the fault of the item at a place: the place, but 0 where memory was refused
+-- the place that is reported with the error of an item: its index, but 0 after running out of
+-- memory
 abbrev pub item_told : Fault → ℕ → ℕ
 item_told e n = if fault_code e == 10 then 0 else n
 
--- Why these mean no items, and the place that is told of it: the one behind the first n, which mean
--- some, means none; or memory was refused, and 0 is told.
+-- Why these mean no items, and the place that is reported: the first n items are valid, and the
+-- next one is not. After running out of memory the place is 0.
 abbrev pub AreItemsMisspelt : List PredicateItem → List ℕ → Fault → ℕ → Type 0
 AreItemsMisspelt ss bytes e place =
     ((n : ℕ) × (place ≡ item_told e n) × (s : PredicateItem) × (items : List Item)
@@ -73,12 +74,13 @@ AreItemsMisspelt ss bytes e place =
     × AreItemsMeant (take n ss) bytes items × IsItemMisspelt s bytes e)
     ⊎ ((e ≡ Refused OutOfMemory) × (place ≡ 0))
 
--- the query that the items which are spelled here build
+-- the query that the items encoded here build
 abbrev pub IsBuilt : List PredicateItem → List ℕ → Formula → Type 0
 IsBuilt ss bytes query = (items : List Item) × AreItemsMeant ss bytes items × (rpn items ≡ Ok query)
 
--- Why there is none, and the place that is told of it: an item is misspelt; or the items build
--- none, and what that refusal carries is told; or memory was refused.
+-- Why there is no query, and the number that is reported. If an item is invalid, it is the item's
+-- place; if the items build no query, it is what that error carries. Or the call runs out of
+-- memory.
 abbrev pub IsUnbuilt : List PredicateItem → List ℕ → Fault → ℕ → Type 0
 IsUnbuilt ss bytes e place =
     AreItemsMisspelt ss bytes e place

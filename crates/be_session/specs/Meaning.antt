@@ -1,4 +1,4 @@
--- What numbers and bytes mean: values and operations as other languages spell them.
+-- What numbers and bytes mean: values and operations as other languages encode them.
 use Rattle.std.specs.Prelude.{◌≡◌, ◌≢◌, ◌⊎◌, ◌<◌, ◌≤◌, ◌^◌, ℕ, List, [], IsUtf8, Ok, Err}
 use Rattle.std.specs.Int.{cast_signed, w32, w64}
 use Rattle.std.specs.Int.RustNames.{FitsSigned}
@@ -79,7 +79,7 @@ abbrev pub IsNoValue : ℕ → ℕ → List ℕ → Fault → Type 0
 IsNoValue code number bytes e = ((e ≡ NoKind) × IsNoKind code)
     ⊎ ((kind : Kind) × (code_of kind ≡ code) × IsNoneOf kind number bytes e)
 
--- Why these mean no operation. The name is looked at first, where the operation has one.
+-- Why these mean no operation. The name is tested first, if the operation has one.
 abbrev pub IsNoOperation : ℕ → List ℕ → ℕ → ℕ → List ℕ → Fault → Type 0
 IsNoOperation number name code value_number bytes e =
     ((e ≡ NoOperation) × (5 < number))

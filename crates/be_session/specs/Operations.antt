@@ -1,4 +1,4 @@
--- What a list of operations means, as other languages spell them.
+-- What a list of operations means, as other languages encode them.
 use Rattle.std.specs.Prelude.{◌≡◌, ◌⊎◌, ◌+◌, ◌<◌, ◌≤◌, ◌++◌, ℕ, List, [], ◌∷◌, Some, length}
 use Rattle.std.specs.Prelude.{slice_get, take, drop}
 use Rattle.be_value.specs.declared.refusals.Refusal.TheVariants.{OutOfMemory}
@@ -13,23 +13,23 @@ use Rattle.be_session.specs.declared.faults.Fault.{Fault}
 use Rattle.be_session.specs.declared.faults.Fault.TheVariants.{BadCount, BadPart, Refused}
 use Rattle.be_session.specs.declared.lists.Operation.{Operation}
 
--- so many of the bytes, from this one on
+-- the part of the bytes with this offset and length
 abbrev pub part : List ℕ → ℕ → ℕ → List ℕ
 part bytes at len = take len (drop at bytes)
 
--- the operation that is spelled here, its name and value parts of these bytes
+-- the operation that is encoded here, its name and value parts of these bytes
 abbrev pub IsMeantBy : Operation → List ℕ → Op → Type 0
 IsMeantBy o bytes op = IsMeant o.kind o.node (part bytes o.name_at o.name_length) o.code o.number
     (part bytes o.value_at o.value_length) op
 
--- the operations that are spelled here, in their order
+-- the operations that are encoded here, in their order
 abbrev pub AreMeant : List Operation → List ℕ → List Op → Type 0
 AreMeant [] bytes [] = Unit {0}
 AreMeant [] bytes (op ∷ ops) = ⊥
 AreMeant (o ∷ os) bytes [] = ⊥
 AreMeant (o ∷ os) bytes (op ∷ ops) = IsMeantBy o bytes op × AreMeant os bytes ops
 
--- both parts of this one lie within so many bytes
+-- both parts of this operation lie within the first n bytes
 abbrev pub ArePartsWithin : Operation → ℕ → Type 0
 ArePartsWithin o n = (o.name_at + o.name_length ≤ n) × (o.value_at + o.value_length ≤ n)
 
@@ -45,17 +45,17 @@ AreMeantWithin (o ∷ os) bytes (op ∷ ops) = (ArePartsWithin o (length bytes) 
 abbrev pub both_parts : Operation → List ℕ → List ℕ
 both_parts o bytes = part bytes o.name_at o.name_length ++ part bytes o.value_at o.value_length
 
--- the parts of these, one behind the other
+-- the parts of these, end to end
 abbrev pub all_parts : List Operation → List ℕ → List ℕ
 all_parts [] bytes = []
 all_parts (o ∷ os) bytes = both_parts o bytes ++ all_parts os bytes
 
--- These are a spelling of the operations: they mean them, and the bytes are their parts, one behind
--- the other, and nothing else.
+-- These encode the operations: they mean them, and the bytes are their parts, end to end, and
+-- nothing else.
 abbrev pub AreSpelled : List Operation → List ℕ → List Op → Type 0
 AreSpelled os bytes ops = AreMeantWithin os bytes ops × (all_parts os bytes ≡ bytes)
 
--- what is told of an operation of an entry beside what it means: of one that made a node, that node
+-- what an entry's operation has besides its meaning: `New` has the node that it made
 abbrev pub TellsNode : Operation → Op → Done → Type 0
 TellsNode o New (Node n) = o.node ≡ n
 TellsNode o op done = Unit {0}
@@ -73,7 +73,8 @@ sets node a = Set node a.0 a.1
 abbrev pub makes : (List ℕ × Kind) → Op
 makes i = MkIndex i.0 i.1
 
--- why this one means no operation: a part of it isn't within the bytes, or else
+-- why this one means no operation: a part of it isn't within the bytes, or its number or content is
+-- invalid
 abbrev pub IsMisspeltAt : Operation → List ℕ → Fault → Type 0
 IsMisspeltAt o bytes e =
     ((e ≡ BadPart) × ((length bytes < o.name_at + o.name_length)
@@ -81,24 +82,25 @@ IsMisspeltAt o bytes e =
     ⊎ IsNoOperation o.kind (part bytes o.name_at o.name_length) o.code o.number
     (part bytes o.value_at o.value_length) e
 
--- so many operations make a write
+-- a write may have this many operations
 abbrev pub IsWriteCount : ℕ → Type 0
 IsWriteCount n = (1 ≤ n) × (n ≤ 64)
 
--- so many don't
+-- a write may not have this many operations
 abbrev pub IsBadCount : ℕ → Type 0
 IsBadCount n = (n ≡ 0) ⊎ (64 < n)
 
--- the first of these that means no operation stands at this place, counted from 0, and this is why;
--- or memory was refused, and 0 is told
+-- The first invalid operation of these has this place, counted from 0, and this error. After
+-- running out of memory the place is 0.
 abbrev pub IsFirstMisspelt : List Operation → List ℕ → Fault → ℕ → Type 0
 IsFirstMisspelt os bytes e place =
     ((o : Operation) × (ops : List Op) × (take (place + 1) os ≡ take place os ++ o ∷ [])
     × AreMeant (take place os) bytes ops × IsMisspeltAt o bytes e)
     ⊎ ((e ≡ Refused OutOfMemory) × (place ≡ 0))
 
--- Why these mean no write, and the place that is told of it: how many there are decides before
--- anything else is looked at, and 0 is told; else it is the first that means no operation.
+-- Why these mean no write, and the place that is reported. The number of operations is tested
+-- before anything else, and its place is 0. Otherwise it is the place of the first invalid
+-- operation.
 abbrev pub IsMisspelt : List Operation → List ℕ → Fault → ℕ → Type 0
 IsMisspelt os bytes e place =
     (IsBadCount (length os) × (e ≡ BadCount) × (place ≡ 0))

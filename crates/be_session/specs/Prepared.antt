@@ -1,4 +1,4 @@
--- A query that is prepared: parsed once and kept, to be asked again.
+-- A query that is prepared: parsed once and kept, so that it can be asked again.
 use Rattle.std.specs.Prelude.{◌≡◌, ℕ, List, [], refl}
 use Rattle.std.specs.Coded.{Coded, code_by, coded_ℕ, coded_list, coded×}
 use Rattle.be_query.specs.Grammar.{Formula}
@@ -19,7 +19,7 @@ coded_prepared =
     (λ p. (p.live, (p.found, (p.came, p.went))))
     (λ c. record { live = c.0; found = c.1.0; came = c.1.1.0; went = c.1.1.1 }) (λ _. refl)
 
--- this query, which was never asked or refreshed: nothing was found, its last answer is empty, and
+-- this query before it was asked or refreshed: nothing was found, its last answer is empty, and
 -- nothing came or went
 abbrev pub IsUnasked : Formula → PreparedQuery → Type 0
 IsUnasked query p = (p.live ≡ record { query = query; last = [] }) × (p.found ≡ []) × (p.came ≡ [])

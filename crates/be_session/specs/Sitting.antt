@@ -1,4 +1,4 @@
--- What a contract sees of a session, and what its calls make of it.
+-- What a contract knows of a session, and what calls do to it.
 use Rattle.std.specs.Prelude.{◌≡◌, ◌⊎◌, ◌+◌, ◌<◌, ℕ, List, [], ◌∷◌, IsUtf8, length, Ok, Err, Some}
 use Rattle.std.specs.Prelude.{None, is_some, true, false}
 use Rattle.std.specs.declared.option.Option.{Option}
@@ -16,6 +16,7 @@ use Rattle.be_table.specs.Steps.{longer, met}
 use Rattle.be_table.specs.Trace.{HasTrace}
 use Rattle.be_table.specs.Works.{AreNew}
 use Rattle.be_table.specs.declared.limits.Limits.{Limits}
+use Rattle.be_table.specs.declared.pass.Commit.{Commit}
 use Rattle.be_table.specs.declared.pass.Knowledge.{Knowledge}
 use Rattle.be_value.specs.declared.refusals.Refusal.{Refusal}
 use Rattle.be_volume.specs.declared.ops.Op.{Op}
@@ -44,7 +45,7 @@ pub record IsOpened (limits : Limits) (s : Sitting) : Type 0 where
 abbrev pub IsPinned : Knowledge → Type 0
 IsPinned a = is_some (pinned_number a.phase) ≡ true
 
--- what a pass of this store knows that isn't pinned
+-- what an unpinned pass of this store knows
 abbrev pub IsUnpinnedAt : Opened → Knowledge → Type 0
 IsUnpinnedAt store a = (a.limits ≡ store.limits) × (pinned_number a.phase ≡ None)
 
@@ -52,7 +53,7 @@ IsUnpinnedAt store a = (a.limits ≡ store.limits) × (pinned_number a.phase ≡
 abbrev pub IsUnpinnedOf : Opened → SeatFacts → Type 0
 IsUnpinnedOf store pass = IsPassOf store pass × (pinned_number pass.knows.phase ≡ None)
 
--- The pass of this seat, which isn't pinned: what may wait in the slot that was made for the seat.
+-- The pass of this seat, which isn't pinned: it may wait in the slot that was made for the seat.
 abbrev pub MayWaitAt : SeatFacts → SeatFacts → Type 0
 MayWaitAt seat pass =
     (pass.blank ≡ false) × (pass.table ≡ seat.table) × (pass.knows.limits ≡ seat.knows.limits)
@@ -71,9 +72,9 @@ IsHandedOut s t a =
     ((s.spare ≡ t.spare + 1) × (a ≡ newcomer s.store.limits (t.spare + 1) t.spare))
     ⊎ ((s.spare ≡ 0) × (t.spare ≡ 0) × IsUnpinnedAt s.store a)
 
--- A pass has met another one of its store that isn't pinned: it has then seen what either had, of
--- two beginnings of one journal the longer, which is so long. The moves of both up to then lie in
--- one trace.
+-- A pass has met another unpinned pass of its store. It has then seen what either had: of two
+-- prefixes of one journal the longer, and n is its length. The moves of both up to then lie in one
+-- trace.
 abbrev pub HasMet : Opened → Knowledge → Knowledge → ℕ → Type 0
 HasMet store a c n =
     (b : Knowledge) × IsUnpinnedAt store b × StartsWith (longer a.seen b.seen) a.seen
@@ -81,42 +82,49 @@ HasMet store a c n =
     × (c ≡ met a (longer a.seen b.seen)) × (n ≡ length (longer a.seen b.seen))
     × HasTrace store.limits (a ∷ b ∷ [])
 
--- why a write did nothing, and what it left: a count that isn't 1 to 64, or the store's own refusal
+-- A pass and a witness have then both seen what either had: of two prefixes of one journal the
+-- longer, and n is its length.
+abbrev pub Joins : Knowledge → List Commit → Knowledge → List Commit → ℕ → Type 0
+Joins a told c now n =
+    StartsWith now a.seen × StartsWith now told × (now ≡ longer a.seen told) × (c ≡ met a now)
+    × (n ≡ length now)
+
+-- why a write did nothing, and the state after it: a count that isn't 1 to 64, or the store's own
+-- refusal
 abbrev pub IsUnwritten : Knowledge → Knowledge → List Op → Fault → Type 0
 IsUnwritten a c ops e =
     ((e ≡ BadCount) × (c ≡ a) × ((length ops ≡ 0) ⊎ (64 < length ops)))
     ⊎ ((why : Refusal) × (e ≡ Refused why) × Learns a c × IsReason a c ops why)
 
--- why a conditional write did nothing, and what it left: a count that isn't 1 to 64, or the store's
--- own error
+-- why a conditional write did nothing, and the state after it: a count that isn't 1 to 64, or the
+-- store's own error
 abbrev pub IsUnwrittenIf : Knowledge → Knowledge → ℕ → List Op → Fault → Type 0
 IsUnwrittenIf a c number ops e =
     ((e ≡ BadCount) × (c ≡ a) × ((length ops ≡ 0) ⊎ (64 < length ops)))
     ⊎ ((why : ApplyIfError) × (e ≡ fault_of why) × IsUnapplied a c number ops why)
 
--- why a read that means this has no answer: the store has this very refusal for it, or a growth was
--- refused
+-- why a read has no answer: the store refuses it for this reason, or the read runs out of memory
 abbrev pub IsUnanswered : {Y : Type 0} → Result Y Refusal → Fault → Type 0
 IsUnanswered meant e = (why : Refusal) × (e ≡ Refused why) × IsMemory why (meant ≡ Err why)
 
--- a read answered what is meant, seen by view, or has no answer
+-- a read returned what is meant, as `view` shows it, or an error
 abbrev pub ReadAnswers : {X Y : Type 0} → (X → Y) → Result X Fault → Result Y Refusal → Type 0
 ReadAnswers view (Ok x) meant = meant ≡ Ok (view x)
 ReadAnswers view (Err e) meant = IsUnanswered meant e
 
--- NotPinned just where there is no pin; else this
+-- NotPinned exactly if there is no pin; otherwise this
 abbrev pub AtPin : {X : Type 0} → Option ℕ → Result X Fault → Type 0 → Type 0
 AtPin None answer told = answer ≡ Err NotPinned
 AtPin (Some n) answer told = told
 
--- why a live query wasn't asked or refreshed: there is no pin; or there is one, and the query has
--- no answer there, or a growth was refused
+-- why a live query wasn't asked or refreshed: there is no pin, the query has no answer at the pin,
+-- or the call runs out of memory
 abbrev pub IsUnrefreshed : Option ℕ → Result (List ℕ) Refusal → Fault → Type 0
 IsUnrefreshed None meant e = e ≡ NotPinned
 IsUnrefreshed (Some n) meant e = IsUnanswered meant e
 
--- why bytes are no text of a query: they are no UTF-8, or the text has this fault, or a growth was
--- refused
+-- why bytes are no text of a query: they are no UTF-8, the text has this error, or the call runs
+-- out of memory
 abbrev pub IsNoQuery : List ℕ → Fault → Type 0
 IsNoQuery text e = ((e ≡ NotUtf8) × (¬ (IsUtf8 text)))
     ⊎ ((why : Refusal) × (e ≡ Refused why) × IsMemory why (fault text ≡ Some why))

@@ -1,4 +1,4 @@
--- How far the operations that make a version again were told.
+-- How far the operations that rebuild a version were returned.
 use Rattle.std.specs.Prelude.{◌≡◌, ◌⊎◌, ◌<◌, ◌≤◌, ◌++◌, ℕ, List, [], length}
 use Rattle.be_session.specs.declared.lists.Operation.{Operation}
 use Rattle.be_session.specs.declared.states.StatePlace.{StatePlace}
@@ -6,7 +6,7 @@ use Rattle.be_volume_state.specs.Places.{left}
 use Rattle.be_volume.specs.Volume.{State}
 use Rattle.be_volume.specs.declared.ops.Op.{Op}
 
--- the operations that were read, and wait to be told
+-- the operations that were read, and are not returned yet
 abbrev pub waiting : StatePlace → List Op
 waiting p = p.ready.items
 
@@ -14,22 +14,22 @@ waiting p = p.ready.items
 abbrev pub unread : State → StatePlace → List Op
 unread volume p = left volume p.place
 
--- the operations of a volume that are still to be told
+-- the operations of a volume that are still to be returned
 abbrev pub untold : State → StatePlace → List Op
 untold volume p = waiting p ++ unread volume p
 
--- so many operations and bytes have room for these
+-- these fit into this many operations and bytes
 abbrev pub HaveRoom : ℕ → ℕ → List Operation → List ℕ → Type 0
 HaveRoom operations_room bytes_room os bytes = (length os ≤ operations_room)
     × (length bytes ≤ bytes_room)
 
--- they haven't
+-- these do not fit
 abbrev pub LackRoom : ℕ → ℕ → List Operation → List ℕ → Type 0
 LackRoom operations_room bytes_room os bytes = (operations_room < length os)
     ⊎ (bytes_room < length bytes)
 
--- What waits where these waited and were spelled: nothing more where there was room for the
--- spelling, and else the same again.
+-- What is still ready after these operations were encoded: nothing, if there was room for the
+-- encoding; otherwise the same operations.
 abbrev pub WaitBehind : List Op → ℕ → ℕ → List Operation → List ℕ → List Op → Type 0
 WaitBehind ops operations_room bytes_room os bytes still =
     (HaveRoom operations_room bytes_room os bytes × (still ≡ []))

@@ -17,27 +17,28 @@ pub enum Fault {
     NoPass,
     /// A write of no operation, or of more than 64.
     BadCount,
-    /// Bytes that should be a text, and are no UTF-8.
+    /// Bytes that should be a text, and aren't UTF-8.
     NotUtf8,
-    /// The number of an operation that is none.
+    /// A number that means no operation.
     NoOperation,
-    /// A type code that is none.
+    /// A type code that means no kind.
     NoKind,
-    /// A number that the kind doesn't hold.
+    /// A number that the kind can't hold.
     NoValue,
     /// A part that isn't within the bytes.
     BadPart,
-    /// The number of an item of a predicate that is none.
+    /// A number that means no item of a predicate.
     NoItem,
-    /// Another write came first: the journal has this many entries, and not as many as the caller
-    /// named.
+    /// Another write came first: the journal has this many entries, and not the number that the
+    /// caller named.
     Conflict(u64),
     Refused(Refusal),
 }
 
 impl Fault {
-    /// The number that goes with the fault: what its refusal carries, as the pass that is writing
-    /// or the byte of a text; of a conflict the journal's length; and otherwise 0.
+    /// The number that the error carries: what its refusal carries, such as the pass that is
+    /// writing or the offset of a byte in a text; for a conflict the journal's length; and
+    /// otherwise 0.
     pub fn carried(&self) -> u64
         ensures { result ≡ fault_carried self.now }
     {
@@ -48,7 +49,7 @@ impl Fault {
         }
     }
 
-    /// The number by which other languages know the fault. It is never 0.
+    /// The number by which other languages know the error. It is never 0.
     pub fn code(&self) -> u32
         ensures { result ≡ fault_code self.now }
     {
@@ -73,8 +74,8 @@ impl Fault {
 #[derive(Clone, Copy, Debug, PartialEq, Eq)]
 pub struct ListFault {
     pub fault: Fault,
-    /// Which of the list, from 0, has the fault. Where the list has it as a whole, this is what the
-    /// fault carries, or 0.
+    /// The index of the invalid item in the list, from 0. If the list is invalid as a whole, this
+    /// is the number that the error carries, or 0.
     pub place: u64,
 }
 

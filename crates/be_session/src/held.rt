@@ -1,4 +1,4 @@
-//! Names that are checked once, and how many cells a call may tell.
+//! Names that are checked once, and how many cells a call may return.
 ghost use Rattle.std.specs.Prelude.{◌≡◌, ◌*◌, ◌^◌, ◌<◌, ◌≤◌, true, false, IfErr, IfOk, Ok, IsUtf8};
 ghost use Rattle.be_paged.specs.Cells.{name_in};
 ghost use Rattle.be_session.specs.Meaning.{IsNoName};
@@ -8,10 +8,10 @@ use crate::Fault;
 use crate::meanings::name;
 use be_store::HeldName;
 
-/// How many cells one call tells at most: 2^32.
+/// One call returns up to 2^32 cells.
 const MOST_CELLS: usize = 1 << 32;
 
-/// The name that bytes spell, checked once and held.
+/// The name that these bytes are, checked once and kept.
 pub fn held_name(bytes: &[u8]) -> Result<HeldName, Fault>
     ensures ok { IfOk result (λ held. (name_in held ≡ bytes.now) × IsUtf8 bytes.now
         × (name_from bytes.now ≡ Ok bytes.now)) }
@@ -20,7 +20,7 @@ pub fn held_name(bytes: &[u8]) -> Result<HeldName, Fault>
     Ok(HeldName::new(&name(bytes)?))
 }
 
-/// Whether one call may tell so many cells.
+/// Whether one call may return this many cells.
 pub(crate) fn are_few(nodes: usize, names: usize) -> bool
     ensures few { result ≡ true → nodes * names ≤ 2 ^ 32 }
     ensures many { result ≡ false → 2 ^ 32 < nodes * names }

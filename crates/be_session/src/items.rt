@@ -1,4 +1,4 @@
-//! Predicates in reverse Polish order as other languages spell them.
+//! Predicates in reverse Polish order as other languages encode them.
 ghost use Rattle.std.specs.Prelude.{◌≡◌, ◌<◌, ℕ, List, IfOk, IfErr, map};
 ghost use Rattle.be_query.specs.Rpn.{item_of};
 ghost use Rattle.be_session.specs.Items.{AreItemsMeant, AreItemsMisspelt, IsBuilt, IsItemMeant};
@@ -12,7 +12,7 @@ use crate::{Fault, ListFault};
 use be_store::{Item, Query, from_rpn};
 use std::alloc::Global;
 
-/// An item of a predicate as C spells it. Its bytes are a part of one string of bytes that goes
+/// An item of a predicate as C encodes it. Its bytes are a part of one string of bytes that goes
 /// with all items.
 #[repr(C)]
 #[derive(Clone, Copy)]
@@ -26,7 +26,7 @@ pub struct PredicateItem {
     pub number: u64,
 }
 
-/// An item that does something with those before it.
+/// An item that is an operator on the items before it.
 fn working_item(kind: u32) -> Result<Item, Fault>
     requires { 3 < kind }
     ensures ok { IfOk result (λ item. (number : ℕ) (bytes : List ℕ)
@@ -74,7 +74,7 @@ fn one_item(alloc: Global, spelled: &PredicateItem, bytes: &[u8]) -> Result<Item
     }
 }
 
-/// What is told of the fault of the item at this place.
+/// The place that is reported with the error of the item at this place.
 fn told(fault: &Fault, place: usize) -> u64
     ensures { result ≡ item_told fault.now place }
 {
@@ -84,6 +84,8 @@ fn told(fault: &Fault, place: usize) -> u64
     place as u64
 }
 
+/// The item that is encoded here. Its error says that its part isn't within the bytes, or that it
+/// means no item.
 fn items(alloc: Global, spelled: &[PredicateItem], bytes: &[u8]) -> Result<Vec<Item>, ListFault>
     ensures ok { IfOk result (λ items. AreItemsMeant spelled.now bytes.now
         (map item_of items.items)) }
@@ -102,9 +104,8 @@ fn items(alloc: Global, spelled: &[PredicateItem], bytes: &[u8]) -> Result<Vec<I
     Ok(items)
 }
 
-/// The query that items in reverse Polish order build. A fault of spelling is that of the first
-/// item that has one, with its place; else it is as of `be_query::from_rpn`, with the item that it
-/// names.
+/// The query that items in reverse Polish order build. The first invalid item gives the error and
+/// its place. Otherwise an error is that of `be_query::from_rpn`, with the item that it names.
 pub fn query_of_items(
     alloc: Global,
     spelled: &[PredicateItem],

@@ -1,4 +1,4 @@
-//! Lists of operations as other languages spell them.
+//! Lists of operations as other languages encode them.
 ghost use Rattle.std.specs.Prelude.{◌≡◌, ◌+◌, ◌<◌, ◌≤◌, IfOk, IfErr, IfSome, IfNone, length};
 ghost use Rattle.be_session.specs.Operations.{AreMeant, IsMisspelt, IsMisspeltAt, IsMeantBy};
 ghost use Rattle.be_session.specs.Operations.{IsWriteCount, part};
@@ -8,7 +8,7 @@ use crate::{Fault, ListFault};
 use be_store::Op;
 use std::alloc::Global;
 
-/// An operation as C spells it. Its name, and the bytes of its value, are parts of one string of
+/// An operation as C encodes it. Its name, and the bytes of its value, are parts of one string of
 /// bytes that goes with all operations of a write.
 #[repr(C)]
 #[derive(Clone, Copy)]
@@ -19,7 +19,7 @@ pub struct Operation {
     /// The type code of the value or of the index.
     pub code: u32,
     pub node: u64,
-    /// The value, where it is a number.
+    /// The value, if it is a number.
     pub number: u64,
     pub name_at: u32,
     pub name_length: u32,
@@ -41,6 +41,8 @@ pub(crate) fn part(bytes: &[u8], at: u32, len: u32) -> Option<&[u8]>
     Some(&bytes[start..end])
 }
 
+/// The operation that is encoded here. BadPart if a part isn't within the bytes; otherwise the
+/// error of `operation`.
 fn one(spelled: &Operation, bytes: &[u8]) -> Result<Op, Fault>
     ensures ok { IfOk result (λ op. IsMeantBy spelled.now bytes.now op) }
     ensures err { IfErr result (λ e. IsMisspeltAt spelled.now bytes.now e) }
@@ -61,9 +63,9 @@ fn one(spelled: &Operation, bytes: &[u8]) -> Result<Op, Fault>
     )
 }
 
-/// The 1 to 64 operations that are spelled here, in their order. BadCount where there are more or
-/// none: then no memory is taken, and nothing is read. Else a fault is that of the first that is
-/// misspelt, with its place, or OutOfMemory.
+/// The 1 to 64 operations that are encoded here, in their order. BadCount if there are more or
+/// none: then it takes no memory and reads nothing. Otherwise an error is that of the first invalid
+/// operation, with its place, or OutOfMemory.
 pub fn operations(alloc: Global, spelled: &[Operation], bytes: &[u8]) -> Result<Vec<Op>, ListFault>
     ensures count { IfOk result (λ _. IsWriteCount (length spelled.now)) }
     ensures ok { IfOk result (λ ops. AreMeant spelled.now bytes.now ops.items) }

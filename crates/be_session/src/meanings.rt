@@ -1,4 +1,4 @@
-//! Operations and values as other languages spell them: numbers and bytes.
+//! Operations and values as other languages encode them: numbers and bytes.
 ghost use Rattle.std.specs.Int.{cast_signed, w32, w64};
 ghost use Rattle.std.specs.Int.RustNames.{FitsSigned};
 ghost use Rattle.std.specs.Prelude.{◌≡◌, ◌≢◌, ◌<◌, ◌^◌, Ok, IfOk, IfErr, IfSome, IfNone, IsUtf8};
@@ -49,7 +49,7 @@ pub(crate) fn text(bytes: &[u8]) -> Result<&str, Fault>
     }
 }
 
-/// The name that bytes spell.
+/// The name that these bytes are.
 pub fn name(bytes: &[u8]) -> Result<Name, Fault>
     ensures ok { IfOk result (λ name. (name ≡ bytes.now) × IsUtf8 bytes.now) }
     ensures named { IfOk result (λ name. name_from bytes.now ≡ Ok bytes.now) }

@@ -7,7 +7,7 @@ ghost use Rattle.be_store.specs.Passes.{IsPassOf};
 
 use be_store::{Pass, Store};
 
-/// The last one, taken from the others, which leaves room for it.
+/// Takes the last of these passes, which leaves room for one.
 pub(crate) fn take_last(_store: &Store, passes: &mut Vec<Pass>) -> Option<Pass>
     requires { AreNew _store.now 0 passes.old.items }
     ensures rest { AreNew _store.now 0 passes.new.items }
@@ -21,7 +21,7 @@ pub(crate) fn take_last(_store: &Store, passes: &mut Vec<Pass>) -> Option<Pass>
     passes.pop()
 }
 
-/// Puts one that was taken back behind the others.
+/// Puts a pass that was taken back at the end of the others.
 pub(crate) fn put_last(_store: &Store, passes: &mut Vec<Pass>, pass: Pass)
     requires room { vec_len passes.old < vec_capacity passes.old }
     requires new { AreNew _store.now 0 passes.old.items }

@@ -1,4 +1,4 @@
-//! Queries that are parsed once and kept, to be asked again.
+//! Queries that are parsed once and kept, so that they can be asked again.
 ghost use Rattle.std.specs.Prelude.{◌≡◌, ℕ, [], Ok, IfOk, IfErr, OnOk, string_bytes};
 ghost use Rattle.be_value.specs.declared.refusals.Refusal.TheVariants.{OutOfMemory};
 ghost use Rattle.be_query.specs.Grammar.{Formula, IsTextOf};
@@ -19,9 +19,9 @@ use be_store::{Live, Query, Updates};
 use std::alloc::{AllocError, Global};
 use std::marker::Model;
 
-/// A query that is parsed once and kept, with what it found when it was asked last, and with its
-/// answer at the last refresh and which nodes came and which went then. It belongs to no session,
-/// and may be asked by any.
+/// A query that is parsed once and kept. It has what it found when it was asked last, its answer at
+/// the last refresh, and which nodes came and which went then. It belongs to no session, and any
+/// session may ask it.
 #[derive(Drop)]
 pub struct Prepared {
     live: Live,
@@ -75,7 +75,7 @@ impl Prepared {
     }
 
     /// Asks the query in the session's pinned version, and keeps which nodes came and which went
-    /// since the last refresh. A fault leaves the query as it was.
+    /// since the last refresh. An error leaves the query as it was.
     #[tactic(auto, using(crate::proofs::Same::same_prepared))]
     pub fn refresh(&mut self, session: &mut Session) -> Result<(), Fault>
         ensures store { (session.new.store ≡ session.old.store)
@@ -120,6 +120,7 @@ impl Prepared {
     }
 }
 
+/// A query that was never asked or refreshed, in a box. OutOfMemory.
 fn in_box(alloc: Global, query: Query) -> Result<Box<Prepared, Global>, AllocError>
     ensures { IfOk result (λ p. IsUnasked query p.value) }
 {
@@ -137,7 +138,7 @@ fn in_box(alloc: Global, query: Query) -> Result<Box<Prepared, Global>, AllocErr
     }
 }
 
-/// The query of a text in bytes, in a box. Faults are those of `query_of`.
+/// The query of a text in bytes, in a box. Errors are those of `query_of`.
 pub fn prepare(alloc: Global, text: &[u8]) -> Result<Box<Prepared, Global>, Fault>
     ensures ok { IfOk result (λ p. (query : Formula) × IsTextOf text.now query
         × IsUnasked query p.value) }
@@ -147,7 +148,7 @@ pub fn prepare(alloc: Global, text: &[u8]) -> Result<Box<Prepared, Global>, Faul
     Ok(in_box(alloc, query)?)
 }
 
-/// The query that items in reverse Polish order build, in a box. Faults are those of
+/// The query that items in reverse Polish order build, in a box. Errors are those of
 /// `query_of_items`.
 pub fn prepare_items(
     alloc: Global,

@@ -10,10 +10,10 @@ ghost use Rattle.be_volume.specs.Reading.{attribute, attributes_at, index_kinds}
 ghost use Rattle.be_journal.specs.Journal.{IsLegal};
 ghost use Rattle.be_paged.specs.Cells.{IsReadInto, TellsColumns, name_in};
 ghost use Rattle.be_paged.specs.Nodes.{nodes_from};
-ghost use Rattle.be_table.specs.Rule.{IsWithin, entries, newcomer};
+ghost use Rattle.be_table.specs.Rule.{IsWithin, entries, newcomer, one_step_on};
 ghost use Rattle.be_table.specs.Seats.{pinned_number};
 ghost use Rattle.be_table.specs.Steps.{unpins, with_history};
-ghost use Rattle.be_table.specs.Works.{AreNew, FoundHeld, IsOpenRefused};
+ghost use Rattle.be_table.specs.Works.{AreNew, FoundHeld, IsOpenRefused, IsWitnessOf};
 ghost use Rattle.be_store.specs.Conditional.{AcceptsAt};
 ghost use Rattle.be_store.specs.History.{Accepts, IsUntold, Learns, LocksAndUnlocks, Pins};
 ghost use Rattle.be_store.specs.History.{entries_from, text_seen};
@@ -23,7 +23,7 @@ ghost use Rattle.be_store.specs.Statuses.{TellsStatus};
 ghost use Rattle.be_session.specs.Explained.{explanation_in};
 ghost use Rattle.be_session.specs.Sitting.{AtPin, HasMet, IsHandedOut, IsPinned, IsUnwritten};
 ghost use Rattle.be_session.specs.Sitting.{IsUnwrittenIf, IsNoQuery, IsOpened, IsUnpinnedAt};
-ghost use Rattle.be_session.specs.Sitting.{IsUnrefreshed, ReadAnswers};
+ghost use Rattle.be_session.specs.Sitting.{IsUnrefreshed, Joins, ReadAnswers};
 ghost use Rattle.be_session.specs.States.{untold, waiting};
 ghost use Rattle.be_session.specs.declared.faults.Fault.TheVariants.{AlreadyPinned, BadCount};
 ghost use Rattle.be_session.specs.declared.faults.Fault.TheVariants.{NoPass, NotPinned, Refused};
@@ -36,7 +36,7 @@ use crate::{Fault, StatePlace};
 use be_store::laws::seen_is_legal;
 use be_store::{
     ArrayVec, Cell, Done, Entry, HeldName, Kind, Limits, Live, Name, Op, Pass, Query, Refusal,
-    Status, Store, Updates, Value, parse,
+    Status, Store, Updates, Value, Witness, parse,
 };
 use std::alloc::{AllocFailed, Global};
 use std::marker::Model;
@@ -70,7 +70,7 @@ impl Model for Session {
         × AreNew s.shared.value 0 s.spare.items };
 }
 
-/// A session of a store that nobody shares yet, with the passes that are left over.
+/// A session of a store that nobody shares yet, with the passes that are left.
 fn seated(
     alloc: Global,
     limits: Limits,
@@ -96,8 +96,8 @@ fn seated(
     }
 }
 
-/// Takes a session apart for its pass. Its share of the store is given up, with the passes that
-/// wait.
+/// Takes the pass out of a session. The session's share of the store is given up, with the passes
+/// that wait.
 fn pass_of(session: Session) -> Pass
     ensures pass { IsPassOf session.store result }
     ensures knows { result.knows ≡ session.knows }
@@ -110,8 +110,8 @@ fn pass_of(session: Session) -> Pass
     pass
 }
 
-/// A session with a pass, in a box; no other pass waits with it. Where memory is refused it comes
-/// back.
+/// A session with a pass, in a box; no other pass waits with it. After running out of memory the
+/// error has the session.
 fn in_box(
     alloc: Global,
     shared: Arc<Shared, Global>,
@@ -133,8 +133,8 @@ fn in_box(
     }
 }
 
-/// A session with a pass that was given back, in a box. NoPass where none is there, and
-/// OutOfMemory: the pass is given back again.
+/// A session with a pass that was given back, in a box. NoPass if there is none; OutOfMemory: the
+/// pass is given back again.
 fn of_returned(alloc: Global, shared: Arc<Shared, Global>) -> Result<Box<Session, Global>, Fault>
     ensures session { IfOk result (λ s. (s.value.store ≡ shared.value) × (s.value.spare ≡ 0)) }
     ensures pass { IfOk result (λ s. IsUnpinnedAt shared.value s.value.knows) }
@@ -152,7 +152,7 @@ fn of_returned(alloc: Global, shared: Arc<Shared, Global>) -> Result<Box<Session
     }
 }
 
-/// Whether a write may have so many operations: 1 to 64.
+/// Whether a write may have this many operations: 1 to 64.
 fn is_batch(ops: &[Op]) -> bool
     ensures is { result ≡ true → (1 ≤ length ops.now) × (length ops.now ≤ 64) }
     ensures not { result ≡ false → (length ops.now ≡ 0) ⊎ (64 < length ops.now) }
@@ -164,8 +164,8 @@ impl Session {
     /// A new store, and the session of the last of its passes, which has seen nothing. The others
     /// wait.
     ///
-    /// BadLimits exactly where a limit is out of its range, and OutOfMemory. The memory of all
-    /// pages, 4 KiB each, is taken here.
+    /// BadLimits exactly if a limit is out of its range; OutOfMemory. It takes the memory of all
+    /// pages, 4 KiB each.
     pub fn open(alloc: Global, limits: Limits) -> Result<Session, Fault>
         ensures ok { IfOk result (λ s. IsOpened limits s) }
         ensures err { IfErr result (λ e. (why : AnyRefusal) × (e ≡ Refused why)
@@ -184,12 +184,12 @@ impl Session {
         seated(alloc, limits, shared, pass, passes)
     }
 
-    /// A session of the same store, in a box: with the last pass that waits here, or where none
-    /// does, with one that was given back by `close`, in whatever thread. NoPass where there is
-    /// none of either, and OutOfMemory: the pass stays where it was.
+    /// A session of the same store, in a box. It gets the last pass that waits here. If none waits,
+    /// it gets one that `close` gave back, in whatever thread. NoPass if there is neither;
+    /// OutOfMemory: the pass stays where it was.
     ///
     /// Passes that nobody has used wait with the session that opened the store. A pass that was
-    /// given back has seen what it had seen, and its own writes stand in the journal under its
+    /// given back has seen what it had seen, and its own writes stay in the journal under its
     /// number.
     pub fn another(&mut self, alloc: Global) -> Result<Box<Session, Global>, Fault>
         ensures same { (self.new.store ≡ self.old.store) × (self.new.knows ≡ self.old.knows) }
@@ -214,8 +214,8 @@ impl Session {
         }
     }
 
-    /// Gives the pass back, and its pin up, with the passes that wait here: `another` of each
-    /// session of the store may hand them out. A session that is dropped loses them. The store goes
+    /// Releases the pin and gives the pass back, with the passes that wait here: `another` of each
+    /// session of the store may then use them. A session that is dropped loses them. The store goes
     /// with its last session. It waits for nobody.
     pub fn close(self) {
         let Session {
@@ -227,10 +227,10 @@ impl Session {
         shared.give_back_all(spare);
     }
 
-    /// Meets a pass that was given back: both have then seen what either had. Answers how much that
-    /// is. NoPass where none is there, or another thread is at it.
+    /// Meets a pass that was given back: both have then seen what either had. Returns the length of
+    /// that. NoPass if there is no such pass, or another thread uses it.
     ///
-    /// So such a pass carries what one session has seen to another, where each meets it in turn.
+    /// So such a pass carries what one session has seen to another, if both meet it in turn.
     pub fn meet(&mut self) -> Result<u64, Fault>
         ensures store { (self.new.store ≡ self.old.store) × (self.new.spare ≡ self.old.spare) }
         ensures ok { IfOk result (λ n. HasMet self.old.store self.old.knows self.new.knows n) }
@@ -244,7 +244,35 @@ impl Session {
         Ok(length)
     }
 
-    /// Pins the version that is current, and answers its number: how many writes it has.
+    /// A witness of all that the pass has seen of the journal. Send it to another thread, by
+    /// whatever channel: a session that joins it there has seen as much. It owns no share of the
+    /// store. One step, and no memory.
+    pub fn witness(&mut self) -> Witness
+        ensures store { (self.new.store ≡ self.old.store) × (self.new.spare ≡ self.old.spare) }
+        ensures knows { self.new.knows ≡ one_step_on self.old.knows }
+        ensures witness { IsWitnessOf self.old.store result
+            × (result.seen ≡ self.old.knows.seen) }
+    {
+        self.shared.store().witness(&mut self.pass)
+    }
+
+    /// The session and the witness have then both seen what either had. Returns the length of that.
+    /// A pin stays, and the witness can be sent on. What the session pins and writes from then on
+    /// comes after what the witness had seen. Three steps, and no memory.
+    ///
+    /// It is the one call of a session that its caller can make wrongly: nothing that is there at
+    /// run time says which store a witness is of.
+    pub fn join(&mut self, witness: &mut Witness) -> u64
+        requires witness { IsWitnessOf self.old.store witness.old }
+        ensures store { (self.new.store ≡ self.old.store) × (self.new.spare ≡ self.old.spare) }
+        ensures witness { IsWitnessOf self.old.store witness.new }
+        ensures joins { Joins self.old.knows witness.old.seen self.new.knows witness.new.seen
+            result }
+    {
+        self.shared.store().join(&mut self.pass, witness)
+    }
+
+    /// Pins the current version, and returns its number: how many writes it has.
     pub fn pin(&mut self) -> Result<u64, Fault>
         ensures store { (self.new.store ≡ self.old.store) × (self.new.spare ≡ self.old.spare) }
         ensures ok { IfOk result (λ n. Pins self.old.knows self.new.knows n) }
@@ -267,7 +295,7 @@ impl Session {
         self.pass.pinned().is_some()
     }
 
-    /// Gives the pin up.
+    /// Releases the pin.
     pub fn unpin(&mut self) -> Result<(), Fault>
         ensures store { (self.new.store ≡ self.old.store) × (self.new.spare ≡ self.old.spare) }
         ensures ok { IfOk result (λ n. self.new.knows
@@ -282,9 +310,10 @@ impl Session {
         Ok(())
     }
 
-    /// Writes 1 to 64 operations, all or none. Answers the journal's length with them, and puts an
-    /// answer for each in the place of what the list had. BadCount where they are another number,
-    /// and then nothing has happened; else as the store's own `apply_into`.
+    /// Writes a batch of 1 to 64 operations, all or none. Returns the journal's length with them,
+    /// and fills `dones` with an outcome for each, in place of what the list had. BadCount for any
+    /// other number of operations, and then nothing has happened; otherwise as the store's own
+    /// `apply_into`.
     pub fn apply(&mut self, ops: &[Op], dones: &mut ArrayVec<Done, 64>) -> Result<u64, Fault>
         ensures store { (self.new.store ≡ self.old.store) × (self.new.spare ≡ self.old.spare) }
         ensures ok { IfOk result (λ n. Accepts self.old.knows self.new.knows ops.now n
@@ -301,7 +330,7 @@ impl Session {
     }
 
     /// Writes as `apply` does if the journal has `number` entries, and otherwise nothing: as the
-    /// store's own `apply_if_into`. BadCount comes before everything else, and Conflict has the
+    /// store's own `apply_if_into`. BadCount comes before everything else. Conflict carries the
     /// length that was found.
     pub fn apply_if(
         &mut self,
@@ -324,7 +353,7 @@ impl Session {
         Ok(store.apply_if_into(&mut self.pass, number, ops, dones)?)
     }
 
-    /// The number of the pass, which its entries in the journal have.
+    /// The number of the pass, which its entries in the journal carry.
     pub fn number(&self) -> u64
         ensures { result ≡ self.now.knows.number }
     {
@@ -338,8 +367,8 @@ impl Session {
         self.pass.seen()
     }
 
-    /// The journal's entries from an index on, from 0, up to so many of them: as the store's own
-    /// `journal_from`. It needs no pin.
+    /// Up to `most` entries of the journal from the index `from` on, which counts from 0: as the
+    /// store's own `journal_from`. It needs no pin.
     pub fn journal_from(
         &mut self,
         alloc: Global,
@@ -442,8 +471,8 @@ impl Session {
         }
     }
 
-    /// Asks a live query in the pinned version, and tells which nodes came and which went since its
-    /// last refresh. A fault leaves it as it was.
+    /// Asks a live query in the pinned version, and returns which nodes came and which went since
+    /// its last refresh. An error leaves the query as it was.
     pub fn refresh(&mut self, live: &mut Live) -> Result<Updates, Fault>
         ensures store { (self.new.store ≡ self.old.store) × (self.new.spare ≡ self.old.spare) }
         ensures read { HasRead self.old.knows self.new.knows }
@@ -460,9 +489,9 @@ impl Session {
         Ok(live.refresh(self.shared.store(), &mut self.pass)?)
     }
 
-    /// What a query would be answered from in the pinned version: the comparisons that are picked,
-    /// in canonical form and joined by ` || `, and the score. NotCovered where the query rests on
-    /// no index of that version, and OutOfMemory.
+    /// The index cover from which a query would be answered in the pinned version: the chosen
+    /// comparisons, in canonical form and joined by ` || `, and the score. NotCovered if the query
+    /// rests on no index of that version; OutOfMemory.
     pub fn explain(&mut self, alloc: Global, query: &Query) -> Result<String, Fault>
         ensures store { (self.new.store ≡ self.old.store) × (self.new.spare ≡ self.old.spare) }
         ensures read { HasRead self.old.knows self.new.knows }
@@ -477,8 +506,8 @@ impl Session {
         Ok(cover_text(alloc, query, &cover)?)
     }
 
-    /// The nodes of the pinned version from a number on, ascending, and so many of them at most. A
-    /// list with fewer is the end, and the next one begins behind the last node of this.
+    /// Up to `most` nodes of the pinned version from the number `from` on, ascending. A list with
+    /// fewer is the last one. The next list begins after the last node of this one.
     pub fn nodes(&mut self, alloc: Global, from: u64, most: usize) -> Result<Vec<u64>, Fault>
         ensures store { (self.new.store ≡ self.old.store) × (self.new.spare ≡ self.old.spare) }
         ensures read { HasRead self.old.knows self.new.knows }
@@ -506,8 +535,8 @@ impl Session {
         Ok(self.shared.store().get(&mut self.pass, node, name))
     }
 
-    /// A node's attribute in the pinned version as a cell, if it has one. The bytes of a text are
-    /// put to the front of the places, as many as there are places.
+    /// A node's attribute in the pinned version as a cell, if it has one. The bytes of a text go to
+    /// the front of the places, as many as there are places.
     pub fn get_into(
         &mut self,
         node: u64,
@@ -529,8 +558,8 @@ impl Session {
         Ok(store.get_into(&mut self.pass, node, name, bytes))
     }
 
-    /// Tells what each node has at each name in the pinned version, in a cell for each, as the
-    /// store's own `columns`. BadCount if there are more than 2^32 cells to tell.
+    /// Returns what each node has at each name in the pinned version, in a cell for each, as the
+    /// store's own `columns`. BadCount if there are more than 2^32 cells.
     pub fn columns(
         &mut self,
         nodes: &[u64],
@@ -584,12 +613,12 @@ impl Session {
         Ok(self.shared.store().indices(alloc, &mut self.pass)?)
     }
 
-    /// Reads on, where nothing is ready to be told: the next operations are then that make the
-    /// pinned version again on an empty store, up to 64, and none where all were told. OutOfMemory:
-    /// nothing is lost.
+    /// Reads the next operations if none is ready. They are the next up to 64 operations that
+    /// rebuild the pinned version on an empty store, and none after the last. OutOfMemory: nothing
+    /// is lost.
     ///
-    /// A place goes with one pin. At another pin it tells what is left there behind the same steps,
-    /// and what was ready is still of the first.
+    /// A place belongs to one pin. At another pin it goes on after the same steps there, while the
+    /// operations that are ready are still those of the first pin.
     pub fn state(&mut self, alloc: Global, place: &mut StatePlace) -> Result<(), Fault>
         ensures store { (self.new.store ≡ self.old.store) × (self.new.spare ≡ self.old.spare) }
         ensures read { HasRead self.old.knows self.new.knows }
@@ -618,7 +647,7 @@ impl Session {
     }
 }
 
-/// The query of a text in bytes. NotUtf8 where the bytes are none; else as `be_query::parse`.
+/// The query of a text in bytes. NotUtf8 if the bytes aren't UTF-8; otherwise as `be_query::parse`.
 pub fn query_of(alloc: Global, text: &[u8]) -> Result<Query, Fault>
     ensures ok { IfOk result (λ query. IsTextOf text.now query) }
     ensures err { IfErr result (λ e. IsNoQuery text.now e) }
@@ -629,7 +658,7 @@ pub fn query_of(alloc: Global, text: &[u8]) -> Result<Query, Fault>
     }
 }
 
-/// The same value. It compiles only where values of the type may go to another thread.
+/// The same value. It compiles only if values of the type may go to another thread.
 pub fn sent<T: Send>(value: T) -> T
     ensures { result ≡ value }
 {

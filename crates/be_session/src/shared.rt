@@ -29,8 +29,8 @@ impl Fits for Returned {
     ghost fits = { λ seat returned. MayWaitAt seat returned.pass };
 }
 
-/// Puts a pass into the slot of its seat. It comes back where one waits there, or another thread is
-/// at the slot.
+/// Puts a pass into the slot of its seat. Returns it if a pass waits there, or another thread uses
+/// the slot.
 fn put(slot: &Counted<Option<Returned>>, pass: Pass) -> Option<Pass>
     requires { MayWaitAt slot.now pass }
     ensures { IfSome result (λ p. p ≡ pass) }
@@ -59,7 +59,7 @@ fn take(slot: &Counted<Option<Returned>>) -> Option<Pass>
     }
 }
 
-/// The pass, with its pin given up.
+/// The pass, with its pin released.
 fn unpinned(store: &Store, mut pass: Pass) -> Pass
     requires { IsPassOf store.now pass }
     ensures pass { IsUnpinnedOf store.now result }
@@ -109,8 +109,8 @@ impl Shared {
         &self.store
     }
 
-    /// Gives a pass back, and its pin up. Each pass has a slot of its own, which is empty while the
-    /// pass is in use: so it goes into that slot, and nothing comes back.
+    /// Releases the pin of a pass and gives the pass back. Each pass has a slot of its own, which
+    /// is empty while the pass is in use: so it goes into that slot, and nothing is returned.
     pub(crate) fn give_back(&self, pass: Pass) -> Option<Pass>
         requires { IsPassOf self.now pass }
         ensures { IfSome result (λ p. IsUnpinnedOf self.now p
@@ -132,7 +132,7 @@ impl Shared {
         }
     }
 
-    /// A pass that was given back, taken out of its slot. It looks at each slot once.
+    /// Takes a pass that was given back out of its slot. It looks at each slot once.
     pub(crate) fn take_returned(&self) -> Option<Pass>
         ensures { IfSome result (λ p. IsUnpinnedOf self.now p) }
     {

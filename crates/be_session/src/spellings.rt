@@ -1,5 +1,5 @@
-//! Attributes, indices and operations as other languages are told of them: as operations, with the
-//! bytes that their parts are in.
+//! Attributes, indices and operations as other languages get them: as operations, with the bytes
+//! that their parts are in.
 ghost use Rattle.std.specs.Prelude.{◌≡◌, ◌++◌, IfOk, IfErr, IfSome, length, map};
 ghost use Rattle.be_value.specs.declared.refusals.Refusal.TheVariants.{OutOfMemory};
 ghost use Rattle.be_session.specs.Operations.{AreSpelled, IsMeantBy, ArePartsWithin, TellNodes};
@@ -11,14 +11,14 @@ use crate::{Fault, Operation, spelled};
 use be_store::{Done, Kind, Name, Op, Refusal, Value};
 use std::alloc::Global;
 
-/// Operations as they are spelled, with the bytes that their parts are in.
+/// Encoded operations, with the bytes that their parts are in.
 #[derive(Drop)]
 pub struct Spelling {
     pub operations: Vec<Operation>,
     pub bytes: Vec<u8>,
 }
 
-/// Appends bytes, and answers where they begin and how many they are. OutOfMemory also at 4 GiB.
+/// Appends bytes, and returns their offset and length. OutOfMemory also at 4 GiB.
 fn append(bytes: &mut Vec<u8>, more: &[u8]) -> Result<(u32, u32), Fault>
     ensures ok { IfOk result (λ r. (r.0 ≡ length bytes.old.items) × (r.1 ≡ length more.now)
         × (bytes.new.items ≡ bytes.old.items ++ more.now)) }
@@ -34,6 +34,8 @@ fn append(bytes: &mut Vec<u8>, more: &[u8]) -> Result<(u32, u32), Fault>
     Ok((at, length))
 }
 
+/// The operation that sets an attribute of a node. Appends its name and its value to the bytes.
+/// OutOfMemory.
 fn spell_attribute(
     bytes: &mut Vec<u8>,
     node: u64,
@@ -61,6 +63,7 @@ fn spell_attribute(
     })
 }
 
+/// The operation that makes an index. Appends its name to the bytes. OutOfMemory.
 fn spell_index(bytes: &mut Vec<u8>, name: &Name, kind: Kind) -> Result<Operation, Fault>
     ensures more { IfOk result (λ o. bytes.new.items ≡ bytes.old.items
         ++ both_parts o bytes.new.items) }
@@ -115,6 +118,7 @@ pub fn indices_spelled(alloc: Global, list: &[(Name, Kind)]) -> Result<Spelling,
     Ok(Spelling { operations, bytes })
 }
 
+/// Encodes an operation. Appends its name and its value to the bytes. OutOfMemory.
 fn spell(bytes: &mut Vec<u8>, op: &Op) -> Result<Operation, Fault>
     ensures more { IfOk result (λ o. bytes.new.items ≡ bytes.old.items
         ++ both_parts o bytes.new.items) }
@@ -137,7 +141,7 @@ fn spell(bytes: &mut Vec<u8>, op: &Op) -> Result<Operation, Fault>
     })
 }
 
-/// Operations, spelled in the list's order. OutOfMemory.
+/// Encodes operations in the list's order. OutOfMemory.
 pub(crate) fn operations_spelled(alloc: Global, list: &[Op]) -> Result<Spelling, Fault>
     ensures ok { IfOk result (λ s. AreSpelled s.operations.items s.bytes.items list.now) }
     ensures err { IfErr result (λ e. e ≡ Refused OutOfMemory) }
@@ -151,7 +155,7 @@ pub(crate) fn operations_spelled(alloc: Global, list: &[Op]) -> Result<Spelling,
     Ok(Spelling { operations, bytes })
 }
 
-/// An operation of an entry, as `spell` spells it; one that made a node has that node.
+/// Encodes an operation of an entry as `spell` does; one that made a node has that node.
 fn spell_done(bytes: &mut Vec<u8>, op: &Op, done: Option<&Done>) -> Result<Operation, Fault>
     ensures more { IfOk result (λ o. bytes.new.items ≡ bytes.old.items
         ++ both_parts o bytes.new.items) }
@@ -167,7 +171,7 @@ fn spell_done(bytes: &mut Vec<u8>, op: &Op, done: Option<&Done>) -> Result<Opera
     Ok(operation)
 }
 
-/// The operations of an entry, spelled in their order, each that made a node with that node.
+/// Encodes the operations of an entry in their order; each that made a node has that node.
 /// OutOfMemory.
 pub fn entry_spelled(alloc: Global, ops: &[Op], dones: &[Done]) -> Result<Spelling, Fault>
     ensures ok { IfOk result (λ s. AreSpelled s.operations.items s.bytes.items ops.now) }

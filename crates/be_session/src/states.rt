@@ -1,7 +1,7 @@
-//! The operations that make a version again, as other languages are told of them.
+//! The operations that rebuild a version, as other languages get them.
 //!
-//! A list that was read waits until it is told where there is room for all of it: so neither a want
-//! of memory nor one of room loses an operation.
+//! A list that was read stays ready until there is room to return all of it. So neither running out
+//! of memory nor a lack of room loses an operation.
 ghost use Rattle.std.specs.Prelude.{◌≤◌, length};
 
 use crate::spellings::operations_spelled;
@@ -9,8 +9,7 @@ use crate::{Fault, Spelling};
 use be_store::{Op, Place};
 use std::alloc::Global;
 
-/// How far the operations that make a version again were told: what was read of them, and is ready
-/// to be told.
+/// How far the operations that rebuild a version were returned: what was read of them and is ready.
 #[derive(Drop)]
 pub struct StatePlace {
     pub(crate) place: Place,
@@ -27,7 +26,7 @@ impl StatePlace {
     ghost use Rattle.be_session.specs.States.{WaitBehind, unread, untold, waiting};
     ghost use Rattle.be_session.specs.declared.faults.Fault.TheVariants.{Refused};
 
-    /// Before the first operation. No memory is taken.
+    /// Before the first operation. It takes no memory.
     pub fn new(alloc: Global) -> StatePlace
         ensures { (volume : State) → untold volume result ≡ state_ops volume }
     {
@@ -37,8 +36,8 @@ impl StatePlace {
         }
     }
 
-    /// What is ready to be told, spelled. Where so many operations and bytes have room for it, it
-    /// is told now, and else it stays ready. OutOfMemory: it stays ready.
+    /// Encodes the operations that are ready. If they fit into this many operations and bytes, they
+    /// count as returned; otherwise they stay ready. OutOfMemory: they stay ready.
     pub fn tell(
         &mut self,
         alloc: Global,

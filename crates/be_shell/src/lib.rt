@@ -11,6 +11,7 @@
 
 mod asides;
 mod breaks;
+mod carets;
 mod closings;
 mod conversations;
 mod ends;

@@ -8,7 +8,7 @@ use crate::asides::{Aside, aside_of, skip, split_word, typed_of};
 use crate::peers::Peer;
 use crate::saves::save;
 use crate::scripts::{Script, next_line, open_script};
-use crate::usages::{hint, tell_help, tell_usage, wants_hint};
+use crate::usages::{hint, print_help, print_usage, wants_hint};
 use be_script_runner::RunFault;
 use std::alloc::Global;
 use std::io::Eprint;
@@ -54,7 +54,7 @@ fn name_in(line: &[u8]) -> &[u8] {
 fn open_named<R: Files + Eprint>(rt: &R, alloc: Global, line: &[u8]) -> Option<Script> {
     let name = name_in(line);
     if name.is_empty() {
-        tell_usage(rt, b"read".as_slice());
+        print_usage(rt, b"read".as_slice());
         return None;
     }
     open_script(rt, alloc, name)
@@ -69,7 +69,7 @@ fn answer_aside<R: Eprint>(rt: &R, line: &Line, aside: Aside) {
              read FILE"
         ),
         (Aside::Help, Line::Short(bytes)) => {
-            tell_help(rt, bytes.as_slice());
+            print_help(rt, bytes.as_slice());
             Ok(())
         }
         _ => Ok(()),
@@ -101,7 +101,7 @@ fn saved_name<R: Eprint>(rt: &R, alloc: Global, line: &Line, aside: Aside) -> Op
     };
     match str::from_utf8(name_in(bytes.as_slice())) {
         Ok("") => {
-            tell_usage(rt, b"save".as_slice());
+            print_usage(rt, b"save".as_slice());
             None
         }
         Ok(name) => String::from_str(alloc, name).ok(),

@@ -13,8 +13,8 @@ pub record IsAlone (a : Knowledge) : Type 0 where
   pub pass : IsPass a
   pub one : a.limits.passes ≡ 1
 
--- The write is the next entry after what the pass had seen: the volume steps from there, and gives
--- these answers.
+-- The write is the next entry after what the pass had seen: the volume steps from there, and these
+-- are its outcomes.
 pub record WritesNext (a c : Knowledge) (ops : List Op) (n : ℕ) (dones : List Done) : Type 0 where
   pub seen : entries c.seen ≡ entries a.seen ++ entry_by a ops dones ∷ []
   pub step : steps (volume_seen a) ops ≡ Ok (volume_seen c, dones)

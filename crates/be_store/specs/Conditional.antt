@@ -18,16 +18,17 @@ use Rattle.be_store.specs.Writing.{IsHeldBack, Publishes}
 use Rattle.be_store.specs.declared.conditional.ApplyIfError.{ApplyIfError}
 use Rattle.be_store.specs.declared.conditional.ApplyIfError.TheVariants.{Conflict, Refused}
 
--- An accepted write on what was read: its entry is the next after so many; and a pass that was
--- pinned to these has written on the very volume that it read.
+-- An accepted write on what was read: its entry is the next after the first `number` entries. A
+-- pass that was pinned to these has written on exactly the volume that it read.
 pub record AcceptsAt (a c : Knowledge) (number : ℕ) (ops : List Op) (n : ℕ) (dones : List Done) :
     Type 0 where
   pub accepts : Accepts a c ops n dones
   pub next : n ≡ number + 1
   pub read : IsPinnedTo a number → Agrees (volume_pinned a) (entry_by a ops dones)
 
--- Another write came first: the pass has then seen the whole journal, whose length is found, and
--- which is not the one that was named. It took the lock and gave it back, and did nothing between.
+-- Another write came first: the pass has then seen the whole journal. Its length is the one that
+-- was found, and not the one that was named. The pass took the lock and gave it back, and did
+-- nothing between.
 pub record IsConflict (a c : Knowledge) (number found : ℕ) : Type 0 where
   pub learns : Learns a c
   pub found_is : found ≡ length c.seen
@@ -49,20 +50,21 @@ was_held (Ok x) = false
 was_held (Err (Conflict found)) = false
 was_held (Err (Refused e)) = is_busy e
 
--- Why a conditional write was not made that is tried up to so many times: each try found that
--- another pass holds the lock, and Busy names the last one; or else.
+-- Why a conditional write that is tried up to `tries` times was not made. Each try found that
+-- another pass holds the lock, and Busy names the last one; or the write got the lock and was
+-- refused.
 abbrev pub IsLastUnapplied : ℕ → (a c : Knowledge) → ℕ → List Op → ApplyIfError → Type 0
 IsLastUnapplied tries a c number ops (Conflict found) = IsConflict a c number found
 IsLastUnapplied tries a c number ops (Refused e) = Learns a c
     × (IsHeldThrough tries a c e ⊎ (IsRefusedAt c ops e × (length c.seen ≡ number)))
 
--- why a conditional write that has the lock isn't made: the length is another one, and nothing has
--- changed; or it is held back
+-- why a conditional write that has the lock isn't made: the journal has another length, and nothing
+-- has changed; or the write is refused
 abbrev pub IsHeldBackIf : (w v : Knowledge) → ℕ → List Op → ApplyIfError → Type 0
 IsHeldBackIf w v number ops (Conflict found) = (v ≡ w) × (found ≡ length w.seen) × (found ≢ number)
 IsHeldBackIf w v number ops (Refused e) = IsHeldBack w v ops e × (length w.seen ≡ number)
 
--- what a conditional write that has the lock answers
+-- what a conditional write that has the lock returns
 abbrev pub WritesIf : Knowledge → Knowledge → ℕ → List Op → List Done → Result ℕ ApplyIfError
     → Type 0
 WritesIf w v number ops dones result = MatchResult result

@@ -1,4 +1,4 @@
--- What a call makes of the pass that calls: what it has seen of the journal, its own writes, and
+-- What a call changes of the pass that calls: what it has seen of the journal, its own writes, and
 -- its pin.
 use Rattle.std.specs.Prelude.{◌≡◌, ◌≢◌, ◌⊎◌, ℕ, ◌+◌, ◌<◌, Bool, true, false, List, [], ◌∷◌, ◌++◌}
 use Rattle.std.specs.Prelude.{drop, length, take, IsOk}
@@ -28,8 +28,8 @@ use Rattle.be_store.specs.Passes.{IsPinnedTo, volume_seen}
 
 -- The moves of an accepted write: the pass takes the lock and works on pages, publishes this
 -- version page by one move, and gives the lock back. A whole scan is made right after the lock, or
--- where no page is free. Moves of other passes may lie between. After them the machine is as the
--- pass knows it.
+-- if no page is free. Moves of other passes may lie between. After them the machine is as the pass
+-- knows it.
 pub record PublishesOnce (a c : Knowledge) (page : ℕ) : Type 0 where
   pub locked : List Move
   pub lock : Makes a.number a.history (Lock a.number ∷ []) locked
@@ -52,7 +52,7 @@ abbrev pub LocksAndUnlocks : Knowledge → Knowledge → Type 0
 LocksAndUnlocks a c = Makes a.number a.history (Lock a.number ∷ Unlock a.number ∷ []) c.history
 
 -- An accepted write of the pass: it has seen what it had seen, then entries of other passes, then
--- its own, whose answers are those of the volume at that place.
+-- its own. The outcomes are those of the volume at that place.
 pub record Accepts (a c : Knowledge) (ops : List Op) (n : ℕ) (dones : List Done) : Type 0 where
   pub others : List Commit
   pub commit : Commit
@@ -75,8 +75,9 @@ pub record Learns (a c : Knowledge) : Type 0 where
   pub pin : c.phase ≡ a.phase
   pub moves : (c.history ≡ a.history) ⊎ LocksOnly a c
 
--- Why a pass that has the lock is refused, when it has seen this much of the journal: the volume
--- after that refuses the write; or it accepts it, and the journal has no room, or no page is left.
+-- Why a pass that has the lock is refused, when it has seen this much of the journal. The volume
+-- after that refuses the write. Or it accepts the write, and the journal has no room or no page is
+-- free.
 abbrev pub IsRefusedAt : (c : Knowledge) (ops : List Op) → Refusal → Type 0
 IsRefusedAt c ops e =
     (steps (volume_seen c) ops ≡ Err e)
@@ -84,8 +85,8 @@ IsRefusedAt c ops e =
     ⊎ (IsOk (steps (volume_seen c) ops) × (length c.seen < c.limits.commits)
     × IsFullOf (IsSpent c) e)
 
--- Why a write is refused: its one try found that another pass holds the lock, and nothing more was
--- seen; or else.
+-- Why a write is refused. Its one try found that another pass holds the lock, and nothing more was
+-- seen; or the pass had the lock.
 abbrev pub IsReason : (a c : Knowledge) (ops : List Op) → Refusal → Type 0
 IsReason a c ops e = (FoundHeld e a c × (c.seen ≡ a.seen)) ⊎ IsRefusedAt c ops e
 
@@ -103,14 +104,14 @@ was_busy (Err e) = is_busy e
 abbrev pub tried : Knowledge → List ℕ → Knowledge
 tried a holders = record a { holders = holders ++ a.holders; steps = a.steps + length holders }
 
--- Each of so many tries found that another pass holds the lock, nothing more was seen, and the
+-- Each of `tries` tries found that another pass holds the lock, nothing more was seen, and the
 -- refusal names the last one.
 abbrev pub IsHeldThrough : ℕ → (a c : Knowledge) → Refusal → Type 0
 IsHeldThrough tries a c e = (b : ℕ) × (before : List ℕ) × (e ≡ Busy b) × (b < a.limits.passes)
     × (b ≢ a.number) × (length before + 1 ≡ tries) × (c ≡ tried a (b ∷ before))
 
--- Why a write is refused that is tried up to so many times: each try found that another pass holds
--- the lock; or else.
+-- Why a write that is tried up to `tries` times is refused. Each try found that another pass holds
+-- the lock; or a try got the lock.
 abbrev pub IsLastReason : ℕ → (a c : Knowledge) (ops : List Op) → Refusal → Type 0
 IsLastReason tries a c ops e = IsHeldThrough tries a c e ⊎ IsRefusedAt c ops e
 
@@ -134,11 +135,11 @@ pub record Pins (a c : Knowledge) (n : ℕ) : Type 0 where
 abbrev pub text_seen : Knowledge → List ℕ
 text_seen a = lines_from 1 (entries a.seen)
 
--- the entries from an index on, up to so many of them
+-- up to `most` entries from an index on
 abbrev pub entries_from : List Entry → ℕ → ℕ → List Entry
 entries_from log from most = take most (drop from log)
 
--- Why the journal isn't told: the one try found that another pass holds the lock, and nothing more
--- was seen; or a growth was refused, between a lock and its unlock.
+-- Why the journal isn't returned. The one try found that another pass holds the lock, and nothing
+-- more was seen; or the call ran out of memory between a lock and its unlock.
 abbrev pub IsUntold : (a c : Knowledge) → Refusal → Type 0
 IsUntold a c e = (FoundHeld e a c × (c.seen ≡ a.seen)) ⊎ ((e ≡ OutOfMemory) × LocksAndUnlocks a c)

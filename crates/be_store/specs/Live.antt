@@ -23,8 +23,8 @@ is_among numbers n = list_any (λ m. m == n) numbers
 abbrev pub without : List ℕ → List ℕ → List ℕ
 without numbers others = filter (λ n. not (is_among others n)) numbers
 
--- The new answer is the last one now; what was created is in it and wasn't in the one before, and
--- what was removed the other way round.
+-- The new answer is the last one now. What was created is in it and wasn't in the one before; what
+-- was removed was in the one before and isn't in it.
 pub record Refreshes (volume : State) (old new : LiveQuery) (came went : List ℕ) : Type 0 where
   pub query : new.query ≡ old.query
   pub answer : scan volume old.query ≡ Ok new.last

@@ -9,9 +9,9 @@ use Rattle.be_table.specs.Statuses.{FindsOldest, LieAt, Tells}
 use Rattle.be_table.specs.Steps.{scans_of}
 use Rattle.be_table.specs.Trace.{Makes}
 
--- The pass takes the lock, reads each announcement, and gives the lock back. The numbers are of
--- what it has then seen, and of the pages as the machine has them behind the scan; and of the
--- announcements that the scan found, the oldest is told.
+-- The pass takes the lock, reads each announcement, and gives the lock back. The numbers are those
+-- of what it has then seen, and of the pages as the machine has them after the scan. The status has
+-- the oldest of the announcements that the scan found.
 pub record TellsStatus (a c : Knowledge) (s : Status) : Type 0 where
   pub tells : Tells c s
   pub locked : List Move

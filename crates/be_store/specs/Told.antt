@@ -1,4 +1,4 @@
--- What a pass does that was told of commits.
+-- What a pass does after it has learned of commits.
 use Rattle.std.specs.Prelude.{ℕ, ◌<◌, ◌≤◌, List, length}
 use Rattle.be_table.specs.History.{StartsWith}
 use Rattle.be_table.specs.declared.pass.Commit.{Commit}
@@ -8,8 +8,8 @@ use Rattle.be_volume.specs.declared.ops.Op.{Op}
 use Rattle.be_store.specs.Calls.{Calls}
 use Rattle.be_store.specs.History.{Accepts, Pins}
 
--- In one list of moves the call that left the first pass so ended before the one that left the
--- second pass so.
+-- The call after which its pass knew `c` ended before the call after which its pass knew `d`, in
+-- one list of moves: the history of `d` begins with that of `c`.
 abbrev pub EndedBefore : Knowledge → Knowledge → Type 0
 EndedBefore c d = StartsWith d.history c.history
 

@@ -1,4 +1,4 @@
--- What one write makes of the pass that holds the lock.
+-- What one write does to the pass that holds the lock.
 use Rattle.std.specs.Prelude.{◌≡◌, ◌⊎◌, ◌≤◌, ◌<◌, ◌+◌, ℕ, false, List, [], ◌∷◌, ◌++◌, MatchResult}
 use Rattle.std.specs.Prelude.{count_by, length}
 use Rattle.std.specs.declared.result.Result.{Result}
@@ -24,8 +24,8 @@ use Rattle.be_volume.specs.declared.ops.Op.{Op}
 use Rattle.be_store.specs.History.{IsRefusedAt}
 use Rattle.be_store.specs.Passes.{volume_seen}
 
--- an open write in which no page is taken yet: where the pages stand, and their words, are those of
--- the current version
+-- an open write in which no page is taken yet: the states of its pages, and their words, are those
+-- of the current version
 pub record Begins (k : Knowledge) : Type 0 where
   pub unpublished : k.published ≡ false
   pub begun : (q : ℕ) → standing_among k.places q
@@ -33,8 +33,8 @@ pub record Begins (k : Knowledge) : Type 0 where
   pub spelt : SpellsVolume (reach_at k.seen (length k.seen)) (word_of_page k.words)
       (page_at k.seen (length k.seen)) (volume_seen k)
 
--- An early scan: a whole one where 32 or more pages are retired beyond those that the last one
--- left, and else nothing.
+-- An early scan: a whole one if 32 or more pages are retired besides those that the last scan left,
+-- and otherwise none.
 abbrev pub ScansEarly : Work → Work → Type 0
 ScansEarly old new =
     ((count_by is_retired old.knows.places < old.left + 32) × (new ≡ old))
@@ -69,11 +69,11 @@ pub record IsHeldBack (a c : Knowledge) (ops : List Op) (e : Refusal) : Type 0 w
   pub unpublished : c.published ≡ false
   pub begun : upto_lock c.number c.history ≡ upto_lock a.number a.history
 
--- what a write that has the lock answers: it publishes, or is held back
+-- what a write that has the lock returns: it publishes, or is refused
 abbrev pub Writes : Knowledge → Knowledge → List Op → List Done → Result ℕ Refusal → Type 0
 Writes a c ops dones result = MatchResult result (λ n. Publishes a c ops n dones)
     (λ e. IsHeldBack a c ops e)
 
--- where no page is left, room was made for an entry of so many operations
+-- if no page is free, the journal has room for an entry with this many operations
 abbrev pub HasRoomAtFull : Work → ℕ → Refusal → Type 0
 HasRoomAtFull w count e = (least : ℕ) → e ≡ Full least → w.reserved ≡ count

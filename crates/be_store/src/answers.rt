@@ -1,4 +1,4 @@
-//! What queries answer.
+//! What queries return.
 
 /// What a query returns: the pin's number, and the nodes of which the query is true, ascending.
 #[derive(Debug, Drop)]

@@ -1,4 +1,4 @@
-//! Writes on what was read: they take place only if no other write came between.
+//! Writes on what was read: they happen only if no other write came between.
 //!
 //! A program pins a version, reads it, and writes by `apply_if` with the pin's number. If another
 //! write came first, the call writes nothing and says so, and the program pins and reads again. So
@@ -22,8 +22,8 @@ use thiserror::Error;
 /// Why a conditional write was not made.
 #[derive(Debug, Drop, Error)]
 pub enum ApplyIfError {
-    /// Another write came first: the journal has this many entries, and not as many as the caller
-    /// named.
+    /// Another write came first: the journal has this many entries, and not the number that the
+    /// caller named.
     #[error("another write came first: the journal has {0} entries")]
     Conflict(u64),
     /// The write was refused, as `Store::apply` refuses it.

@@ -9,7 +9,7 @@ use be_table::Writing;
 use be_value::Refusal;
 use std::alloc::Global;
 
-/// The entries from an index on, up to so many of them.
+/// Up to `most` entries from an index on.
 pub(crate) fn entries_from(
     alloc: Global,
     held: &Writing<'_>,

@@ -1,8 +1,8 @@
-//! What a pass of a store knows, and how it is with the only pass of one.
+//! What a pass of a store knows, and what holds for the only pass of a store.
 //!
 //! Each law does nothing; its contract is the law, for the crates above. The laws of the only pass
-//! speak of what a pass knows before and after a call: `alone` says of a pass at hand that it is
-//! such.
+//! speak of what a pass knows before and after a call: `alone` says that a given pass is the only
+//! one.
 ghost use Rattle.std.specs.Prelude.{◌≡◌, ◌≤◌, ◌<◌, ℕ, List, IsOk, length};
 ghost use Rattle.be_value.specs.declared.refusals.Refusal.{Refusal};
 ghost use Rattle.be_volume.specs.Ahead.{state_after};
@@ -26,7 +26,7 @@ use crate::{Pass, Store};
 use be_journal::replay_push;
 
 /// What a pass has seen is a legal journal, of entries by passes of the store, and its own writes
-/// are just the entries by its number. The store's pages can spell the volume after each entry.
+/// are exactly the entries by its number. The store's pages can hold the volume after each entry.
 pub fn seen_is_legal(store: &Store, pass: &Pass)
     requires { IsPassOf store.now pass.now }
     ensures pass { IsPass pass.now.knows }
@@ -47,8 +47,8 @@ pub fn pin_reads_all_seen()
 {}
 
 /// Whoever has joined a witness pins what that had seen, or more, and its accepted writes come
-/// after it. So it is with a commit of another pass: a witness that this pass made after its write
-/// has seen that write.
+/// after it. This holds for a commit of another pass, too: a witness that this pass made after its
+/// write has seen that write.
 pub fn told_order()
     ensures told { (told : List Commit) (d : Knowledge) → StartsWith d.seen told
         → ComesAfter told d }
@@ -58,8 +58,8 @@ pub fn told_order()
 {}
 
 /// A pin has each write that ended before it, and is at each pin that ended before it or later, of
-/// whatever passes: of two calls the one ended first whose history the other one's begins with.
-/// `close` has both in one list of moves.
+/// whatever passes. Of two calls one ended before the other if the history of the other begins with
+/// its history. `close` has both in one list of moves.
 pub fn pins_have_earlier_writes()
     ensures writes { (a c b d : Knowledge) (ops : List Op) (n m : ℕ) (dones : List Done)
         → Accepts a c ops n dones → IsPin b d m → EndedBefore c d → n ≤ m }

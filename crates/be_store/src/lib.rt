@@ -8,20 +8,21 @@
 //!
 //! # What is proved
 //! Whatever calls run on whatever threads, the journal is the history of one thread
-//! (`specs/History.antt`): the reply of each accepted write is the sequential volume's at its
-//! place, the writes of each pass stand there once and in their order, a pin names a beginning of
+//! (`specs/History.antt`). The reply of each accepted write is the sequential volume's at its
+//! place. The journal has the writes of each pass once and in their order. A pin names a prefix of
 //! the journal that contains all that its pass had seen, and the answer of a query is that of the
-//! volume after this beginning. A refused write is refused as the volume after what its pass has
-//! then seen refuses it. `laws` has what follows for what a pass has seen, and for the only pass of
-//! a store.
+//! volume after this prefix. A refused write is refused as the volume after what its pass has then
+//! seen refuses it. `laws` has what follows for what a pass has seen, and for the only pass of a
+//! store.
 //!
 //! # What a program names
 //! This crate alone. Names, values, operations, queries and their covers, the journal and the list
-//! of a write's answers are items of the crates below, and stand here too.
+//! of a write's outcomes are items of the crates below, and this crate exports them, too.
 //!
-//! # How it stands on the crates below
-//! The volume is in pages: be_paged reads and writes it over any reader and any room of pages, and
-//! be_table's open write and its pinned reader are such. Nothing here looks at a page or at a word.
+//! # How it uses the crates below
+//! The volume is in pages: be_paged reads and writes it over any reader and any room of pages. The
+//! open write and the pinned reader of be_table are such. Nothing here looks at a page or at a
+//! word.
 #![tactic(auto)]
 
 mod answers;

@@ -80,7 +80,7 @@ impl Store {
         Ok((Store { table }, passes))
     }
 
-    /// An open write of the pass, which is blank until the write's seat is back. Busy where another
+    /// An open write of the pass, which is blank until the write's seat is back. Busy if another
     /// pass holds the lock.
     pub(crate) fn lock(&self, pass: &mut Pass) -> Result<Writing<'_>, Refusal>
         requires pass { IsPassOf self.now pass.old }
@@ -302,12 +302,11 @@ impl Store {
         Ok(pin)
     }
 
-    /// As `query_into`, by a query that was prepared. What depends on the query alone was made at
-    /// its first asking: if all its comparisons are on one name and none stands under `||`, that is
-    /// the range of keys in the name's index. Such a query costs one descent and a walk over the
-    /// range; the index is looked for only if another stands where it stood at the last asking, and
-    /// the range is made again if the index has another kind. Any other query costs what `query`
-    /// costs.
+    /// As `query_into`, by a prepared query. What depends on the query alone is made when it is
+    /// asked for the first time: if all its comparisons are on one name and none is under `||`,
+    /// that is the range of keys in the name's index. Such a query costs one descent and a walk
+    /// over the range. The index is looked up again only if another one is now at its place. The
+    /// range is made again if the index has another kind. Any other query costs what `query` costs.
     #[inline(always)]
     pub fn query_prepared(
         &self,
@@ -600,8 +599,8 @@ impl Store {
     /// threads. A write that was accepted with the number n is the journal's n-th entry, with its
     /// pass, its operations and its outcomes. What a pass read at a pin n was the volume after the
     /// journal's first n entries. `moves` is the order of all steps: there is one list of moves,
-    /// and after each call its pass's history is a front of it. It costs a load and a join for each
-    /// pass, and no memory.
+    /// and after each call its pass's history is a prefix of it. It costs a load and a join for
+    /// each pass, and no memory.
     pub fn close(self, passes: Vec<Pass>) -> Journal
         requires passes { AllAt self.id passes.items }
         requires all { (k : ℕ) → k < self.limits.passes → Has (map knows_of passes.items) k }

@@ -1,4 +1,4 @@
-//! Whether a write may be tried again, and how long it stands back before that.
+//! Whether a write may be tried again, and how long it waits before that.
 ghost use Rattle.std.specs.Prelude.{◌≡◌, ◌<◌, ◌≤◌, ◌*◌};
 ghost use Rattle.be_store.specs.History.{is_busy, was_busy};
 
@@ -7,13 +7,14 @@ use be_value::Refusal;
 use be_volume::Done;
 use std::thread;
 
-/// Other threads may run so often, and no more, before a further try. Where two passes hand the
-/// lock to and fro at each write, each has to fetch from the other's processor what that one has
-/// just written; so one that comes in vain lets the other write on for a while, twice as long each
-/// time.
+/// Other threads may run up to this many times before a further try. If two passes take turns at
+/// the lock for each write, each has to fetch from the other's processor what that one has just
+/// written. So a pass that doesn't get the lock lets the other one write on for a while, twice as
+/// long each time.
 const MOST_TURNS: u64 = 1024;
 
-/// How often other threads may run before a further try, where it was so often before the last one.
+/// How many times other threads may run before a further try, if they ran `turns` times before the
+/// last one.
 pub(crate) fn longer(turns: u64) -> u64
     ensures doubled { turns < 1024 → result ≡ 2 * turns }
     ensures enough { 1024 ≤ turns → result ≡ turns }
@@ -21,7 +22,7 @@ pub(crate) fn longer(turns: u64) -> u64
     if turns < MOST_TURNS { 2 * turns } else { turns }
 }
 
-/// Lets other threads run so many times.
+/// Lets other threads run this many times.
 pub(crate) fn stand_back(turns: u64) {
     for _ in 0..turns {
         thread::yield_now();

@@ -42,8 +42,7 @@ fn apply_to(
     apply_into(writing, version_page, ops, dones)
 }
 
-/// Scans where a scan is due, and only there, so that the write takes pages that were given up
-/// lately.
+/// Scans if a scan is due, and only then, so that the write takes pages that were given up lately.
 fn scan_early(writing: &mut Writing<'_>)
     requires begins { Begins writing.old.knows }
     requires first { upto_lock writing.old.knows.number writing.old.knows.history
@@ -58,9 +57,9 @@ fn scan_early(writing: &mut Writing<'_>)
     }
 }
 
-/// Applies the operations to the current version, and publishes what they make. Their answers enter
-/// an empty list, which is filled where it stands. A refusal by the volume comes at once; the
-/// journal's want of room goes before that of a page.
+/// Applies the operations to the current version, and publishes the result. Their outcomes enter an
+/// empty list, which is filled in place. A refusal by the volume is returned at once; a lack of
+/// room in the journal comes before a lack of pages.
 fn write_current(
     writing: &mut Writing<'_>,
     ops: &[Op],
@@ -88,7 +87,7 @@ fn write_current(
     }
 }
 
-/// Writes to the current version, and scans before that where a scan is due.
+/// Writes to the current version, and scans before that if a scan is due.
 pub(crate) fn write(
     writing: &mut Writing<'_>,
     ops: &[Op],

@@ -1,8 +1,8 @@
 //! Worked examples of the store, by its public calls.
 //!
 //! A test is a room and a text of requests with their replies. `0` and `1` before a request name
-//! the pass that makes it; `head` gives the first line of what pass 0 is answered, and `state` the
-//! operations that make its version again.
+//! the pass that makes it; `head` gives the first line of what pass 0 replies, and `state` the
+//! operations that rebuild its version.
 
 mod calls;
 mod carrying;
@@ -72,7 +72,8 @@ fn index_made_later(rt: HostRuntime) -> Result<(), Fail> {
     check_lines(rt.alloc(), &mut for_one(rt.alloc(), 64, 100)?, lines)
 }
 
-/// A store of two commits: what the volume refuses is told before CommitsSpent, and reads go on.
+/// A store of two commits: what the volume refuses is reported before CommitsSpent, and reads go
+/// on.
 #[test]
 fn commits_spent(rt: HostRuntime) -> Result<(), Fail> {
     let lines = "0 new / 0 drop 9 => commit 1 / node 1 / refused 2 NoNode
@@ -88,8 +89,8 @@ fn meeting(rt: HostRuntime) -> Result<(), Fail> {
     check_lines(rt.alloc(), &mut for_two(rt.alloc(), 64, 100)?, lines)
 }
 
-/// A pass that joins another one's witness has seen what that has, and one that has seen more keeps
-/// it.
+/// A pass that joins another one's witness has seen what that has seen. A pass that has seen more
+/// keeps it.
 #[test]
 fn joining(rt: HostRuntime) -> Result<(), Fail> {
     let lines = "0 new / seen / join / seen => commit 1 / node 1 / seen 1 0 / met 1 / seen 1 1
@@ -97,7 +98,8 @@ fn joining(rt: HostRuntime) -> Result<(), Fail> {
     check_lines(rt.alloc(), &mut for_two(rt.alloc(), 64, 100)?, lines)
 }
 
-/// A live query tells which nodes came into its range, and which went, since it was last refreshed.
+/// A live query returns which nodes came into its range, and which went, since it was last
+/// refreshed.
 #[test]
 fn live_query(rt: HostRuntime) -> Result<(), Fail> {
     let lines =
@@ -125,7 +127,7 @@ fn prepared_query(rt: HostRuntime) -> Result<(), Fail> {
     check_lines(rt.alloc(), &mut for_one(rt.alloc(), 64, 100)?, lines)
 }
 
-/// A pass that isn't pinned reads at a pin that goes with the read, also where the read is refused.
+/// A pass that isn't pinned reads at a pin that goes with the read, even if the read is refused.
 #[test]
 fn pinned_for_a_read(rt: HostRuntime) -> Result<(), Fail> {
     let lines =
@@ -138,7 +140,7 @@ fn pinned_for_a_read(rt: HostRuntime) -> Result<(), Fail> {
     check_lines(rt.alloc(), &mut for_one(rt.alloc(), 64, 100)?, lines)
 }
 
-/// The operations that make a version again: a number that was dropped, an attribute outside of its
+/// The operations that rebuild a version: a number that was dropped, an attribute outside of its
 /// index and one in it. A pin has the same ones, whatever is written meanwhile.
 #[test]
 fn states_in_order(rt: HostRuntime) -> Result<(), Fail> {
@@ -154,7 +156,7 @@ state => new / set 1 \"j\" LONG 7 / set 1 \"k\" LONG 5 / new / drop 2 / new / mk
     check_lines(rt.alloc(), &mut for_two(rt.alloc(), 64, 100)?, lines)
 }
 
-/// A part so many times.
+/// A part, repeated `count` times.
 fn times(alloc: Global, part: &str, count: u64) -> Result<String, AllocError> {
     let mut text = String::new(alloc);
     for _ in 0..count {
@@ -163,7 +165,7 @@ fn times(alloc: Global, part: &str, count: u64) -> Result<String, AllocError> {
     Ok(text)
 }
 
-/// Sets k of node 1 to 1 to 63, and then does this.
+/// The requests that set k of node 1 to 1 to 63, and then this last one.
 fn after_63(alloc: Global, last: &str) -> Result<String, AllocError> {
     let mut text = String::new(alloc);
     for i in 1..=63 {
@@ -195,7 +197,7 @@ const ZERO: &str =
      ok
 1 pin => pin 3";
 
-/// The same, told again where memory is refused.
+/// The same, made again after running out of memory.
 fn lines_of_64(alloc: Global) -> Result<String, AllocError> {
     match lists_of_64(alloc) {
         Err(_) => lists_of_64(alloc),
@@ -256,9 +258,9 @@ fn set(room: &mut Room, number: i32) -> Result<u64, Refusal> {
     room.write(Op::Set(1, Name::new("k")?, Value::int32(number)))
 }
 
-/// Sets k of node 1 to one more number. The first that found no page, if this one is answered as it
-/// should be: accepted where there is none before it, and else refused by Full. BadLimits where it
-/// is answered otherwise.
+/// Sets k of node 1 to one more number. Returns the first number that found no page, if the reply
+/// to this one is right: accepted if there is no such number before it, and otherwise refused by
+/// Full. BadLimits for any other reply.
 fn set_next(room: &mut Room, number: i32, first: Option<i32>) -> Result<Option<i32>, Refusal> {
     match set(room, number) {
         Ok(_) if first.is_none() => Ok(None),
@@ -267,8 +269,8 @@ fn set_next(room: &mut Room, number: i32, first: Option<i32>) -> Result<Option<i
     }
 }
 
-/// Sets k of node 1 to 1 to 500, with these lines after each. The first value that found no page,
-/// if each after it found none either.
+/// Sets k of node 1 to 1 to 500, with these lines after each. Returns the first value that found no
+/// page, if each after it found none either.
 fn fill(alloc: Global, room: &mut Room, lines: &str) -> Result<i32, Fail> {
     let mut first = None;
     for i in 1..=500 {
@@ -278,8 +280,8 @@ fn fill(alloc: Global, room: &mut Room, lines: &str) -> Result<i32, Fail> {
     Ok(first.unwrap_or(500))
 }
 
-/// The first value that found no page in the room, which the pinned version outlives; the write
-/// that follows the pin is accepted.
+/// The first value that found no page in the room while pass 1 stays pinned. After its unpin a
+/// write is accepted.
 fn fill_pinned(alloc: Global, room: &mut Room) -> Result<i32, Fail> {
     check_lines(alloc, room, ZERO)?;
     let first = fill(alloc, room, "1 query k==0 => pin 3 / nodes 1")?;
@@ -288,7 +290,7 @@ fn fill_pinned(alloc: Global, room: &mut Room) -> Result<i32, Fail> {
     Ok(first)
 }
 
-/// The same in a pool of so many pages.
+/// The same in a pool of this many pages.
 fn first_full(alloc: Global, pages: u64) -> Result<i32, Fail> {
     fill_pinned(alloc, &mut for_two(alloc, pages, 1000)?)
 }
@@ -301,7 +303,7 @@ fn pinned_small_pool(rt: HostRuntime) -> Result<(), Fail> {
 }
 
 /// In a pool that is larger than what makes a scan due, writes scan before it is empty, under a pin
-/// all the while: what the pin reads stays, each page of the pool is used, and the write that finds
+/// all the while. What the pin reads stays, each page of the pool is used, and the write that finds
 /// none has scanned.
 #[test]
 fn early_scan(rt: HostRuntime) -> Result<(), Fail> {
@@ -310,8 +312,8 @@ fn early_scan(rt: HostRuntime) -> Result<(), Fail> {
     Ok(())
 }
 
-/// Makes up to 60 nodes. How many there are, if from then on each was refused, with Full of just
-/// this number.
+/// Makes up to 60 nodes. Returns how many there are, if from then on each was refused, with Full of
+/// exactly this number.
 fn make_nodes(room: &mut Room) -> Option<u64> {
     let mut made = None;
     for i in 0..60 {
@@ -337,7 +339,7 @@ fn list_at_full(rt: HostRuntime) -> Result<(), Fail> {
     check_lines(rt.alloc(), &mut for_two(rt.alloc(), 8, 100)?, lines)
 }
 
-/// What is refused and read of a full pool with so many nodes.
+/// What is refused and read in a full pool with this many nodes.
 fn full_lines(alloc: Global, made: u64) -> Result<String, AllocError> {
     format!(in alloc;
         "0 new;drop 99 => refused 2 NoNode
@@ -345,7 +347,7 @@ fn full_lines(alloc: Global, made: u64) -> Result<String, AllocError> {
     )
 }
 
-/// Fills the room with nodes, and looks at it. How many there are.
+/// Fills the room with nodes, and checks it. Returns how many nodes there are.
 fn fill_with_nodes(alloc: Global, room: &mut Room) -> Result<u64, Fail> {
     let made = make_nodes(room).unwrap_or(0);
     let lines = match full_lines(alloc, made) {
@@ -367,7 +369,7 @@ fn smallest_pool(rt: HostRuntime) -> Result<(), Fail> {
     Ok(())
 }
 
-/// Sets k of node 1 to 1 to 10,000. The last write's number.
+/// Sets k of node 1 to 1 to 10,000. Returns the last write's number.
 fn set_many(room: &mut Room) -> Result<u64, Refusal> {
     let mut last = 0;
     for i in 1..=10_000 {
@@ -384,7 +386,7 @@ fn write_many(alloc: Global, room: &mut Room) -> Result<u64, Fail> {
     Ok(set_many(room)?)
 }
 
-/// Ten thousand writes go through a pool of 64 pages, where nobody is pinned.
+/// Ten thousand writes go through a pool of 64 pages, while nobody is pinned.
 #[test]
 fn pages_reused(rt: HostRuntime) -> Result<(), Fail> {
     let last = write_many(rt.alloc(), &mut for_one(rt.alloc(), 64, 20_000)?)?;
@@ -392,7 +394,7 @@ fn pages_reused(rt: HostRuntime) -> Result<(), Fail> {
     Ok(())
 }
 
-/// What is read of k where it is this number.
+/// What is read of k if it is this number.
 fn number_lines(alloc: Global, number: i32) -> Result<String, AllocError> {
     let pin = number.saturating_add(3);
     let nodes = if number == 0 { " 1" } else { "" };
@@ -450,9 +452,9 @@ fn handed_to_a_thread(rt: HostRuntime) -> Result<(), Fail> {
     Ok(())
 }
 
-/// Of two passes that have read the same, the second to write is told that another write came
-/// first, and nothing of it is done. Without the condition the node that it names is the other
-/// pass's, and the write is accepted.
+/// Of two passes that have read the same, the second to write gets a Conflict, because another
+/// write came first, and nothing of its write is done. Without the condition the node that it names
+/// is the other pass's, and the write is accepted.
 #[test]
 fn writes_on_what_was_read(rt: HostRuntime) -> Result<(), Fail> {
     let lines =
@@ -499,7 +501,7 @@ fn four_writers(rt: HostRuntime) -> Result<(), Fail> {
 }
 
 /// Writes lists of different kinds: nodes and one that is dropped, an attribute outside of its
-/// index and two in theirs, and indices. Then it pins. The state there is of two lists.
+/// index and two in theirs, and indices. Then it pins. The state there has two lists.
 fn write_and_pin(alloc: Global, room: &mut Room) -> Result<(), Fail> {
     let lines = "0 new;set 1 k LONG 5;new;drop 2 => commit 1 / node 1 / ok / node 2 / ok
 0 mkindex k LONG;mkindex j LONG;set 1 j LONG 6 => commit 2 / ok / ok / ok
@@ -511,7 +513,7 @@ fn write_and_pin(alloc: Global, room: &mut Room) -> Result<(), Fail> {
     check_lines(alloc, room, "0 pin => pin 67")
 }
 
-/// Fails unless its journal has two lists, which make this state.
+/// Fails unless the journal of the second room has two lists, which make this state.
 fn check_carried(alloc: Global, carried: &mut Room, state: &str) -> Result<(), Fail> {
     check_lines(alloc, carried, "0 pin => pin 2")?;
     if carried.state(alloc)?.as_str() != state {
@@ -520,8 +522,8 @@ fn check_carried(alloc: Global, carried: &mut Room, state: &str) -> Result<(), F
     Ok(())
 }
 
-/// Carries the state of the room's pin on, while a hundred nodes are made. Whether each was
-/// accepted.
+/// Writes the state of the room's pin to a second room, while a hundred nodes are made. Returns
+/// whether each was accepted.
 fn carry<R: Threads + Sync>(rt: &R, alloc: Global, room: &mut Room) -> Result<bool, Fail> {
     let state = room.state(alloc)?;
     let (mut carried, is_accepted) = room.carry(rt, alloc)?;
@@ -529,8 +531,8 @@ fn carry<R: Threads + Sync>(rt: &R, alloc: Global, room: &mut Room) -> Result<bo
     Ok(is_accepted)
 }
 
-/// A state is carried on to a second store while another thread writes: it is the one of the pin,
-/// and all writes are accepted.
+/// A state is written to a second store while another thread writes: it is the one of the pin, and
+/// all writes are accepted.
 #[test]
 fn carried_meanwhile(rt: HostRuntime) -> Result<(), Fail> {
     let mut room = for_two(rt.alloc(), 1024, 1000)?;

@@ -55,7 +55,7 @@ IsRead k m p i n v w = MayRead v k p i × (w ≡ v) × (n ≡ v.image m p i)
 abbrev pub IsUnpin : ℕ → ℕ → World → World → Type 0
 IsUnpin k n v w = MayUnpin v k × (w ≡ after_unpin v k)
 
--- where the word was 0
+-- if the word was 0
 abbrev pub IsLock : ℕ → ℕ → World → World → Type 0
 IsLock k n v w = MatchBool (n == 0) (MayLock v k × (w ≡ after_lock v k)) (w ≡ v)
 

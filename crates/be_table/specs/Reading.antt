@@ -30,7 +30,7 @@ standing_at Current = Old
 standing_at GivenUp = Given
 standing_at (Retired r) = Nowhere
 
--- where a page stands in a write with these places
+-- the state of a page in a write with these places
 abbrev pub standing_among : List Place → ℕ → Standing
 standing_among places q = if nat_lt q 16384 then standing_at (slice_index_or places q Free)
     else Nowhere
@@ -39,7 +39,7 @@ standing_among places q = if nat_lt q 16384 then standing_at (slice_index_or pla
 abbrev pub word_of_page : List ℕ → ℕ → ℕ → ℕ
 word_of_page words q i = if nat_lt i 512 then slice_index words (word_place q i) else 0
 
--- where the pages of an open write stand, and their words
+-- the states of the pages in an open write, and their words
 abbrev pub standing_in_work : Work → ℕ → Standing
 standing_in_work w q = standing_among w.knows.places q
 

@@ -84,7 +84,7 @@ abbrev pub is_holder : Option Holder → ℕ → Bool
 is_holder None k = false
 is_holder (Some h) k = h.pass == k
 
--- a ledger at home: the journal, the version page, and where each page is
+-- a writer state that fits the table: the journal, the version page, and where each page is
 pub record AtHome (w : World) (log : List Commit) (ledger : Ledger) : Type 0 where
   pub journal : ledger.journal.entries ≡ entries log
   pub limit : ledger.journal.limit ≡ w.commits
@@ -94,7 +94,7 @@ pub record AtHome (w : World) (log : List Commit) (ledger : Ledger) : Type 0 whe
   pub idle : map undone_place (ledger_places ledger) ≡ (ledger_places ledger)
   pub left : LeftAreRetired ledger
 
--- the ledger is at home while nobody holds the lock
+-- the writer state lies in its slot while nobody holds the lock, and fits the table
 abbrev pub IsHome : Option Holder → World → List Commit → List (Maybe (Option Ledger)) → Type 0
 IsHome None w log homes = (ledger : Ledger) × (homes ≡ some (Some ledger) ∷ [])
     × AtHome w log ledger
@@ -122,7 +122,7 @@ pub record ShowsBoard (b : Board) (s : State (Option Ledger) View) : Type 0 wher
   pub home : IsHome b.world.holder b.world b.log s.homes
   pub version : b.world.current ≡ length b.log
 
--- ## The second part: the journal's and the machine's invariants, and what each version spells
+-- ## The second part: the journal's and the machine's invariants, and what each version encodes
 
 -- limits that a table may have
 abbrev pub IsWithin : Limits → Type 0
@@ -132,7 +132,7 @@ IsWithin limits = AreLimits 8 limits.pages limits.passes limits.commits
 abbrev pub AreBad : Limits → Type 0
 AreBad limits = ¬ (IsWithin limits)
 
--- the pages of each version are those that its commit tells
+-- the pages of each version are those that its commit lists
 abbrev pub ReachesAgree : World → List Commit → Type 0
 ReachesAgree w log = (n p : ℕ) → n ≤ w.current → w.reach n p ≡ has (reach_at log n) p
 
@@ -242,7 +242,7 @@ abbrev pub Shows : Limits → State (Option Ledger) View → Type 0
 Shows limits s = (b : Board) × Stands limits s b
     × ((trace : List Move) × IsTrace limits b.world s.views trace)
 
--- ## What a history tells
+-- ## What a history says
 
 -- the machine is as the pass knows it
 pub record IsAt (a : Knowledge) (w : World) : Type 0 where
@@ -339,7 +339,7 @@ abbrev pub first_of : List Knowledge → Knowledge
 first_of [] = nobody
 first_of (a ∷ v) = a
 
--- the pass of a seat that has one, and the second where it has two
+-- the pass of a seat that has one, and the second if it has two
 abbrev pub pass_of : View → Knowledge
 pass_of v = first_of v.passes
 

@@ -37,8 +37,8 @@ pub record LieAt (limits : Limits) (moves : List Move) (places : List Place) : T
   pub runs : RunsTo limits words moves world
   pub shown : ShowsPlaces places world
 
--- the numbers are those of the limits, of the pages where the pass knows them, and of the journal
--- that it has seen
+-- the numbers are those of the limits, of the pages as the pass knows them, and of the journal that
+-- it has seen
 pub record Tells (a : Knowledge) (s : Status) : Type 0 where
   pub pages : s.pages ≡ a.limits.pages
   pub free : s.free ≡ count_by is_free a.places

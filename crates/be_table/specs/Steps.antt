@@ -58,7 +58,7 @@ looks a log = record a {
       + 1;
 }
 
--- a pass that has the lock now, with the ledger's places and the table's words
+-- a pass that has the lock now, with the places of the writer state and the table's words
 abbrev pub takes_lock : Knowledge → List Commit → List Place → List ℕ → Knowledge
 takes_lock a log places words = record a {
   seen = log;
@@ -150,8 +150,8 @@ fills a p i x = record a {
   steps = a.steps + 1;
 }
 
--- A word of a page is filled: a load tells whether it is there already, and is the fill then; else
--- a store follows.
+-- A word of a page is filled. A load reads whether the word is there already; if so, the load is
+-- the fill. Otherwise a store follows.
 abbrev pub fill_steps : Knowledge → ℕ → ℕ → ℕ → ℕ
 fill_steps a p i x = if slice_index a.words (word_place p i) == x then 1 else 2
 
@@ -221,7 +221,7 @@ LookTold st m n r =
     × (n ≡ current_word (length log) (page_at log (length log)))
     × (page_at log (length log) < 4294967296)
 
--- the ledger, as a pass finds it that takes the lock
+-- the writer state, as a pass that takes the lock finds it
 pub record IsFound (ledger : Ledger) (c : Knowledge) : Type 0 where
   pub journal : ledger.journal.entries ≡ entries c.seen
   pub limit : ledger.journal.limit ≡ c.limits.commits
@@ -279,8 +279,8 @@ Compared st m n r =
     (r ≡ (beside (having_seen a log) (having_seen c log), m.1)) × StartsWith log a.seen
     × StartsWith log c.seen × IsPass (having_seen a log) × IsPass (having_seen c log)
 
--- the pass of a seat has seen the longer of what it had seen and the front that its seat has, which
--- contains the other, and the seat has no front any more
+-- the pass of a seat has seen the longer of what it had seen and the front of its seat, which
+-- contains the other; the seat has no front any more
 abbrev pub Learned : Step (Option Ledger) → Me (Option Ledger) View → ℕ → Me (Option Ledger) View
     → Type 0
 Learned st m n r =
@@ -309,12 +309,12 @@ KeepsSeen log [] = Unit {0}
 KeepsSeen log (a ∷ v) = StartsWith log (entries a.seen) × (by_pass a.number log ≡ a.mine)
     × KeepsSeen log v
 
--- the ledger is at home
+-- the writer state lies in its slot
 abbrev pub Unlocked : Step (Option Ledger) → Me (Option Ledger) View → ℕ → Me (Option Ledger) View
     → Type 0
 Unlocked st m n r = let a = pass_of m.0 in r ≡ (alone (without_lock a), [])
 
--- the announcement stands
+-- the announcement is made
 abbrev pub Told : Step (Option Ledger) → Me (Option Ledger) View → ℕ → Me (Option Ledger) View
     → Type 0
 Told st m n r = let a = pass_of m.0 in r ≡ (alone (announces a (n - 1)), m.1)
@@ -413,7 +413,7 @@ Published e v st m n r = let a = pass_of m.0 in (r ≡ (alone (publishes a e v),
 -- ## The moves of the steps
 
 -- A step makes this move: the history of the pass ends with it, the machine is then as the pass
--- knows it, and the rest is told of the pass with this history
+-- knows it, and the other facts hold of the pass with this history
 abbrev pub Moving : Move → (World → Type 0)
     → (Me (Option Ledger) View → Me (Option Ledger) View → Type 0) → Me (Option Ledger) View
     → Me (Option Ledger) View → Type 0
@@ -486,7 +486,7 @@ TakeMoves st m n r =
     × (r ≡ (alone (takes_page (with_history a h) p), m.1)))
     × (n ≡ slice_index a.words st.word)
 
--- a word of a page is filled with what is there, and then with x where that is another
+-- a word of a page is filled with what is there, and then with x if that is another
 abbrev pub fill_moves : Knowledge → ℕ → ℕ → ℕ → List Move
 fill_moves a p i x = let found = slice_index a.words (word_place p i) in Fill a.number p i found
     ∷ (if found == x then [] else Fill a.number p i x ∷ [])

@@ -54,7 +54,7 @@ after_move w (Publish k page given) = after_publish w given
 after_move w (Unlock k) = after_unlock w
 after_move w (Return k p) = after_return w p
 
--- the moves, one after another, lead from w to w', and each is allowed where it stands
+-- the moves, one after another, lead from w to w', and each is allowed when it is made
 abbrev pub Run : World → List Move → World → Type 0
 Run w [] w' = w' ≡ w
 Run w (m ∷ ms) w' = MayMove w m × Run (after_move w m) ms w'

@@ -1,4 +1,4 @@
--- The volume that a version of the table spells.
+-- The volume that a version of the table encodes.
 use Rattle.std.specs.Prelude.{◌≡◌, ℕ, suc, ◌<◌, Bool, true, false, nat_lt, if◌then◌else◌, List}
 use Rattle.std.specs.Prelude.{length, take, IsTrue}
 use Rattle.be_core.specs.Machine.{has, bit}
@@ -20,14 +20,14 @@ at_start false = Nowhere
 abbrev pub in_pages : (ℕ → ℕ → ℕ) → ℕ → ℕ → ℕ
 in_pages words q i = if nat_lt i 512 then words q i else 0
 
--- The version of these pages, with these words, spells the volume from its version page, and has
+-- The version of these pages, with these words, encodes the volume from its version page, and has
 -- exactly the pages that it reaches from there.
 pub record SpellsVolume (pages : List ℕ) (words : ℕ → ℕ → ℕ) (page : ℕ) (volume : State) : Type 0
   where
     pub version : IsVersion (λ q. at_start (has pages q)) words page volume
     pub exact : (q : ℕ) → times q (reach words page) ≡ bit (has pages q)
 
--- So many pages can spell the volume: some of them do, with some words, 512 each.
+-- So many pages can encode the volume: some of them do, with some words, 512 each.
 pub record CanSpell (pages : ℕ) (volume : State) : Type 0 where
   pub used : List ℕ
   pub words : ℕ → ℕ → ℕ
@@ -35,7 +35,7 @@ pub record CanSpell (pages : ℕ) (volume : State) : Type 0 where
   pub spelt : SpellsVolume used (in_pages words) page volume
   pub inside : (p : ℕ) → IsTrue (has used p) → p < pages
 
--- so many pages can spell the volume after each entry of the journal
+-- so many pages can encode the volume after each entry of the journal
 unfoldable pub CanSpellEach : ℕ → List Entry → Type 0
 CanSpellEach pages journal = (n : ℕ) → n < length journal
     → CanSpell pages (replay (take (suc n) journal))

@@ -1,4 +1,4 @@
--- What a pass does between its lock and its unlock, and where it scans.
+-- What a pass does between its lock and its unlock, and when it scans.
 use Rattle.std.specs.Prelude.{◌≡◌, ◌⊎◌, ℕ, zero, suc, List, [], ◌∷◌, ◌++◌, IsFalse}
 use Rattle.be_core.specs.Machine.{World}
 use Rattle.be_table.specs.declared.limits.Limits.{Limits}

@@ -56,7 +56,7 @@ pub record Moves (a : Knowledge) (own : List Move) (c : Knowledge) : Type 0 wher
   pub made : Makes a.number a.history own c.history
   pub at : Reaches c (λ w. Unit {0})
 
--- the same, where the pass has seen the journal up to the current number
+-- the same, if the pass has seen the journal up to the current number
 pub record MovesNow (a : Knowledge) (own : List Move) (c : Knowledge) : Type 0 where
   pub made : Makes a.number a.history own c.history
   pub at : Reaches c (λ w. w.current ≡ length c.seen)
@@ -134,7 +134,7 @@ HasNoFree w = (p : ℕ) → p < length w.knows.places → place_of w.knows.place
 abbrev pub HasReasonToScan : Work → Type 0
 HasReasonToScan w = HasNoFree w ⊎ (upto_lock w.knows.number w.knows.history ≡ w.knows.history)
 
--- a free page is taken, and a whole scan comes before that only where none was free
+-- a free page is taken, and a whole scan comes before that only if none was free
 pub record TakesPage (old new : Work) (page : ℕ) : Type 0 where
   pub between : Work
   pub scan : (between ≡ old) ⊎ ((least : ℕ) × MakesScan old between least)

@@ -15,7 +15,7 @@ work_of w = record {
   left = w.ledger.left;
 }
 
--- the seat is at the table with the slot, the ledger has what the pass has seen, and until it
+-- the seat is at the table with the slot, the writer state has what the pass has seen, and until it
 -- publishes, the pass has only worked
 pub record IsOpen (w : Inside) : Type 0 where
   pub table_is : w.base.table_id ≡ w.table.now.id

@@ -1,11 +1,11 @@
 //! What each step on a word does to the reclamation machine.
 //!
-//! The rule of the table says that the words, the ledger and what the passes know show one state of
-//! the machine of be_core, in which the machine's invariant holds. The functions here do nothing:
-//! their contracts say, over the definitions alone, which event of the machine each step is.
-//! Whatever state the table is in, a pass that may step can step; the state that the table shows
-//! before allows the event, and the one that it shows afterwards is the event's. A step whose word
-//! has no event leaves the machine as it was. The calls of the table are proved from the same
+//! The rule of the table says that the words, the writer state and what the passes know show one
+//! state of be_core's machine. The machine's invariant holds in it. The functions here do nothing:
+//! their contracts say, over the definitions alone, which event of the machine each step is. In
+//! every state of the table, a pass that may step can step. The state that the table shows before
+//! the step allows the event, and the state that it shows afterwards is the event's. A step whose
+//! word has no event leaves the machine as it was. The calls of the table are proved from the same
 //! lemmas.
 ghost use Rattle.std.specs.Prelude.{ℕ, List, Option};
 ghost use Rattle.be_table.specs.Laws.{GiveUpIsNoEvent, PublishIsItsEvent, UnlockIsItsEvent};

@@ -1,7 +1,7 @@
-//! What lies in the slot while nobody holds the lock.
+//! The writer state, which lies in the slot while nobody holds the lock.
 //!
-//! Who holds the lock has the ledger in hand and changes it as plain data. It keeps no volume: the
-//! pages are the volume.
+//! The pass that holds the lock has the writer state and changes it as plain data. It keeps no
+//! volume: the pages are the volume.
 ghost use Rattle.std.specs.Prelude.{◌≡◌, ◌≤◌, ℕ, count_by, map, length};
 ghost use Rattle.be_pages.specs.PagePool.{places};
 ghost use Rattle.be_pages.specs.Place.{is_retired, retired_at, undone_place, swept_place};
@@ -77,6 +77,7 @@ impl Ledger {
         self.page = page;
     }
 
+    /// The journal alone; the pool and the version page are dropped.
     pub fn into_journal(self) -> Journal
         ensures { result ≡ self.journal }
     {

@@ -1,4 +1,4 @@
-//! What a seat tells of its pass without a step.
+//! What a seat knows of its pass without a step.
 
 /// A pinned version: its number, and its version page.
 #[derive(Clone, Copy)]

@@ -1,9 +1,9 @@
 //! An open write as a reader and a room of pages.
 //!
 //! Trees are built over the traits of be_pages. What an open write has in common with a room in
-//! memory is stated here: where each page stands, its words, and what no call changes (the table,
-//! the pass with its limits, its phase, what it has seen, that it isn't published, and the history
-//! up to its lock).
+//! memory is stated here: the state of each page, its words, and what no call changes. No call
+//! changes the table, the pass with its limits, its phase, what it has seen, that it isn't
+//! published, and the history up to its lock.
 
 use crate::writing::Writing;
 use be_pages::{Look, Room};

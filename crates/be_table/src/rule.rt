@@ -1,7 +1,7 @@
 //! The rule of the table, and the names of its steps.
 //!
-//! A step on a word is allowed where, whatever the table is then, the rule still holds after it.
-//! What the step tells its pass is the definition that its name carries.
+//! A step on a word is allowed if, in every state of the table, the rule still holds after it. The
+//! definition that the step's name carries says what the pass learns from it.
 ghost use Rattle.std.specs.Prelude.{[]};
 ghost use Rattle.be_table.specs.Rule.{Shows, everyone, first_seat, other_seats, seats_together};
 ghost use Rattle.be_table.specs.Rule.{empty_view, kept_seat, front_seat};
@@ -148,7 +148,7 @@ impl Play<Option<Ledger>, View> for GiveUp {
     ghost then = { GiveUpMoves };
 }
 
-/// The entry and the version page that a publishing step tells. Each call picks them.
+/// The entry and the version page of a publishing step. Each call picks them.
 pub(crate) trait NextVersion {
     ghost use Rattle.std.specs.Prelude.{ℕ};
     ghost use Rattle.be_journal.specs.declared.entries.Entry.{Entry};

@@ -1,8 +1,8 @@
 //! A pass's seat at the table.
 //!
-//! A seat is the right to step for one pass: no two seats have the same pass, so what a pass knows
-//! is known to one holder alone. Beside that right it carries three numbers which its steps told:
-//! the number of the pass, how much of the journal the pass has seen, and its pin.
+//! A seat is the right to step for one pass: no two seats have the same pass, so only one holder
+//! has what a pass knows. Beside that right it carries three numbers from its steps: the number of
+//! the pass, how much of the journal the pass has seen, and its pin.
 ghost use Rattle.std.specs.Prelude.{◌≡◌, ℕ, ◌<◌, true, false, [], length, IsTrue};
 ghost use Rattle.be_core.specs.Machine.{has};
 ghost use Rattle.be_core.specs.declared.event.Phase.TheVariants.{Pinned};
@@ -59,7 +59,7 @@ impl Seat {
         }
     }
 
-    /// The base's seat, with what it tells of the pass.
+    /// The base's seat, with the marks of the pass.
     pub(crate) fn into_base(self) -> (Base, Marks)
         requires { self.blank ≡ false }
         ensures pass { (result.0.table_id ≡ self.table) × (result.0.me ≡ (alone self.knows, [])) }
@@ -98,7 +98,7 @@ impl Seat {
     }
 
     /// The version page of the version to which the pass is pinned. From there the version's pages,
-    /// with the words that they had when it was published, spell the volume after so many entries
+    /// with the words that they had when it was published, encode the volume after so many entries
     /// as its number says.
     pub fn version_page(&self) -> u64
         requires seat { self.now.blank ≡ false }

@@ -25,8 +25,8 @@ pub struct Status {
     pub entries: u64,
     /// The most entries that it may have.
     pub commits: u64,
-    /// The least announced number, and the first of the passes that have announced it. None where
-    /// none has.
+    /// The least announced number, and the first of the passes that have announced it. None if none
+    /// has.
     pub oldest: Option<Announcement>,
 }
 

@@ -1,8 +1,8 @@
 //! The table that the passes share, and the steps of readers.
 //!
-//! Word 0 is LOCK: 0 when free, else the holder's number + 1. Word 8 is CURRENT: the version's
+//! Word 0 is LOCK: 0 when free, otherwise the holder's number + 1. Word 8 is CURRENT: the version's
 //! number times 2^32, plus its version page. Word 16 + 8 k is the announcement of pass k: 0 for
-//! none, else the number + 1. Word i of page p is word 528 + 512 p + i.
+//! none, otherwise the number + 1. Word i of page p is word 528 + 512 p + i.
 ghost use Rattle.std.specs.Prelude.{◌≡◌, ℕ, ◌<◌, false, length, map, MatchResult, IsTrue};
 ghost use Rattle.std.specs.Prelude.{slice_index};
 ghost use Rattle.be_core.specs.Machine.{has};
@@ -28,7 +28,7 @@ use be_value::Refusal;
 use std::alloc::Global;
 use std::marker::Model;
 
-/// 0 while no pass holds the lock, else the holder's number + 1.
+/// 0 while no pass holds the lock, otherwise the holder's number + 1.
 pub(crate) const LOCK: usize = 0;
 
 /// The current version: its number times 2^32, plus its version page.
@@ -82,11 +82,11 @@ impl VersionTable {
     ghost use Rattle.be_table.specs.declared.pass.Move.TheVariants as moves;
 
     /// A table with an empty journal, and the seats of its passes in the order of their numbers.
-    /// Version 0 is the page `first`, which spells the empty volume, at page 0; the other pages are
-    /// free.
+    /// Version 0 is the page `first`, which encodes the empty volume, at page 0; the other pages
+    /// are free.
     ///
-    /// BadLimits exactly where a limit is out of its range, and OutOfMemory where a growth was
-    /// refused. No later call but `reserve` takes memory.
+    /// BadLimits exactly if a limit is out of its range, and OutOfMemory if a growth was refused.
+    /// No later call but `reserve` takes memory.
     pub fn open(
         alloc: Global,
         limits: Limits,
@@ -140,7 +140,7 @@ impl VersionTable {
         self.limits
     }
 
-    /// Sees the journal up to now, and answers its length. One load.
+    /// Sees the journal up to now, and returns its length. One load.
     pub fn look(&self, seat: &mut Seat) -> u64
         requires { IsSeatOf self.now seat.old }
         ensures seat { IsSeatOf self.now seat.new }
@@ -173,8 +173,8 @@ impl VersionTable {
         *seat = Seat::of(base, marks);
     }
 
-    /// Pins the version that is current once the announcement stands, which may be later than the
-    /// announced one. Answers its number and its version page. One load.
+    /// Pins the version that is current once the announcement is made, which may be later than the
+    /// announced one. Returns its number and its version page. One load.
     pub fn look_again(&self, seat: &mut Seat) -> (u64, u64)
         requires seat { IsSeatOf self.now seat.old }
         requires announced { (x : ℕ) × (seat.old.knows.phase ≡ Phase.Announced x) }
@@ -210,8 +210,8 @@ impl VersionTable {
         *seat = Seat::of(base, marks);
     }
 
-    /// Takes the lock, or answers Busy with the pass that this try found holding it, which is
-    /// another one. One compare-exchange.
+    /// Takes the lock. If a pass holds it, the error is Busy with the pass that this try found
+    /// holding it, which is another one. One compare-exchange.
     pub fn lock(&self, seat: Seat) -> Result<Writing<'_>, (Seat, Refusal)>
         requires { IsSeatOf self.now seat }
         ensures { MatchResult result
@@ -246,7 +246,7 @@ impl VersionTable {
         found
     }
 
-    /// A reader of the pages of the pinned version, which spell the volume after the journal's
+    /// A reader of the pages of the pinned version, which encode the volume after the journal's
     /// entries up to the version's number. No step.
     pub fn pinned_look(&self, seat: Seat) -> PinnedLook<'_>
         requires seat { IsSeatOf self.now seat }
@@ -261,10 +261,10 @@ impl VersionTable {
         PinnedLook::of(self, seat)
     }
 
-    /// Two passes tell each other what they have seen, in three steps: their seats are joined, a
-    /// load compares what they have seen, and the seats are cut apart again. Both passes have then
-    /// seen what either had: of two beginnings of one journal the longer. Answers its length. What
-    /// the two have done so far lies in one trace, and a meeting adds nothing to it.
+    /// Two passes share what they have seen, in three steps: their seats are joined, a load
+    /// compares what they have seen, and the seats are cut apart again. Both passes have then seen
+    /// the longer of their two beginnings of the journal. Returns its length. What the two have
+    /// done so far lies in one trace, and a meeting adds nothing to it.
     pub fn meet(&self, left: Seat, right: Seat) -> (Seat, Seat, u64)
         requires { IsSeatOf self.now left × IsSeatOf self.now right }
         ensures seats { IsSeatOf self.now result.0 × IsSeatOf self.now result.1 }
@@ -303,10 +303,9 @@ impl VersionTable {
         Witness::of(front, marks.seen)
     }
 
-    /// The pass and the witness tell each other what they have seen, in three steps, as two passes
-    /// do that meet: the seats are joined, a load compares, and the witness gets a seat again. Both
-    /// have then seen what either had: of two beginnings of one journal the longer. Answers its
-    /// length. No move.
+    /// The pass and the witness share what they have seen, in three steps, as two passes do that
+    /// meet: the seats are joined, a load compares, and the witness gets a seat again. Both have
+    /// then seen the longer of their two beginnings of the journal. Returns its length. No move.
     pub fn join(&self, seat: &mut Seat, witness: &mut Witness) -> u64
         requires { IsSeatOf self.now seat.old × IsWitnessOf self.now witness.old }
         ensures of { IsSeatOf self.now seat.new × IsWitnessOf self.now witness.new }

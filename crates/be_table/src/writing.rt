@@ -1,8 +1,8 @@
-//! An open write: the lock is held, and the ledger is in hand.
+//! An open write: the pass holds the lock and has the writer state.
 //!
-//! A write takes pages, fills them, gives pages up, and publishes. Until it publishes, nothing of
-//! it can be seen by others, and `unlock` undoes it. It is never let go of but by `unlock`, since
-//! it has no `Drop`: so the ledger always comes back.
+//! A write takes pages, fills them, gives pages up, and publishes. Until it publishes, others see
+//! nothing of it, and `unlock` undoes it. It has no `Drop`, so it can end by `unlock` alone, and
+//! the writer state always comes back.
 ghost use Rattle.std.specs.Prelude.{map, get_or, slice_index, IsTrue, List, IfOk, IfErr, IfSome};
 ghost use Rattle.std.specs.Prelude.{IfNone, ◌≢◌, Ok, string_bytes, ◌≡◌, ◌≤◌, All, suc, ◌+◌, ◌*◌};
 ghost use Rattle.std.specs.Prelude.{◌^◌, ◌<◌, true, false, [], ◌∷◌, length, count_by, None};
@@ -40,7 +40,7 @@ use std::marker::{Brand, Model};
 
 /// A retired page is used again only once a scan has freed it. A write that lets the pool run empty
 /// first goes through the memory of every page, where those that were given up last are still near.
-/// A write gives up 6 to 16, all of which use the same few lines of the cache, so those of two or
+/// A write gives up 6 to 16, all of which use the same few lines of the cache. So those of two or
 /// three writes are still in its nearest levels. A scan a write would find no more of them there,
 /// and costs a load for each pass.
 const EARLY: usize = 32;
@@ -157,7 +157,7 @@ impl<'a> Writing<'a> {
         self.ledger.pool.is_in_hand(page)
     }
 
-    /// Writes word i of a page that was taken in this write. One load, and one store where the word
+    /// Writes word i of a page that was taken in this write. One load, and one store if the word
     /// isn't there yet: a page that is used again has many of its words, and a store costs far more
     /// than a load.
     pub fn fill(&mut self, page: u64, i: usize, word: u64)
@@ -188,7 +188,7 @@ impl<'a> Writing<'a> {
         ensures moves { Makes self.old.knows.number self.old.knows.history
             (given_moves self.old.knows page) self.new.knows.history }
     {
-        // The load tells that the page is given up.
+        // The load records that the page is given up.
         let table = self.table;
         table
             .table
@@ -220,9 +220,10 @@ impl<'a> Writing<'a> {
         Some(page)
     }
 
-    /// Takes a free page, the one that was freed last. Where none is free it scans, and answers
-    /// Full with the least that it found where none is free even then: each page that no version
-    /// from the least on has is then held by this write. One load, and a scan's where it scans.
+    /// Takes a free page, the one that was freed last. If none is free, it scans. If none is free
+    /// after the scan either, the error is Full with the least number that the scan found: this
+    /// write then holds each page that no version from that number on has. One load; with a scan,
+    /// the scan's loads too.
     pub fn take(&mut self) -> Result<u64, Refusal>
         requires open { self.old.knows.published ≡ false }
         ensures ok { IfOk result (λ page. TakesPage self.old self.new page) }
@@ -251,9 +252,9 @@ impl<'a> Writing<'a> {
         self.ledger.pool.retired().saturating_sub(self.ledger.left) >= EARLY
     }
 
-    /// Reads every announcement once. Answers the least of them and of the current number; the
-    /// pages that were retired with a smaller number are free. A load for each pass, and work for
-    /// each page that becomes free. It is called right after the lock, or where no page is free.
+    /// Reads every announcement once. Returns the least of them and of the current number; the
+    /// pages that were retired with a smaller number are then free. A load for each pass, and work
+    /// for each page that becomes free. It is called right after the lock, or if no page is free.
     pub fn scan(&mut self) -> u64
         requires open { self.old.knows.published ≡ false }
         requires reason { HasReasonToScan self.old }
@@ -293,7 +294,7 @@ impl<'a> Writing<'a> {
         }
     }
 
-    /// Scans, and tells how full the table is then, and the oldest of the announcements that the
+    /// Scans, and returns how full the table is then, and the oldest of the announcements that the
     /// scan found. It costs what `scan` does.
     pub fn status(&mut self) -> Status
         requires open { self.old.knows.published ≡ false }
@@ -308,8 +309,8 @@ impl<'a> Writing<'a> {
         self.count(found.oldest)
     }
 
-    /// Makes room for one entry of so many operations. CommitsSpent where the journal is as long as
-    /// the limit, and OutOfMemory where a growth was refused; either leaves the write as it was.
+    /// Makes room for one entry of so many operations. CommitsSpent if the journal is as long as
+    /// the limit, and OutOfMemory if a growth was refused; either leaves the write as it was.
     #[tactic(auto, using(crate::proofs::Opened::no_room, crate::proofs::Opened::has_room))]
     pub fn reserve(&mut self, count: usize) -> Result<(), Refusal>
         requires open { self.old.knows.published ≡ false }
@@ -324,17 +325,17 @@ impl<'a> Writing<'a> {
         Ok(())
     }
 
-    /// A page that stands filled is one of the table. It does nothing.
+    /// A page whose state is filled is one of the table. It does nothing.
     fn is_filled(&self, page: u64)
         requires { standing_among self.now.knows.places page ≡ Full }
         ensures { (page < length self.now.knows.places)
             × (place_of self.now.knows.places page ≡ Place.Filled) }
     {}
 
-    /// Enters a write into the journal, with the version of the pages that the write keeps, which
-    /// spells the volume after the entry and reaches just these pages. Answers the journal's
-    /// length, which is the new version's number. One store, which takes no memory, and work for
-    /// each page that the write took or gave up.
+    /// Enters a write into the journal, with the version of the pages that the write keeps. The
+    /// version encodes the volume after the entry and reaches exactly these pages. Returns the
+    /// journal's length, which is the new version's number. One store, which takes no memory, and
+    /// work for each page that the write took or gave up.
     pub fn publish(&mut self, page: u64, ops: &[Op], dones: &[Done]) -> u64
         requires open { self.old.knows.published ≡ false }
         requires count { (1 ≤ length ops.now) × (length ops.now ≤ 64) }
@@ -372,7 +373,7 @@ impl<'a> Writing<'a> {
         version
     }
 
-    /// Gives the ledger and the lock back. What wasn't published is undone. One store.
+    /// Gives the writer state and the lock back. What wasn't published is undone. One store.
     pub fn unlock(self) -> Seat
         ensures seat { IsSeatOf self.entry.table result }
         ensures pass { result.knows ≡ without_lock
@@ -459,7 +460,7 @@ fn tell_taken(table: &VersionTable, base: &mut Base, page: u64)
     table.table.shared.load::<TakePage>(base, at);
 }
 
-/// Stores a word of a page in hand, where it isn't there.
+/// Stores a word of a page in hand, if it isn't there already.
 fn fill_word(table: &VersionTable, base: &mut Base, page: u64, i: usize, word: u64)
     requires seat { base.old.table_id ≡ table.now.id }
     requires pass { (base.old.me.0 ≡ alone (pass_of base.old.me.0))

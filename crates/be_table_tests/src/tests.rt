@@ -1,7 +1,7 @@
 //! Worked examples of the table, by its public calls.
 //!
 //! A test is a room and a text of requests with their replies. `0` and `1` name the pass that makes
-//! a request. `hold` and `between` have the first pass hold the lock while others are answered;
+//! a request. `hold` and `between` have the first pass hold the lock while others make requests;
 //! `turn` makes the next pass the first.
 
 mod calls;
@@ -19,6 +19,8 @@ use be_volume::Op;
 use std::alloc::{AllocError, Global};
 use std::test::Fail;
 
+/// Limits outside of their ranges are refused with BadLimits; the least ones open a table of one
+/// seat.
 #[test]
 fn open_limits(rt: HostRuntime) -> Result<(), Fail> {
     for (pages, passes, commits) in OUTSIDE_LIMITS {
@@ -46,7 +48,7 @@ fn busy(rt: HostRuntime) -> Result<(), Fail> {
     check_lines(rt.alloc(), &mut opened(rt.alloc(), 64)?, lines)
 }
 
-/// Of three passes each is told which of the others holds the lock.
+/// Each of three passes learns which of the others holds the lock.
 #[test]
 fn busy_of_three(rt: HostRuntime) -> Result<(), Fail> {
     let lines = "turn / turn / hold lock | lock => refused 1 Busy 2 / refused 1 Busy 2
@@ -85,7 +87,7 @@ fn meeting(rt: HostRuntime) -> Result<(), Fail> {
     check_lines(rt.alloc(), &mut opened(rt.alloc(), 64)?, lines)
 }
 
-/// Enters nodes until a scan is due, and tells how many. BadLimits where it is not after 1,000.
+/// Enters nodes until a scan is due, and returns how many. BadLimits if none is due after 1,000.
 fn enter_until_due(room: &mut Room) -> Result<u64, Refusal> {
     for count in 0..1000 {
         if room.in_write(&[], "due")? == 1 {
@@ -124,9 +126,9 @@ fn scans_early(alloc: Global, room: &mut Room) -> Result<bool, Fail> {
     Ok(before == 16 && beyond == 11)
 }
 
-/// A scan is due once 32 pages are retired, and, where a pin keeps them, again once there are 32
-/// more. A write of a node retires two pages while the catalog is one, and three once it has an
-/// inner page.
+/// A scan is due once 32 pages are retired, and, if a pin keeps them, again once there are 32 more.
+/// A write of a node retires two pages while the catalog is one, and three once it has an inner
+/// page.
 #[test]
 fn scan_due(rt: HostRuntime) -> Result<(), Fail> {
     assert!(rt; scans_early(rt.alloc(), &mut opened(rt.alloc(), 1024)?)?);

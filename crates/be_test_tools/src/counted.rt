@@ -1,11 +1,11 @@
-//! Pages that count what is asked of them.
+//! Pages that count accesses.
 ghost use Rattle.std.specs.Prelude.{◌≡◌};
 
 use be_pages::{Look, Room};
 use be_value::Refusal;
 
 /// A reader of pages, or a room of them, which counts the words that are read and stored, and the
-/// pages that are taken. A word that stands there already isn't stored again, as in a table. Its
+/// pages that are taken. A word that a page has already isn't stored again, as in a table. Its
 /// facts are those of what it owns.
 #[derive(Drop)]
 pub struct Counted<P> {
@@ -16,6 +16,7 @@ pub struct Counted<P> {
 }
 
 impl<P: Drop> Counted<P> {
+    /// Counts from 0 what is asked of these pages.
     pub fn new(pages: P) -> Counted<P>
         ensures { result.pages ≡ pages }
     {

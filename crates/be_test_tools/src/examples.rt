@@ -89,7 +89,7 @@ mkindex n LONG / set 1 n LONG 5 => ok / ok
 query n<9223372036854775808 / query n==00000000000000000005 => nodes 1 / nodes 1";
 
 /// Lists of several operations, with `;` between them. A script has batches for these, so the
-/// shared store isn't asked.
+/// shared store gets no such list.
 pub const LISTS: &str = r#"mkindex k LONG => ok
 new;set 1 k LONG 5 => node 1 / ok
 set 1 k LONG 6;drop 9 => refused 2 NoNode

@@ -1,9 +1,9 @@
-//! What the tests of several crates share: worked examples as texts, the loop that goes over their
-//! lines, the texts of replies, pages that count what is asked of them, a writer of bytes that
-//! fails, and a list with room for bytes.
+//! What the tests of several crates share: worked examples as texts, the loop over their lines, the
+//! texts of replies, pages that count accesses, a writer of bytes that fails, and a list with room
+//! for bytes.
 //!
-//! It stands here once, and is proved once. A test looks at what comes, and needs no contract, so
-//! most has none.
+//! It is here once, and is proved once. A test checks results, and needs no contract, so most of
+//! this has none.
 #![tactic(auto)]
 
 mod counted;

@@ -1,17 +1,17 @@
 //! Lines `REQUEST => REPLY`. A line may have several requests, with ` / ` between them, and a reply
-//! several lines, between which the same stands. No line of a reply is empty.
+//! may have several lines, with the same between them. No line of a reply is empty.
 use be_value::Refusal;
 use std::alloc::Global;
 use std::test::Fail;
 
-/// What answers requests.
+/// What replies to requests.
 pub trait Answers {
-    /// The reply to a request, each of its lines ended. It is refused with OutOfMemory alone, and
+    /// The reply to a request, with an end at each of its lines. OutOfMemory is the only error, and
     /// nothing has changed then.
     fn reply(&mut self, alloc: Global, request: &str) -> Result<String, Refusal>;
 }
 
-/// What is expected behind the lines of a reply. None where these aren't expected.
+/// What is expected after the lines of a reply. None if these aren't expected.
 pub fn behind<'a>(expected: &'a str, reply: &str) -> Option<&'a str> {
     let mut expected = expected;
     for line in reply.lines() {
@@ -24,7 +24,7 @@ pub fn behind<'a>(expected: &'a str, reply: &str) -> Option<&'a str> {
     Some(expected)
 }
 
-/// The reply to a request, which is made again where memory is refused.
+/// The reply to a request, which is made again after running out of memory.
 fn reply_to<A: Answers>(alloc: Global, answers: &mut A, request: &str) -> Result<String, Refusal> {
     match answers.reply(alloc, request) {
         Err(Refusal::OutOfMemory) => answers.reply(alloc, request),
@@ -50,8 +50,8 @@ fn replies<A: Answers>(
     Ok(expected.is_empty())
 }
 
-/// Fails unless each request of these lines has its reply. One that is refused memory is made
-/// again: so a test passes with any one request for memory refused.
+/// Fails unless each request of these lines has its reply. A request that runs out of memory is
+/// made again: so a test passes if any one request for memory is refused.
 pub fn check_lines<A: Answers>(alloc: Global, answers: &mut A, lines: &str) -> Result<(), Fail> {
     for line in lines.lines() {
         let Some((requests, expected)) = line.split_once(" => ") else {

@@ -1,6 +1,7 @@
 //! The longest reply of a script.
 use std::alloc::{AllocError, Global};
 
+/// A script that makes and lists 64 attributes of a node, and its replies.
 fn list_with_script(alloc: Global) -> Result<(String, String), AllocError> {
     let name = "\\n".repeat(alloc, 61)?;
     let value = "\\n".repeat(alloc, 255)?;
@@ -19,9 +20,9 @@ fn list_with_script(alloc: Global) -> Result<(String, String), AllocError> {
     Ok((script, replies))
 }
 
-/// A script that lists 64 attributes with the longest names and values, of which each LF is printed
-/// by two characters; and its replies, the last of them of 41,289 bytes. Both are made again where
-/// memory is refused.
+/// A script that lists 64 attributes with the longest names and values, in which each LF is printed
+/// as two characters; and its replies, the last of them with 41,289 bytes. Both are made again
+/// after running out of memory.
 pub fn longest_list(alloc: Global) -> Result<(String, String), AllocError> {
     match list_with_script(alloc) {
         Err(_) => list_with_script(alloc),

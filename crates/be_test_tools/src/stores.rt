@@ -1,5 +1,5 @@
-//! What tests of the store and of its table look at alike: limits, names, and the journal of two
-//! passes.
+//! What the tests of the store and of its table have in common: limits, names, and the journal of
+//! two passes.
 ghost use Rattle.std.specs.Prelude.{◌≡◌, ◌∷◌, [], IfOk};
 
 use be_journal::{EntryView, Journal};
@@ -8,7 +8,7 @@ use be_volume::Done;
 use std::alloc::{AllocError, Global};
 use std::str;
 
-/// Pages, passes and commits of which one is just out of its range.
+/// Pages, passes and commits, of which one is just out of its range.
 pub const OUTSIDE_LIMITS: [(u64, u64, u64); 6] = [
     (7, 1, 1),
     (16385, 1, 1),
@@ -24,7 +24,7 @@ pub fn numbered(number: u8) -> Result<Name, Refusal> {
     Name::new(str::from_utf8(&letters).unwrap_or(""))
 }
 
-/// A list of two. Its room is asked for again where memory is refused.
+/// A list of two. Its room is asked for again after running out of memory.
 pub fn pair_of<T: Drop>(alloc: Global, first: T, second: T) -> Result<Vec<T>, AllocError>
     ensures { IfOk result (λ list. list.items ≡ first ∷ second ∷ []) }
 {
@@ -47,7 +47,7 @@ pub fn both_of<T: Drop>(mut list: Vec<T>) -> Result<(T, T), Refusal>
     }
 }
 
-/// Whether the journal is legal, looked at again where memory is refused.
+/// Whether the journal is legal, checked again after running out of memory.
 pub fn is_legal(journal: &Journal) -> Result<bool, Refusal> {
     match journal.check() {
         Err(Refusal::OutOfMemory) => journal.check(),
@@ -55,13 +55,13 @@ pub fn is_legal(journal: &Journal) -> Result<bool, Refusal> {
     }
 }
 
-/// Whether the entry has one operation, and its answer is this node.
+/// Whether the entry has one operation, and its outcome is this node.
 fn answers_node(entry: &EntryView<'_>, node: u64) -> bool {
     let mut steps = entry.steps();
     entry.len() == 1 && matches!(steps.next(), Some((_, Done::Node(it))) if it == node)
 }
 
-/// How many entries are by the pass, if each entry's answer is the node of its number.
+/// How many entries are by the pass, if each entry's outcome is the node with the entry's number.
 fn count_by(journal: &Journal, pass: u64) -> u64 {
     let mut count: u64 = 0;
     for i in 0..journal.len() {
@@ -76,7 +76,7 @@ fn count_by(journal: &Journal, pass: u64) -> u64 {
     count
 }
 
-/// Whether the journal is legal and has just a hundred new nodes by each of the passes 0 and 1.
+/// Whether the journal is legal and has exactly a hundred new nodes by each of the passes 0 and 1.
 pub fn has_hundred_by_each(journal: &Journal) -> Result<bool, Refusal> {
     let is_whole = journal.len() == 200
         && count_by(journal, 0) == 100

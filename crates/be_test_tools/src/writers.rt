@@ -2,8 +2,8 @@
 use std::alloc::{AllocError, Global};
 use std::io::{self, Write};
 
-/// Takes a byte a write while it has room, then fails or takes nothing. It needs no memory: it
-/// looks whether each byte is the one that is expected.
+/// Takes one byte for each write while it has room, and then fails or takes nothing. It needs no
+/// memory: it compares each byte with the one that is expected.
 #[derive(Drop)]
 pub struct Narrow<'a> {
     expected: &'a [u8],
@@ -13,6 +13,8 @@ pub struct Narrow<'a> {
 }
 
 impl Narrow<'_> {
+    /// A writer that expects these bytes and has room for `room` of them. Then it fails, or takes
+    /// nothing.
     pub fn new(expected: &[u8], room: usize, fails: bool) -> Narrow<'_> {
         Narrow {
             expected,
@@ -22,22 +24,25 @@ impl Narrow<'_> {
         }
     }
 
+    /// Whether it has no room left.
     pub fn is_full(&self) -> bool {
         self.room == 0
     }
 
-    /// Whether it was given all that is expected.
+    /// Whether it got all that is expected.
     pub fn has_all(&self) -> bool {
         self.is_as_expected && self.expected.is_empty()
     }
 
-    /// Whether it was given a front of what is expected, and not all.
+    /// Whether it got a prefix of what is expected, and not all.
     pub fn is_cut_short(&self) -> bool {
         self.is_as_expected && !self.expected.is_empty()
     }
 }
 
 impl Write for Narrow<'_> {
+    /// Takes the first byte, if there is room, and compares it with the expected one. Without room
+    /// it returns an error or 0.
     fn write(&mut self, buf: &[u8]) -> io::Result<usize> {
         let Some(byte) = buf.first() else {
             return Ok(0);
@@ -62,7 +67,7 @@ impl Write for Narrow<'_> {
 }
 
 /// An empty list with room for 256 bytes, into which a test writes without a request for memory.
-/// The room is asked for once more where it is refused.
+/// The room is asked for once more after running out of memory.
 pub fn list_with_room(alloc: Global) -> Result<Vec<u8>, AllocError> {
     match Vec::with_capacity(alloc, 256) {
         Ok(list) => Ok(list),

@@ -1,4 +1,4 @@
--- What a cursor has still to give.
+-- The pairs after a cursor.
 use Rattle.std.specs.Prelude.{ℕ, ◌+◌, ◌<◌, ◌≤◌, List, [], ◌∷◌, ◌++◌, length, drop, slice_index_or}
 use Rattle.std.specs.Prelude.{All}
 use Rattle.be_pages.specs.declared.room.Standing.{Standing}
@@ -13,12 +13,12 @@ abbrev pub pairs_past : (words : ℕ → ℕ → ℕ) → Place → List Pair
 pairs_past words place = pairs_below place.level words
     (drop place.next (items_of (words place.page)))
 
--- the pairs that stand past the places of a path, those of the deepest first
+-- the pairs past the places of a path, those of the deepest first
 abbrev pub pairs_along : (words : ℕ → ℕ → ℕ) → List Place → List Pair
 pairs_along words [] = []
 pairs_along words (place ∷ path) = pairs_along words path ++ pairs_past words place
 
--- the pairs that a cursor has still to give
+-- the pairs after a cursor, which it has still to return
 abbrev pub remaining : (words : ℕ → ℕ → ℕ) → Cursor → List Pair
 remaining words cursor = pairs_along words cursor.path.items
 

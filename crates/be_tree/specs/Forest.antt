@@ -15,7 +15,7 @@ pub record AreTrees (standing : ℕ → Standing) (words : ℕ → ℕ → ℕ) 
   pub each : All (IsTree standing words) roots
   pub once : (q : ℕ) → times q (pages_of words roots) ≤ 1
 
--- the tree stands, with the pairs and the pages that it had
+-- the tree is there, with the pairs and the pages that it had
 pub record KeepsTree (standing : ℕ → Standing) (before words : ℕ → ℕ → ℕ) (root : ℕ) : Type 0 where
   pub tree : IsTree standing words root
   pub same_pairs : pairs words root ≡ pairs before root
@@ -32,12 +32,12 @@ pub record Replaces {S K : Type 0} (kept_of : S → K) (standing_of : S → ℕ 
   pub swaps : Swaps kept_of standing_of words_of (pages_of (words_of old) (front ++ root ∷ back))
       (pages_of (words_of new) (front ++ new_root ∷ back)) old new
 
--- every page in use stands since before the write, as when it begins
+-- every page in use was there before the write, as it is when a write begins
 abbrev pub IsWriteStart : (standing : ℕ → Standing) → Type 0
 IsWriteStart standing = (q : ℕ) → IsTrue (is_kept (standing q)) → standing q ≡ Old
 
--- each page stands as at the write's start once that was undone, and what stood before it has its
--- words
+-- each page has the state that it had at the write's start, once the write was undone, and what was
+-- there before it has its words
 pub record IsUndone (start undone : ℕ → Standing) (before words : ℕ → ℕ → ℕ) : Type 0 where
   pub standing : (q : ℕ) → undone q ≡ after_undo (start q)
   pub same_words : (q : ℕ) → IsTrue (is_from_before (start q)) → words q ≡ before q

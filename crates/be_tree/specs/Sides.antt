@@ -3,7 +3,7 @@ use Rattle.std.specs.Prelude.{ℕ, List, ◌++◌}
 use Rattle.be_tree.specs.declared.siblings.Side.{Side}
 use Rattle.be_tree.specs.declared.siblings.Side.TheVariants.{Left, Right}
 
--- the left one of the two, where the first of these stands on this side
+-- the left one of the two, if the first of these is on this side
 abbrev pub left_of : Side → ℕ → ℕ → ℕ
 left_of Left one other = one
 left_of Right one other = other

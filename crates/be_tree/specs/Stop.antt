@@ -1,4 +1,4 @@
--- Why a removal below a page gives no items.
+-- Why a removal below a page returns no items.
 use Rattle.std.specs.Prelude.{◌≡◌, ◌≢◌, ℕ, Option, None}
 use Rattle.be_value.specs.declared.refusals.Refusal.{Refusal}
 use Rattle.be_pages.specs.declared.room.Standing.{Standing}
@@ -15,8 +15,8 @@ abbrev pub IfRefused : Stop → (Refusal → Type 0) → Type 0
 IfRefused Absent P = Unit {0}
 IfRefused (Refused refusal) P = P refusal
 
--- where the key isn't there, nothing was found of it, and the room is as it was; else something was
--- found
+-- if the key isn't there, nothing was found of it, and the room is unchanged; otherwise something
+-- was found
 abbrev pub TellsAbsent : {S K A : Type 0} → (S → K) → (S → ℕ → Standing) → (S → ℕ → ℕ → ℕ)
     → Option A → S → S → Stop → Type 0
 TellsAbsent kept_of standing_of words_of found old new stop =

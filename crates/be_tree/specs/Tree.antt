@@ -31,7 +31,7 @@ pages_below (suc level) words items = flat_map
 abbrev pub pages_at : ℕ → (words : ℕ → ℕ → ℕ) (page : ℕ) → List ℕ
 pages_at level words page = page ∷ pages_below level words (items_of (words page))
 
--- a tree's pairs and pages, by its root: 0 for none, else page + 1
+-- a tree's pairs and pages, by its root: 0 for none, otherwise page + 1
 abbrev pub pairs : (words : ℕ → ℕ → ℕ) (root : ℕ) → List Pair
 pairs words zero = []
 pairs words (suc page) = pairs_at (level_of (words page)) words page
@@ -51,14 +51,14 @@ pub record IsBranch (branch : Pair) (below : List Pair) : Type 0 where
   pub starts : StartsAt branch.key below
   pub names_page : length branch.payload ≡ 8
 
--- below the items of a node of a level stand nodes of at least six items each
+-- below the items of a node of a level are nodes of at least six items each
 abbrev pub AreShaped : ℕ → (words : ℕ → ℕ → ℕ) (items : List Pair) → Type 0
 AreShaped zero words items = Unit {0}
 AreShaped (suc level) words items =
     All (λ b. IsNode level 6 (words (child b)) × IsBranch b (pairs_at level words (child b))
     × AreShaped level words (items_of (words (child b)))) items
 
--- what stands below the items of a node: well formed, in order, and its pages in use once each
+-- what is below the items of a node: well formed, in order, and its pages in use once each
 pub record IsBelow (level : ℕ) (standing : ℕ → Standing) (words : ℕ → ℕ → ℕ) (items : List Pair) :
     Type 0 where
   pub keys_fit : All (λ item. length item.key ≤ 264) items

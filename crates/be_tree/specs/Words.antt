@@ -3,7 +3,7 @@ use Rattle.std.specs.Prelude.{◌≡◌, ℕ, List, Option, None, Some, map, sli
 use Rattle.std.specs.List.{range_with_len}
 use Rattle.std.specs.Int.{to_be_bytes, w64}
 
--- the word has the first eight bytes of a key, with zeros behind a short one
+-- the word has the first eight bytes of a key, with zeros after a short one
 abbrev pub IsFirst : (key : List ℕ) (word : ℕ) → Type 0
 IsFirst key word = to_be_bytes w64 word ≡ map (λ k. slice_index key k) (range_with_len 0 8)
 

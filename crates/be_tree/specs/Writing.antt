@@ -8,8 +8,8 @@ use Rattle.be_tree.specs.Pair.{Pair}
 use Rattle.be_tree.specs.Slot.{IsReady, pairs_of}
 use Rattle.be_tree.specs.Tree.{Becomes, BecomesTree, IsBelow, pages_below, pairs_at, pairs_below}
 
--- what stands below the node's items is well formed, and each item can be read, also the pair that
--- is put among them
+-- what is below the node's items is well formed, and each item can be read, also the pair that is
+-- put among them
 abbrev pub CanBeWritten : (level : ℕ) (standing : ℕ → Standing) (words : ℕ → ℕ → ℕ) (given : Pair)
     → List Slot → Type 0
 CanBeWritten level standing words given slots =
@@ -49,8 +49,8 @@ ReplacesTree kept_of standing_of words_of level given slots page root old new =
     (page ∷ pages_below level (words_of old) (pairs_of (words_of old) given slots))
     (pairs_below level (words_of old) (pairs_of (words_of old) given slots)) root old new
 
--- What stands below a page has become what stands below the items of these slots, and the pairs
--- have changed so. The page itself is as it was.
+-- What is below a page has become what is below the items of these slots, and the pairs have
+-- changed so. The page itself is unchanged.
 abbrev pub Changes : {S K : Type 0} → (S → K) → (S → ℕ → Standing) → (S → ℕ → ℕ → ℕ)
     → (level page : ℕ) → (List Pair → List Pair) → (given : Pair) → List Slot → S → S → Type 0
 Changes kept_of standing_of words_of level page change given slots old new =

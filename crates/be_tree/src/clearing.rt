@@ -8,8 +8,8 @@ use crate::page::{HEADER_WORDS, ITEM_WORDS, child_at};
 use be_pages::Room;
 
 /// Gives up each page of a tree. A page that was there when the write began keeps its words until
-/// the write is kept, so the tree stands again once the room is undone. It gives each page up once,
-/// reads the inner ones, and takes none.
+/// the write is kept, so undoing the room brings the tree back. It gives each page up once, reads
+/// the inner ones, and takes none.
 pub fn clear<R: Room>(room: &mut R, root: u64)
     requires tree { IsTree (R.standing room.old) (R.words room.old) root }
     requires open { IsTrue (R.is_open (R.kept room.old)) }

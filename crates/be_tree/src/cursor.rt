@@ -1,13 +1,13 @@
 //! A cursor among the pairs of a tree.
 //!
 //! A cursor keeps the way from the root down to the pair that comes next: for each page on it the
-//! number of the item that comes after those already passed. What it has still to give is what
-//! stands past the deepest place, then past the one above it, and so on up to the root; where a
-//! page is spent, its place is taken off and the walk goes on from the one above. So a step reads
-//! one leaf mostly, and a walk over a whole tree reads each inner page about once, while a look-up
-//! for each pair would go down from the root each time.
+//! number of the item that comes after those already passed. What it still has to give is the pairs
+//! past the deepest place, then those past the one above it, and so on up to the root. Once a page
+//! is spent, its place is taken off and the walk goes on from the one above. So a step mostly reads
+//! one leaf, and a walk over a whole tree reads each inner page about once. A look-up for each pair
+//! would go down from the root each time.
 //!
-//! No page may have more than 12 items, and each but the root has 6 at least. So a tree of fewer
+//! No page may have more than 12 items, and each but the root has at least 6. So a tree of fewer
 //! than 2^32 pages has no level above 13, and the way down has at most 14 places.
 ghost use Rattle.std.specs.Prelude.{◌≡◌, ◌≢◌, ℕ, [], ◌+◌, ◌-◌, ◌/◌, ◌<◌, ◌≤◌, ◌++◌, IsTrue, length};
 ghost use Rattle.std.specs.Prelude.{option_map, drop, IfNone, IfSome, Some, slice_get};
@@ -86,8 +86,8 @@ impl Cursor {
         });
     }
 
-    /// Goes down to the leaf from which on the pairs stand that `seek` brings the cursor before.
-    /// Gives the leaf, and how many of its items stand before them; the cursor is past the leaf
+    /// Goes down to the leaf with the first of the pairs that `seek` brings the cursor before.
+    /// Returns the leaf, and how many of its items are before them; the cursor is past the leaf
     /// then.
     pub(crate) fn descend<L: Look>(
         &mut self,
@@ -128,8 +128,8 @@ impl Cursor {
         (page, next)
     }
 
-    /// The pair that comes next, and a step past it; none once all were given. It is the pair that
-    /// `range` answers for the last one's key and `after`, without the descent.
+    /// The pair that comes next, and a step past it; None once all were returned. It is the pair
+    /// that `range` returns for the last one's key and `after`, without the descent.
     pub fn next<L: Look>(&mut self, look: &mut L) -> Option<TreeItem>
         requires cursor { IsCursor (L.standing look.old) (L.words look.old) self.old }
         ensures item { option_map pair_in result
@@ -265,7 +265,7 @@ impl Cursor {
     }
 }
 
-/// The number of the item that stands at a place of a page.
+/// The number of the item at a place of a page.
 fn item_number(at: usize) -> usize
     requires { 2 ≤ at }
     ensures { result ≡ (at - 2) / 42 }
@@ -273,7 +273,7 @@ fn item_number(at: usize) -> usize
     (at - HEADER_WORDS) / ITEM_WORDS
 }
 
-/// How many of a leaf's items stand before the pairs at or after a key.
+/// How many of a leaf's items come before the pairs at or after a key.
 fn leaf_from<L: Look>(look: &mut L, page: u64, from: &[u8], first: u64, after: bool) -> usize
     requires tree { IsTreeAt 0 1 (L.standing look.old) (L.words look.old) page }
     requires first { IsFirst from.now first }

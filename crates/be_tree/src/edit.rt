@@ -3,9 +3,9 @@
 //! # Full pages
 //! On the way down a full child whose left neighbour has room is written anew together with it: the
 //! neighbour takes all the items that it can hold. A full child with a full neighbour, or with
-//! none, is split, and the first of the two pages takes as many items as leave six for the second.
-//! So keys that rise leave full pages behind them. An insertion writes two pages a level at most,
-//! and three at the root; `writing` says which pages those are.
+//! none, is split. The first of the two pages takes as many items as leave six for the second. So
+//! ascending keys leave full pages. An insertion writes up to two pages a level, and three at the
+//! root; `writing` says which pages those are.
 ghost use Rattle.std.specs.Prelude.{◌≡◌, ℕ, suc, ◌+◌, ◌-◌, ◌^◌, ◌<◌, ◌≤◌, List, [], ◌∷◌, ◌++◌};
 ghost use Rattle.std.specs.Prelude.{length, take, drop, All, IfOk, OnOk, OnErr, IfErr, IsTrue};
 ghost use Rattle.std.specs.Prelude.{◌≢◌, ◌⊎◌, true};
@@ -70,7 +70,7 @@ fn insert_all(slots: &mut ArrayVec<Slot, 24>, at: usize, mut more: ArrayVec<Slot
     }
 }
 
-/// Puts slots in the place of the one at a number. Where one replaces one, as mostly, no other is
+/// Puts slots in the place of the one at a number. If one replaces one, as mostly, no other is
 /// moved.
 pub(crate) fn replace_at(slots: &mut ArrayVec<Slot, 24>, at: usize, mut more: ArrayVec<Slot, 2>)
     requires in_range { at < length slots.old.items }
@@ -89,8 +89,8 @@ pub(crate) fn replace_at(slots: &mut ArrayVec<Slot, 24>, at: usize, mut more: Ar
     }
 }
 
-/// What stands in the place of an inner node's item, once its child was written as these branches:
-/// the item itself, where it isn't the first one and the child was written over where it is. A key
+/// What comes in the place of an inner node's item, once its child was written as these branches.
+/// It is the item itself, if it isn't the first one and the child was written over in place. A key
 /// that goes below such an item is no less than the item's, so its least key is the same.
 #[tactic(auto, using(crate::proofs::Putting::Stays::one_slot))]
 fn settled(
@@ -131,8 +131,8 @@ pub(crate) fn is_branch_to(page: u64, slot: Slot) -> bool
     }
 }
 
-/// Puts a pair below the item at a place, which is the one of this number, and gives the items that
-/// stand in its place.
+/// Puts a pair below the item at a place, which is the one of this number, and returns the items
+/// that come in its place.
 #[cycle(put)]
 fn put_below<R: Room>(
     room: &mut R,
@@ -179,10 +179,9 @@ fn put_below<R: Room>(
     Ok(settled(page, place, at, child, branches))
 }
 
-/// Puts a pair below a page, and the page's items with the pair put, still to be written, into an
-/// empty list. The page is not written over nor given up yet, since some of them stand there. A
-/// full child first gives items to its left neighbour, and is split only where that one is full
-/// too.
+/// Puts a pair below a page. The page's items with the pair put, still to be written, enter an
+/// empty list. The page is not written over nor given up yet, since some of the items lie there. A
+/// full child first gives items to its left neighbour, and is split only if that one is full too.
 #[cycle(put)]
 fn put_at<R: Room>(
     room: &mut R,
@@ -259,9 +258,9 @@ fn put_shared<R: Room>(
     Ok(branches)
 }
 
-/// Puts a pair into a tree, in place of any pair of its key, and gives the new root. The old tree's
-/// pages that the new one has not are given up; those that this write had taken before may be
-/// written over. After an error the tree stands again once the room is undone.
+/// Puts a pair into a tree, in place of any pair of its key, and returns the new root. The old
+/// tree's pages that the new one has not are given up; those that this write had taken before may
+/// be written over. After an error, undoing the room brings the tree back.
 pub fn insert<R: Room>(room: &mut R, root: u64, key: &[u8], payload: &[u8]) -> Result<u64, Refusal>
     requires tree { IsTree (R.standing room.old) (R.words room.old) root }
     requires key_fits { length key.now ≤ 264 }

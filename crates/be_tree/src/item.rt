@@ -57,7 +57,7 @@ impl Item {
         &self.bytes[self.key_len..]
     }
 
-    /// The key, and the payload behind it.
+    /// The key, and the payload after it.
     pub(crate) fn bytes(&self) -> &[u8]
         ensures value { result.now ≡ self.now.key ++ self.now.payload }
         ensures fits { length result.now ≤ 328 }

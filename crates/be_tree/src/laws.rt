@@ -1,4 +1,5 @@
-//! What becomes of trees that a write doesn't touch, that it replaces, and that stood before it.
+//! What becomes of trees that a write doesn't touch, that it replaces, and that were there before
+//! it.
 //!
 //! A write takes pages, fills them and gives pages up; `Swaps` says of each page of the room what
 //! became of it. These laws say what follows for whole trees. Each is a function that does nothing
@@ -11,16 +12,16 @@ ghost use Rattle.be_tree.specs.Tree.{IsTree, pages};
 
 use be_pages::Look;
 
-/// A tree that stood when the write began stands once the write is undone, with the pairs and pages
-/// that it had.
+/// A tree that was there when the write began is there again once the write is undone, with the
+/// pairs and pages that it had.
 pub fn tree_undone()
     ensures { (start undone : ℕ → Stands) (before words : ℕ → ℕ → ℕ) (root : ℕ) → IsWriteStart start
         → IsUndone start undone before words
         → IsTree start before root → KeepsTree undone before words root }
 {}
 
-/// A tree that the write didn't touch, since none of its pages is among those that were replaced,
-/// stands as it was.
+/// A tree that the write didn't touch is unchanged, since none of its pages is among those that
+/// were replaced.
 pub fn tree_beside<L: Look>()
     ensures { (before after : List ℕ) (old new : L) (root : ℕ)
         → Swaps L.kept L.standing L.words before after old new
@@ -29,7 +30,7 @@ pub fn tree_beside<L: Look>()
         → KeepsTree (L.standing new) (L.words old) (L.words new) root }
 {}
 
-/// Where one of several trees is replaced, the others keep their pairs, and all are well formed, of
+/// If one of several trees is replaced, the others keep their pairs, and all are well formed, of
 /// pages of their own. A tree that was cleared is replaced by the root 0.
 pub fn tree_replaced<L: Look>()
     ensures { (front back : List ℕ) (root new_root : ℕ) (old new : L)
@@ -40,7 +41,7 @@ pub fn tree_replaced<L: Look>()
         → Replaces L.kept L.standing L.words front back root new_root old new }
 {}
 
-/// A tree stands when its write is kept.
+/// A tree is still there when its write is kept.
 pub fn tree_kept()
     ensures { (standing kept : ℕ → Stands) (words : ℕ → ℕ → ℕ) (root : ℕ)
         → ((q : ℕ) → kept q ≡ after_keep (standing q))

@@ -1,11 +1,11 @@
 //! Look-ups of a key.
 //!
-//! On each level the items of one page are asked one after the other, where they stand, up to the
-//! first whose key is greater, or in a leaf up to the one that has the key. A page has 12 at most,
-//! and a processor reads ahead along them, while the steps of a binary search wait for each other.
-//! Mostly the first word behind an item's lengths decides. Where it is less than the first word of
-//! the key, the item's key is less, however short it is: what stands behind a short key counts for
-//! nothing, and the key has zeros there. Where it is greater, the item's key may be short, so its
+//! On each level the items of one page are compared in place, one after the other. This ends at the
+//! first item whose key is greater, or in a leaf at the one that has the key. A page has up to 12
+//! items, and a processor reads ahead along them, while the steps of a binary search wait for each
+//! other. Mostly the first word after an item's lengths decides. If it is less than the first word
+//! of the key, the item's key is less, however short it is: the bytes after a short key count for
+//! nothing, and the key has zeros there. If it is greater, the item's key may be short, so its
 //! length is read too.
 ghost use Rattle.std.specs.Prelude.{◌≡◌, [], ◌+◌, ◌-◌, ◌<◌, ◌≤◌, true, false, length, option_map};
 ghost use Rattle.std.specs.Prelude.{is_some, IfNone, IfSome, IfOk, IfErr, None, Some};
@@ -25,9 +25,9 @@ use arrayvec::ArrayVec;
 use be_pages::Look;
 use std::cmp::Ordering;
 
-/// Puts the payload of a key into an empty vector, and tells whether the tree has the key; where it
-/// hasn't, the vector stays empty. It is filled where it stands, since a vector that is given by
-/// value costs its whole capacity at each move. It costs one descent.
+/// Writes the payload of a key into an empty vector, and returns whether the tree has the key; if
+/// it hasn't, the vector stays empty. It is filled in place, since a vector that is passed by value
+/// costs its whole capacity at each move. It costs one descent.
 pub fn find_into<L: Look>(
     look: &mut L,
     root: u64,
@@ -72,8 +72,8 @@ pub fn has_key<L: Look>(look: &mut L, root: u64, key: &[u8]) -> bool
     find_place(look, root, key).is_some()
 }
 
-/// The page and the place of the item that has this key, for those who read its payload where it
-/// stands (`payload_number_at` and its like). It costs one descent.
+/// The page and the place of the item that has this key, for callers that read its payload in place
+/// (`payload_number_at` and its like). It costs one descent.
 pub fn find_place<L: Look>(look: &mut L, root: u64, key: &[u8]) -> Option<(u64, usize)>
     requires tree { IsTree (L.standing look.old) (L.words look.old) root }
     ensures none { IfNone result (payload_at (pairs (L.words look.old) root) key.now ≡ None) }
@@ -102,8 +102,8 @@ pub fn find_place<L: Look>(look: &mut L, root: u64, key: &[u8]) -> Option<(u64, 
     }
 }
 
-/// Whether the item at a place of a page, as `Cursor::step` tells it, has this key. They are
-/// compared where the item stands.
+/// Whether the item at a place of a page, which `Cursor::step` returned, has this key. They are
+/// compared in place.
 pub fn is_key_at<L: Look>(look: &mut L, page: u64, at: usize, key: &[u8]) -> bool
     requires readable { IsTrue (is_readable (L.standing look.old page)) }
     requires in_page { at + 42 ≤ 512 }
@@ -132,7 +132,7 @@ pub(crate) fn rank<L: Look>(look: &mut L, page: u64, key: &[u8]) -> usize
     count
 }
 
-/// Where the items of a page end.
+/// The end of a page's items.
 #[inline(always)]
 pub(crate) fn end_of<L: Look>(look: &mut L, page: u64) -> usize
     requires readable { IsTrue (is_readable (L.standing look.old page)) }
@@ -143,8 +143,8 @@ pub(crate) fn end_of<L: Look>(look: &mut L, page: u64) -> usize
     HEADER_WORDS + ITEM_WORDS * look.word(page, 1) as usize
 }
 
-/// The place of the branch below which a key stands: the last one whose key is not greater, or the
-/// first one. So the first one's key isn't asked.
+/// The place of the branch below which a key belongs: the last one whose key is not greater, or the
+/// first one. So the first one's key isn't read.
 #[inline(always)]
 pub(crate) fn branch_for<L: Look>(
     look: &mut L,
@@ -171,8 +171,8 @@ pub(crate) fn branch_for<L: Look>(
     at - ITEM_WORDS
 }
 
-/// Where a key stands among a page's items: the place of the item that has it, or the one after
-/// those with lesser keys.
+/// The place of a key among a page's items: that of the item that has it, or the one after those
+/// with lesser keys.
 #[inline(always)]
 pub(crate) fn search<L: Look>(
     look: &mut L,
@@ -216,7 +216,7 @@ pub(crate) fn is_above<L: Look>(look: &mut L, page: u64, at: usize, key: &[u8], 
 }
 
 /// How the key of the item at a place compares with a key whose first word is at hand: mostly this
-/// decides. Where it is the same, the second words are next. Keys of less than a word are compared
+/// decides. If it is the same, the second words are next. Keys of less than a word are compared
 /// elsewhere.
 #[inline(always)]
 fn order_at<L: Look>(look: &mut L, page: u64, at: usize, key: &[u8], first: u64) -> Ordering

@@ -1,9 +1,9 @@
 //! The numbers that keys end with.
 //!
-//! An index has a key for each of its entries, whose last eight bytes tell whose entry it is. A
-//! reader who wants just that of a range of keys gets it here: the words of each key are compared
-//! with the bound where they stand, and no key is unpacked. Of the leaves after the first, the last
-//! key is compared before the others: where it isn't above the bound, none of its leaf is.
+//! An index has a key for each of its entries, whose last eight bytes say whose entry it is. A
+//! reader that needs just these numbers of a range of keys gets them here: the words of each key
+//! are compared with the bound in place, and no key is unpacked. Of the leaves after the first, the
+//! last key is compared before the others: if it isn't above the bound, none of its leaf is.
 ghost use Rattle.std.specs.Prelude.{◌≡◌, ◌+◌, ◌<◌, ◌≤◌, ◌++◌, [], List, true, false, IsTrue, IfOk};
 ghost use Rattle.std.specs.Prelude.{OnOk, length, drop};
 ghost use Rattle.std.specs.List.{list_any};
@@ -204,7 +204,7 @@ fn seek_past<L: Look>(look: &mut L, root: u64, leaf: FirstLeaf, low: &[u8], curs
     }
 }
 
-/// Adds the numbers of the keys that a cursor has still to give, up to the bound, leaf by leaf.
+/// Adds the numbers of the keys after a cursor, up to the bound, leaf by leaf.
 fn push_rest<L: Look>(
     look: &mut L,
     cursor: &mut Cursor,
@@ -230,7 +230,7 @@ fn push_rest<L: Look>(
     Ok(())
 }
 
-/// Adds the numbers of a leaf's keys, from the item of a number on, up to the bound, and tells
+/// Adds the numbers of a leaf's keys, from the item of a number on, up to the bound, and returns
 /// whether a key is above it. If the last key isn't, no other is compared.
 fn push_leaf<L: Look>(
     look: &mut L,
@@ -263,7 +263,7 @@ fn push_leaf<L: Look>(
     }
 }
 
-/// Adds the numbers of a leaf's keys, from the item at a place on, up to the bound, and tells
+/// Adds the numbers of a leaf's keys, from the item at a place on, up to the bound, and returns
 /// whether a key is above it.
 #[inline(always)]
 fn push_to<L: Look>(
@@ -302,7 +302,7 @@ fn push_to<L: Look>(
     Ok(false)
 }
 
-/// The first word of the bound, or 0 where there is none.
+/// The first word of the bound, or 0 if there is none.
 pub fn first_of(high: Option<&[u8]>) -> u64
     ensures { IsFirstOf (option_copied high.entry) result }
 {

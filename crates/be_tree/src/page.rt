@@ -23,14 +23,14 @@ use arrayvec::ArrayVec;
 use be_pages::{Look, Room};
 use std::cmp::Ordering;
 
-/// How many words stand before a page's items: its level, and how many items it has.
+/// How many words come before a page's items: its level, and how many items it has.
 pub const HEADER_WORDS: usize = 2;
 
 /// How many words an item has: one for its lengths, and 41 for at most 328 bytes.
 pub const ITEM_WORDS: usize = 42;
 
-/// An item's first word tells how long its key is in the bits above these, and in these how long
-/// its payload is.
+/// An item's first word has the length of its key in the bits from this one on, and the length of
+/// its payload in those below.
 pub const LENGTH_BITS: usize = 32;
 
 /// How many items a page has at most.
@@ -52,7 +52,7 @@ pub(crate) fn child_at<L: Look>(look: &mut L, page: u64, at: usize) -> u64
     number_behind(look, page, at + 1 + key_len / 8, key_len % 8)
 }
 
-/// The number in the eight bytes that stand `skip` bytes behind the start of a word: in that word
+/// The number in the eight bytes that begin `skip` bytes after the start of a word: in that word
 /// alone, or in it and the next.
 pub(crate) fn number_behind<L: Look>(look: &mut L, page: u64, at: usize, skip: usize) -> u64
     requires readable { IsTrue (is_readable (L.standing look.old page)) }
@@ -70,7 +70,7 @@ pub(crate) fn number_behind<L: Look>(look: &mut L, page: u64, at: usize, skip: u
     straddled(first, second, skip)
 }
 
-/// The number whose eight bytes stand in two words, from a byte of the first one on.
+/// The number whose eight bytes lie in two words, from a byte of the first one on.
 pub(crate) fn straddled(first: u64, second: u64, skip: usize) -> u64
     requires { (0 < skip) × (skip < 8) }
     ensures { result ≡ first * 2 ^ (8 * skip) % 2 ^ 64 + second / 2 ^ (64 - 8 * skip) }
@@ -145,8 +145,8 @@ fn least_of(a: usize, b: usize) -> usize
     if a < b { a } else { b }
 }
 
-/// Puts the `n` bytes that stand `skip` bytes behind the start of a word into an empty vector. It
-/// is filled where it stands, since a vector that is given by value costs its whole capacity.
+/// Writes the `n` bytes that begin `skip` bytes after the start of a word into an empty vector. It
+/// is filled in place, since a vector that is passed by value costs its whole capacity.
 pub(crate) fn fill_bytes<L: Look, const N: usize>(
     look: &mut L,
     page: u64,
@@ -265,7 +265,7 @@ fn padded_word(bytes: &[u8], from: usize) -> u64
     ])
 }
 
-/// The first word of a key, with zeros behind a short one. A descent makes it once.
+/// The first word of a key, with zeros after a short one. A descent makes it once.
 pub(crate) fn first_word(key: &[u8]) -> u64
     ensures { IsFirst key.now result }
 {
@@ -309,8 +309,8 @@ pub(crate) fn store_item<R: Room>(room: &mut R, page: u64, at: usize, item: &Ite
     store_bytes(room, page, at + 1, bytes);
 }
 
-/// Copies the words of an item to a place of a page that has a word filled. An item that stands
-/// there is left alone.
+/// Copies the words of an item to a place of a page that has a word filled. An item that lies there
+/// already is left alone.
 fn copy_item<R: Room>(room: &mut R, page: u64, at: usize, from: u64, place: usize)
     requires filled { R.standing room.old page ≡ Filled }
     requires in_page { at + 42 ≤ 512 }
@@ -380,7 +380,7 @@ fn store_slot<R: Room>(room: &mut R, page: u64, at: usize, slot: Slot, pair: &It
     }
 }
 
-/// Puts the slots of a page's items into an empty list.
+/// Writes the slots of a page's items into an empty list.
 pub(crate) fn fill_slots<L: Look>(look: &mut L, page: u64, slots: &mut ArrayVec<Slot, 24>)
     requires readable { IsTrue (is_readable (L.standing look.old page)) }
     requires page { IsPage (L.words look.old page) }
@@ -397,7 +397,7 @@ pub(crate) fn fill_slots<L: Look>(look: &mut L, page: u64, slots: &mut ArrayVec<
     }
 }
 
-/// Writes a node to a page that was taken, from its first item on. Those of its items that stand on
+/// Writes a node to a page that was taken, from its first item on. Those of its items that are on
 /// the page move down or stay.
 pub(crate) fn store_node<R: Room>(room: &mut R, page: u64, level: u64, slots: &[Slot], pair: &Item)
     requires taken { IsTrue (is_taken (R.standing room.old page)) }
@@ -423,7 +423,7 @@ pub(crate) fn store_node<R: Room>(room: &mut R, page: u64, level: u64, slots: &[
     }
 }
 
-/// The same from its last item on. Those of its items that stand on the page move up or stay.
+/// The same from its last item on. Those of its items that are on the page move up or stay.
 pub(crate) fn store_from_last<R: Room>(
     room: &mut R,
     page: u64,
@@ -466,7 +466,7 @@ pub(crate) fn stands_from(page: u64, place: usize, slot: Slot) -> bool
     }
 }
 
-/// Whether nothing behind the item at a place of a page is a slot's item.
+/// Whether the slot's item, if it is on this page, lies at the place or wholly before it.
 fn stands_to(page: u64, place: usize, slot: Slot) -> bool
     ensures { result ≡ true → StandsTo page place slot }
 {
@@ -503,7 +503,7 @@ fn all_stand_at(page: u64, slots: &[Slot]) -> bool
     true
 }
 
-/// Whether a node is what stands on this page already.
+/// Whether this page has the node already.
 pub(crate) fn is_whole<L: Look>(look: &mut L, level: u64, page: u64, slots: &[Slot]) -> bool
     requires readable { IsTrue (is_readable (L.standing look.old page)) }
     requires few { length slots.now ≤ 12 }
@@ -526,7 +526,7 @@ pub(crate) fn is_whole<L: Look>(look: &mut L, level: u64, page: u64, slots: &[Sl
     all_stand_at(page, slots)
 }
 
-/// Whether those of a node's items that stand on a page move down there, or stay.
+/// Whether those of a node's items that are on a page move down there, or stay.
 pub(crate) fn move_down(page: u64, slots: &[Slot]) -> bool
     requires { length slots.now ≤ 12 }
     ensures { result ≡ true → MoveDown page slots.now }

@@ -1,7 +1,7 @@
-//! Payloads read where they stand.
+//! Payloads read in place.
 //!
-//! Who knows the form of a payload needs no copy of it: a number in it is read from the one or two
-//! words that have its bytes.
+//! A caller that knows the form of a payload needs no copy of it: a number in it is read from the
+//! one or two words that have its bytes.
 ghost use Rattle.std.specs.Prelude.{◌≡◌, [], ◌+◌, ◌<◌, ◌≤◌, IsTrue, length, take, drop};
 ghost use Rattle.std.specs.Prelude.{slice_index};
 ghost use Rattle.std.specs.Int.{from_be_bytes, w32, w64};
@@ -69,7 +69,7 @@ pub fn payload_number32_at<L: Look>(look: &mut L, page: u64, at: usize, from: us
     number32_behind(look, page, at + 1 + place / 8, place % 8)
 }
 
-/// The number in the four bytes that stand `skip` bytes behind the start of a word: in that word
+/// The number in the four bytes that begin `skip` bytes after the start of a word: in that word
 /// alone, or in it and the next.
 fn number32_behind<L: Look>(look: &mut L, page: u64, at: usize, skip: usize) -> u32
     requires readable { IsTrue (is_readable (L.standing look.old page)) }
@@ -87,7 +87,7 @@ fn number32_behind<L: Look>(look: &mut L, page: u64, at: usize, skip: usize) -> 
     (straddled(first, second, skip) >> 32) as u32
 }
 
-/// Puts the payload at a place of a page into an empty vector.
+/// Writes the payload at a place of a page into an empty vector.
 pub fn fill_payload<L: Look>(look: &mut L, page: u64, at: usize, payload: &mut ArrayVec<u8, 328>)
     requires readable { IsTrue (is_readable (L.standing look.old page)) }
     requires in_page { at + 42 ≤ 512 }

@@ -2,9 +2,9 @@
 //!
 //! # Neighbours
 //! A page of more than six items is written anew alone. One of six is written anew together with a
-//! neighbour under the same parent, the next one where there is one: the items of both go into one
-//! page where they fit, else into two. So no page is left under-full, and pages that were thin are
-//! joined. A removal writes two pages a level at most.
+//! neighbour under the same parent, the next one if there is one: the items of both go into one
+//! page if they fit, otherwise into two. So no page is left under-full, and pages that were thin
+//! are joined. A removal writes up to two pages a level.
 //!
 //! # Absent keys
 //! Nothing is written on the way down. A leaf without the key stops the removal, and nothing has
@@ -43,8 +43,8 @@ use arrayvec::ArrayVec;
 use be_pages::{Look, Room};
 use be_value::Refusal;
 
-/// Takes a key out of a tree, and gives the new root. An absent key gives the same root and takes
-/// no page. After an error the tree stands again once the room is undone.
+/// Takes a key out of a tree, and returns the new root. An absent key gives the same root and takes
+/// no page. After an error, undoing the room brings the tree back.
 pub fn remove<R: Room>(room: &mut R, root: u64, key: &[u8]) -> Result<u64, Refusal>
     requires tree { IsTree (R.standing room.old) (R.words room.old) root }
     requires open { IsTrue (R.is_open (R.kept room.old)) }
@@ -78,8 +78,8 @@ pub fn remove<R: Room>(room: &mut R, root: u64, key: &[u8]) -> Result<u64, Refus
     Ok(new)
 }
 
-/// Writes what is left of a root as a tree, and gives its root: none where nothing is left, and the
-/// page of the one branch that is left of an inner root. The old root's page is given up where it
+/// Writes what is left of a root as a tree, and returns its root: 0 if nothing is left, and the
+/// page of the one branch that is left of an inner root. The old root's page is given up if it
 /// isn't written over.
 fn write_rest<R: Room>(room: &mut R, old: u64, node: Node<'_>) -> Result<u64, Refusal>
     requires low { node.level < 2 ^ 32 }
@@ -122,8 +122,8 @@ fn child_of<L: Look>(look: &mut L, slot: Slot, pair: &Item) -> u64
     }
 }
 
-/// Puts the slots of a leaf's items but the one at a number into an empty list, if that one has the
-/// key.
+/// Writes the slots of a leaf's items but the one at a number into an empty list, if that one has
+/// the key.
 fn slots_without<L: Look>(
     look: &mut L,
     page: u64,
@@ -157,8 +157,8 @@ fn slots_without<L: Look>(
     Ok(())
 }
 
-/// Takes a key out below a page, and puts the page's items without it, still to be written, into an
-/// empty list. The page is not written over nor given up yet, since some of them stand there.
+/// Takes a key out below a page. The page's items without it, still to be written, enter an empty
+/// list. The page is not written over nor given up yet, since some of the items lie there.
 #[cycle(removal)]
 fn remove_at<R: Room>(
     room: &mut R,
@@ -210,8 +210,8 @@ fn remove_at<R: Room>(
     Ok(())
 }
 
-/// What stands in the place of an inner node's item, once this key was taken out below it and its
-/// child was written as this branch: the item itself, where the child was written over where it is
+/// What comes in the place of an inner node's item, once this key was taken out below it and its
+/// child was written as this branch. It is the item itself, if the child was written over in place
 /// and the key isn't the item's, so that its least key is the same.
 fn kept_item<L: Look>(
     look: &mut L,
@@ -240,8 +240,8 @@ fn kept_item<L: Look>(
     Slot::At(place as u16, page as u32)
 }
 
-/// Takes a key out below a page of more than six items, writes what is left of it alone, and gives
-/// the branch to it.
+/// Takes a key out below a page of more than six items, writes what is left of it alone, and
+/// returns the branch to it.
 #[cycle(removal)]
 fn remove_alone<R: Room>(
     room: &mut R,
@@ -277,7 +277,7 @@ fn remove_alone<R: Room>(
     Ok(Slot::Branch(page as u32))
 }
 
-/// Takes a key out below one of two neighbours, which stands on this side, and writes both anew.
+/// Takes a key out below one of two neighbours, which is on this side, and writes both anew.
 #[cycle(removal)]
 fn remove_beside<R: Room>(
     room: &mut R,

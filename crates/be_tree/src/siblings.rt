@@ -16,15 +16,14 @@ use crate::slot::Slot;
 use arrayvec::ArrayVec;
 use be_pages::Look;
 
-/// On which side of its neighbour a page stands.
+/// On which side of its neighbour a page is.
 #[derive(Clone, Copy)]
 pub(crate) enum Side {
     Left,
     Right,
 }
 
-/// Of two neighbours the left one and the right one, where the first of these pages stands on this
-/// side.
+/// Of two neighbours the left one and the right one, if the first of these pages is on this side.
 pub(crate) fn pages_in_order(side: Side, one: u64, other: u64) -> (u64, u64)
     ensures left { result.0 ≡ left_of side one other }
     ensures right { result.1 ≡ right_of side one other }
@@ -51,8 +50,7 @@ pub(crate) fn two_children<L: Look>(look: &mut L, level: u64, page: u64, at: usi
     (left, right)
 }
 
-/// The child at a number of an inner node, where it has more than six items, so that it can lose
-/// one.
+/// The child at a number of an inner node, if it has more than six items, so that it can lose one.
 pub(crate) fn spare_child<L: Look>(look: &mut L, level: u64, page: u64, at: usize) -> Option<u64>
     requires tree { IsTreeAt level 1 (L.standing look.old) (L.words look.old) page }
     requires inner { 0 < level }
@@ -71,8 +69,8 @@ pub(crate) fn spare_child<L: Look>(look: &mut L, level: u64, page: u64, at: usiz
     Some(below)
 }
 
-/// The child at a number with its left neighbour before it, where the child is full and the
-/// neighbour is not.
+/// The child at a number with its left neighbour before it, if the child is full and the neighbour
+/// is not.
 pub(crate) fn sharing_children<L: Look>(
     look: &mut L,
     level: u64,
@@ -102,7 +100,7 @@ pub(crate) fn sharing_children<L: Look>(
     Some((left, right))
 }
 
-/// Puts the slots of a node's items, with others in the place of two neighbours, into an empty
+/// Writes the slots of a node's items, with others in the place of two neighbours, into an empty
 /// list.
 pub(crate) fn slots_with<L: Look>(
     look: &mut L,
@@ -129,7 +127,7 @@ pub(crate) fn slots_with<L: Look>(
     replace_at(slots, at, two);
 }
 
-/// Puts the slots of a node's items, with another in the place of one, into an empty list.
+/// Writes the slots of a node's items, with another in the place of one, into an empty list.
 pub(crate) fn slots_with_one<L: Look>(
     look: &mut L,
     page: u64,
@@ -154,7 +152,7 @@ pub(crate) fn slots_with_one<L: Look>(
     slots[at] = slot;
 }
 
-/// Slots of two neighbours from left to right, where the first ones are of the page on this side.
+/// Slots of two neighbours from left to right, if the first ones are of the page on this side.
 fn slots_in_order(
     side: Side,
     mut one: ArrayVec<Slot, 24>,

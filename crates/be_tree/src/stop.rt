@@ -1,10 +1,10 @@
-//! Why a removal below a page gives no items.
+//! Why a removal below a page returns no items.
 ghost use Rattle.std.specs.Prelude.{◌≡◌};
 ghost use Rattle.be_tree.specs.declared.stop.Stop.TheVariants.{Refused};
 
 use be_value::Refusal;
 
-/// What a removal gives in place of a page's items.
+/// What a removal returns in place of a page's items.
 #[derive(Clone, Copy)]
 pub(crate) enum Stop {
     /// The key isn't there, and nothing was written.

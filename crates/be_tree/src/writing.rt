@@ -1,19 +1,19 @@
 //! A node in hand is written.
 //!
 //! # Over its page
-//! A page that was there when the write began keeps its words, so its node is written to a page
+//! A page that was there when the write began keeps its words. So its node is written to a page
 //! that is taken for it, and the old one is given up. A page that the write has taken before, as
-//! for the last change of a list, is written over where it is: of its items those that stay where
-//! they stand are left alone, and the others are moved within the page. They are moved in the order
-//! of their numbers where all move down, as when one was taken out, and from the last one on where
-//! all move up, as when one was put in. Where some move down and others up, the node is written to
+//! for the last change of a list, is written over in place. Those of its items that keep their
+//! places are left alone, and the others are moved within the page. If all move down, as when one
+//! was taken out, they are moved in the order of their numbers. If all move up, as when one was put
+//! in, they are moved from the last one on. If some move down and others up, the node is written to
 //! another page. Above a page that was written over, and whose least key is the same, each page
 //! stays as it is.
 //!
 //! # Two pages
-//! A node of more than twelve items is written in two pages, of which the first is the old one
-//! where it can be. Of two neighbours the first one is written before the second, since it only
-//! takes items from there, and gives its last ones.
+//! A node of more than twelve items is written in two pages, of which the first is the old one if
+//! it can be. Of two neighbours the first one is written before the second, since it only takes
+//! items from there, and gives its last ones.
 ghost use Rattle.std.specs.Prelude.{◌≡◌, ◌≢◌, ℕ, ◌+◌, ◌-◌, ◌^◌, ◌<◌, ◌≤◌, [], ◌∷◌, ◌++◌, true};
 ghost use Rattle.std.specs.Prelude.{false, length, take, drop, All, IfOk, OnErr, IfErr, IfSome};
 ghost use Rattle.std.specs.Prelude.{IsTrue};
@@ -36,7 +36,7 @@ use arrayvec::ArrayVec;
 use be_pages::Room;
 use be_value::Refusal;
 
-/// Writes a node to a page of its own, and gives the page.
+/// Writes a node to a page of its own, and returns the page.
 fn write_node<R: Room>(room: &mut R, node: Node<'_>) -> Result<u64, Refusal>
     requires some { 0 < length node.slots.now }
     requires few { length node.slots.now ≤ 12 }
@@ -58,7 +58,7 @@ fn write_node<R: Room>(room: &mut R, node: Node<'_>) -> Result<u64, Refusal>
 }
 
 /// Which way a node's items move on its page, if it can be written over: this write has taken the
-/// page, and of the items that stand there none would be written over before it is copied.
+/// page, and none of the items that lie there would be written over before it is copied.
 fn way_over<R: Room>(room: &R, page: u64, slots: &[Slot]) -> Option<Way>
     requires readable { IsTrue (is_readable (R.standing room.now page)) }
     requires few { length slots.now ≤ 12 }
@@ -77,8 +77,7 @@ fn way_over<R: Room>(room: &R, page: u64, slots: &[Slot]) -> Option<Way>
     None
 }
 
-/// Writes a node over its page, which this write has taken. What stands behind its items there
-/// stays.
+/// Writes a node over its page, which this write has taken. What lies after its items there stays.
 fn write_over<R: Room>(room: &mut R, page: u64, way: Way, node: Node<'_>)
     requires some { 0 < length node.slots.now }
     requires few { length node.slots.now ≤ 12 }
@@ -104,8 +103,8 @@ fn write_over<R: Room>(room: &mut R, page: u64, way: Way, node: Node<'_>)
     }
 }
 
-/// Writes a node that is changed over its old page where that can be, else to a page of its own,
-/// and gives the old one up. Gives the page.
+/// Writes a changed node over its old page if that can be. Otherwise it writes the node to a page
+/// of its own, and gives the old one up. Returns the page.
 fn write_changed<R: Room>(room: &mut R, old: u64, node: Node<'_>) -> Result<u64, Refusal>
     requires some { 0 < length node.slots.now }
     requires few { length node.slots.now ≤ 12 }
@@ -131,8 +130,8 @@ fn write_changed<R: Room>(room: &mut R, old: u64, node: Node<'_>) -> Result<u64,
     Ok(page)
 }
 
-/// Whether a node is what stands on its page already. It is asked only of a page that this write
-/// has taken, since on another one something is changed.
+/// Whether a node's page has the node already. It is checked only for a page that this write has
+/// taken, since on another one something is changed.
 fn stands_whole<R: Room>(room: &mut R, page: u64, node: Node<'_>) -> bool
     requires readable { IsTrue (is_readable (R.standing room.old page)) }
     requires few { length node.slots.now ≤ 12 }
@@ -150,8 +149,8 @@ fn stands_whole<R: Room>(room: &mut R, page: u64, node: Node<'_>) -> bool
     is_whole(room, node.level, page, node.slots)
 }
 
-/// Writes a node as `write_changed` does, or leaves its page as it is, where nothing of it is
-/// changed. So it is above a page that was written over where it stood.
+/// Writes a node as `write_changed` does, or leaves its page as it is, if nothing of it is changed.
+/// This is the case above a page that was written over in place.
 fn rewrite<R: Room>(room: &mut R, old: u64, node: Node<'_>) -> Result<u64, Refusal>
     requires some { 0 < length node.slots.now }
     requires few { length node.slots.now ≤ 12 }
@@ -175,7 +174,7 @@ fn rewrite<R: Room>(room: &mut R, old: u64, node: Node<'_>) -> Result<u64, Refus
     Ok(page)
 }
 
-/// Writes a node with what stands below it, as `rewrite` does, and gives its page.
+/// Writes a node with what is below it, as `rewrite` does, and returns its page.
 pub(crate) fn write_branch<R: Room>(room: &mut R, old: u64, node: Node<'_>) -> Result<u64, Refusal>
     requires node { CanBeWritten node.level (R.standing room.old) (R.words room.old) node.pair.now
         node.slots.now }
@@ -194,7 +193,7 @@ pub(crate) fn write_branch<R: Room>(room: &mut R, old: u64, node: Node<'_>) -> R
     Ok(page)
 }
 
-/// Writes a node in hand in two pages, the first `cut` items in the first, and gives them. The
+/// Writes a node in hand in two pages, the first `cut` items in the first, and returns them. The
 /// second one is taken, and written before the first one is written as `rewrite` does.
 fn write_parts<R: Room>(
     room: &mut R,
@@ -240,8 +239,8 @@ fn first_of_two(len: usize) -> usize
     }
 }
 
-/// Writes a node in hand, in one page or in two, of which the first is the old one where it can be,
-/// and gives the branches to them. The old page is given up where it isn't among them.
+/// Writes a node in hand to one page or two, and returns the branches to them. The first page is
+/// the old one if it can be. The old page is given up if it isn't among them.
 pub(crate) fn pack<R: Room>(
     room: &mut R,
     old: u64,
@@ -274,8 +273,8 @@ pub(crate) fn pack<R: Room>(
     Ok(branches)
 }
 
-/// Writes a node in hand whose items stood in two neighbours in one page, the first one where it
-/// can be, and gives it. The second one is given up.
+/// Writes a node in hand whose items were in two neighbours to one page, the first one if it can
+/// be, and returns it. The second one is given up.
 fn write_joined<R: Room>(
     room: &mut R,
     left: u64,
@@ -312,8 +311,8 @@ fn all_stand_from(page: u64, place: usize, slots: &[Slot]) -> bool
     true
 }
 
-/// Writes two nodes whose items stood in two neighbours: the first over the first neighbour, where
-/// it leaves what the second one needs, and the second as `rewrite` does.
+/// Writes two nodes whose items were in two neighbours: the first over the first neighbour, if it
+/// leaves what the second one needs, and the second as `rewrite` does.
 fn write_two_over<R: Room>(
     room: &mut R,
     level: u64,
@@ -353,7 +352,7 @@ fn write_two_over<R: Room>(
     Ok(page)
 }
 
-/// Writes two nodes whose items stood in two neighbours: the first to a page of its own, and the
+/// Writes two nodes whose items were in two neighbours: the first to a page of its own, and the
 /// second as `rewrite` does. The first neighbour is given up.
 fn write_two_anew<R: Room>(
     room: &mut R,
@@ -390,8 +389,8 @@ fn write_two_anew<R: Room>(
     Ok((first, second))
 }
 
-/// Writes a node in hand whose items stood in two neighbours in two pages, the first `cut` items in
-/// the first, and gives them. Each neighbour is written over where it can be, else given up.
+/// Writes a node in hand whose items were in two neighbours to two pages, the first `cut` items to
+/// the first, and returns them. Each neighbour is written over if it can be, otherwise given up.
 fn write_two<R: Room>(
     room: &mut R,
     left: u64,
@@ -425,8 +424,8 @@ fn write_two<R: Room>(
     Ok(both)
 }
 
-/// Writes a node in hand whose items stood in two neighbours, and gives the branches to its pages.
-/// Each neighbour is written over where it can be, else given up.
+/// Writes a node in hand whose items were in two neighbours, and returns the branches to its pages.
+/// Each neighbour is written over if it can be, otherwise given up.
 pub(crate) fn pack_two<R: Room>(
     room: &mut R,
     left: u64,
@@ -464,7 +463,7 @@ pub(crate) fn pack_two<R: Room>(
     Ok(branches)
 }
 
-/// Writes items as a tree of one page, and gives its root.
+/// Writes items as a tree of one page, and returns its root.
 pub(crate) fn write_first_root<R: Room>(
     room: &mut R,
     slots: &[Slot],
@@ -491,8 +490,8 @@ pub(crate) fn write_first_root<R: Room>(
     Ok(top + 1)
 }
 
-/// Writes items as a tree of their own, over the old root's page where that can be, else it is
-/// given up. Gives the root.
+/// Writes items as a tree of their own, over the old root's page if that can be; otherwise that
+/// page is given up. Returns the root.
 pub(crate) fn write_root<R: Room>(room: &mut R, old: u64, node: Node<'_>) -> Result<u64, Refusal>
     requires node { CanBeWritten node.level (R.standing room.old) (R.words room.old) node.pair.now
         node.slots.now }

@@ -12,14 +12,14 @@
 //! index has their kinds.
 //!
 //! # Why there is one type of refusals
-//! A write passes through most crates, and each may refuse it. What is refused keeps its number and
-//! its words on the way up, so a script's reply and a program's error are those of the crate that
-//! said no.
+//! A write passes through most crates, and each may refuse it. A refusal keeps its number and its
+//! words on the way up. So a script's reply and a program's error are those of the crate that
+//! refused.
 //!
 //! # What is proved
 //! A name or a value is made of exactly the bytes within the limits (`specs/Name.antt`).
 //! `key_order` is the law of keys, `keys_differ` that a key is the key of one pair, and `read_key`
-//! reads that pair back (`specs/Key.antt`). `number_of` is the number that a text spells
+//! reads that pair back (`specs/Key.antt`). `number_of` is the number that a text encodes
 //! (`specs/Number.antt`).
 #![tactic(auto)]
 

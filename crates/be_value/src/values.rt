@@ -140,6 +140,7 @@ impl Text {
         }
     }
 
+    /// The text as a string, of up to 255 bytes without a zero byte.
     pub fn as_str(&self) -> &str
         ensures text { result.now ≡ self.now }
         ensures valid { text_from self.now ≡ Ok self.now }
@@ -212,6 +213,7 @@ impl Bytes {
         }
     }
 
+    /// The bytes as a slice, of up to 255 bytes.
     pub fn as_slice(&self) -> &[u8]
         ensures bytes { result.now ≡ self.now }
         ensures fits { length self.now ≤ 255 }
@@ -274,48 +276,56 @@ pub enum Value {
 }
 
 impl Value {
+    /// The `Long` value of a signed 32-bit number.
     pub fn int32(n: i32) -> Value
         ensures { result ≡ Value.Long n }
     {
         Self::Long(n)
     }
 
+    /// The `Llng` value of a signed 64-bit number.
     pub fn int64(n: i64) -> Value
         ensures { result ≡ Value.Llng n }
     {
         Self::Llng(n)
     }
 
+    /// The `Ulng` value of an unsigned 32-bit number.
     pub fn uint32(n: u32) -> Value
         ensures { result ≡ Value.Ulng n }
     {
         Self::Ulng(n)
     }
 
+    /// The `Ullg` value of an unsigned 64-bit number.
     pub fn uint64(n: u64) -> Value
         ensures { result ≡ Value.Ullg n }
     {
         Self::Ullg(n)
     }
 
+    /// The `Cstr` value of a text. Errors: DataLength above 255 bytes, HasNul for a zero byte.
     pub fn text(text: &str) -> Result<Value, Refusal>
         ensures { result ≡ results.result_map_both Value.Cstr (λ e. e) (text_from text.now) }
     {
         Ok(Value::Cstr(Text::new(text)?))
     }
 
+    /// The `Mims` value of a MIME type. Errors: DataLength above 255 bytes, HasNul for a zero byte.
     pub fn mime(text: &str) -> Result<Value, Refusal>
         ensures { result ≡ results.result_map_both Value.Mims (λ e. e) (text_from text.now) }
     {
         Ok(Value::Mims(Text::new(text)?))
     }
 
+    /// The `Rawt` value of these bytes. Error: DataLength above 255 bytes.
     pub fn raw(bytes: &[u8]) -> Result<Value, Refusal>
         ensures { result ≡ results.result_map_both Value.Rawt (λ e. e) (bytes_from bytes.now) }
     {
         Ok(Value::Rawt(Bytes::new(bytes)?))
     }
 
+    /// The value's kind.
     pub fn kind(&self) -> Kind
         ensures { result ≡ kind_of self.now }
     {

@@ -1,4 +1,4 @@
--- What calls make of handles.
+-- What calls do to handles.
 use Rattle.std.specs.Prelude.{◌≡◌, ◌⊎◌, ◌<◌, ℕ, ◌+◌, ◌*◌, ◌^◌, IsUtf8, List, [], drop, length, map}
 use Rattle.std.specs.Prelude.{slice_get, Option, None, Some, Ok, Err}
 use Rattle.std.specs.declared.result.Result.{Result}
@@ -45,31 +45,31 @@ use Rattle.bestore_c.specs.declared.handle.Attribute.{Attribute}
 use Rattle.bestore_c.specs.declared.handle.Counts.{Counts}
 use Rattle.bestore_c.specs.declared.handle.UpdateCounts.{UpdateCounts}
 
--- A call of a handle that is closed leaves it closed and answers so. One of a handle that is open
--- leaves it open with a session of the same store, with which as many passes wait, and what it
--- makes of its session is this.
+-- A call on a closed handle leaves it closed and returns the code for that. A call on an open
+-- handle leaves it open, with a session of the same store and as many waiting passes. `does` says
+-- what the call does to the session.
 abbrev pub Calls : Option Sitting → Option Sitting → Type 0 → (Sitting → Sitting → Type 0) → Type 0
 Calls None None closed does = closed
 Calls None (Some t) closed does = ⊥
 Calls (Some s) None closed does = ⊥
 Calls (Some s) (Some t) closed does = (t.store ≡ s.store) × (t.spare ≡ s.spare) × does s t
 
--- what a call answers that puts out a number, where a handle is closed: 64, and 0 is put out
+-- what a call that returns a number returns on a closed handle: the code 64 and the number 0
 abbrev pub IsClosed : ℕ → ℕ → Type 0
 IsClosed number code = (code ≡ 64) × (number ≡ 0)
 
--- a fault is answered, and the number that is put out is what it carries
+-- the call returns the code of an error, and the number that the error carries
 abbrev pub Refuses : Fault → ℕ → ℕ → Type 0
 Refuses e number code = (code ≡ fault_code e) × (number ≡ fault_carried e)
 
--- 64 of a handle that is closed, and 0 of one that is open
+-- 64 for a closed handle, and 0 for an open one
 abbrev pub AnswersWhetherOpen : {A : Type 0} → Option A → ℕ → Type 0
 AnswersWhetherOpen None code = code ≡ 64
 AnswersWhetherOpen (Some s) code = code ≡ 0
 
--- Opening: an open handle stays as it was and answers 65; a closed one holds a session that has
--- just opened a store with these limits, or stays closed where the store says why, or where memory
--- was refused.
+-- Opening: an open handle stays as it was, and the call returns 65. A closed one gets a session
+-- that has just opened a store with these limits. It stays closed if the store refuses, with the
+-- refusal's number, or if the call runs out of memory.
 abbrev pub Opens : Limits → Option Sitting → Option Sitting → ℕ → Type 0
 Opens limits (Some s) (Some t) code = (code ≡ 65) × (t ≡ s)
 Opens limits (Some s) None code = ⊥
@@ -77,9 +77,9 @@ Opens limits None (Some t) code = (code ≡ 0) × IsOpened limits t
 Opens limits None None code = ((code ≡ 10) × IsWithin limits)
     ⊎ ((why : Refusal) × (code ≡ refusal_number why) × IsOpenRefused limits why)
 
--- A second handle: one that is open stays as it was, and the answer is 65; a closed one gets a
--- session of the same store, with which none waits, and with a pass that is handed out; 68 where
--- none waits, and 10 where memory was refused.
+-- A second handle: an open one stays as it was, and the call returns 65. A closed one gets a
+-- session of the same store, with a pass that is handed out and with no waiting pass. The call
+-- returns 68 if no pass waits, and 10 if it runs out of memory.
 abbrev pub OpensSecond : Sitting → Sitting → Option Sitting → Option Sitting → ℕ → Type 0
 OpensSecond s t (Some o) (Some p) code = (code ≡ 65) × (p ≡ o) × (t ≡ s)
 OpensSecond s t (Some o) None code = ⊥
@@ -87,7 +87,8 @@ OpensSecond s t None (Some p) code = (code ≡ 0) × (p.store ≡ s.store) × (p
     × IsHandedOut s t p.knows × (t.knows ≡ s.knows)
 OpensSecond s t None None code = (t ≡ s) × ((code ≡ 10) ⊎ ((code ≡ 68) × (s.spare ≡ 0)))
 
--- A second handle, of one that may be closed: then both are as they were, and the answer is 64.
+-- A second handle, from one that may be closed: then both stay as they were, and the call returns
+-- 64.
 abbrev pub GivesAnother : Option Sitting → Option Sitting → Option Sitting → Option Sitting → ℕ
     → Type 0
 GivesAnother None None o p code = (code ≡ 64) × (p ≡ o)
@@ -95,17 +96,17 @@ GivesAnother None (Some t) o p code = ⊥
 GivesAnother (Some s) None o p code = ⊥
 GivesAnother (Some s) (Some t) o p code = (t.store ≡ s.store) × OpensSecond s t o p code
 
--- A handle is moved: what it holds goes to one that is closed, and it is closed then; 65 where the
--- other is open, and 64 where it holds nothing.
+-- Moving a handle: its content goes to a closed handle, and it is closed then. The call returns 65
+-- if the other handle is open, and 64 if this one is closed.
 abbrev pub MovesHandle : {A : Type 0} → Option A → Option A → Option A → Option A → ℕ → Type 0
 MovesHandle None o from to code = (code ≡ 64) × (from ≡ None) × (to ≡ o)
 MovesHandle (Some s) (Some o) from to code = (code ≡ 65) × (from ≡ Some s) × (to ≡ Some o)
 MovesHandle (Some s) None from to code = (code ≡ 0) × (from ≡ None) × (to ≡ Some s)
 
--- A write: what is spelled is misspelt, and then nothing has happened; or it means operations,
--- which the session accepted, and the numbers of the new nodes and the length of the journal are
--- put out, or which it did not write. The number that is put out is the length, or the place of
--- what is misspelt, or what the refusal carries.
+-- A write of encoded operations. If one of them is invalid, nothing happens, and the number is its
+-- index in the list. Otherwise they encode operations. If the session accepts these, the call
+-- returns the nodes of the new ones, and the number is the journal's length. If it does not write
+-- them, the number is what the refusal carries.
 abbrev pub WritesSpelled : Sitting → Sitting → List Operation → List ℕ → List ℕ → List ℕ → ℕ → ℕ
     → Type 0
 WritesSpelled s t spelled bytes places filled number code =
@@ -115,10 +116,9 @@ WritesSpelled s t spelled bytes places filled number code =
     × (filled ≡ over (map node_of dones) places))
     ⊎ ((e : Fault) × Refuses e number code × IsUnwritten s.knows t.knows ops e)))
 
--- A conditional write, as such a write: what is spelled is misspelt, and then nothing has happened;
--- or it means operations, which the session accepted on a journal of as many entries as expected,
--- or which it did not write. The number is then the length that it found, or what the refusal
--- carries.
+-- A conditional write of encoded operations. If one of them is invalid, nothing happens. Otherwise
+-- the session accepts them on a journal of as many entries as expected, or does not write them. The
+-- number is then the length that it found, or what the refusal carries.
 abbrev pub WritesSpelledIf : Sitting → Sitting → ℕ → List Operation → List ℕ → List ℕ → List ℕ → ℕ
     → ℕ → Type 0
 WritesSpelledIf s t expected spelled bytes places filled number code =
@@ -133,21 +133,21 @@ abbrev pub TellsNumber : Option ℕ → ℕ → ℕ → ℕ → Type 0
 TellsNumber None meant number code = Refuses NotPinned number code
 TellsNumber (Some n) meant number code = (code ≡ 0) × (number ≡ meant)
 
--- What a version answers, a list of nodes or of a text's bytes: how many they are, and as many of
--- them as there are places; or why there is no answer, with what that carries.
+-- The answer of a version, which is a list of nodes or of a text's bytes: its length, and up to as
+-- many items as there are places. Or an error, with what it carries.
 abbrev pub PutsOutAnswer : Result (List ℕ) Refusal → List ℕ → List ℕ → ℕ → ℕ → Type 0
 PutsOutAnswer (Ok nodes) places filled count code = (code ≡ 0) × (count ≡ length nodes)
     × (filled ≡ over nodes places)
 PutsOutAnswer (Err why) places filled count code = Refuses (Refused why) count code
 
--- what it answers in the pinned version, if there is a pin; 10 where a growth was refused
+-- the answer of the pinned version, if there is a pin; 10 if the call runs out of memory
 abbrev pub PutsOutAtPin : Option ℕ → Result (List ℕ) Refusal → List ℕ → List ℕ → ℕ → ℕ → Type 0
 PutsOutAtPin None answer places filled count code = Refuses NotPinned count code
 PutsOutAtPin (Some n) answer places filled count code = Refuses (Refused OutOfMemory) count code
     ⊎ PutsOutAnswer answer places filled count code
 
--- A query by its text: the bytes are no query, and then nothing has happened; or they are one, and
--- its answer is put out.
+-- A query by its text. If the bytes are no query, nothing happens; otherwise the call returns the
+-- answer of the query.
 abbrev pub Finds : Sitting → Sitting → List ℕ → List ℕ → List ℕ → ℕ → ℕ → Type 0
 Finds s t text places filled count code =
     ((e : Fault) × Refuses e count code × IsNoQuery text e × (t ≡ s))
@@ -155,8 +155,8 @@ Finds s t text places filled count code =
     × PutsOutAtPin (pinned_number s.knows.phase) (scan (volume_pinned s.knows) query) places filled
     count code)
 
--- What a query would be answered from, by its text: the bytes are no query, and then nothing has
--- happened; or they are one, and what is said of it is put out.
+-- The index cover of a query, by its text. If the bytes are no query, nothing happens; otherwise
+-- the call returns the text that describes the cover.
 abbrev pub Explains : Sitting → Sitting → List ℕ → List ℕ → List ℕ → ℕ → ℕ → Type 0
 Explains s t text places filled count code =
     ((e : Fault) × Refuses e count code × IsNoQuery text e × (t ≡ s))
@@ -164,8 +164,8 @@ Explains s t text places filled count code =
     × PutsOutAtPin (pinned_number s.knows.phase) (explanation_in (volume_pinned s.knows) query)
     places filled count code)
 
--- A query by its items: they are none, and then nothing has happened; or they build one, and its
--- answer is put out.
+-- A query by its items. If they build no query, nothing happens; otherwise the call returns the
+-- answer of the query.
 abbrev pub FindsBuilt : Sitting → Sitting → List PredicateItem → List ℕ → List ℕ → List ℕ → ℕ → ℕ
     → Type 0
 FindsBuilt s t spelled bytes places filled count code =
@@ -174,42 +174,43 @@ FindsBuilt s t spelled bytes places filled count code =
     × PutsOutAtPin (pinned_number s.knows.phase) (scan (volume_pinned s.knows) query) places filled
     count code)
 
--- a value's type code, number and length are told, and as many of its bytes as there are places
+-- a value's type code, number and length, and up to as many of its bytes as there are places
 abbrev pub ShowsValue : Value → Attribute → List ℕ → List ℕ → Type 0
 ShowsValue value told places filled =
     (bytes : List ℕ) × IsValueMeant told.code told.number bytes value
     × HasNoMore told.number bytes value
     × (told.length ≡ length bytes) × (filled ≡ over bytes places)
 
--- what is there in the pinned version, if there is a pin, is shown
+-- the attribute in the pinned version, if there is a pin: 66 without a pin, and 3 without an
+-- attribute
 abbrev pub Shown : Option ℕ → Option Value → Attribute → List ℕ → List ℕ → ℕ → Type 0
 Shown None found told places filled code = code ≡ 66
 Shown (Some n) None told places filled code = code ≡ 3
 Shown (Some n) (Some value) told places filled code = (code ≡ 0)
     × ShowsValue value told places filled
 
--- A read of an attribute: the bytes are no name, and then nothing has happened; or what is there is
--- shown.
+-- A read of an attribute. If the bytes are no name, nothing happens; otherwise the call returns the
+-- attribute.
 abbrev pub Reads : Sitting → Sitting → ℕ → List ℕ → Attribute → List ℕ → List ℕ → ℕ → Type 0
 Reads s t node name told places filled code =
     ((e : Fault) × (code ≡ fault_code e) × IsNoName name e × (t ≡ s))
     ⊎ (HasRead s.knows t.knows × Shown (pinned_number s.knows.phase)
     (attribute (volume_pinned s.knows) node name) told places filled code)
 
--- what is there in the pinned version, if there is a pin, is shown: that of a name that is held
+-- the same of a name that is checked already
 abbrev pub ReadsHeld : Sitting → Sitting → ℕ → List ℕ → Attribute → List ℕ → List ℕ → ℕ → Type 0
 ReadsHeld s t node name told places filled code =
     HasRead s.knows t.knows × Shown (pinned_number s.knows.phase)
     (attribute (volume_pinned s.knows) node name) told places filled code
 
--- A name is checked and held; or the bytes are none, and what was held stays.
+-- A name is checked and kept. If the bytes are no name, the handle keeps what it had.
 abbrev pub HoldsName : List ℕ → HeldName → HeldName → ℕ → Type 0
 HoldsName bytes was held code =
     ((code ≡ 0) × (name_in held ≡ bytes) × (name_from bytes ≡ Ok bytes) × IsUtf8 bytes)
     ⊎ ((e : Fault) × (code ≡ fault_code e) × IsNoName bytes e × (held ≡ was))
 
--- What the pinned version has of nodes at names is told, if there is a pin, and if there are no
--- more than 2^32 cells to tell.
+-- The cells of nodes at names in the pinned version, if there is a pin and there are at most 2^32
+-- cells.
 abbrev pub TellsAtPin : Option ℕ → State → List ℕ → List (List ℕ) → List Cell → List Cell → List ℕ
     → List ℕ → ℕ → ℕ → Type 0
 TellsAtPin None volume nodes names cell_places cells places filled needed code = Refuses NotPinned
@@ -218,8 +219,8 @@ TellsAtPin (Some n) volume nodes names cell_places cells places filled needed co
     ((code ≡ 0) × TellsColumns volume nodes names cell_places cells places filled needed)
     ⊎ (Refuses BadCount needed code × (2 ^ 32 < length nodes * length names))
 
--- A list is put out as these operations: how many there are in a spelling of them, with how many
--- bytes, and of both as many as there are places; or memory was refused.
+-- A list is returned as these operations: how many operations their encoding has, and how many
+-- bytes, and up to as many of both as there are places. Or the call runs out of memory.
 abbrev pub IsPutOut : List Op → Counts → List Operation → List Operation → List ℕ → List ℕ → ℕ
     → Type 0
 IsPutOut ops counts places filled byte_places bytes code =
@@ -228,8 +229,8 @@ IsPutOut ops counts places filled byte_places bytes code =
     × (counts.operations ≡ length os) × (filled ≡ over os places) × (counts.bytes ≡ length bs)
     × (bytes ≡ over bs byte_places))
 
--- A list in the pinned version, if there is a pin: it is put out as the operations that would make
--- it; or why there is no list.
+-- A list in the pinned version, if there is a pin, returned as the operations that would make it.
+-- Or the reason why there is no list.
 abbrev pub Listed : {A : Type 0} → (A → Op) → Option ℕ → Result (List A) Refusal → Counts
     → List Operation → List Operation → List ℕ → List ℕ → ℕ → Type 0
 Listed makes None meant counts places filled byte_places bytes code = code ≡ 66
@@ -238,13 +239,13 @@ Listed makes (Some n) (Err why) counts places filled byte_places bytes code = (c
 Listed makes (Some n) (Ok list) counts places filled byte_places bytes code = IsPutOut
     (map makes list) counts places filled byte_places bytes code
 
--- why a text is no query, and what that carries
+-- why a text is no query, and what that error carries
 abbrev pub IsTextFault : List ℕ → Fault → ℕ → Type 0
 IsTextFault text e place = IsNoQuery text e × (place ≡ fault_carried e)
 
--- A query is prepared: an open handle stays as it was and answers 65; a closed one holds a query
--- that is meant here and was never refreshed, or stays closed where this fault says why. The number
--- that is put out goes with the fault, and else is 0.
+-- Preparing a query: an open handle stays as it was, and the call returns 65. A closed one gets a
+-- query that these bytes or items mean, which was never refreshed. It stays closed after an error.
+-- The number belongs to the error, and is 0 otherwise.
 abbrev pub Prepares : (Formula → Type 0) → (Fault → ℕ → Type 0) → Option PreparedQuery
     → Option PreparedQuery → ℕ → ℕ → Type 0
 Prepares is_meant is_fault (Some p) (Some q) place code = (code ≡ 65) × (q ≡ p) × (place ≡ 0)
@@ -267,8 +268,8 @@ Asked s p q places filled count code =
     × IsUnrefreshed (pinned_number s.knows.phase) (scan (volume_pinned s.knows) p.live.query)
     e))
 
--- An asking of a prepared query: its handle is closed and stays so, and then nothing has happened;
--- or it stays open, and is asked.
+-- Asking a prepared query. If its handle is closed, it stays closed, and nothing happens; otherwise
+-- it stays open, and the query is asked.
 abbrev pub AsksPrepared : Sitting → Sitting → Option PreparedQuery → Option PreparedQuery → List ℕ
     → List ℕ → ℕ → ℕ → Type 0
 AsksPrepared s t None None places filled count code = IsClosed count code × (t ≡ s)
@@ -284,8 +285,8 @@ ShowsFound None from places filled count code = IsClosed count code
 ShowsFound (Some p) from places filled count code = (code ≡ 0) × (count ≡ length p.found)
     × (filled ≡ over (drop from p.found) places)
 
--- A query was asked in the pinned version, and keeps which nodes came and which went: how many
--- these are is told; or it stays as it was.
+-- A query was asked in the pinned version, and keeps which nodes came and which went: the call
+-- returns how many they are. Or an error, and the query stays as it was.
 abbrev pub Refreshed : Sitting → PreparedQuery → PreparedQuery → UpdateCounts → ℕ → Type 0
 Refreshed s p q counts code =
     ((code ≡ 0) × (n : ℕ) × IsPinnedTo s.knows n
@@ -294,8 +295,8 @@ Refreshed s p q counts code =
     ⊎ ((e : Fault) × (code ≡ fault_code e) × (q ≡ p)
     × IsUnrefreshed (pinned_number s.knows.phase) (scan (volume_pinned s.knows) p.live.query) e)
 
--- A refresh of a prepared query: its handle is closed and stays so, and then nothing has happened;
--- or it stays open, and is refreshed.
+-- Refreshing a prepared query. If its handle is closed, it stays closed, and nothing happens;
+-- otherwise it stays open, and the query is refreshed.
 abbrev pub RefreshesPrepared : Sitting → Sitting → Option PreparedQuery → Option PreparedQuery
     → UpdateCounts → ℕ → Type 0
 RefreshesPrepared s t None None counts code = (code ≡ 64) × (t ≡ s)
@@ -304,7 +305,8 @@ RefreshesPrepared s t (Some p) None counts code = ⊥
 RefreshesPrepared s t (Some p) (Some q) counts code = HasRead s.knows t.knows
     × Refreshed s p q counts code
 
--- What came and what went at the last refresh is put out, of both as many as there are places.
+-- The nodes that came and the nodes that went at the last refresh, up to as many of each as there
+-- are places.
 abbrev pub ShowsChanges : Option PreparedQuery → List ℕ → List ℕ → List ℕ → List ℕ → ℕ → Type 0
 ShowsChanges None created_places created removed_places removed code = code ≡ 64
 ShowsChanges (Some p) created_places created removed_places removed code =
@@ -319,7 +321,7 @@ PrintsPrepared (Some p) places filled count code =
     ⊎ ((code ≡ 0) × (count ≡ length (or_text p.live.query))
     × (filled ≡ over (or_text p.live.query) places))
 
--- An entry of the journal, if there is one: its pass, and a spelling of its operations, in which
+-- An entry of the journal, if there is one: its pass, and an encoding of its operations, in which
 -- each that made a node has that node. The lengths of the operations and of their bytes are
 -- returned, and up to as many of each as there are places. If there is no entry, the lists stay as
 -- they were, and all three numbers are 0.
@@ -344,9 +346,9 @@ TellsEntry s t from by counts places filled byte_places bytes number code =
     bytes)
     ⊎ ((why : Refusal) × Refuses (Refused why) number code × IsUntold s.knows t.knows why))
 
--- The journal, as far as the pass has then seen it, is legal, and its text is told: how many bytes
--- it has, and as many of them as there are places, and the call's moves are a lock and an unlock.
--- Or why it isn't told, with what that carries.
+-- The journal, as far as the pass has then seen it, is legal. The call returns the length of its
+-- text, and up to as many of its bytes as there are places: its moves are a lock and an unlock. Or
+-- an error, with what it carries.
 abbrev pub TellsJournal : Sitting → Sitting → List ℕ → List ℕ → ℕ → ℕ → Type 0
 TellsJournal s t places filled count code =
     Learns s.knows t.knows × IsLegal (entries t.knows.seen)

@@ -1,4 +1,4 @@
--- What a handle owns, while it is lent.
+-- What a handle owns, while it is borrowed.
 use Rattle.std.specs.Prelude.{Some}
 use Rattle.std.specs.Borrow.{Lends, MutBor, Fml}
 use Rattle.be_session.specs.Prepared.{PreparedQuery}
@@ -7,31 +7,42 @@ use Rattle.be_session.specs.contracts.preparing.Prepared as prepared
 use Rattle.be_session.specs.contracts.session.Session as session
 use Rattle.be_session.specs.contracts.states.StatePlace as place
 use Rattle.be_session.specs.declared.states.StatePlace.{StatePlace}
+use Rattle.be_table.specs.Place.{WitnessFacts}
+use Rattle.be_table.specs.contracts.witness.Witness as witness
 use Rattle.bestore_c.specs.contracts.owned.Owned as owned
 use Rattle.bestore_c.specs.contracts.owned_place.OwnedPlace as owned_place
 use Rattle.bestore_c.specs.contracts.owned_query.OwnedQuery as owned_query
+use Rattle.bestore_c.specs.contracts.owned_witness.OwnedWitness as owned_witness
 use Rattle.bestore_c.specs.declared.owned.Owned.{Owned}
 use Rattle.bestore_c.specs.declared.owned_place.OwnedPlace.{OwnedPlace}
 use Rattle.bestore_c.specs.declared.owned_query.OwnedQuery.{OwnedQuery}
+use Rattle.bestore_c.specs.declared.owned_witness.OwnedWitness.{OwnedWitness}
 
 -- the owner with another value in place of the one that it lends
 abbrev pub with_session : Owned → Sitting → Owned
 with_session o s = record o { value = Some s }
 
--- what is owned ends with what the session became
+-- after the borrow the handle owns what the session has become
 abbrev pub LendsSession : MutBor Owned → MutBor Sitting → Fml
 LendsSession o s = Lends owned.the_row session.the_row o s (with_session o.now)
 
--- the same of a prepared query
+-- the same for a prepared query
 abbrev pub with_query : OwnedQuery → PreparedQuery → OwnedQuery
 with_query o p = record o { value = Some p }
 
 abbrev pub LendsQuery : MutBor OwnedQuery → MutBor PreparedQuery → Fml
 LendsQuery o p = Lends owned_query.the_row prepared.the_row o p (with_query o.now)
 
--- and of a place
+-- and for a place
 abbrev pub with_place : OwnedPlace → StatePlace → OwnedPlace
 with_place o p = record o { value = Some p }
 
 abbrev pub LendsPlace : MutBor OwnedPlace → MutBor StatePlace → Fml
 LendsPlace o p = Lends owned_place.the_row place.the_row o p (with_place o.now)
+
+-- and for a witness
+abbrev pub with_witness : OwnedWitness → WitnessFacts → OwnedWitness
+with_witness o w = record o { value = Some w }
+
+abbrev pub LendsWitness : MutBor OwnedWitness → MutBor WitnessFacts → Fml
+LendsWitness o w = Lends owned_witness.the_row witness.the_row o w (with_witness o.now)

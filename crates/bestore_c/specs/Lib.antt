@@ -4,3 +4,4 @@ pub mod Places
 pub mod Calls
 pub mod Usage
 pub mod States
+pub mod Witnesses

@@ -1,4 +1,4 @@
--- What is told of the operations that make a version again.
+-- What C gets of the operations that rebuild a version.
 use Rattle.std.specs.Prelude.{◌≡◌, ◌⊎◌, ◌≤◌, ◌<◌, ◌++◌, ℕ, List, [], length, None, Some}
 use Rattle.std.specs.declared.option.Option.{Option}
 use Rattle.be_session.specs.States.{untold}
@@ -10,17 +10,17 @@ use Rattle.be_volume.specs.declared.ops.Op.{Op}
 use Rattle.bestore_c.specs.Calls.{IsPutOut}
 use Rattle.bestore_c.specs.declared.handle.Counts.{Counts}
 
--- the operations of a volume that are still to be told: all of them where the handle of the place
--- is closed
+-- the operations of a volume that are still to be returned: all of them if the place's handle is
+-- closed
 abbrev pub untold_at : State → Option StatePlace → List Op
 untold_at volume None = state_ops volume
 untold_at volume (Some p) = untold volume p
 
--- a list that comes before the rest: 64 at most, and none only where nothing is left
+-- a list that comes before the rest: up to 64 operations, and empty only if the rest is empty, too
 abbrev pub IsNextList : List Op → List Op → Type 0
 IsNextList ops rest = (length ops ≤ 64) × (ops ≡ [] → rest ≡ [])
 
--- What is still to be told then: the rest where there was room for all of the list, and else the
+-- What is still to be returned then: the rest, if there was room for all of the list; otherwise the
 -- list once more, and the rest.
 abbrev pub StaysToTell : List Op → List Op → Counts → List Operation → List ℕ → List Op → Type 0
 StaysToTell ops rest counts places byte_places still =
@@ -28,8 +28,8 @@ StaysToTell ops rest counts places byte_places still =
     ⊎ (((length places < counts.operations) ⊎ (length byte_places < counts.bytes))
     × (still ≡ ops ++ rest))
 
--- Of operations that are still to be told the next list is put out; or memory was refused, and then
--- they are all still to be told.
+-- Returns the next list of the operations that are still to be returned. After running out of
+-- memory all of them are still to be returned.
 abbrev pub TellsNext : List Op → List Op → Counts → List Operation → List Operation → List ℕ
     → List ℕ → ℕ → Type 0
 TellsNext left still counts places filled byte_places bytes code =

@@ -1,4 +1,4 @@
--- What C is told of how full a store is.
+-- What C gets of how full a store is.
 use Rattle.std.specs.Prelude.{◌≡◌, ◌⊎◌, ℕ, false, true, Some, None}
 use Rattle.std.specs.declared.option.Option.{Option}
 use Rattle.be_session.specs.Sitting.{Sitting}
@@ -26,8 +26,8 @@ pub record Shows (s : Status) (u : Usage) : Type 0 where
   pub commits : u.commits ≡ s.commits
   pub oldest : ShowsOldest s.oldest u
 
--- How full the store is: what the store tells is put out; or another pass holds the lock, and is
--- named.
+-- How full the store is: the call returns what the store reports. Or another pass holds the lock,
+-- and the error names it.
 abbrev pub TellsUsage : Sitting → Sitting → Usage → ℕ → ℕ → Type 0
 TellsUsage s t usage number code =
     Learns s.knows t.knows

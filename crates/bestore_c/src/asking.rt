@@ -1,4 +1,4 @@
-//! What a query answered, or what is said of it, put out; and queries that are prepared.
+//! Results of queries and their explanations, written to C's places; and prepared queries.
 ghost use Rattle.std.specs.Prelude.{◌≡◌, ◌⊎◌, ℕ, List, IfErr, IfOk, false, length, string_bytes};
 ghost use Rattle.std.specs.Prelude.{true};
 ghost use Rattle.std.specs.declared.option.Option.{Option as AnyOption};
@@ -19,8 +19,8 @@ use be_query::Query;
 use be_session::{Fault, Prepared, Session, query_of};
 use std::alloc::Global;
 
-/// The query of this text, for a handle that is open; else what a call answers that did nothing,
-/// and the number that it puts out.
+/// The query of this text, if the handle is open. Otherwise returns the code of a call that did
+/// nothing, and writes the number that goes with it.
 pub(crate) fn query_for(
     alloc: Global,
     live: bool,
@@ -43,8 +43,8 @@ pub(crate) fn query_for(
     }
 }
 
-/// Puts out how many nodes a session found, and as many of them as there is room for; or what its
-/// fault carries. What that says of the version is known of what the session told.
+/// Writes how many nodes a session found, and as many of them as there is room for; or the number
+/// that its error carries. What this says of the version follows from the session's own contract.
 pub(crate) fn tell(answer: Result<Vec<u64>, Fault>, nodes: &mut [u64], count: &mut u64) -> u32
     ensures found { (pin : AnyOption ℕ) (meant : AnyResult (List ℕ) AnyRefusal)
         → AtPin pin answer (ReadAnswers (λ found. found.items) answer meant)
@@ -61,7 +61,7 @@ pub(crate) fn tell(answer: Result<Vec<u64>, Fault>, nodes: &mut [u64], count: &m
     }
 }
 
-/// Puts out how many bytes a text has, and as many of them as there is room for.
+/// Writes how many bytes a text has, and as many of them as there is room for.
 pub(crate) fn put_text(text: &str, bytes: &mut [u8], count: &mut u64)
     ensures count { count.new ≡ length text.now }
     ensures bytes { bytes.new ≡ over text.now bytes.old }
@@ -70,8 +70,8 @@ pub(crate) fn put_text(text: &str, bytes: &mut [u8], count: &mut u64)
     put(bytes, text.as_bytes());
 }
 
-/// Puts out how many bytes a text of a session's has, and as many of them as there is room for;
-/// else as `tell`.
+/// Writes how many bytes a session's text has, and as many of them as there is room for. Otherwise
+/// as `tell`.
 pub(crate) fn tell_text(answer: Result<String, Fault>, bytes: &mut [u8], count: &mut u64) -> u32
     ensures found { (pin : AnyOption ℕ) (meant : AnyResult (List ℕ) AnyRefusal)
         → AtPin pin answer (ReadAnswers string_bytes answer meant)
@@ -113,7 +113,7 @@ pub(crate) fn find_prepared(
     }
 }
 
-/// Refreshes a prepared query in the session's pinned version, and puts out how many nodes came and
+/// Refreshes a prepared query in the session's pinned version, and writes how many nodes came and
 /// how many went.
 pub(crate) fn refresh_prepared(
     session: &mut Session,

@@ -4,6 +4,7 @@ ghost use Rattle.std.specs.Prelude.{◌≡◌, is_some};
 use crate::owned::Owned;
 use crate::owned_place::OwnedPlace;
 use crate::owned_query::OwnedQuery;
+use crate::owned_witness::OwnedWitness;
 use be_session::sent;
 
 /// What C holds for one pass: closed, or open with a session. Zero bytes are a closed one.
@@ -25,13 +26,22 @@ pub struct PreparedHandle {
     ghost full: { live ≡ is_some owned.value },
 }
 
-/// What C holds of how far a version's operations were told: closed, before the first of them, or
-/// open with the place. Zero bytes are a closed one.
+/// What C holds of how far a version's operations were returned: closed, before the first of them,
+/// or open with the place. Zero bytes are a closed one.
 #[repr(C)]
 #[derive(Drop)]
 pub struct PlaceHandle {
     pub live: bool,
     pub owned: OwnedPlace,
+    ghost full: { live ≡ is_some owned.value },
+}
+
+/// What C holds of a witness: closed, or open with the witness. Zero bytes are a closed one.
+#[repr(C)]
+#[derive(Drop)]
+pub struct WitnessHandle {
+    pub live: bool,
+    pub owned: OwnedWitness,
     ghost full: { live ≡ is_some owned.value },
 }
 
@@ -42,8 +52,15 @@ pub fn may_move(pass: Handle) -> Handle
     sent(pass)
 }
 
-/// What C is told of a value: its type code, its length in bytes, and the number that it is, or 0.
-/// A signed number is in two's complement.
+/// The same of the handle of a witness.
+pub fn witness_may_move(witness: WitnessHandle) -> WitnessHandle
+    ensures { result ≡ witness }
+{
+    sent(witness)
+}
+
+/// What C gets of a value: its type code, its length in bytes, and the number that it is, or 0. A
+/// signed number is in two's complement.
 #[repr(C)]
 #[derive(Clone, Copy)]
 pub struct Attribute {
@@ -52,7 +69,7 @@ pub struct Attribute {
     pub number: u64,
 }
 
-/// How many operations a list is told as, and how many bytes their parts are in.
+/// How many operations a returned list has, and how many bytes their parts take.
 #[repr(C)]
 #[derive(Clone, Copy)]
 pub struct Counts {

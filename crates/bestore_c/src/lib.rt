@@ -1,8 +1,8 @@
 //! The store for programs in C: `include/bestore.h` declares what is exported here.
 //!
-//! Each export takes a handle that its caller owns, asks the session in it, and answers a number:
-//! 0, that of a refusal or of a fault, or 64 and 65, which are the handle's own. None has a
-//! `requires`.
+//! Each export takes a handle that its caller owns, calls the session in it, and returns a number:
+//! 0, the number of a refusal or of another error, or 64 and 65, which are the handle's own. Only
+//! `bes_join` has a `requires`: its witness is one of the pass's store.
 #![tactic(auto)]
 
 ghost use Rattle.std.specs.Prelude.{◌≡◌, ◌⊎◌, ◌+◌, None, Ok, length, map};
@@ -27,6 +27,7 @@ ghost use Rattle.bestore_c.specs.Calls.{HoldsName, ReadsHeld, ShowsChanges, Tell
 ghost use Rattle.bestore_c.specs.Calls.{TellsJournal, TellsNumber, WritesSpelled, WritesSpelledIf};
 ghost use Rattle.bestore_c.specs.States.{TellsState, untold_at};
 ghost use Rattle.bestore_c.specs.Usage.{TellsUsage};
+ghost use Rattle.bestore_c.specs.Witnesses.{AreOfOneStore, JoinsWitness, Vouches};
 
 mod asking;
 mod entries;
@@ -36,6 +37,7 @@ mod loose;
 mod owned;
 mod owned_place;
 mod owned_query;
+mod owned_witness;
 mod places;
 mod reading;
 mod refusing;
@@ -49,11 +51,14 @@ use be_session::{
 };
 use be_store::{ArrayVec, Cell, HeldName, Limits};
 use entries::tell_entry;
-use handle::{Attribute, Counts, Handle, PlaceHandle, PreparedHandle, UpdateCounts, Usage};
+use handle::{
+    Attribute, Counts, Handle, PlaceHandle, PreparedHandle, UpdateCounts, Usage, WitnessHandle,
+};
 use listing::{tell_attributes, tell_indices};
 use owned::Owned;
 use owned_place::OwnedPlace;
 use owned_query::OwnedQuery;
+use owned_witness::OwnedWitness;
 use places::{from_on, put, put_nodes};
 use reading::read;
 use refusing::{refuse, refuse_list};
@@ -62,19 +67,19 @@ use std::alloc::Global;
 use std::mem;
 use telling::usage_of;
 
-/// The number that says that a call did what it should.
+/// The number of a call without an error.
 const DONE: u32 = 0;
 
 const NO_MEMORY: u32 = 10;
 
-/// The handle holds nothing.
+/// The handle is closed.
 pub(crate) const CLOSED: u32 = 64;
 
 /// The handle that is to be opened is open.
 const OPEN: u32 = 65;
 
-/// The version of the library: of 0.2.0 it is 2,000, a million for each first number and a thousand
-/// for each second.
+/// The version of the library: 2,000 for 0.2.0, a million for each first number and a thousand for
+/// each second.
 #[unsafe(no_mangle)]
 pub extern "C" fn bes_version() -> u32
     ensures { result ≡ 2000 }
@@ -161,8 +166,8 @@ pub extern "C" fn bes_move(alloc: Global, pass: &mut Handle, other: &mut Handle)
     DONE
 }
 
-/// Closes the handle. Its pass goes back to the store with the pin given up, and the store goes
-/// with its last handle.
+/// Closes the handle. It releases the pin and gives the pass back to the store. The store goes with
+/// its last handle.
 #[unsafe(no_mangle)]
 pub extern "C" fn bes_close(alloc: Global, pass: &mut Handle) -> u32
     ensures closed { pass.new.owned.value ≡ None }
@@ -177,7 +182,8 @@ pub extern "C" fn bes_close(alloc: Global, pass: &mut Handle) -> u32
     DONE
 }
 
-/// Meets a pass that was given back: both have then seen what either had. Returns how much that is.
+/// Meets a pass that was given back: both have then seen what either had. Returns the length of
+/// that.
 #[unsafe(no_mangle)]
 pub extern "C" fn bes_meet(pass: &mut Handle, seen: &mut u64) -> u32
     ensures pass { Calls pass.old.owned.value pass.new.owned.value (IsClosed seen.new result)
@@ -195,6 +201,93 @@ pub extern "C" fn bes_meet(pass: &mut Handle, seen: &mut u64) -> u32
         }
         Err(fault) => refuse(fault, seen),
     }
+}
+
+/// Opens the handle with a witness of what the pass has seen.
+#[unsafe(no_mangle)]
+pub extern "C" fn bes_witness_of(
+    alloc: Global,
+    pass: &mut Handle,
+    witness: &mut WitnessHandle,
+) -> u32
+    ensures pass { Calls pass.old.owned.value pass.new.owned.value
+        ((result ≡ 64) × (witness.new.owned.value ≡ witness.old.owned.value))
+        (λ s t. Vouches s t witness.old.owned.value witness.new.owned.value result) }
+{
+    if !pass.live {
+        return CLOSED;
+    }
+    if witness.live {
+        return OPEN;
+    }
+    match Box::new(alloc, pass.owned.lent().witness()) {
+        Ok(made) => {
+            *witness = WitnessHandle {
+                live: true,
+                owned: OwnedWitness::of(made),
+            };
+            DONE
+        }
+        Err(_) => NO_MEMORY,
+    }
+}
+
+/// The pass and the witness have then both seen what either had. Returns the length of that.
+#[unsafe(no_mangle)]
+pub extern "C" fn bes_join(pass: &mut Handle, witness: &mut WitnessHandle, seen: &mut u64) -> u32
+    requires { AreOfOneStore pass.old.owned.value witness.old.owned.value }
+    ensures pass { Calls pass.old.owned.value pass.new.owned.value
+        (IsClosed seen.new result × (witness.new.owned.value ≡ witness.old.owned.value))
+        (λ s t. JoinsWitness s t witness.old.owned.value witness.new.owned.value seen.new result) }
+{
+    *seen = 0;
+    if !pass.live {
+        return CLOSED;
+    }
+    if !witness.live {
+        return CLOSED;
+    }
+    *seen = pass.owned.lent().join(witness.owned.lent());
+    DONE
+}
+
+/// Moves what the handle of a witness holds into one that is closed, and closes it.
+#[unsafe(no_mangle)]
+pub extern "C" fn bes_move_witness(
+    alloc: Global,
+    witness: &mut WitnessHandle,
+    other: &mut WitnessHandle,
+) -> u32
+    ensures { MovesHandle witness.old.owned.value other.old.owned.value witness.new.owned.value
+        other.new.owned.value result }
+{
+    if !witness.live {
+        return CLOSED;
+    }
+    if other.live {
+        return OPEN;
+    }
+    let closed = WitnessHandle {
+        live: false,
+        owned: OwnedWitness::none(alloc),
+    };
+    *other = mem::replace(witness, closed);
+    DONE
+}
+
+/// Closes the handle of a witness.
+#[unsafe(no_mangle)]
+pub extern "C" fn bes_dismiss(alloc: Global, witness: &mut WitnessHandle) -> u32
+    ensures closed { witness.new.owned.value ≡ None }
+    ensures answer { AnswersWhetherOpen witness.old.owned.value result }
+{
+    if !witness.live {
+        return CLOSED;
+    }
+    let dismissed = mem::replace(&mut witness.owned, OwnedWitness::none(alloc)).into_box();
+    witness.live = false;
+    drop(dismissed);
+    DONE
 }
 
 /// Pins the current version, and returns its number.
@@ -217,7 +310,7 @@ pub extern "C" fn bes_pin(pass: &mut Handle, number: &mut u64) -> u32
     }
 }
 
-/// Gives the pin up.
+/// Releases the pin.
 #[unsafe(no_mangle)]
 pub extern "C" fn bes_unpin(pass: &mut Handle) -> u32
     ensures pass { Calls pass.old.owned.value pass.new.owned.value (result ≡ 64)
@@ -268,8 +361,8 @@ pub extern "C" fn bes_apply(
     }
 }
 
-/// Writes as `bes_apply` does if the journal has `expected` entries, and otherwise nothing: then
-/// its length goes with the answer.
+/// Writes as `bes_apply` does if the journal has `expected` entries. Otherwise it writes nothing
+/// and returns the length that it found.
 #[unsafe(no_mangle)]
 pub extern "C" fn bes_apply_if(
     alloc: Global,
@@ -339,9 +432,9 @@ pub extern "C" fn bes_next(pass: &mut Handle, node: &mut u64) -> u32
     }
 }
 
-/// Returns one entry of the journal, that of an index from 0: by which pass it is, and its
-/// operations, each that made a node with that node, as much as there is room for. At the journal's
-/// end there are none. Returns the journal's length in `number`.
+/// Returns one entry of the journal, by its index from 0: its pass and its operations, each that
+/// made a node with that node, as much as there is room for. At the journal's end there are none.
+/// Returns the journal's length in `number`.
 #[unsafe(no_mangle)]
 pub extern "C" fn bes_journal_from(
     alloc: Global,
@@ -421,8 +514,8 @@ pub extern "C" fn bes_query_items(
     tell(answer, nodes, count)
 }
 
-/// Says what the query of this text would be answered from in the pinned version. Returns how many
-/// bytes that text has, and as many of them as there is room for.
+/// Returns the index cover from which the query of this text would be answered in the pinned
+/// version, as a text: how many bytes it has, and as many of them as there is room for.
 #[unsafe(no_mangle)]
 pub extern "C" fn bes_explain(
     alloc: Global,
@@ -511,7 +604,7 @@ pub extern "C" fn bes_get(
     }
 }
 
-/// Checks a name, and holds it for the calls that take it.
+/// Checks a name, and keeps it for the calls that take it.
 #[unsafe(no_mangle)]
 pub extern "C" fn bes_check_name(name_bytes: &[u8], held: &mut HeldName) -> u32
     ensures { HoldsName name_bytes.now held.old held.new result }
@@ -525,7 +618,8 @@ pub extern "C" fn bes_check_name(name_bytes: &[u8], held: &mut HeldName) -> u32
     }
 }
 
-/// Reads a node's attribute in the pinned version by a name that is held, as `bes_get` does.
+/// Reads a node's attribute in the pinned version by a name that is checked already, as `bes_get`
+/// does.
 #[unsafe(no_mangle)]
 pub extern "C" fn bes_get_named(
     pass: &mut Handle,
@@ -575,7 +669,7 @@ pub extern "C" fn bes_columns(
 }
 
 /// Lists a node's attributes in the pinned version, as the operations that set them. Returns how
-/// many they are, and how many bytes their parts are in, and of both as much as there is room for.
+/// many they are and how many bytes their parts take, and of both as much as there is room for.
 #[unsafe(no_mangle)]
 pub extern "C" fn bes_attributes(
     alloc: Global,
@@ -599,7 +693,7 @@ pub extern "C" fn bes_attributes(
     tell_attributes(alloc, node, answer, counts, listed, bytes)
 }
 
-/// Lists the indices of the pinned version, as the operations that make them; else as
+/// Lists the indices of the pinned version, as the operations that make them. Otherwise as
 /// `bes_attributes`.
 #[unsafe(no_mangle)]
 pub extern "C" fn bes_indices(
@@ -623,9 +717,9 @@ pub extern "C" fn bes_indices(
     tell_indices(alloc, answer, counts, listed, bytes)
 }
 
-/// Returns the next operations that make the pinned version again, 64 at most and none after the
-/// last, with how many they are, and how many bytes their parts are in, and of both as much as
-/// there is room for: where that is all, the place goes behind them.
+/// Returns the next operations that rebuild the pinned version, up to 64, and none after the last.
+/// It returns how many they are and how many bytes their parts take, and of both as much as there
+/// is room for. If there is room for all of it, the place moves after them.
 #[unsafe(no_mangle)]
 pub extern "C" fn bes_state(
     alloc: Global,
@@ -660,7 +754,7 @@ pub extern "C" fn bes_state(
     )
 }
 
-/// Closes the handle of a place: it stands before the first operation again.
+/// Closes the handle of a place: it is before the first operation again.
 #[unsafe(no_mangle)]
 pub extern "C" fn bes_leave(alloc: Global, place: &mut PlaceHandle) -> u32
     ensures closed { place.new.owned.value ≡ None }
@@ -730,8 +824,8 @@ pub extern "C" fn bes_prepare_items(
     }
 }
 
-/// Returns the canonical text of a prepared query. Returns how many bytes it has, and as many of
-/// them as there is room for.
+/// Returns the canonical text of a prepared query: how many bytes it has, and as many of them as
+/// there is room for.
 #[unsafe(no_mangle)]
 pub extern "C" fn bes_prepared_text(
     alloc: Global,
@@ -870,7 +964,7 @@ pub extern "C" fn bes_found(
 }
 
 /// Refreshes a prepared query in the pinned version. Returns how many nodes came since its last
-/// refresh, and how many went; `bes_changes` tells which.
+/// refresh, and how many went; `bes_changes` returns which.
 #[unsafe(no_mangle)]
 pub extern "C" fn bes_refresh(
     pass: &mut Handle,
@@ -914,8 +1008,8 @@ pub extern "C" fn bes_changes(
     DONE
 }
 
-/// Returns the journal's text up to now. Returns how many bytes it has, and as many of them as
-/// there is room for.
+/// Returns the journal's text up to now: how many bytes it has, and as many of them as there is
+/// room for.
 #[unsafe(no_mangle)]
 pub extern "C" fn bes_journal(pass: &mut Handle, bytes: &mut [u8], count: &mut u64) -> u32
     ensures pass { Calls pass.old.owned.value pass.new.owned.value (IsClosed count.new result)

@@ -1,4 +1,4 @@
-//! Lists, put out as the operations that would make them.
+//! Lists, returned as the operations that would make them.
 ghost use Rattle.std.specs.Prelude.{◌≡◌, ◌⊎◌, ℕ, List, IfOk, IfErr, length};
 ghost use Rattle.std.specs.declared.option.Option.{Option as AnyOption};
 ghost use Rattle.std.specs.declared.result.Result.{Result as AnyResult};
@@ -19,7 +19,7 @@ use be_session::{Fault, Operation, Spelling, attributes_spelled, indices_spelled
 use be_store::{Kind, Name, Value};
 use std::alloc::Global;
 
-/// Puts out how many operations a spelling has and how many bytes, and of both as many as there is
+/// Writes how many operations an encoding has and how many bytes, and as many of both as there is
 /// room for.
 pub(crate) fn put_spelling(
     spelling: &Spelling,
@@ -40,7 +40,7 @@ pub(crate) fn put_spelling(
     put(bytes, spelling.bytes.as_slice());
 }
 
-/// Puts out operations that are spelled, as far as there is room.
+/// Writes encoded operations, as far as there is room.
 fn put_spelled(
     spelled: Result<Spelling, Fault>,
     counts: &mut Counts,
@@ -63,8 +63,8 @@ fn put_spelled(
     }
 }
 
-/// Puts out a node's attributes, as far as there is room. What that says of the version is known of
-/// what the session told.
+/// Writes a node's attributes, as far as there is room. What this says of the version follows from
+/// the session's own contract.
 pub(crate) fn tell_attributes(
     alloc: Global,
     node: u64,
@@ -89,7 +89,7 @@ pub(crate) fn tell_attributes(
     }
 }
 
-/// Puts out the indices, as far as there is room.
+/// Writes the indices, as far as there is room.
 pub(crate) fn tell_indices(
     alloc: Global,
     answer: Result<Vec<(Name, Kind)>, Fault>,

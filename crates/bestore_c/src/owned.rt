@@ -30,7 +30,7 @@ impl Owned {
     ghost use Rattle.std.specs.Borrow.{sem};
     ghost use Rattle.bestore_c.specs.Lent.{LendsSession};
 
-    /// The session that is owned, lent: what becomes of it is what is owned then.
+    /// Borrows the owned session. What it has become at the borrow's end is owned then.
     pub fn lent(&mut self) -> &mut Session
         requires { is_some self.old.value ≡ true }
         ensures* writes_back { sem 𝓛 (LendsSession self.entry result) }
@@ -39,6 +39,7 @@ impl Owned {
         unsafe { &mut *(self.at as *mut Session) }
     }
 
+    /// Owns nothing: a null pointer.
     pub fn none(alloc: Global) -> Owned
         ensures { result.value ≡ None }
     {
@@ -69,12 +70,14 @@ impl Owned {
         }
     }
 
+    /// Owns this session, whose box becomes a pointer.
     pub fn of(session: Box<Session, Global>) -> Owned
         ensures { result.value ≡ Some session.value }
     {
         Owned::of_loose(Loose::of(session))
     }
 
+    /// The owned session in its box again.
     pub fn into_box(self) -> Box<Session, Global>
         requires { is_some self.value ≡ true }
         ensures { self.value ≡ Some result.value }

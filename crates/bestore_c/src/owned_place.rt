@@ -29,7 +29,7 @@ impl OwnedPlace {
     ghost use Rattle.std.specs.Borrow.{sem};
     ghost use Rattle.bestore_c.specs.Lent.{LendsPlace};
 
-    /// The place that is owned, lent: what becomes of it is what is owned then.
+    /// Borrows the owned place. What it has become at the borrow's end is owned then.
     pub fn lent(&mut self) -> &mut StatePlace
         requires { is_some self.old.value ≡ true }
         ensures* writes_back { sem 𝓛 (LendsPlace self.entry result) }
@@ -38,6 +38,7 @@ impl OwnedPlace {
         unsafe { &mut *(self.at as *mut StatePlace) }
     }
 
+    /// Owns nothing: a null pointer.
     pub fn none(alloc: Global) -> OwnedPlace
         ensures { result.value ≡ None }
     {
@@ -68,12 +69,14 @@ impl OwnedPlace {
         }
     }
 
+    /// Owns this place, whose box becomes a pointer.
     pub fn of(place: Box<StatePlace, Global>) -> OwnedPlace
         ensures { result.value ≡ Some place.value }
     {
         OwnedPlace::of_loose(Loose::of(place))
     }
 
+    /// The owned place in its box again.
     pub fn into_box(self) -> Box<StatePlace, Global>
         requires { is_some self.value ≡ true }
         ensures { self.value ≡ Some result.value }

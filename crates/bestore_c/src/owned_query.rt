@@ -31,7 +31,7 @@ impl OwnedQuery {
     ghost use Rattle.std.specs.Borrow.{sem};
     ghost use Rattle.bestore_c.specs.Lent.{LendsQuery};
 
-    /// The query that is owned, lent: what becomes of it is what is owned then.
+    /// Borrows the owned query. What it has become at the borrow's end is owned then.
     pub fn lent(&mut self) -> &mut Prepared
         requires { is_some self.old.value ≡ true }
         ensures* writes_back { sem 𝓛 (LendsQuery self.entry result) }
@@ -40,6 +40,7 @@ impl OwnedQuery {
         unsafe { &mut *(self.at as *mut Prepared) }
     }
 
+    /// Owns nothing: a null pointer.
     pub fn none(alloc: Global) -> OwnedQuery
         ensures { result.value ≡ None }
     {
@@ -70,12 +71,14 @@ impl OwnedQuery {
         }
     }
 
+    /// Owns this query, whose box becomes a pointer.
     pub fn of(prepared: Box<Prepared, Global>) -> OwnedQuery
         ensures { result.value ≡ Some prepared.value }
     {
         OwnedQuery::of_loose(Loose::of(prepared))
     }
 
+    /// The owned query in its box again.
     pub fn into_box(self) -> Box<Prepared, Global>
         requires { is_some self.value ≡ true }
         ensures { self.value ≡ Some result.value }

@@ -1,7 +1,7 @@
-//! An attribute that is read, put out.
+//! Reads an attribute into C's places.
 //!
-//! The bytes of a value go from its page to the caller's places. That there is a pin is tested
-//! first, so that no answer but the store's own is left to be joined with it.
+//! The bytes of a value go from its page to the caller's places. The pin is tested first, so that
+//! only the store's own answer is left to be joined with it.
 ghost use Rattle.std.specs.Prelude.{◌≡◌, ◌⊎◌};
 ghost use Rattle.be_paged.specs.Cells.{name_in};
 ghost use Rattle.be_store.specs.Passes.{HasRead, volume_pinned};
@@ -16,7 +16,7 @@ use be_store::{Cell, HeldName};
 /// No attribute of this name: the refusal's number.
 const NO_ATTRIBUTE: u32 = 3;
 
-/// What C is told of a value, by its cell.
+/// What C gets of a value, from its cell.
 fn told_of(cell: Cell) -> Attribute
     ensures { result ≡ record { code = cell.code; length = cell.length; number = cell.number } }
 {
@@ -27,7 +27,7 @@ fn told_of(cell: Cell) -> Attribute
     }
 }
 
-/// Reads an attribute in the session's pinned version, and shows its value.
+/// Reads an attribute in the session's pinned version, and writes its value.
 pub(crate) fn read(
     session: &mut Session,
     node: u64,

@@ -1,4 +1,4 @@
-//! The operations that make a version again, put out list by list.
+//! The operations that rebuild a version, returned list by list.
 ghost use Rattle.std.specs.Prelude.{◌≡◌, ◌⊎◌, ◌≤◌, [], OnOk, length, true};
 ghost use Rattle.be_store.specs.Passes.{HasRead, volume_pinned};
 ghost use Rattle.be_session.specs.States.{untold, waiting};
@@ -12,7 +12,7 @@ use crate::owned_place::OwnedPlace;
 use be_session::{Operation, Session, StatePlace};
 use std::alloc::{AllocError, Global};
 
-/// Opens the handle of a place where it is closed.
+/// Opens the handle of a place if it is closed.
 pub(crate) fn begin(alloc: Global, place: &mut PlaceHandle) -> Result<(), AllocError>
     ensures same { (volume : State) → untold_at volume place.new.owned.value
         ≡ untold_at volume place.old.owned.value }
@@ -33,8 +33,8 @@ pub(crate) fn begin(alloc: Global, place: &mut PlaceHandle) -> Result<(), AllocE
     }
 }
 
-/// Puts out what is ready to be told at a place, as far as there is room. Where that is all, it is
-/// told now.
+/// Writes the operations that are ready at a place, as far as there is room. If there is room for
+/// all of them, they count as returned.
 fn tell_ready(
     alloc: Global,
     place: &mut StatePlace,
@@ -58,7 +58,7 @@ fn tell_ready(
     }
 }
 
-/// Puts out the next list of the operations that make the session's pinned version again, as far as
+/// Writes the next list of the operations that rebuild the session's pinned version, as far as
 /// there is room.
 pub(crate) fn tell_state(
     alloc: Global,

@@ -1,11 +1,11 @@
-//! How full a store is, put out.
+//! How full a store is, as C gets it.
 ghost use Rattle.std.specs.Prelude.{◌≡◌};
 ghost use Rattle.bestore_c.specs.Usage.{Shows};
 
 use crate::handle::Usage;
 use be_store::Status;
 
-/// The figures of a store, with a flag in the place of what may be missing.
+/// The figures of a store, with a flag in place of a value that may be missing.
 pub(crate) fn usage_of(status: &Status) -> Usage
     ensures { Shows status.now result }
 {

@@ -117,6 +117,8 @@ handles! {
     bes_prepared, BES_PREPARED_INIT;
     /// A place in the operations that make a snapshot again.
     bes_place, BES_PLACE_INIT;
+    /// What a pass has seen, for a pass of the same store in another thread.
+    bes_witness, BES_WITNESS_INIT;
 }
 
 /// An operation, whose name and value lie in the bytes that go with all operations of a batch.
@@ -208,6 +210,11 @@ extern "C" {
     pub fn bes_move(pass: *mut bes_pass, other: *mut bes_pass) -> u32;
     pub fn bes_close(pass: *mut bes_pass) -> u32;
     pub fn bes_meet(pass: *mut bes_pass, seen: *mut u64) -> u32;
+    pub fn bes_witness_of(pass: *mut bes_pass, witness: *mut bes_witness) -> u32;
+    /// The witness is one of a pass of the same store: otherwise the behaviour is undefined.
+    pub fn bes_join(pass: *mut bes_pass, witness: *mut bes_witness, seen: *mut u64) -> u32;
+    pub fn bes_dismiss(witness: *mut bes_witness) -> u32;
+    pub fn bes_move_witness(witness: *mut bes_witness, other: *mut bes_witness) -> u32;
     pub fn bes_number(pass: *mut bes_pass, number: *mut u64) -> u32;
     pub fn bes_pin(pass: *mut bes_pass, number: *mut u64) -> u32;
     pub fn bes_unpin(pass: *mut bes_pass) -> u32;

@@ -61,6 +61,8 @@ pub enum Error {
     BadLimits,
     /// Each pass of the store is in use.
     NoPass,
+    /// The witness is of a pass of another store.
+    OtherStore,
     /// A batch has not 1 to 64 operations.
     BadCount {
         /// How many it has.
@@ -201,7 +203,7 @@ impl Error {
             Error::Unexpected { code, .. } => *code,
             Error::InVolume { error, .. } => return error.code(),
             Error::NoVolume { .. } | Error::OtherVolume { .. } => return None,
-            Error::PartialIndex { .. } | Error::NodesSpent => return None,
+            Error::PartialIndex { .. } | Error::NodesSpent | Error::OtherStore => return None,
             Error::KindMismatch { .. } | Error::BadBatch { .. } => return None,
             Error::Forked | Error::Other(_) => return None,
             #[cfg(feature = "saved")]
@@ -318,6 +320,7 @@ impl Error {
             Error::OutOfMemory => "out of memory",
             Error::BadLimits => "a limit is out of its range",
             Error::NoPass => "each pass is in use",
+            Error::OtherStore => "the witness is of another store",
             Error::Forked => "the handle belongs to the parent of this process",
             Error::NodesSpent => "the next node is too great for a volume of a shelf",
             _ => "unknown error",

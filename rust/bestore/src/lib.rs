@@ -84,7 +84,7 @@ pub use batch::{Batch, Operation, Operations};
 pub use change::Change;
 pub use error::{Error, QueryError, QueryFault, Result};
 pub use journal::{Entries, Entry};
-pub use pass::{Keeper, Oldest, Pass, Retry, Status, Written};
+pub use pass::{Keeper, Oldest, Pass, Retry, Status, Witness, Written};
 pub use predicate::{attribute, Attribute, Operand, Predicate};
 pub use prepared::{Live, Prepared, Updates};
 pub use shelf::{

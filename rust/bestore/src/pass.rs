@@ -1,6 +1,6 @@
 //! Passes: one thread's handle on a store.
 
-use crate::raw::{Answer, RawPass};
+use crate::raw::{Answer, RawPass, RawWitness};
 use crate::{Batch, Change, Entries, Error, Kind, Result, Snapshot, Value};
 use bestore_sys as sys;
 use std::fmt;
@@ -65,6 +65,28 @@ pub struct Written {
     /// The nodes that it made, in the order of the operations.
     pub nodes: Vec<u64>,
 }
+
+/// What a pass has seen of its store, for a pass of the same store in another thread: [`Pass::witness`] makes one, and
+/// [`Pass::join`] joins it. It may go to another thread, and isn't shared.
+///
+/// ```
+/// use bestore::{Batch, Limits, Store};
+/// use std::{sync::mpsc, thread};
+///
+/// let store = Store::open(Limits::default())?;
+/// let (writer, mut reader) = (store.pass()?, store.pass()?);
+/// let (send, receive) = mpsc::channel();
+/// thread::spawn(move || {
+///     let number = writer.apply(Batch::new().new_node()).unwrap().number;
+///     send.send((number, writer.witness().unwrap())).unwrap();
+/// });
+/// let (number, mut witness) = receive.recv().unwrap();
+/// reader.join(&mut witness)?;
+/// assert!(reader.pin()?.number() >= number);
+/// # Ok::<(), bestore::Error>(())
+/// ```
+#[derive(Debug)]
+pub struct Witness(RawWitness);
 
 /// How full a store is.
 #[derive(Clone, Copy, Debug, PartialEq, Eq)]
@@ -431,5 +453,24 @@ impl Pass {
     /// [`Error::NoPass`]: no pass waits to be met, or another thread is meeting it. [`Error::Forked`].
     pub fn meet(&self) -> Result<u64> {
         Ok(self.raw.meet()?)
+    }
+
+    /// A witness of all entries of the journal that the pass has seen so far, its own among them. Send it to another thread, whose
+    /// pass joins it.
+    ///
+    /// # Errors
+    /// [`Error::OutOfMemory`], [`Error::Forked`].
+    pub fn witness(&self) -> Result<Witness> {
+        Ok(Witness(self.raw.witness()?))
+    }
+
+    /// Joins a witness: the pass and the witness have then both seen what either had. So each later snapshot of the pass includes
+    /// all that the witness's pass had seen, and each later commit number of the pass is greater than those. Returns how many
+    /// entries of the journal both have seen.
+    ///
+    /// # Errors
+    /// [`Error::OtherStore`] if the witness is of a pass of another store; [`Error::Forked`].
+    pub fn join(&self, witness: &mut Witness) -> Result<u64> {
+        self.raw.join(&mut witness.0)?.ok_or(Error::OtherStore)
     }
 }

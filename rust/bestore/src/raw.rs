@@ -4,7 +4,8 @@
 //! - a pointer to a handle is one of `Handle`, which keeps the handle at one address until it closes it;
 //! - a handle takes one call at a time: `Handle` isn't `Sync`, and no call of the library calls back;
 //! - a slice has a pointer that isn't null, even with a length of 0;
-//! - of a list the library writes as many items as it counts, up to the room that it is given.
+//! - of a list the library writes as many items as it counts, up to the room that it is given;
+//! - a pass and a witness have the number of their store, and are joined only if it is the same.
 #![allow(unsafe_code)]
 #![deny(unsafe_op_in_unsafe_fn)]
 
@@ -14,7 +15,7 @@ use std::marker::PhantomData;
 use std::ptr::NonNull;
 use std::sync::atomic::{AtomicU64, Ordering};
 use std::sync::Once;
-use sys::{bes_counts, bes_operation, bes_pass, bes_place, bes_prepared};
+use sys::{bes_counts, bes_operation, bes_pass, bes_place, bes_prepared, bes_witness};
 
 /// The code of a call in a forked child, which no call of the library returns.
 pub(crate) const FORKED: u32 = u32::MAX;
@@ -107,7 +108,9 @@ macro_rules! close_by {
     )*};
 }
 
-close_by!(bes_pass by bes_close, bes_prepared by bes_release, bes_place by bes_leave);
+close_by!(
+    bes_pass by bes_close, bes_prepared by bes_release, bes_place by bes_leave, bes_witness by bes_dismiss
+);
 
 /// A handle at one address, which is closed at the end. In a forked child it is dead, and is left as it is.
 #[derive(Debug)]
@@ -235,30 +238,35 @@ fn found(room: &Cell<usize>, call: impl FnMut(*mut u64, usize, &mut u64) -> u32)
     Ok(nodes)
 }
 
+/// How many stores this process has tried to open.
+static STORES: AtomicU64 = AtomicU64::new(0);
+
 /// A pass of a store.
 #[derive(Debug)]
 pub(crate) struct RawPass {
     handle: Handle<bes_pass>,
+    store: u64,
     room: Cell<usize>,
 }
 
 impl RawPass {
-    fn new() -> Self {
+    fn new(store: u64) -> Self {
         Self {
             handle: Handle::new(),
+            store,
             room: Cell::new(NODES),
         }
     }
 
     pub(crate) fn open(pages: u64, passes: u64, commits: u64) -> Answer<Self> {
-        let pass = Self::new();
+        let pass = Self::new(STORES.fetch_add(1, Ordering::Relaxed));
         // SAFETY: as the module says.
         let code = unsafe { sys::bes_open(pages, passes, commits, pass.handle.get()?) };
         check(code, 0).map(|()| pass)
     }
 
     pub(crate) fn another(&self) -> Answer<Self> {
-        let other = Self::new();
+        let other = Self::new(self.store);
         // SAFETY: as the module says; the handles are two.
         let code = unsafe { sys::bes_another(self.handle.get()?, other.handle.get()?) };
         check(code, 0).map(|()| other)
@@ -278,6 +286,27 @@ impl RawPass {
 
     pub(crate) fn meet(&self) -> Answer<u64> {
         self.number_by(sys::bes_meet)
+    }
+
+    pub(crate) fn witness(&self) -> Answer<RawWitness> {
+        let witness = RawWitness {
+            handle: Handle::new(),
+            store: self.store,
+        };
+        // SAFETY: as the module says.
+        let code = unsafe { sys::bes_witness_of(self.handle.get()?, witness.handle.get()?) };
+        check(code, 0).map(|()| witness)
+    }
+
+    /// Joins a witness, if it is of the same store.
+    pub(crate) fn join(&self, witness: &mut RawWitness) -> Answer<Option<u64>> {
+        let mut seen = 0;
+        if witness.store != self.store {
+            return Ok(None);
+        }
+        // SAFETY: as the module says, and `seen` outlives the call.
+        let code = unsafe { sys::bes_join(self.handle.get()?, witness.handle.get()?, &mut seen) };
+        check(code, 0).map(|()| Some(seen))
     }
 
     pub(crate) fn pin(&self) -> Answer<u64> {
@@ -515,6 +544,13 @@ impl RawPrepared {
             unsafe { sys::bes_prepared_text(prepared, bytes, room, count) }
         })
     }
+}
+
+/// What a pass has seen.
+#[derive(Debug)]
+pub(crate) struct RawWitness {
+    handle: Handle<bes_witness>,
+    store: u64,
 }
 
 /// A place in the operations that make a snapshot again.

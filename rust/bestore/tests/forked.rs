@@ -57,12 +57,16 @@ fn plain_handles() {
     let prepared = Prepared::new("a==1").unwrap();
     let live = Live::new("a==1").unwrap();
     pass.new_node().unwrap();
+    let mut witness = pass.witness().unwrap();
     let snapshot = pass.pin().unwrap();
     let status = in_a_child(|| {
         let are_dead = is_dead(store.pass())
             && is_dead(snapshot.get(1, "a"))
             && is_dead(snapshot.pass().new_node())
-            && is_dead(prepared.text());
+            && is_dead(prepared.text())
+            && is_dead(snapshot.pass().witness())
+            && is_dead(snapshot.pass().join(&mut witness));
+        drop(witness);
         let own = Store::open(Limits::default()).unwrap();
         let works = own.pass().unwrap().new_node().unwrap() == 1;
         drop((snapshot, live));

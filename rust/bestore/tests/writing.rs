@@ -268,6 +268,36 @@ fn a_pass_that_was_dropped_is_met() {
 }
 
 #[test]
+fn a_witness_is_joined_in_another_thread() {
+    let store = store();
+    let (first, mut second) = (store.pass().unwrap(), store.pass().unwrap());
+    let (send, receive) = mpsc::channel();
+    let writer = thread::spawn(move || {
+        for _ in 0..100 {
+            let number = first.apply(Batch::new().new_node()).unwrap().number;
+            send.send((number, first.witness().unwrap())).unwrap();
+        }
+    });
+    for (number, mut witness) in receive {
+        let seen = second.join(&mut witness).unwrap();
+        assert!(seen >= number && second.pin().unwrap().number() >= seen);
+        assert!(second.apply(Batch::new().new_node()).unwrap().number > seen);
+    }
+    writer.join().unwrap();
+}
+
+#[test]
+fn a_witness_is_of_one_store_and_outlives_it() {
+    let (mine, theirs) = (store().pass().unwrap(), store().pass().unwrap());
+    mine.new_node().unwrap();
+    let mut witness = mine.witness().unwrap();
+    assert!(matches!(theirs.join(&mut witness), Err(Error::OtherStore)));
+    assert_eq!(mine.join(&mut witness).unwrap(), 1);
+    drop(mine);
+    assert!(matches!(theirs.join(&mut witness), Err(Error::OtherStore)));
+}
+
+#[test]
 fn a_pass_outlives_its_store() {
     let pass = store().pass().unwrap();
     assert_eq!(pass.new_node().unwrap(), 1);

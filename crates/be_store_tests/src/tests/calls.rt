@@ -1,7 +1,7 @@
 //! The calls of one pass, as texts: a request in the words of scripts, and its reply.
 //!
 //! Each call's clauses end with the helper that makes it: what is left of them is that the pass is
-//! one of the store, with its number. Whether it is pinned, the helpers ask it.
+//! one of the store, with its number. The helpers ask the pass whether it is pinned.
 ghost use Rattle.std.specs.Prelude.{◌≡◌, ◌≤◌, ℕ, None, length};
 ghost use Rattle.be_store.specs.Passes.{IsPassOf, IsPinnedTo};
 ghost use Rattle.be_store.specs.Seats.{pinned_number};
@@ -15,13 +15,13 @@ use be_store::{
 use be_test_tools::{list_of, reply_lines};
 use std::alloc::Global;
 
-/// The answer to a write: its number and those of its operations, or why it was refused.
+/// The outcome of a write: its number and the outcomes of its operations, or why it was refused.
 type Written = Result<(u64, ArrayVec<Done, 64>), Refusal>;
 
 /// Names, each with its value or its kind.
 type Listed<T> = Result<Vec<(Name, T)>, Refusal>;
 
-/// What is answered as a text, or why it was refused.
+/// A reply as a text, or why the request was refused.
 pub(crate) type Text = Result<String, Refusal>;
 
 pub(crate) fn written_text(alloc: Global, written: Written) -> Text {
@@ -54,7 +54,7 @@ fn text_of(alloc: Global, reply: Reply) -> Text {
     Ok(reply_lines(alloc, &reply)?)
 }
 
-/// A write of a list. BadLimits where it has no operation, or more than 64.
+/// A write of a list. BadLimits if it has no operation, or more than 64.
 pub(crate) fn write(store: &Store, pass: &mut Pass, ops: &[Op]) -> Written
     requires { IsPassOf store.now pass.old }
     ensures { StaysPass store.now pass.old pass.new }
@@ -116,7 +116,7 @@ fn find_into(
     Ok(Answer { pin, nodes })
 }
 
-/// The answer to a live query that is asked twice, in one list.
+/// The nodes that a live query finds, asked twice with one list.
 fn find_again(
     store: &Store,
     alloc: Global,
@@ -133,7 +133,7 @@ fn find_again(
     Ok(Answer { pin, nodes })
 }
 
-/// What a live query finds that isn't refreshed.
+/// What a live query finds without a refresh.
 pub(crate) fn ask_again(store: &Store, alloc: Global, pass: &mut Pass, live: &mut Live) -> Text
     requires { IsPassOf store.now pass.old }
     ensures { StaysPass store.now pass.old pass.new }
@@ -144,8 +144,8 @@ pub(crate) fn ask_again(store: &Store, alloc: Global, pass: &mut Pass, live: &mu
     }
 }
 
-/// What came to a live query and went since it was asked last, at the pin, or at a pin that goes
-/// with the read.
+/// Which nodes came to a live query and which went since it was refreshed last, at the pin, or at a
+/// pin that goes with the read.
 fn refresh(store: &Store, pass: &mut Pass, live: &mut Live) -> Result<Updates, Refusal>
     requires { IsPassOf store.now pass.old }
     ensures { StaysPass store.now pass.old pass.new }
@@ -206,7 +206,7 @@ fn read_once(store: &Store, alloc: Global, pass: &mut Pass, request: &Request) -
     }
 }
 
-/// What is neither a write nor of a live query.
+/// A request that is neither a write nor of a live query.
 fn ask(store: &Store, alloc: Global, pass: &mut Pass, request: &Request) -> Text
     requires { IsPassOf store.now pass.old }
     ensures { StaysPass store.now pass.old pass.new }
@@ -237,8 +237,8 @@ fn asked(alloc: Global, words: &str) -> Result<Request, Refusal> {
     Ok(read_line(alloc, words.as_bytes())?)
 }
 
-/// What a pass is answered. The words are a list of operations with `;` between them, or what else
-/// a line of a script asks for.
+/// What a pass replies. The words are a list of operations with `;` between them, or another
+/// request that a line of a script may have.
 pub(crate) fn answer(
     store: &Store,
     alloc: Global,

@@ -1,4 +1,4 @@
-//! A state that is carried on to a room of its own, list by list, while another pass writes.
+//! A state that is written to a second room, list by list, while another pass writes.
 ghost use Rattle.std.specs.Prelude.{◌≡◌};
 ghost use Rattle.be_store.specs.Passes.{IsPassOf};
 ghost use Rattle.be_store_tests.specs.Staying.{StaysPass};
@@ -10,7 +10,7 @@ use std::alloc::Global;
 use std::thread;
 use std::thread::Threads;
 
-/// The next list at the pin. BadLimits where the pass isn't pinned.
+/// The next list at the pin. BadLimits if the pass isn't pinned.
 fn read_once(
     store: &Store,
     alloc: Global,
@@ -26,7 +26,7 @@ fn read_once(
     }
 }
 
-/// The same, once more where memory is refused.
+/// The same, once more after running out of memory.
 fn read_at_last(
     store: &Store,
     alloc: Global,
@@ -42,7 +42,7 @@ fn read_at_last(
     }
 }
 
-/// Reads the next list, and writes it to the room; false where there is none.
+/// Reads the next list, and writes it to the room; false if there is none.
 fn carry_list(
     store: &Store,
     alloc: Global,
@@ -60,7 +60,7 @@ fn carry_list(
     Ok(true)
 }
 
-/// Carries all lists at the pin on to the room. BadLimits where there are a hundred or more.
+/// Writes all lists at the pin to the room. BadLimits if there are a hundred or more.
 fn carry_lists(
     store: &Store,
     alloc: Global,
@@ -79,7 +79,7 @@ fn carry_lists(
     Err(Refusal::BadLimits)
 }
 
-/// A room to which the state at the pin was carried on, each of its lists accepted.
+/// A room to which the state at the pin was written, each of its lists accepted.
 fn carried(store: &Store, alloc: Global, pass: &mut Pass) -> Result<Room, Refusal>
     requires { IsPassOf store.now pass.old }
     ensures { StaysPass store.now pass.old pass.new }
@@ -98,8 +98,8 @@ fn carry(store: &Store, alloc: Global, mut pass: Pass) -> (Pass, Result<Room, Re
     (pass, room)
 }
 
-/// One pass makes a hundred nodes, while the state at the other's pin is carried on, each on a
-/// thread of its own.
+/// One pass makes a hundred nodes, while the state at the other's pin is written to a second room,
+/// each on a thread of its own.
 pub(crate) fn carry_meanwhile<R: Threads + Sync>(
     rt: &R,
     alloc: Global,

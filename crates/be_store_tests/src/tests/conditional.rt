@@ -10,7 +10,7 @@ use be_store::{ApplyIfError, Op, Pass, Refusal, Store};
 use be_test_tools::list_of;
 use std::alloc::Global;
 
-/// A write of a list if the journal has this many entries. BadLimits where it has no operation, or
+/// A write of a list if the journal has this many entries. BadLimits if it has no operation, or
 /// more than 64.
 fn write_if(store: &Store, alloc: Global, pass: &mut Pass, number: u64, ops: &[Op]) -> Text
     requires { IsPassOf store.now pass.old }
@@ -47,7 +47,7 @@ fn next(store: &Store, pass: &mut Pass) -> u64
     }
 }
 
-/// The lines of the journal's entries from an index on, up to so many of them.
+/// The lines of up to `most` entries of the journal, from an index on.
 fn entries_text(store: &Store, alloc: Global, pass: &mut Pass, from: u64, most: usize) -> Text
     requires { IsPassOf store.now pass.old }
     ensures { StaysPass store.now pass.old pass.new }
@@ -91,8 +91,8 @@ fn answer_entries(store: &Store, alloc: Global, pass: &mut Pass, words: &str) ->
     )
 }
 
-/// What a pass is answered to `if NUMBER OPERATIONS`, `next` and `entries FROM MOST`, for which
-/// scripts have no words.
+/// What a pass replies to `if NUMBER OPERATIONS`, `next` and `entries FROM MOST`, for which scripts
+/// have no words.
 pub(crate) fn answer_beside(
     store: &Store,
     alloc: Global,

@@ -10,7 +10,7 @@ use be_store::{Pass, Store, Witness};
 use std::thread;
 use std::thread::Threads;
 
-/// Joins the witness and pins. The number of the pin.
+/// Joins the witness and pins. Returns the number of the pin.
 fn pin_after(store: &Store, mut pass: Pass, mut witness: Witness) -> (Pass, u64)
     requires pass { IsPassOf store.now pass × (pinned_number pass.knows.phase ≡ None) }
     requires witness { IsWitnessOf store.now witness }
@@ -22,7 +22,7 @@ fn pin_after(store: &Store, mut pass: Pass, mut witness: Witness) -> (Pass, u64)
 }
 
 /// The first pass hands what it has seen to the second, which pins on a thread of its own while the
-/// first makes a hundred nodes. Whether each node was accepted, and the number of the pin.
+/// first makes a hundred nodes. Returns whether each node was accepted, and the number of the pin.
 pub(crate) fn hand_over<R: Threads + Sync>(
     rt: &R,
     store: &Store,

@@ -9,7 +9,7 @@ use std::alloc::Global;
 use std::thread;
 use std::thread::Threads;
 
-/// Makes a node, at a later try while another pass holds the lock. Whether it was accepted.
+/// Makes a node, and tries again while another pass holds the lock.
 fn make_once(store: &Store, pass: &mut Pass) -> Result<(), Refusal>
     requires { IsPassOf store.now pass.old }
     ensures { StaysPass store.now pass.old pass.new }
@@ -20,7 +20,7 @@ fn make_once(store: &Store, pass: &mut Pass) -> Result<(), Refusal>
     }
 }
 
-/// The same, once more where memory is refused.
+/// The same, once more after running out of memory.
 fn make_at_last(store: &Store, pass: &mut Pass) -> Result<(), Refusal>
     requires { IsPassOf store.now pass.old }
     ensures { StaysPass store.now pass.old pass.new }
@@ -31,7 +31,7 @@ fn make_at_last(store: &Store, pass: &mut Pass) -> Result<(), Refusal>
     }
 }
 
-/// Makes a hundred nodes. Whether each was accepted.
+/// Makes a hundred nodes. Returns whether each was accepted.
 pub(crate) fn make_hundred(store: &Store, mut pass: Pass) -> (Pass, bool)
     requires { IsPassOf store.now pass }
     ensures { StaysPass store.now pass result.0 }

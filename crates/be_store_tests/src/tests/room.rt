@@ -1,5 +1,5 @@
 //! A store with its passes, which replies to requests. What is known of them is its invariant, so
-//! that no method has a clause.
+//! no method has a clause.
 
 use crate::tests::calls::{Text, answer, ask_again, write};
 use crate::tests::carrying::carry_meanwhile;
@@ -18,7 +18,7 @@ use std::thread::Threads;
 pub(crate) struct Room {
     store: Store,
     first: Pass,
-    /// Blank where there is none.
+    /// Blank if there is none.
     second: Pass,
     has_second: bool,
     live: Option<Live>,
@@ -81,7 +81,7 @@ fn open_for_two(alloc: Global, pages: u64, commits: u64) -> Result<Room, Refusal
     })
 }
 
-/// A room for one pass, opened again where memory is refused.
+/// A room for one pass, opened again after running out of memory.
 pub(crate) fn for_one(alloc: Global, pages: u64, commits: u64) -> Result<Room, Refusal> {
     match open_for_one(alloc, pages, commits) {
         Err(Refusal::OutOfMemory) => open_for_one(alloc, pages, commits),
@@ -89,7 +89,7 @@ pub(crate) fn for_one(alloc: Global, pages: u64, commits: u64) -> Result<Room, R
     }
 }
 
-/// A room for two passes, opened again where memory is refused.
+/// A room for two passes, opened again after running out of memory.
 pub(crate) fn for_two(alloc: Global, pages: u64, commits: u64) -> Result<Room, Refusal> {
     match open_for_two(alloc, pages, commits) {
         Err(Refusal::OutOfMemory) => open_for_two(alloc, pages, commits),
@@ -112,7 +112,7 @@ fn seen_text(alloc: Global, seen: Option<(u64, u64)>) -> Text {
     }
 }
 
-/// How much of the journal two passes have seen that met.
+/// How much of the journal two passes have seen after they met.
 fn met_text(alloc: Global, met: Option<u64>) -> Text {
     match met {
         Some(number) => Ok(format!(in alloc; "met {number}")?),
@@ -121,7 +121,7 @@ fn met_text(alloc: Global, met: Option<u64>) -> Text {
 }
 
 impl Room {
-    /// Writes a list by pass 0. Its number, or why it was refused.
+    /// Writes a list by pass 0. Returns its number, or why it was refused.
     fn write_once(&mut self, ops: &[Op]) -> Result<u64, Refusal> {
         match write(&self.store, &mut self.first, ops) {
             Ok((number, _)) => Ok(number),
@@ -129,7 +129,7 @@ impl Room {
         }
     }
 
-    /// The same, once more where memory is refused.
+    /// The same, once more after running out of memory.
     pub(crate) fn write_list(&mut self, ops: &[Op]) -> Result<u64, Refusal> {
         match self.write_once(ops) {
             Err(Refusal::OutOfMemory) => self.write_once(ops),
@@ -142,7 +142,7 @@ impl Room {
         self.write_list(&[op])
     }
 
-    /// What pass 0 is answered.
+    /// What pass 0 replies.
     fn answer_first(&mut self, alloc: Global, words: &str) -> Text {
         match answer_beside(&self.store, alloc, &mut self.first, words) {
             Some(text) => text,
@@ -150,7 +150,7 @@ impl Room {
         }
     }
 
-    /// What pass 1 is answered.
+    /// What pass 1 replies.
     fn answer_second(&mut self, alloc: Global, words: &str) -> Text {
         if !self.has_second {
             return Err(Refusal::BadLimits);
@@ -169,7 +169,7 @@ impl Room {
         Some((self.first.seen(), self.second.seen()))
     }
 
-    /// Pass 1 meets pass 0. How much of the journal both have seen.
+    /// Pass 1 meets pass 0. Returns how much of the journal both have seen.
     fn meet(&mut self) -> Option<u64> {
         if !self.has_second {
             return None;
@@ -177,7 +177,7 @@ impl Room {
         Some(self.store.meet(&mut self.second, &mut self.first))
     }
 
-    /// Pass 1 joins a witness of pass 0. How much of the journal it has then seen.
+    /// Pass 1 joins a witness of pass 0. Returns how much of the journal it has then seen.
     fn join(&mut self) -> Option<u64> {
         if !self.has_second {
             return None;
@@ -201,8 +201,8 @@ impl Room {
         state_text(&self.store, alloc, &mut self.first)
     }
 
-    /// The operations that make the version of pass 0 again, told once more where memory is
-    /// refused.
+    /// The operations that rebuild the version of pass 0, read once more after running out of
+    /// memory.
     pub(crate) fn state(&mut self, alloc: Global) -> Text {
         match self.state_once(alloc) {
             Err(Refusal::OutOfMemory) => self.state_once(alloc),
@@ -210,7 +210,7 @@ impl Room {
         }
     }
 
-    /// So many nodes from a number on, at most.
+    /// Up to `most` nodes from a number on.
     pub(crate) fn nodes(
         &mut self,
         alloc: Global,
@@ -233,6 +233,8 @@ impl Room {
         }
     }
 
+    /// The reply to a request. Its first word names the pass or what both passes do, as in the
+    /// texts of the tests; any other word is BadLimits.
     fn answer(&mut self, alloc: Global, request: &str) -> Text {
         let (who, words) = request.split_once(" ").unwrap_or((request, ""));
         match who {
@@ -265,8 +267,8 @@ impl Room {
         closed(alloc, store, first)
     }
 
-    /// Two passes make a hundred nodes each, each on a thread of its own. The journal, and whether
-    /// each write was accepted.
+    /// Two passes make a hundred nodes each, each on a thread of its own. Returns the journal, and
+    /// whether each write was accepted.
     pub(crate) fn race<R: Threads + Sync>(
         self,
         rt: &R,
@@ -290,7 +292,7 @@ impl Room {
     }
 
     /// Pass 0 hands what it has seen to pass 1, which pins on a thread of its own while pass 0
-    /// makes a hundred nodes. The number of the pin, and whether each node was accepted.
+    /// makes a hundred nodes. Returns the number of the pin, and whether each node was accepted.
     pub(crate) fn hand<R: Threads + Sync>(&mut self, rt: &R) -> Result<(u64, bool), Refusal> {
         if !self.has_second {
             return Err(Refusal::BadLimits);
@@ -306,8 +308,9 @@ impl Room {
         Ok((pinned.1, written.1))
     }
 
-    /// The state at the pin of pass 0 is carried on, while pass 1 makes a hundred nodes, each on a
-    /// thread of its own. The room to which it was carried on, and whether each node was accepted.
+    /// The state at the pin of pass 0 is written to a second room, while pass 1 makes a hundred
+    /// nodes, each on a thread of its own. Returns the second room, and whether each node was
+    /// accepted.
     pub(crate) fn carry<R: Threads + Sync>(
         &mut self,
         rt: &R,

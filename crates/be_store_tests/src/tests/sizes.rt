@@ -1,9 +1,9 @@
-//! What is asked and answered at sizes between their bounds. No contract rules out a want of memory
-//! at one size alone.
+//! Requests and their replies at sizes between their bounds. No contract rules out that a call runs
+//! out of memory at one size alone.
 //!
 //! A row has the greatest size, and then requests with their replies, as all tests of a room have.
-//! In them `@` is the size, and `{PART}` the part once for each number from 2 to the size, with the
-//! number in place of `#`: so what stands before it, and it, are as many as the size says.
+//! In them `@` is the size. `{PART}` is the part once for each number from 2 to the size, with the
+//! number in place of `#`. So with what is before it there are as many parts as the size says.
 
 use crate::tests::room::{Room, for_one};
 use be_store::{Name, Op, Refusal, Value};
@@ -12,8 +12,9 @@ use be_value::word_of;
 use std::alloc::{AllocError, Global};
 use std::test::Fail;
 
-/// Comparisons, operations and attributes, indices, bytes of a query, of a name and of a value;
-/// each is read of the version of a pin that goes with the read, and of one that stands.
+/// Comparisons, operations and attributes, indices, bytes of a query, of a name and of a value.
+/// Each is read from the version of a pin that goes with the read, and from that of a pin that
+/// stays.
 const ROWS: &str = "256
 0 mkindex k LONG;new;set 1 k LONG 0 => commit 1 / ok / node 1 / ok
 0 query k==0{||k==#} / 0 query k<1{&&k<#} => pin 1 / nodes 1 / pin 1 / nodes 1
@@ -113,7 +114,8 @@ const COUNTS: &str =
      2047 2048 \
 2049 4095 4096 4097 8191 8192 8193 16383 16384 16385 26000";
 
-/// What finds all of so many nodes, by the version after this many writes.
+/// The requests that find all of `count` nodes, and their replies, by the version after this many
+/// writes.
 fn found_lines(alloc: Global, count: u64, pin: u64) -> Result<String, AllocError> {
     let mut nodes = String::from_str(alloc, "1")?;
     push_each(alloc, &mut nodes, " #", count)?;
@@ -126,7 +128,7 @@ live k>6 / 0 refresh / 0 unpin => ok / created {nodes} / removed / ok"
     )
 }
 
-/// Makes the nodes behind so many, up to a count.
+/// Makes the nodes after the first `made`, up to a count.
 fn make_nodes(room: &mut Room, made: u64, count: u64) -> Result<(), Refusal> {
     for node in made.saturating_add(1)..=count {
         room.write(Op::New)?;
@@ -135,7 +137,7 @@ fn make_nodes(room: &mut Room, made: u64, count: u64) -> Result<(), Refusal> {
     Ok(())
 }
 
-/// The same, and looks at what finds all of them.
+/// The same, and then checks what finds all of them.
 fn find_nodes(alloc: Global, room: &mut Room, made: u64, count: u64) -> Result<(), Fail> {
     make_nodes(room, made, count)?;
     let pin = count.saturating_mul(2).saturating_add(1);
@@ -164,7 +166,7 @@ fn many_nodes(rt: HostRuntime) -> Result<(), Fail> {
     find_growing(rt.alloc(), &mut for_one(rt.alloc(), 16384, 60_000)?)
 }
 
-/// The list of the first nodes, asked for again where memory is refused.
+/// The list of the first nodes, asked for again after running out of memory.
 fn list_first(alloc: Global, room: &mut Room, count: u64) -> Result<Vec<u64>, Refusal> {
     let most = usize::try_from(count).unwrap_or(0);
     match room.nodes(alloc, 1, most) {

@@ -1,4 +1,4 @@
-//! The operations that make a version again, a line each.
+//! The operations that rebuild a version, a line each.
 ghost use Rattle.std.specs.Prelude.{◌≡◌, ℕ, None};
 ghost use Rattle.be_store.specs.Passes.{IsPassOf, IsPinnedTo};
 ghost use Rattle.be_store.specs.Seats.{pinned_number};
@@ -9,10 +9,10 @@ use be_journal::op_text;
 use be_store::{Op, Pass, Place, Refusal, Store};
 use std::alloc::{AllocError, Global};
 
-/// The next operations, none behind the last, or why they were refused.
+/// The next operations, none after the last, or why they were refused.
 type List = Result<Option<Vec<Op>>, Refusal>;
 
-/// Adds a line for each of these operations; false where there are none.
+/// Adds a line for each of these operations; false if there are none.
 fn push_list(alloc: Global, list: List, text: &mut String) -> Result<bool, Refusal> {
     let Some(ops) = list? else {
         return Ok(false);
@@ -39,7 +39,7 @@ fn first_list(store: &Store, alloc: Global, pass: &mut Pass, place: &mut Place) 
     version.state(alloc, place)
 }
 
-/// The next list at the pin; of a pass that isn't pinned, the first.
+/// The next list at the pin; for a pass that isn't pinned, the first.
 fn next_list(store: &Store, alloc: Global, pass: &mut Pass, place: &mut Place) -> List
     requires { IsPassOf store.now pass.old }
     ensures { StaysPass store.now pass.old pass.new }
@@ -50,8 +50,8 @@ fn next_list(store: &Store, alloc: Global, pass: &mut Pass, place: &mut Place) -
     }
 }
 
-/// The operations of up to a hundred lists at the pin; of the first list alone, where the pass
-/// isn't pinned.
+/// The operations of up to a hundred lists at the pin; of the first list alone, if the pass isn't
+/// pinned.
 pub(crate) fn state_text(store: &Store, alloc: Global, pass: &mut Pass) -> Text
     requires { IsPassOf store.now pass.old }
     ensures { StaysPass store.now pass.old pass.new }
@@ -67,7 +67,7 @@ pub(crate) fn state_text(store: &Store, alloc: Global, pass: &mut Pass) -> Text
     Ok(text)
 }
 
-/// So many nodes from a number on, at a pin that goes with the read.
+/// Up to `most` nodes from a number on, at a pin that goes with the read.
 fn nodes_once(
     store: &Store,
     alloc: Global,
@@ -83,7 +83,8 @@ fn nodes_once(
     version.nodes(alloc, from, most)
 }
 
-/// So many nodes from a number on, of the version of the pin, or at a pin that goes with the read.
+/// Up to `most` nodes from a number on, of the version of the pin, or at a pin that goes with the
+/// read.
 pub(crate) fn nodes_from(
     store: &Store,
     alloc: Global,

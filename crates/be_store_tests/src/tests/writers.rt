@@ -36,8 +36,8 @@ fn look(store: &Store, pass: &mut Pass, count: &Name) -> Seen
     }
 }
 
-/// Makes a node that says which pass made it, and adds one to the count, on what was read. Whether
-/// no other write came first.
+/// Makes a node that says which pass made it, and adds one to the count, on what was read. Returns
+/// whether no other write came first.
 fn change(store: &Store, pass: &mut Pass, seen: &Seen) -> Result<bool, Refusal>
     requires { IsPassOf store.now pass.old }
     ensures { IsPassOf store.now pass.new }
@@ -59,7 +59,7 @@ fn change(store: &Store, pass: &mut Pass, seen: &Seen) -> Result<bool, Refusal>
     }
 }
 
-/// Reads and writes. Whether no other write came between.
+/// Reads and writes. Returns whether no other write came between.
 fn change_once(store: &Store, pass: &mut Pass) -> Result<bool, Refusal>
     requires { IsPassOf store.now pass.old }
     ensures { IsPassOf store.now pass.new }
@@ -114,7 +114,7 @@ fn change_by_two<R: Threads + Sync>(
     other
 }
 
-/// Whether a query finds just fifty nodes, at a pin that goes with the read.
+/// Whether a query finds exactly fifty nodes, at a pin that goes with the read.
 fn find_fifty(store: &Store, alloc: Global, pass: &mut Pass, text: &str) -> Result<bool, Refusal>
     requires pass { IsPassOf store.now pass.old }
     requires unpinned { pinned_number pass.old.knows.phase ≡ None }
@@ -146,7 +146,7 @@ fn count_of(store: &Store, pass: &mut Pass) -> Result<i64, Refusal>
     }
 }
 
-/// How many of the four passes have made just fifty nodes, and the count.
+/// How many of the four passes have made exactly fifty nodes, and the count.
 fn totals(store: &Store, alloc: Global, pass: &mut Pass) -> Result<(u64, i64), Refusal>
     requires { IsPassOf store.now pass.old }
 {
@@ -159,8 +159,8 @@ fn totals(store: &Store, alloc: Global, pass: &mut Pass) -> Result<(u64, i64), R
     Ok((made, count_of(store, pass)?))
 }
 
-/// Four threads make fifty nodes each and count them. How many of the four have made just fifty,
-/// and the count.
+/// Four threads make fifty nodes each and count them. Returns how many of the four have made
+/// exactly fifty, and the count.
 pub(crate) fn change_by_four<R: AllocGlobal + Threads + Sync>(
     rt: &R,
 ) -> Result<(u64, i64), Refusal> {

@@ -1,4 +1,4 @@
-//! What a seat is asked, as texts: a request, and its reply.
+//! Calls on a seat as texts: a request, and its reply.
 ghost use Rattle.be_table_tests.specs.Resting.{IsPinnedSeat, IsResting, StaysSeat};
 
 use crate::tests::reads::{Told, look_at, pin, read, tell, unpin};
@@ -10,10 +10,10 @@ use be_value::{Kind, Name, Refusal, Value};
 use be_volume::Op;
 use std::alloc::{AllocError, Global};
 
-/// What is answered as a text, or why it was refused.
+/// A reply as a text, or why it was refused.
 pub(crate) type Text = Result<String, Refusal>;
 
-/// The number, told again where memory is refused.
+/// The number as a line, written again if its memory is refused once.
 pub(crate) fn number_text(alloc: Global, number: u64) -> Text {
     match format!(in alloc; "{number}\n") {
         Err(_) => Ok(format!(in alloc; "{number}\n")?),
@@ -43,7 +43,7 @@ fn told_text(alloc: Global, told: Told) -> Text {
     Ok(text)
 }
 
-/// Appends text, once more where memory is refused.
+/// Appends text, tried once more if memory is refused.
 fn push(text: &mut String, part: &str) -> Result<(), Refusal> {
     if text.push_str(part).is_err() {
         text.push_str(part)?;
@@ -51,7 +51,7 @@ fn push(text: &mut String, part: &str) -> Result<(), Refusal> {
     Ok(())
 }
 
-/// Appends a reply, or the line that tells why it was refused.
+/// Appends a reply, or the line that says why it was refused.
 fn push_reply(alloc: Global, text: &mut String, reply: Text) -> Result<(), Refusal> {
     match reply {
         Ok(reply) => push(text, reply.as_str()),
@@ -60,7 +60,7 @@ fn push_reply(alloc: Global, text: &mut String, reply: Text) -> Result<(), Refus
     }
 }
 
-/// Two replies, one behind the other.
+/// Two replies, one after the other.
 pub(crate) fn both_texts(alloc: Global, first: Text, second: Text) -> Text {
     let mut text = String::new(alloc);
     push_reply(alloc, &mut text, first)?;
@@ -111,12 +111,12 @@ fn unpin_text(alloc: Global, was_pinned: bool) -> Text {
     }
 }
 
-/// What an open write answers.
+/// The reply to a request to an open write.
 pub(crate) fn write_text(alloc: Global, answer: Result<u64, Refusal>) -> Text {
     number_text(alloc, answer?)
 }
 
-/// The operations of the words, or none where they are no list.
+/// The operations of the words; no operations if they are no list.
 fn ops_of(alloc: Global, words: &str) -> Result<Vec<Op>, Refusal> {
     match list_of(alloc, words) {
         Err(Refusal::BadLimits) => Ok(Vec::new(alloc)),
@@ -124,7 +124,7 @@ fn ops_of(alloc: Global, words: &str) -> Result<Vec<Op>, Refusal> {
     }
 }
 
-/// What a pass is answered by the lock and the writes under it.
+/// The reply to a pass's request to lock and write.
 fn answer_write(table: &VersionTable, alloc: Global, seat: &mut Seat, words: &str) -> Text
     requires { IsResting table.now seat.old }
     ensures { StaysSeat table.now seat.old seat.new }
@@ -135,7 +135,7 @@ fn answer_write(table: &VersionTable, alloc: Global, seat: &mut Seat, words: &st
     }
 }
 
-/// The request that isn't a list of operations, read again where memory is refused.
+/// The request that isn't a list of operations, read again if memory is refused.
 fn asked(alloc: Global, words: &str) -> Result<Request, Refusal> {
     match read_line(alloc, words.as_bytes()) {
         Err(_) => Ok(read_line(alloc, words.as_bytes())?),
@@ -165,7 +165,7 @@ fn is_read(words: &str) -> bool {
     words == "read" || words == "look" || words.starts_with("get ")
 }
 
-/// What a pass is answered.
+/// The reply to a pass's request.
 pub(crate) fn answer(table: &VersionTable, alloc: Global, seat: &mut Seat, words: &str) -> Text
     requires { IsResting table.now seat.old }
     ensures { IsResting table.now seat.new }
@@ -179,7 +179,7 @@ pub(crate) fn answer(table: &VersionTable, alloc: Global, seat: &mut Seat, words
     }
 }
 
-/// What a pass is answered to several requests, with a comma and a space between them.
+/// The replies to several requests of a pass, with a comma and a space between them.
 pub(crate) fn answers(table: &VersionTable, alloc: Global, seat: &mut Seat, requests: &str) -> Text
     requires { IsResting table.now seat.old }
     ensures { IsResting table.now seat.new }

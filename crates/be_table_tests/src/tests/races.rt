@@ -40,7 +40,7 @@ fn race_once<R: Threads + Sync>(rt: &R, alloc: Global) -> Result<(Journal, bool)
     Ok((table.close(seats), first.1 && second.1))
 }
 
-/// The same, once more where memory is refused.
+/// The same, tried once more if memory is refused.
 pub(crate) fn race<R: Threads + Sync>(rt: &R, alloc: Global) -> Result<(Journal, bool), Refusal> {
     match race_once(rt, alloc) {
         Err(Refusal::OutOfMemory) => race_once(rt, alloc),

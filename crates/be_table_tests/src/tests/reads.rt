@@ -10,7 +10,7 @@ use be_plan::Source;
 use be_table::{Seat, VersionTable};
 use be_value::{Kind, Name, Value};
 
-/// Pins, where the pass isn't pinned yet. The pin.
+/// Pins, if the pass isn't pinned yet. Returns the pin.
 #[tactic(auto, using(crate::proofs::Phases::idle_at_rest))]
 pub(crate) fn pin(table: &VersionTable, seat: &mut Seat) -> Option<u64>
     requires { IsResting table.now seat.old }
@@ -24,7 +24,7 @@ pub(crate) fn pin(table: &VersionTable, seat: &mut Seat) -> Option<u64>
     Some(table.look_again(seat).0)
 }
 
-/// Unpins, where the pass is pinned. Whether it was.
+/// Unpins, if the pass is pinned. Returns whether it was.
 #[tactic(auto, using(crate::proofs::Phases::pinned_phase))]
 pub(crate) fn unpin(table: &VersionTable, seat: &mut Seat) -> bool
     requires { IsResting table.now seat.old }

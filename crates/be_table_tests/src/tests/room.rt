@@ -36,7 +36,7 @@ impl Model for Room {
         × IsResting r.table r.third };
 }
 
-/// A table with these limits and its seats. Version 0 spells the empty volume.
+/// A table with these limits and its seats. Version 0 encodes the empty volume.
 pub(crate) fn open(alloc: Global, limits: Limits) -> Result<(VersionTable, Vec<Seat>), Refusal>
     ensures { IfOk result (λ r. (r.0.limits ≡ limits) × (length r.1.items ≡ limits.passes)
         × AreNew r.0 0 r.1.items) }
@@ -53,6 +53,7 @@ pub(crate) fn count_seats(alloc: Global, limits: Limits) -> Result<usize, Refusa
     Ok(seats.len())
 }
 
+/// A room of three passes and these many pages. Errors: those of `open`.
 fn open_room(alloc: Global, pages: u64) -> Result<Room, Refusal> {
     let limits = Limits {
         pages,
@@ -72,7 +73,7 @@ fn open_room(alloc: Global, pages: u64) -> Result<Room, Refusal> {
     })
 }
 
-/// A room with so many pages, opened again where memory is refused.
+/// A room with so many pages, opened again if memory is refused.
 pub(crate) fn opened(alloc: Global, pages: u64) -> Result<Room, Refusal> {
     match open_room(alloc, pages) {
         Err(Refusal::OutOfMemory) => open_room(alloc, pages),
@@ -80,8 +81,8 @@ pub(crate) fn opened(alloc: Global, pages: u64) -> Result<Room, Refusal> {
     }
 }
 
-/// What two passes are answered, whose requests stand before and behind ` | `, while another one
-/// holds the lock.
+/// The replies to two passes while another one holds the lock. Their requests are before and after
+/// ` | `.
 fn hold(
     table: &VersionTable,
     alloc: Global,
@@ -109,7 +110,7 @@ fn hold(
     both_texts(alloc, first, last)
 }
 
-/// What a pass is answered before and after another one, which holds the lock, enters a node.
+/// The replies to a pass before and after another one, which holds the lock, enters a node.
 fn write_between(
     table: &VersionTable,
     alloc: Global,
@@ -227,6 +228,8 @@ impl Room {
         both
     }
 
+    /// The reply to a request, whose first word names a pass or an act of several. BadLimits for
+    /// any other.
     fn answer(&mut self, alloc: Global, request: &str) -> Text {
         let (who, words) = request.split_once(" ").unwrap_or((request, ""));
         match who {

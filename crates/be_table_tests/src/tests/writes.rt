@@ -16,7 +16,7 @@ use be_table::{Seat, VersionTable, Writing};
 use be_value::Refusal;
 use be_volume::{Done, Op};
 
-/// Makes room for so many operations, at the second call where memory is refused at the first.
+/// Makes room for so many operations, by a second call if memory is refused at the first.
 fn make_room(writing: &mut Writing<'_>, count: usize) -> Result<(), Refusal>
     requires open { writing.old.knows.published ≡ false }
     requires count { (1 ≤ count) × (count ≤ 64) }
@@ -50,7 +50,7 @@ fn apply_to(
 }
 
 /// Applies a list of operations to the current version, and publishes the version that it makes.
-/// Answers the journal's length.
+/// Returns the journal's length.
 fn write(writing: &mut Writing<'_>, ops: &[Op]) -> Result<u64, Refusal>
     requires begun { (a : Knowledge) × TakesLock a writing.old.knows }
     requires count { (1 ≤ length ops.now) × (length ops.now ≤ 64) }
@@ -79,7 +79,8 @@ fn look_round(writing: &mut Writing<'_>, words: &str) -> u64
     }
 }
 
-/// Writes a list, or looks round where it is empty. BadLimits where it has more than 64 operations.
+/// Writes a list. If it is empty, scans or asks whether a scan is due, as the words say. BadLimits
+/// if it has more than 64 operations.
 pub(crate) fn act(writing: &mut Writing<'_>, ops: &[Op], words: &str) -> Result<u64, Refusal>
     requires begun { (a : Knowledge) × TakesLock a writing.old.knows }
     ensures table { writing.new.table ≡ writing.old.table }

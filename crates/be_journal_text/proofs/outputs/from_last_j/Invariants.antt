@@ -1,7 +1,7 @@
 use Rattle.std.proofs.Common.{◌≡◌, true, length}
 use Rattle.std.specs.Option.{option_map}
 use Rattle.be_journal_text.proofs.TellLemmas.{from_last_j, or_else}
-use Rattle.be_journal_text.proofs.told.from_last_j.Given as goal
+use Rattle.be_journal_text.proofs.outputs.from_last_j.Given as goal
 
 abbrev pub invariant-loop-byte : goal.invariant-loop-byte
 invariant-loop-byte l = from_last_j true l.fn.text ≡ or_else (from_last_j l.is_start l.rest) (option_map (λ t. t.now) l.found)

@@ -2,7 +2,7 @@ use Rattle.std.proofs.Common.{◌≡◌, true, Some, None, subst}
 use Rattle.std.specs.Option.{option_map}
 use Rattle.be_journal_text.specs.Finding.{IsFromLastJ}
 use Rattle.be_journal_text.proofs.TellLemmas.{from_last_j, none_reads, none_whole, one_from_last_j, some_reads, some_whole}
-use Rattle.be_journal_text.proofs.told.journal_told.Goals as goal
+use Rattle.be_journal_text.proofs.outputs.journal_told.Goals as goal
 
 pub returns-in-Some-clause-reads : goal.returns-in-Some-clause-reads
 returns-in-Some-clause-reads c =

@@ -4,7 +4,7 @@ use Rattle.be_journal.specs.Text.{lines_from}
 use Rattle.be_journal_text.specs.Finding.{head}
 use Rattle.be_journal_text.proofs.ReadLemmas.{inside, never_some}
 use Rattle.be_journal_text.proofs.TellLemmas.{one_front, result_cut, result_made}
-use Rattle.be_journal_text.proofs.told.read_result.Goals as goal
+use Rattle.be_journal_text.proofs.outputs.read_result.Goals as goal
 
 pub returns-in_default-clause-whole : goal.returns-in_default-clause-whole
 returns-in_default-clause-whole c = λ es are is. absurd (c.in_default.ensures (lines_from 1 es)

@@ -1,0 +1,66 @@
+//! A query with an error, and a caret below the place of the error, on standard error.
+use crate::asides::{skip, split_word};
+use std::alloc::{AllocError, Global};
+use std::io::Eprint;
+use std::str;
+use unicode_width::UnicodeWidthChar;
+
+/// The number at the front.
+fn number_at(text: &[u8]) -> usize {
+    let mut number: usize = 0;
+    for byte in text {
+        if *byte < b'0' || *byte > b'9' {
+            return number;
+        }
+        number = number
+            .saturating_mul(10)
+            .saturating_add((*byte - b'0') as usize);
+    }
+    number
+}
+
+/// The place of the error in a query, as the reply gives it.
+pub(crate) fn fault_at(reply: &[u8]) -> Option<usize> {
+    if let Some(number) = reply.strip_prefix(b"refused 12 Syntax ".as_slice()) {
+        return Some(number_at(number));
+    }
+    let number = reply.strip_prefix(b"refused 13 BadPattern ".as_slice())?;
+    Some(number_at(number))
+}
+
+/// A text as it is shown, and as many spaces as the text has columns before the byte at this
+/// offset.
+fn under(alloc: Global, text: &str, at: usize) -> Result<(String, String), AllocError> {
+    let mut shown = String::new(alloc);
+    let mut spaces = String::new(alloc);
+    for (offset, c) in text.char_indices() {
+        let code = c as u32;
+        let columns = match c.width() {
+            Some(columns) => {
+                shown.push(c)?;
+                columns
+            }
+            None => {
+                shown.push_str(format!(in alloc; "\\x{code:02x}")?.as_str())?;
+                4
+            }
+        };
+        if offset < at {
+            for _ in 0..columns {
+                spaces.push(' ')?;
+            }
+        }
+    }
+    Ok((shown, spaces))
+}
+
+/// Shows a query with a caret below the place of its error.
+pub(crate) fn point_at<R: Eprint>(rt: &R, alloc: Global, line: &[u8], at: usize) {
+    let (_, behind) = split_word(skip(line));
+    let Ok(text) = str::from_utf8(skip(behind)) else {
+        return;
+    };
+    if let Ok((shown, spaces)) = under(alloc, text, at) {
+        let _ = eprintln!(rt; "    {shown}\n    {spaces}^");
+    }
+}
