@@ -3,8 +3,8 @@
 //! A walk over an index asks for one key after the other. So the source keeps a cursor of the tree
 //! that it walked last, and the place of the item whose key it gave last: where the next key is
 //! asked from that very key, it goes on from there and makes no descent. The nodes of a range are
-//! read leaf by leaf, and no key is unpacked. A query asks for the same index again and again, so
-//! the source keeps what it found last.
+//! read leaf by leaf, and texts are tested so: no key is unpacked. A query asks for the same index
+//! again and again, so the source keeps what it found last.
 ghost use Rattle.std.specs.Prelude.{◌≡◌, ◌<◌, ℕ, true, length, slice_index_or};
 ghost use Rattle.be_pages.specs.Pages.{IsUnchanged};
 ghost use Rattle.be_tree.specs.Cursor.{IsCursor, remaining};

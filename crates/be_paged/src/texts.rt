@@ -18,9 +18,7 @@ ghost use Rattle.be_paged.specs.Texts.{AreTexts, IsTextKey, node_if_passing, nod
 
 use be_pages::Look;
 use be_plan::TextTest;
-use be_tree::{
-    Cursor, HEADER_WORDS, ITEM_WORDS, LENGTH_BITS, first_of, is_past_at, number_at,
-};
+use be_tree::{Cursor, HEADER_WORDS, ITEM_WORDS, LENGTH_BITS, first_of, is_past_at, number_at};
 use std::alloc::AllocError;
 
 /// Room for the longest text, of 255 bytes, in whole words.

@@ -3,9 +3,10 @@
 //! A walk collects the nodes of the keys in a range of which the query is true. If the range
 //! decides the query, all of them are answers, and the source gives them by one call. If it decides
 //! all that the query says of the index's name, the source gives them too, and is asked the rest of
-//! each, the least number first. Otherwise the walk goes from key to key by `next_key`, from the
-//! range's low end to the first key above its high end, and asks the query of each node. It asks
-//! for one key more than it passes.
+//! each, the least number first. If one comparison with a text is left, the source is asked for the
+//! nodes of which it is true. Otherwise, and if the source doesn't test texts, the walk goes from
+//! key to key by `next_key`, from the range's low end to the first key above its high end, and asks
+//! the query of each node. It asks for one key more than it passes.
 ghost use Rattle.std.specs.Prelude.{◌≡◌, ◌⊎◌, ◌<◌, ◌^◌, ℕ, true, Some, OnOk, IfErr, IfSome};
 ghost use Rattle.std.specs.Option.{option_copied, option_map};
 ghost use Rattle.std.specs.List.{Contains};

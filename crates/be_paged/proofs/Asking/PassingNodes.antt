@@ -204,8 +204,7 @@ module _ (w : ℕ → ℕ → ℕ) (c : Contents) (volume : State) (name : List 
         let there = fin.get-entries volume.indices name ∙ found.found in
         let fits = (sound.pairs name found.index p.node p.value there p.there).node_fits in
         let node : p.node ≡ number_of x.key = sym (ap number_of p.is ∙ node_of_key p.value p.node fits) in
-        let key : IsKey volume name x.key = record { index = found.index; node = p.node; value = p.value; there = there; paired = p.there; is = p.is } in
-        (
+        let key : IsKey volume name x.key = record { index = found.index; node = p.node; value = p.value; there = there; paired = p.there; is = p.is } in (
           record {
             key = x.key;
             is_key = key;
