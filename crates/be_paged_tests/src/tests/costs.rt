@@ -282,9 +282,9 @@ query name=="101*" && size>=1500 => 50 found, 6770 words read"#;
     expect_rows(rt.alloc(), rows)
 }
 
-/// Queries by patterns that no range decides, of 300 texts of 18 bytes, which take three words each.
-/// The cost of the one that finds none would grow by 300 for each word more that is read of a key,
-/// as by its number, and that of the other for each word more that is read of a node.
+/// Queries by patterns that no range decides, of 300 texts of 18 bytes, which take three words
+/// each. The cost of the one that finds none would grow by 300 for each word more that is read of
+/// a key, as of its number, and that of the other too for each word more that is read of a node.
 #[test]
 fn text_costs(rt: HostRuntime) -> Result<(), Fail> {
     let rows = r#"query name=="*x*" => 300 found, 2400 words read
