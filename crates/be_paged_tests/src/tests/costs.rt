@@ -287,8 +287,8 @@ query name=="101*" && size>=1500 => 50 found, 6770 words read"#;
 /// a key, as of its number, and that of the other too for each word more that is read of a node.
 #[test]
 fn text_costs(rt: HostRuntime) -> Result<(), Fail> {
-    let rows = r#"query name=="*x*" => 300 found, 2400 words read
-query name=="*z*" => 0 found, 1500 words read"#;
+    let rows = r#"query name=="*x*" => 300 found, 2600 words read
+query name=="*z*" => 0 found, 1700 words read"#;
     expect_rows(rt.alloc(), rows)
 }
 
