@@ -41,7 +41,7 @@ is_node s sound node name value indexed seen = by (map.get s.indices name) refl
         has_attribute s node name value p.attribute_is
 
 -- a node of which a formula that rests on indices is true is there
-there : (s : State) → IsSound s → (f : Formula) → covered s f ≡ true → (n : ℕ) → sat s f n ≡ true → map.contains_key s.nodes n ≡ true
+pub there : (s : State) → IsSound s → (f : Formula) → covered s f ≡ true → (n : ℕ) → sat s f n ≡ true → map.contains_key s.nodes n ≡ true
 there s sound (Leaf name op literal) rests n h = by (sees s n name) refl h
   where
     by : (o : Option Value) → sees s n name ≡ o → option_map_or (λ value. holds op value literal) o false ≡ true → map.contains_key s.nodes n ≡ true

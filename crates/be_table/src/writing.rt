@@ -32,7 +32,7 @@ use crate::rule::{Fill, FoundFill, GiveUp, NextVersion, OwnWord, Publish, Scan, 
 use crate::seat::{Base, Seat};
 use crate::status::{Announcement, Found, Status, older};
 use crate::table::{ANNOUNCE, CURRENT, LOCK, PAGES, VersionTable};
-use be_journal::{Entry, replay_push};
+use be_journal::{Entry, EntryView, replay_push};
 use be_pages::{PAGE_WORDS, Place};
 use be_value::Refusal;
 use be_volume::{Done, Op};
@@ -136,6 +136,14 @@ impl<'a> Writing<'a> {
         ensures err { IfErr result (λ e. e ≡ OutOfMemory) }
     {
         Ok(self.ledger.journal.get(i).to_entry()?)
+    }
+
+    /// A view of the journal's entry with this index, from 0. No memory, and no step.
+    pub fn view(&self, i: u64) -> EntryView<'_>
+        requires { i < length self.now.knows.seen }
+        ensures { result ≡ get_or (entries self.now.knows.seen) i result }
+    {
+        self.ledger.journal.get(i)
     }
 
     /// Word i of a page, as the current version has it or as this write filled it. One load.

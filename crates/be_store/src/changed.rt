@@ -1,0 +1,111 @@
+//! A few nodes asked one by one, and a rising list changed by what became of them.
+ghost use Rattle.std.specs.List.Sorted.{IsStrictlyIncreasing};
+ghost use Rattle.std.specs.Prelude.{◌≡◌, ◌≤◌, ◌+◌, ◌++◌, ◌&&◌, ◌||◌, ◌∷◌, [], ℕ, not, filter, length};
+ghost use Rattle.std.specs.Prelude.{OnOk, IfErr, if◌then◌else◌, vec_capacity, vec_len};
+ghost use Rattle.be_value.specs.declared.refusals.Refusal.TheVariants.{OutOfMemory};
+ghost use Rattle.be_volume.specs.Query.{sat};
+ghost use Rattle.be_volume.specs.Volume.{State};
+ghost use Rattle.be_paged.specs.Version.{IsVersion};
+ghost use Rattle.be_store.specs.Live.{is_among};
+
+use crate::answers::Updates;
+use be_paged::source;
+use be_pages::Look;
+use be_plan::is_true;
+use be_query::Query;
+use be_value::Refusal;
+
+/// Whether a rising list has this number.
+fn has(numbers: &[u64], number: u64) -> bool
+    requires { IsStrictlyIncreasing numbers.now }
+    ensures { result ≡ is_among numbers.now number }
+{
+    numbers.binary_search(&number).is_ok()
+}
+
+/// Adds a node to those that came if the query is true of it and the list lacks it, and to those
+/// that went if it is the other way round.
+fn add_change(
+    list: &[u64],
+    node: u64,
+    is: bool,
+    updates: &mut Updates,
+) -> Result<(), Refusal>
+    requires { IsStrictlyIncreasing list.now }
+    ensures created { OnOk result (updates.new.created.items ≡ updates.old.created.items
+        ++ (if is && not (is_among list.now node) then node ∷ [] else [])) }
+    ensures removed { OnOk result (updates.new.removed.items ≡ updates.old.removed.items
+        ++ (if is_among list.now node && not is then node ∷ [] else [])) }
+    ensures err { IfErr result (λ e. e ≡ OutOfMemory) }
+{
+    let was = has(list, node);
+    if is && !was {
+        updates.created.push(node)?;
+    }
+    if was && !is {
+        updates.removed.push(node)?;
+    }
+    Ok(())
+}
+
+/// Asks the query of each of these nodes. Which of them the list lacks though it is true of them,
+/// and which it has though it isn't.
+pub(crate) fn ask_each<L: Look>(
+    look: L,
+    version_page: u64,
+    query: &Query,
+    list: &[u64],
+    nodes: &[u64],
+    updates: &mut Updates,
+) -> (L, Result<(), Refusal>)
+    ghost volume: { State }
+    requires version { IsVersion (L.standing look) (L.words look) version_page volume }
+    requires rising { IsStrictlyIncreasing list.now }
+    requires empty { (updates.old.created.items ≡ []) × (updates.old.removed.items ≡ []) }
+    ensures created { OnOk result.1 (updates.new.created.items
+        ≡ filter (λ n. sat volume query.now n && not (is_among list.now n)) nodes.now) }
+    ensures removed { OnOk result.1 (updates.new.removed.items
+        ≡ filter (λ n. is_among list.now n && not (sat volume query.now n)) nodes.now) }
+    ensures err { IfErr result.1 (λ e. e ≡ OutOfMemory) }
+    ensures kept { L.kept result.0 ≡ L.kept look }
+{
+    let mut source = source(look, version_page);
+    for node in nodes {
+        let is = is_true(&mut source, query.tree(), *node);
+        if add_change(list, *node, is, updates).is_err() {
+            return (source.into_look(), Err(Refusal::OutOfMemory));
+        }
+    }
+    (source.into_look(), Ok(()))
+}
+
+/// Removes these numbers from a rising list.
+pub(crate) fn take_out(list: &mut Vec<u64>, numbers: &[u64])
+    requires { IsStrictlyIncreasing list.old.items }
+    ensures rising { IsStrictlyIncreasing list.new.items }
+    ensures left { (n : ℕ) → is_among list.new.items n ≡ (is_among list.old.items n
+        && not (is_among numbers.now n)) }
+{
+    for number in numbers {
+        if let Ok(at) = list.as_slice().binary_search(number) {
+            list.remove(at);
+        }
+    }
+}
+
+/// Puts these numbers into a rising list, which has room for them.
+pub(crate) fn put_in(list: &mut Vec<u64>, numbers: &[u64])
+    requires rising { IsStrictlyIncreasing list.old.items }
+    requires room { vec_len list.old + length numbers.now ≤ vec_capacity list.old }
+    ensures rising { IsStrictlyIncreasing list.new.items }
+    ensures both { (n : ℕ) → is_among list.new.items n ≡ (is_among list.old.items n
+        || is_among numbers.now n) }
+{
+    for number in numbers {
+        if let Err(at) = list.as_slice().binary_search(number) {
+            let Ok(()) = list.insert(at, *number) else {
+                unreachable!()
+            };
+        }
+    }
+}
