@@ -11,10 +11,12 @@
 #![tactic(auto)]
 
 mod laws;
+mod passing;
 mod ranges;
 mod reading;
 mod writing;
 
 pub use laws::{entry_is_read, entry_is_short};
-pub use reading::{read_entry, read_head, read_step, read_steps, skip_entry};
+pub use passing::{pass_entry, read_named};
+pub use reading::{read_entry, read_head, read_step, read_steps};
 pub use writing::{most_bytes, write_entry};

@@ -15,7 +15,7 @@ use be_volume::{Done, Op};
 use std::alloc::{AllocError, Global};
 use std::str;
 
-fn first_of(bytes: &[u8]) -> Option<(u8, &[u8])>
+pub(crate) fn first_of(bytes: &[u8]) -> Option<(u8, &[u8])>
     ensures { option_map (λ x. (x.0, x.1.now)) result ≡ spec.first_at bytes.now }
 {
     match bytes {
@@ -59,7 +59,7 @@ fn number64_of(bytes: &[u8]) -> Option<(u64, &[u8])>
 }
 
 #[tactic(auto, unfolding(crate::specs::Decoding::number_at))]
-fn number_of(bytes: &[u8]) -> Option<(u64, &[u8])>
+pub(crate) fn number_of(bytes: &[u8]) -> Option<(u64, &[u8])>
     ensures { option_map (λ x. (x.0, x.1.now)) result ≡ spec.number_at bytes.now }
 {
     let (first, rest) = first_of(bytes)?;
@@ -81,7 +81,7 @@ fn below_of(limit: u64, bytes: &[u8]) -> Option<(u64, &[u8])>
 }
 
 #[tactic(auto, unfolding(crate::specs::Decoding::counted_at))]
-fn counted_of(bytes: &[u8]) -> Option<(&[u8], &[u8])>
+pub(crate) fn counted_of(bytes: &[u8]) -> Option<(&[u8], &[u8])>
     ensures { option_map (λ x. (x.0.now, x.1.now)) result ≡ spec.counted_at bytes.now }
 {
     let (len, rest) = number_of(bytes)?;
@@ -371,27 +371,4 @@ pub fn read_entry(
         ≡ spec.found by ops dones rest) }
 {
     entry_of(alloc, bytes)
-}
-
-/// The bytes after the first `count` operations with their outcomes.
-fn behind_steps(count: u64, bytes: &[u8]) -> Option<&[u8]>
-    ensures { option_map (λ x. x.now) result
-        ≡ option_map (λ x. x.2) (spec.steps_at count bytes.now) }
-{
-    let mut rest = bytes;
-    for _ in 0..count {
-        let (_op, _done, after) = read_step(rest)?;
-        rest = after;
-    }
-    Some(rest)
-}
-
-/// The bytes after the entry at their front; None if there is no entry. It takes no memory, and
-/// costs what the entry has.
-#[tactic(auto, unfolding(crate::specs::Decoding::entry_at))]
-pub fn skip_entry(bytes: &[u8]) -> Option<&[u8]>
-    ensures { option_map (λ x. x.now) result ≡ option_map (λ x. x.3) (spec.entry_at bytes.now) }
-{
-    let (_by, count, rest) = read_head(bytes)?;
-    behind_steps(count, rest)
 }

@@ -2,15 +2,19 @@
 use Rattle.std.proofs.Common.{◌≡◌, ◌<◌, ◌≤◌, ◌+◌, ◌-◌, ◌==◌, ◌&&◌, ◌||◌, not, ℕ, suc, Bool, true, false, List, [], ◌∷◌, ◌++◌, drop, filter, length, refl, sym, ap, subst, take, take-append-drop, ◌∙◌, inl, inr, arith, get_or}
 use Rattle.std.proofs.lemmas.Bool.{and_right, cases_eq, cases_lt, eq-eqb, eqb-true, ne_eqb}
 use Rattle.std.proofs.lemmas.List.{take_more}
+use Rattle.std.proofs.lemmas.List.Sorted.{searched}
+use Rattle.std.proofs.lemmas.Result.{MatchResult-at_err, MatchResult-at_ok}
 use Rattle.std.proofs.lemmas.List.Edits.{get_or-insert_above, get_or-insert_at, get_or-insert_below, get_or-remove_above, get_or-remove_below, length-insert, length-remove}
 use Rattle.std.proofs.lemmas.List.Folds.{Any-from_list_any, list_any-append, list_any_at}
 use Rattle.std.proofs.lemmas.List.Kept.{AllPairs-from_increasing}
 use Rattle.std.proofs.lemmas.Map.Views.{any-filter_same}
 use Rattle.std.specs.List.{Contains, insert, remove}
-use Rattle.std.specs.List.Sorted.{IsStrictlyIncreasing}
+use Rattle.std.specs.List.Sorted.{IsBinarySearchResult, IsStrictlyIncreasing}
+use Rattle.std.specs.Ordering.{nat_cmp}
+use Rattle.std.specs.Prelude.{Result, Ok, Err, OnOk, OnErr, is_ok}
 use Rattle.be_plan.proofs.Rising.{contains_of_is_in, in_by_place, rises_increasing, same_rising}
 use Rattle.be_store.specs.Live.{is_among, without}
-use Rattle.be_store.proofs.Answering.{lacks}
+use Rattle.be_store.proofs.Answering.{held_at, lacks}
 
 pub among_contains : (xs : List ℕ) (n : ℕ) → is_among xs n ≡ true → Contains xs n
 among_contains xs n h =
@@ -143,3 +147,58 @@ among_remove xs i n up inside =
           ∙ (without_this (is_among (take i xs) n) (is_among (drop (i + 1) xs) n) (x == n) (ne_eqb x n other)
           ∙ ap (λ b. b && not (x == n)) (sym parts)))
     ]
+
+-- what a binary search among rising numbers says
+abbrev pub IsFoundAt : List ℕ → ℕ → ℕ → Type 0
+IsFoundAt xs x i = (i < length xs) × (get_or xs i 0 ≡ x)
+
+abbrev pub IsGapAt : List ℕ → ℕ → ℕ → Type 0
+IsGapAt xs x i = (i ≤ length xs) × ((k : ℕ) → k < i → get_or xs k 0 < x) × ((k : ℕ) → i ≤ k → k < length xs → x < get_or xs k 0)
+
+pub found_here : (xs : List ℕ) (x i : ℕ) (r : Result ℕ ℕ) → IsBinarySearchResult (λ y. nat_cmp y x) xs r → IsStrictlyIncreasing xs → r ≡ Ok i → IsFoundAt xs x i
+found_here xs x i r position up is = MatchResult-at_ok (IsFoundAt xs x) (IsGapAt xs x) i is (searched xs x r position (not_falling xs up))
+
+pub lacking_here : (xs : List ℕ) (x i : ℕ) (r : Result ℕ ℕ) → IsBinarySearchResult (λ y. nat_cmp y x) xs r → IsStrictlyIncreasing xs → r ≡ Err i → IsGapAt xs x i
+lacking_here xs x i r position up is = MatchResult-at_err (IsFoundAt xs x) (IsGapAt xs x) i is (searched xs x r position (not_falling xs up))
+
+pub gap_lacks : (xs : List ℕ) (x i : ℕ) → IsGapAt xs x i → is_among xs x ≡ false
+gap_lacks xs x i gap = lacks xs x i gap.1 gap.2
+
+pub rising_in_gap : (xs : List ℕ) (x i : ℕ) → IsStrictlyIncreasing xs → IsGapAt xs x i → IsStrictlyIncreasing (insert xs i x)
+rising_in_gap xs x i up gap = rising_insert xs i x up gap.0 gap.1 gap.2
+
+pub on_either : {T E : Type 0} (r : Result T E) (A B P : Type 0) → OnOk r A → OnErr r B → (A → P) → (B → P) → P
+on_either (Ok x) A B P a b f g = f a
+on_either (Err e) A B P a b f g = g b
+
+or_first : (a b : Bool) → a ≡ true → (a || b) ≡ true
+or_first true b h = refl
+or_first false b h = cc
+
+-- what was there is there after an insert
+pub kept_insert : (xs : List ℕ) (i y n : ℕ) → is_among xs n ≡ true → is_among (insert xs i y) n ≡ true
+kept_insert xs i y n h = among_insert xs i y n ∙ or_first (is_among xs n) (y == n) h
+
+-- whether a search finds the number
+pub search_tells : (xs : List ℕ) (x : ℕ) (r : Result ℕ ℕ) → IsBinarySearchResult (λ y. nat_cmp y x) xs r → IsStrictlyIncreasing xs → is_ok r ≡ is_among xs x
+search_tells xs x (Ok i) position up = let at = found_here xs x i (Ok i) position up refl in sym (held_at xs x i at.0 at.1)
+search_tells xs x (Err i) position up = sym (gap_lacks xs x i (lacking_here xs x i (Err i) position up refl))
+
+both_gone : (a b c : Bool) → ((a && not b) && not c) ≡ (a && not (b || c))
+both_gone true true c = refl
+both_gone true false c = refl
+both_gone false b c = refl
+
+not_there : (a b c : Bool) → c ≡ true → (a && not b) ≡ false → (a && not b) ≡ (a && not (b || c))
+not_there true true c h e = refl
+not_there true false true h e = e
+not_there true false false h e = cc
+not_there false b c h e = refl
+
+-- among the first numbers and one more
+pub among_more : (xs : List ℕ) (k n : ℕ) → k < length xs → is_among (take (k + 1) xs) n ≡ (is_among (take k xs) n || (get_or xs k 0 == n))
+among_more xs k n lt = ap (λ l. is_among l n) (take_more xs k 0 lt) ∙ (among_append (take k xs) (get_or xs k 0 ∷ []) n ∙ ap (λ b. is_among (take k xs) n || b) (or_none (get_or xs k 0 == n)))
+  where
+    or_none : (b : Bool) → (b || false) ≡ b
+    or_none true = refl
+    or_none false = refl

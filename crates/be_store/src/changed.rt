@@ -3,6 +3,7 @@ ghost use Rattle.std.specs.List.Sorted.{IsStrictlyIncreasing};
 ghost use Rattle.std.specs.Prelude.{◌≡◌, ◌≤◌, ◌+◌, ◌++◌, ◌&&◌, ◌||◌, ◌∷◌, [], ℕ, not, filter, length};
 ghost use Rattle.std.specs.Prelude.{OnOk, IfErr, if◌then◌else◌, vec_capacity, vec_len};
 ghost use Rattle.be_value.specs.declared.refusals.Refusal.TheVariants.{OutOfMemory};
+ghost use Rattle.be_query.specs.View.{formula};
 ghost use Rattle.be_volume.specs.Query.{sat};
 ghost use Rattle.be_volume.specs.Volume.{State};
 ghost use Rattle.be_paged.specs.Version.{IsVersion};
@@ -11,8 +12,8 @@ ghost use Rattle.be_store.specs.Live.{is_among};
 use crate::answers::Updates;
 use be_paged::source;
 use be_pages::Look;
-use be_plan::is_true;
-use be_query::Query;
+use be_plan::{Source, is_true};
+use be_query::{Query, Tree};
 use be_value::Refusal;
 
 /// Whether a rising list has this number.
@@ -48,8 +49,34 @@ fn add_change(
     Ok(())
 }
 
-/// Asks the query of each of these nodes. Which of them the list lacks though it is true of them,
-/// and which it has though it isn't.
+/// Asks a tree of each of these nodes. Adds those that the list lacks though the tree is true of
+/// them, and those that it has though the tree isn't.
+fn ask_nodes<S: Source>(
+    source: &mut S,
+    tree: &Tree,
+    list: &[u64],
+    nodes: &[u64],
+    updates: &mut Updates,
+) -> Result<(), Refusal>
+    ghost volume: { State }
+    requires answers { S.answers_for source.old volume }
+    requires rising { IsStrictlyIncreasing list.now }
+    requires empty { (updates.old.created.items ≡ []) × (updates.old.removed.items ≡ []) }
+    ensures stays { S.kept source.new ≡ S.kept source.old }
+    ensures created { OnOk result (updates.new.created.items
+        ≡ filter (λ n. sat volume (formula tree.now) n && not (is_among list.now n)) nodes.now) }
+    ensures removed { OnOk result (updates.new.removed.items
+        ≡ filter (λ n. is_among list.now n && not (sat volume (formula tree.now) n)) nodes.now) }
+    ensures err { IfErr result (λ e. e ≡ OutOfMemory) }
+{
+    for node in nodes {
+        let is = is_true(source, tree, *node);
+        add_change(list, *node, is, updates)?;
+    }
+    Ok(())
+}
+
+/// The same of a query, over any reader of a version's pages, which comes back.
 pub(crate) fn ask_each<L: Look>(
     look: L,
     version_page: u64,
@@ -70,13 +97,8 @@ pub(crate) fn ask_each<L: Look>(
     ensures kept { L.kept result.0 ≡ L.kept look }
 {
     let mut source = source(look, version_page);
-    for node in nodes {
-        let is = is_true(&mut source, query.tree(), *node);
-        if add_change(list, *node, is, updates).is_err() {
-            return (source.into_look(), Err(Refusal::OutOfMemory));
-        }
-    }
-    (source.into_look(), Ok(()))
+    let answer = ask_nodes(&mut source, query.tree(), list, nodes, updates);
+    (source.into_look(), answer)
 }
 
 /// Removes these numbers from a rising list.
