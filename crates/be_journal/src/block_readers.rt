@@ -5,7 +5,7 @@ ghost use Rattle.be_journal.specs.Journal.{IsEntry};
 
 use crate::views::EntryView;
 use crate::{Entry, Items};
-use be_entry_bytes::{read_entry, read_head, skip_entry};
+use be_entry_bytes::{pass_entry, read_entry, read_head};
 use std::alloc::{AllocError, Global};
 use std::marker::Model;
 
@@ -54,10 +54,7 @@ impl<'a> BlockReader<'a> {
         requires { 0 < length self.old }
         ensures { self.new ≡ drop 1 self.old }
     {
-        let Some(rest) = skip_entry(self.bytes) else {
-            unreachable!()
-        };
-        self.bytes = rest;
+        self.bytes = pass_entry(self.bytes);
         self.left -= 1;
     }
 

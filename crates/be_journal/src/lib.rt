@@ -18,4 +18,4 @@ pub use entries::{Entry, Items};
 pub use journals::{Journal, first_wrong, replay};
 pub use laws::{by_pass_append, legal_front, legal_last, legal_push, replay_push, replay_sound};
 pub use texts::{done_text, entry_line, op_text, quoted, value_text};
-pub use views::{EntryView, Steps};
+pub use views::{EntryView, Named, Steps};

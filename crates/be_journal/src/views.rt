@@ -7,9 +7,10 @@ ghost use Rattle.std.specs.Iterator.{YieldsFirst, item_count};
 ghost use Rattle.std.specs.Prelude.{◌≡◌, IfOk, IsSome, length, map};
 ghost use Rattle.be_entry_bytes.specs.Decoding.{steps_at};
 ghost use Rattle.be_journal.specs.Blocks.{steps_in};
+ghost use Rattle.be_journal.specs.Named.{IsNamedBy};
 
 use crate::{Entry, Items};
-use be_entry_bytes::{read_step, read_steps};
+use be_entry_bytes::{read_named, read_step, read_steps};
 use be_volume::{Done, Op};
 use std::alloc::{AllocError, Global};
 use std::marker::Model;
@@ -88,6 +89,17 @@ impl<'a> EntryView<'a> {
         }
     }
 
+    /// The node that each operation changes, in their order: of one that makes a node the new one's
+    /// number, and none of one on an index. No name and no value is read.
+    pub fn named(&self) -> Named<'a>
+        ensures { IsNamedBy self.now.ops self.now.dones result }
+    {
+        Named {
+            left: self.count,
+            bytes: self.bytes,
+        }
+    }
+
     /// An entry of its own, equal to this one. Its two lists take memory from the journal's
     /// allocator.
     pub fn to_entry(&self) -> Result<Entry, AllocError>
@@ -148,5 +160,47 @@ impl Iterator for Steps<'_> {
         self.left -= 1;
         self.bytes = rest;
         Some((op, done))
+    }
+}
+
+/// The nodes that the operations of an entry change which are still to come. A contract sees the
+/// list.
+#[derive(Drop)]
+pub struct Named<'a> {
+    left: u64,
+    /// The bytes from the next operation on.
+    bytes: &'a [u8],
+}
+
+impl<'a> Model for Named<'a> {
+    ghost use Rattle.std.specs.Coded.{coded_list, coded_option, coded_ℕ};
+    ghost use Rattle.std.specs.Prelude.{◌≡◌, ℕ, List, Option, length, map};
+    ghost use Rattle.be_entry_bytes.specs.Named.{node_named};
+    ghost use Rattle.be_journal.specs.Blocks.{steps_in};
+
+    ghost Value = { List (Option ℕ) };
+
+    ghost coded = { coded_list (coded_option coded_ℕ) };
+
+    ghost view = { λ s. map (λ p. node_named p.0 p.1) (steps_in s.left s.bytes.now) };
+
+    ghost invariant = { λ s. length (steps_in s.left s.bytes.now) ≡ s.left };
+}
+
+impl Iterator for Named<'_> {
+    type Item = Option<u64>;
+
+    ghost next_gives = { YieldsFirst (λ s. s) };
+
+    ghost remaining = { item_count (λ s. s) };
+
+    fn next(&mut self) -> Option<Option<u64>> {
+        if self.left == 0 {
+            return None;
+        }
+        let (node, rest) = read_named(self.bytes);
+        self.left -= 1;
+        self.bytes = rest;
+        Some(node)
     }
 }

@@ -12,6 +12,7 @@ use Rattle.std.specs.Ordering.{eq_by_cmp}
 use Rattle.std.specs.Prelude.{Result, cond}
 use Rattle.std.specs.Result.{result_map_both}
 use Rattle.std.specs.declared.option.Option.{Option}
+use Rattle.be_entry_bytes.specs.Named.{node_made, node_named}
 use Rattle.be_journal.specs.Journal.{Agrees, IsLegal, replay}
 use Rattle.be_journal.specs.declared.entries.Entry.{Entry}
 use Rattle.be_paged.proofs.CatalogPairs.Items.{get_other, get_here, gone_other, keys_tell}
@@ -33,7 +34,7 @@ use Rattle.be_volume.specs.declared.ops.Done.TheVariants.{Node, Unit as Nothing}
 use Rattle.be_volume.specs.declared.ops.Op.{Op}
 use Rattle.be_volume.specs.declared.ops.Op.TheVariants.{New, Drop, Set, Unset, MkIndex, RmIndex}
 use Rattle.be_store.specs.Live.{IsAnswer, IsAnswerBut, is_among}
-use Rattle.be_store.specs.Named.{IsNamedAmong, NamesAmong, node_made, node_named}
+use Rattle.be_store.specs.Named.{IsNamedAmong, NamesAmong}
 
 -- two volumes have indices of the same names, and a comparison sees the same of each node but these
 pub record AreSame (nodes : List ℕ) (s t : State) : Type 0 where

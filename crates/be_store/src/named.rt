@@ -8,40 +8,16 @@ ghost use Rattle.be_journal.specs.declared.entries.Entry.{Entry as AnyEntry};
 ghost use Rattle.be_table.specs.Rule.{entries};
 ghost use Rattle.be_store.specs.History.{Learns};
 ghost use Rattle.be_store.specs.Live.{is_among};
-ghost use Rattle.be_store.specs.Named.{NamesAmong, node_made, node_named};
+ghost use Rattle.be_store.specs.Named.{NamesAmong};
 ghost use Rattle.be_store.specs.Passes.{IsPassOf};
 
 use crate::{Pass, Store};
 use arrayvec::ArrayVec;
 use be_journal::EntryView;
 use be_table::Writing;
-use be_volume::{Done, Op};
 
 /// The most nodes that a refresh asks one by one.
 pub(crate) const MOST: usize = 64;
-
-fn node_made(done: &Done) -> Option<u64>
-    ensures { result ≡ node_made done.now }
-{
-    match done {
-        Done::Node(node) => Some(*node),
-        Done::Unit => None,
-    }
-}
-
-/// The node that an operation changes; none of an operation on an index.
-fn node_named(op: &Op, done: &Done) -> Option<u64>
-    ensures { result ≡ node_named op.now done.now }
-{
-    match op {
-        Op::New => node_made(done),
-        Op::Drop(node) => Some(*node),
-        Op::Set(node, _, _) => Some(*node),
-        Op::Unset(node, _) => Some(*node),
-        Op::MkIndex(_, _) => None,
-        Op::RmIndex(_) => None,
-    }
-}
 
 /// Adds a node to a rising list, if it isn't there. Returns false if there is no room.
 fn add_node(nodes: &mut ArrayVec<u64, 64>, node: u64) -> bool
@@ -66,8 +42,8 @@ fn add_named(nodes: &mut ArrayVec<u64, 64>, entry: &EntryView<'_>) -> bool
         ≡ true }
     ensures named { result ≡ true → NamesAmong nodes.new.items entry.now }
 {
-    for (op, done) in entry.steps() {
-        let Some(node) = node_named(&op, &done) else {
+    for named in entry.named() {
+        let Some(node) = named else {
             return false;
         };
         if !add_node(nodes, node) {

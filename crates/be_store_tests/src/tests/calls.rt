@@ -148,9 +148,9 @@ pub(crate) fn ask_again(store: &Store, alloc: Global, pass: &mut Pass, live: &mu
 /// Which nodes came to a live query and which went since it was refreshed last, at the pin, or at a
 /// pin that goes with the read.
 fn refresh(store: &Store, pass: &mut Pass, live: &mut Live) -> Result<Updates, Refusal>
-    requires { IsPassOf store.now pass.old }
+    requires pass { IsPassOf store.now pass.old }
     requires own { IsLiveOf store.now live.old }
-    ensures { StaysPass store.now pass.old pass.new }
+    ensures pass { StaysPass store.now pass.old pass.new }
     ensures own { IsLiveOf store.now live.new }
 {
     match pass.pinned() {
@@ -163,7 +163,7 @@ fn refresh_once(store: &Store, pass: &mut Pass, live: &mut Live) -> Result<Updat
     requires pass { IsPassOf store.now pass.old }
     requires unpinned { pinned_number pass.old.knows.phase ≡ None }
     requires own { IsLiveOf store.now live.old }
-    ensures { StaysPass store.now pass.old pass.new }
+    ensures pass { StaysPass store.now pass.old pass.new }
     ensures own { IsLiveOf store.now live.new }
 {
     let mut version = store.pinned(pass);
@@ -228,9 +228,9 @@ fn ask(store: &Store, alloc: Global, pass: &mut Pass, request: &Request) -> Text
 
 /// What a refresh finds, or that there is no live query.
 fn updates(store: &Store, alloc: Global, pass: &mut Pass, live: &mut Option<Live>) -> Text
-    requires { IsPassOf store.now pass.old }
+    requires pass { IsPassOf store.now pass.old }
     requires own { IfSome live.old (λ l. IsLiveOf store.now l) }
-    ensures { StaysPass store.now pass.old pass.new }
+    ensures pass { StaysPass store.now pass.old pass.new }
     ensures own { IfSome live.new (λ l. IsLiveOf store.now l) }
 {
     match live {
@@ -253,9 +253,9 @@ pub(crate) fn answer(
     live: &mut Option<Live>,
     words: &str,
 ) -> Text
-    requires { IsPassOf store.now pass.old }
+    requires pass { IsPassOf store.now pass.old }
     requires own { IfSome live.old (λ l. IsLiveOf store.now l) }
-    ensures { StaysPass store.now pass.old pass.new }
+    ensures pass { StaysPass store.now pass.old pass.new }
     ensures own { IfSome live.new (λ l. IsLiveOf store.now l) }
 {
     match list_of(alloc, words) {
