@@ -1,9 +1,10 @@
 -- Numbers among a list, and what edits of a rising list leave among it.
-use Rattle.std.proofs.Common.{◌≡◌, ◌<◌, ◌≤◌, ◌+◌, ◌-◌, ◌==◌, ◌&&◌, ◌||◌, not, ℕ, suc, Bool, true, false, List, [], ◌∷◌, ◌++◌, drop, filter, length, refl, sym, ap, subst, take, take-append-drop, ◌∙◌, inl, inr, arith, get_or}
+use Rattle.std.proofs.Common.{◌≡◌, ◌<◌, ◌≤◌, ◌+◌, ◌-◌, ◌==◌, ◌&&◌, ◌||◌, not, if◌then◌else◌, ℕ, suc, Bool, true, false, List, [], ◌∷◌, ◌++◌, drop, filter, length, refl, sym, ap, subst, take, take-append-drop, ◌∙◌, inl, inr, arith, get_or}
 use Rattle.std.proofs.lemmas.Bool.{and_right, cases_eq, cases_lt, eq-eqb, eqb-true, ne_eqb}
 use Rattle.std.proofs.lemmas.List.{take_more}
 use Rattle.std.proofs.lemmas.List.Sorted.{searched}
 use Rattle.std.proofs.lemmas.Result.{MatchResult-at_err, MatchResult-at_ok}
+use Rattle.std.proofs.lemmas.List.Elements.{filter-append}
 use Rattle.std.proofs.lemmas.List.Edits.{get_or-insert_above, get_or-insert_at, get_or-insert_below, get_or-remove_above, get_or-remove_below, length-insert, length-remove}
 use Rattle.std.proofs.lemmas.List.Folds.{Any-from_list_any, list_any-append, list_any_at}
 use Rattle.std.proofs.lemmas.List.Kept.{AllPairs-from_increasing}
@@ -184,16 +185,10 @@ pub search_tells : (xs : List ℕ) (x : ℕ) (r : Result ℕ ℕ) → IsBinarySe
 search_tells xs x (Ok i) position up = let at = found_here xs x i (Ok i) position up refl in sym (held_at xs x i at.0 at.1)
 search_tells xs x (Err i) position up = sym (gap_lacks xs x i (lacking_here xs x i (Err i) position up refl))
 
-both_gone : (a b c : Bool) → ((a && not b) && not c) ≡ (a && not (b || c))
+pub both_gone : (a b c : Bool) → ((a && not b) && not c) ≡ (a && not (b || c))
 both_gone true true c = refl
 both_gone true false c = refl
 both_gone false b c = refl
-
-not_there : (a b c : Bool) → c ≡ true → (a && not b) ≡ false → (a && not b) ≡ (a && not (b || c))
-not_there true true c h e = refl
-not_there true false true h e = e
-not_there true false false h e = cc
-not_there false b c h e = refl
 
 -- among the first numbers and one more
 pub among_more : (xs : List ℕ) (k n : ℕ) → k < length xs → is_among (take (k + 1) xs) n ≡ (is_among (take k xs) n || (get_or xs k 0 == n))
@@ -202,3 +197,33 @@ among_more xs k n lt = ap (λ l. is_among l n) (take_more xs k 0 lt) ∙ (among_
     or_none : (b : Bool) → (b || false) ≡ b
     or_none true = refl
     or_none false = refl
+
+pub both_there : (a b c : Bool) → ((a || b) || c) ≡ (a || (b || c))
+both_there true b c = refl
+both_there false b c = refl
+
+-- a filter of the first numbers and one more
+pub filter_more : (p : ℕ → Bool) (xs : List ℕ) (k : ℕ) → k < length xs → filter p (take (k + 1) xs) ≡ filter p (take k xs) ++ (if p (get_or xs k 0) then get_or xs k 0 ∷ [] else [])
+filter_more p xs k lt = ap (filter p) (take_more xs k 0 lt) ∙ filter-append p (take k xs) (get_or xs k 0 ∷ [])
+
+-- a number less than another list has stays out of it
+pub gone_already : (xs : List ℕ) (x n : ℕ) → is_among xs x ≡ false → is_among xs n ≡ (is_among xs n && not (x == n))
+gone_already xs x n none = elim (cases_eq x n) [
+  | inl same ↦ (let out : is_among xs n ≡ false = ap (is_among xs) (sym same) ∙ none in out ∙ sym (ap (λ b. b && not (x == n)) out))
+  | inr other ↦ sym (ap (λ b. is_among xs n && not b) (ne_eqb x n other) ∙ and_true (is_among xs n))
+]
+  where
+    and_true : (b : Bool) → (b && true) ≡ b
+    and_true true = refl
+    and_true false = refl
+
+-- a number that is there already
+pub there_already : (xs : List ℕ) (x n : ℕ) → is_among xs x ≡ true → is_among xs n ≡ (is_among xs n || (x == n))
+there_already xs x n has = elim (cases_eq x n) [
+  | inl same ↦ (let in_it : is_among xs n ≡ true = ap (is_among xs) (sym same) ∙ has in in_it ∙ sym (ap (λ b. b || (x == n)) in_it))
+  | inr other ↦ sym (ap (λ b. is_among xs n || b) (ne_eqb x n other) ∙ or_false (is_among xs n))
+]
+  where
+    or_false : (b : Bool) → (b || false) ≡ b
+    or_false true = refl
+    or_false false = refl

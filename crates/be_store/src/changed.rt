@@ -1,6 +1,7 @@
 //! A few nodes asked one by one, and a rising list changed by what became of them.
 ghost use Rattle.std.specs.List.Sorted.{IsStrictlyIncreasing};
-ghost use Rattle.std.specs.Prelude.{◌≡◌, ◌≤◌, ◌+◌, ◌++◌, ◌&&◌, ◌||◌, ◌∷◌, [], ℕ, not, filter, length};
+ghost use Rattle.std.specs.Prelude.{◌≡◌, ◌==◌, ◌≤◌, ◌<◌, ◌+◌, ◌++◌, ◌&&◌, ◌||◌, ◌∷◌, [], ℕ, not};
+ghost use Rattle.std.specs.Prelude.{filter, length};
 ghost use Rattle.std.specs.Prelude.{OnOk, IfErr, if◌then◌else◌, vec_capacity, vec_len};
 ghost use Rattle.be_value.specs.declared.refusals.Refusal.TheVariants.{OutOfMemory};
 ghost use Rattle.be_query.specs.View.{formula};
@@ -24,14 +25,22 @@ fn has(numbers: &[u64], number: u64) -> bool
     numbers.binary_search(&number).is_ok()
 }
 
+/// Adds a number to a list, if it is to be there.
+fn add_if(list: &mut Vec<u64>, number: u64, is: bool) -> Result<(), Refusal>
+    ensures ok { OnOk result (list.new.items ≡ list.old.items
+        ++ (if is then number ∷ [] else [])) }
+    ensures err { IfErr result (λ e. e ≡ OutOfMemory) }
+{
+    if !is {
+        return Ok(());
+    }
+    list.push(number)?;
+    Ok(())
+}
+
 /// Adds a node to those that came if the query is true of it and the list lacks it, and to those
 /// that went if it is the other way round.
-fn add_change(
-    list: &[u64],
-    node: u64,
-    is: bool,
-    updates: &mut Updates,
-) -> Result<(), Refusal>
+fn add_change(list: &[u64], node: u64, is: bool, updates: &mut Updates) -> Result<(), Refusal>
     requires { IsStrictlyIncreasing list.now }
     ensures created { OnOk result (updates.new.created.items ≡ updates.old.created.items
         ++ (if is && not (is_among list.now node) then node ∷ [] else [])) }
@@ -40,13 +49,8 @@ fn add_change(
     ensures err { IfErr result (λ e. e ≡ OutOfMemory) }
 {
     let was = has(list, node);
-    if is && !was {
-        updates.created.push(node)?;
-    }
-    if was && !is {
-        updates.removed.push(node)?;
-    }
-    Ok(())
+    add_if(&mut updates.created, node, is && !was)?;
+    add_if(&mut updates.removed, node, was && !is)
 }
 
 /// Asks a tree of each of these nodes. Adds those that the list lacks though the tree is true of
@@ -101,6 +105,19 @@ pub(crate) fn ask_each<L: Look>(
     (source.into_look(), answer)
 }
 
+/// Removes a number from a rising list, if it is there.
+fn take_one(list: &mut Vec<u64>, number: u64)
+    requires { IsStrictlyIncreasing list.old.items }
+    ensures rising { IsStrictlyIncreasing list.new.items }
+    ensures left { (n : ℕ) → is_among list.new.items n ≡ (is_among list.old.items n
+        && not (number == n)) }
+{
+    let Ok(at) = list.as_slice().binary_search(&number) else {
+        return;
+    };
+    list.remove(at);
+}
+
 /// Removes these numbers from a rising list.
 pub(crate) fn take_out(list: &mut Vec<u64>, numbers: &[u64])
     requires { IsStrictlyIncreasing list.old.items }
@@ -109,10 +126,26 @@ pub(crate) fn take_out(list: &mut Vec<u64>, numbers: &[u64])
         && not (is_among numbers.now n)) }
 {
     for number in numbers {
-        if let Ok(at) = list.as_slice().binary_search(number) {
-            list.remove(at);
-        }
+        take_one(list, *number);
     }
+}
+
+/// Puts a number into a rising list with room for it, if it isn't there.
+fn put_one(list: &mut Vec<u64>, number: u64)
+    requires rising { IsStrictlyIncreasing list.old.items }
+    requires room { vec_len list.old < vec_capacity list.old }
+    ensures rising { IsStrictlyIncreasing list.new.items }
+    ensures both { (n : ℕ) → is_among list.new.items n ≡ (is_among list.old.items n
+        || (number == n)) }
+    ensures room { (vec_len list.new ≤ vec_len list.old + 1)
+        × (vec_capacity list.old ≤ vec_capacity list.new) }
+{
+    let Err(at) = list.as_slice().binary_search(&number) else {
+        return;
+    };
+    let Ok(()) = list.insert(at, number) else {
+        unreachable!()
+    };
 }
 
 /// Puts these numbers into a rising list, which has room for them.
@@ -124,10 +157,6 @@ pub(crate) fn put_in(list: &mut Vec<u64>, numbers: &[u64])
         || is_among numbers.now n) }
 {
     for number in numbers {
-        if let Err(at) = list.as_slice().binary_search(number) {
-            let Ok(()) = list.insert(at, *number) else {
-                unreachable!()
-            };
-        }
+        put_one(list, *number);
     }
 }
