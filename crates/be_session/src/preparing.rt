@@ -5,8 +5,7 @@ ghost use Rattle.be_query.specs.Grammar.{Formula, IsTextOf};
 ghost use Rattle.be_query.specs.Printing.{or_text};
 ghost use Rattle.be_volume.specs.Query.{scan};
 ghost use Rattle.be_table.specs.Seats.{pinned_number};
-ghost use Rattle.be_store.specs.History.{Learns};
-ghost use Rattle.be_store.specs.Live.{IsLiveOf, Refreshes};
+ghost use Rattle.be_store.specs.Live.{Refreshes};
 ghost use Rattle.be_store.specs.Passes.{HasRead, IsPinnedTo, volume_pinned};
 ghost use Rattle.be_session.specs.Items.{IsBuilt, IsUnbuilt};
 ghost use Rattle.be_session.specs.Prepared.{IsUnasked, with_found};
@@ -76,15 +75,12 @@ impl Prepared {
     }
 
     /// Asks the query in the session's pinned version, and keeps which nodes came and which went
-    /// since the last refresh, which was in a session of the same store. An error leaves the query
-    /// as it was.
+    /// since the last refresh. An error leaves the query as it was.
     #[tactic(auto, using(crate::proofs::Same::same_prepared))]
     pub fn refresh(&mut self, session: &mut Session) -> Result<(), Fault>
-        requires own { IsLiveOf session.old.store self.old.live }
         ensures store { (session.new.store ≡ session.old.store)
             × (session.new.spare ≡ session.old.spare) }
-        ensures learns { Learns session.old.knows session.new.knows }
-        ensures own { IsLiveOf session.old.store self.new.live }
+        ensures read { HasRead session.old.knows session.new.knows }
         ensures ok { IfOk result (λ _. Refreshes (volume_pinned session.old.knows) self.old.live
             self.new.live self.new.came self.new.went) }
         ensures pin { IfOk result (λ _. (n : ℕ) × IsPinnedTo session.old.knows n) }

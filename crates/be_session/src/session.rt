@@ -17,7 +17,7 @@ ghost use Rattle.be_table.specs.Works.{AreNew, FoundHeld, IsOpenRefused};
 ghost use Rattle.be_store.specs.Conditional.{AcceptsAt};
 ghost use Rattle.be_store.specs.History.{Accepts, IsUntold, Learns, LocksAndUnlocks, Pins};
 ghost use Rattle.be_store.specs.History.{entries_from, text_seen};
-ghost use Rattle.be_store.specs.Live.{IsLiveOf, Refreshes};
+ghost use Rattle.be_store.specs.Live.{Refreshes};
 ghost use Rattle.be_store.specs.Passes.{HasRead, IsPassOf, IsPinnedTo, volume_pinned};
 ghost use Rattle.be_store.specs.Statuses.{TellsStatus};
 ghost use Rattle.be_session.specs.Explained.{explanation_in};
@@ -444,13 +444,10 @@ impl Session {
     }
 
     /// Asks a live query in the pinned version, and returns which nodes came and which went since
-    /// its last refresh, which was in the same store. An error leaves the query as it was. The pass
-    /// has then seen what that refresh had seen of the journal, too; its pin stays.
+    /// its last refresh. An error leaves the query as it was.
     pub fn refresh(&mut self, live: &mut Live) -> Result<Updates, Fault>
-        requires own { IsLiveOf self.old.store live.old }
         ensures store { (self.new.store ≡ self.old.store) × (self.new.spare ≡ self.old.spare) }
-        ensures learns { Learns self.old.knows self.new.knows }
-        ensures own { IsLiveOf self.old.store live.new }
+        ensures read { HasRead self.old.knows self.new.knows }
         ensures ok { IfOk result (λ u. Refreshes (volume_pinned self.old.knows) live.old live.new
             u.created.items u.removed.items) }
         ensures pin { IfOk result (λ u. (n : ℕ) × IsPinnedTo self.old.knows n) }
@@ -461,7 +458,7 @@ impl Session {
         let Some(_) = self.pass.pinned() else {
             return Err(Fault::NotPinned);
         };
-        Ok(live.refresh(self.shared.store(), &mut self.pass)?)
+        Ok(live.refresh_whole(self.shared.store(), &mut self.pass)?)
     }
 
     /// The index cover from which a query would be answered in the pinned version: the chosen

@@ -142,6 +142,7 @@ impl Live {
             return false;
         };
         store.join(pass, &mut mark.witness);
+        pass.is_pass();
         let found = add_changes(store, pass, mark.number, pin, nodes);
         self.mark = Some(mark);
         found

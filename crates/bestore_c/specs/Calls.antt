@@ -23,7 +23,7 @@ use Rattle.be_session.specs.declared.items.PredicateItem.{PredicateItem}
 use Rattle.be_session.specs.declared.lists.Operation.{Operation}
 use Rattle.be_store.specs.Conditional.{AcceptsAt}
 use Rattle.be_store.specs.History.{Accepts, IsUntold, Learns, LocksAndUnlocks, text_seen}
-use Rattle.be_store.specs.Live.{IsLiveOf, Refreshes}
+use Rattle.be_store.specs.Live.{Refreshes}
 use Rattle.be_store.specs.Passes.{HasRead, IsPinnedTo, volume_pinned}
 use Rattle.be_table.specs.Rule.{IsWithin, entries}
 use Rattle.be_table.specs.Seats.{pinned_number}
@@ -302,14 +302,8 @@ abbrev pub RefreshesPrepared : Sitting → Sitting → Option PreparedQuery → 
 RefreshesPrepared s t None None counts code = (code ≡ 64) × (t ≡ s)
 RefreshesPrepared s t None (Some q) counts code = ⊥
 RefreshesPrepared s t (Some p) None counts code = ⊥
-RefreshesPrepared s t (Some p) (Some q) counts code = Learns s.knows t.knows
-    × IsLiveOf s.store q.live × Refreshed s p q counts code
-
--- a prepared query was refreshed last in the pass's store, if both handles are open
-abbrev pub MayRefresh : Option Sitting → Option PreparedQuery → Type 0
-MayRefresh None p = Unit {0}
-MayRefresh (Some s) None = Unit {0}
-MayRefresh (Some s) (Some p) = IsLiveOf s.store p.live
+RefreshesPrepared s t (Some p) (Some q) counts code = HasRead s.knows t.knows
+    × Refreshed s p q counts code
 
 -- The nodes that came and the nodes that went at the last refresh, up to as many of each as there
 -- are places.

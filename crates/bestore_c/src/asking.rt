@@ -6,8 +6,6 @@ ghost use Rattle.std.specs.declared.result.Result.{Result as AnyResult};
 ghost use Rattle.be_query.specs.Grammar.{IsTextOf};
 ghost use Rattle.be_session.specs.Sitting.{AtPin, IsNoQuery, ReadAnswers};
 ghost use Rattle.be_session.specs.declared.faults.Fault.{Fault as AnyFault};
-ghost use Rattle.be_store.specs.History.{Learns};
-ghost use Rattle.be_store.specs.Live.{IsLiveOf};
 ghost use Rattle.be_store.specs.Passes.{HasRead};
 ghost use Rattle.be_value.specs.declared.refusals.Refusal.{Refusal as AnyRefusal};
 ghost use Rattle.bestore_c.specs.Calls.{Asked, IsClosed, PutsOutAtPin, Refreshed, Refuses};
@@ -122,10 +120,9 @@ pub(crate) fn refresh_prepared(
     prepared: &mut Prepared,
     counts: &mut UpdateCounts,
 ) -> u32
-    requires { IsLiveOf session.old.store prepared.old.live }
     ensures store { (session.new.store ≡ session.old.store)
         × (session.new.spare ≡ session.old.spare) }
-    ensures learns { Learns session.old.knows session.new.knows }
+    ensures read { HasRead session.old.knows session.new.knows }
     ensures refreshed { Refreshed session.old prepared.old prepared.new counts.new result }
     ensures kept { (result ≡ 0) ⊎ ((counts.new ≡ counts.old) × (prepared.new ≡ prepared.old)) }
 {

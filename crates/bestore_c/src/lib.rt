@@ -19,7 +19,7 @@ ghost use Rattle.be_table.specs.Seats.{pinned_number};
 ghost use Rattle.be_table.specs.Steps.{unpins, with_history};
 ghost use Rattle.be_volume.specs.Reading.{attributes_at, index_kinds};
 ghost use Rattle.bestore_c.specs.Calls.{AnswersWhetherOpen, AsksPrepared, Calls, Explains, Finds};
-ghost use Rattle.bestore_c.specs.Calls.{FindsBuilt, GivesAnother, IsClosed, MayRefresh};
+ghost use Rattle.bestore_c.specs.Calls.{FindsBuilt, GivesAnother, IsClosed};
 ghost use Rattle.bestore_c.specs.Calls.{IsTextFault, Listed, MovesHandle, Opens, Prepares};
 ghost use Rattle.bestore_c.specs.Calls.{PrintsPrepared, PutsOutAtPin, Reads, RefreshesPrepared};
 ghost use Rattle.bestore_c.specs.Calls.{Refuses, ShowsFound};
@@ -879,7 +879,6 @@ pub extern "C" fn bes_refresh(
     prepared: &mut PreparedHandle,
     counts: &mut UpdateCounts,
 ) -> u32
-    requires { MayRefresh pass.old.owned.value prepared.old.owned.value }
     ensures pass { Calls pass.old.owned.value pass.new.owned.value (result ≡ 64)
         (λ s t. RefreshesPrepared s t prepared.old.owned.value prepared.new.owned.value counts.new
         result) }
