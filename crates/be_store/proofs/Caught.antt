@@ -1,6 +1,8 @@
 -- A list that was the answer, changed at a few nodes as the query now is true of them, is the answer.
 use Rattle.std.proofs.Common.{◌≡◌, ◌≤◌, ◌<◌, ◌+◌, ◌-◌, ◌&&◌, ◌||◌, not, ℕ, Bool, true, false, if◌then◌else◌, List, [], ◌∷◌, ◌++◌, filter, get_or, length, refl, sym, ap, subst, take, ◌∙◌, inl, inr, arith, Some, None, Ok, Err}
-use Rattle.std.proofs.lemmas.List.{length-map, take-append-le}
+use Rattle.std.proofs.lemmas.Bool.{cases_lt}
+use Rattle.std.proofs.lemmas.List.{append-nil, get_or_append_left, get_or_default, length-map, take-append-le}
+use Rattle.std.proofs.lemmas.List.Elements.{All-weaker}
 use Rattle.std.proofs.lemmas.List.Kept.{IsStrictlyIncreasing-filter}
 use Rattle.std.specs.FinMap as fin
 use Rattle.std.specs.List.{Contains}
@@ -27,7 +29,7 @@ use Rattle.be_volume.specs.Sound.{IsSound}
 use Rattle.be_volume.specs.Volume.{State}
 use Rattle.be_store.specs.History.{Learns, LocksOnly}
 use Rattle.be_store.specs.Live.{IsAnswer, IsAnswerBut, is_among, without}
-use Rattle.be_store.specs.Named.{NamesAmong}
+use Rattle.be_store.specs.Named.{IsNamedAmong, NamesAmong}
 use Rattle.be_store.specs.Passes.{HasRead, IsPinnedTo, volume_pinned}
 use Rattle.be_store.proofs.Among.{among_contains, among_filter, contains_among, same_members}
 use Rattle.be_store.proofs.Applied.{entries_append}
@@ -198,3 +200,27 @@ found_changes a b front nodes last f m n pass_a pass_b pin more_a more_front sho
 -- the pinned volume is sound
 pub pinned_sound : (a : Knowledge) (n : ℕ) → IsPass a → IsPinnedTo a n → IsSound (volume_pinned a)
 pinned_sound a n pass pin = subst IsSound (sym (volume_is a n pin)) (front_sound a n pass)
+
+-- what the pass has seen at a place
+pub same_entry_at : (log seen : List Commit) (i : ℕ) (d : Entry) → StartsWith log seen → i < length seen → get_or (entries log) i d ≡ get_or (entries seen) i d
+same_entry_at log seen i d more inside =
+    let long = length-map seen (λ (c : Commit). c.entry) in
+    ap (λ l. get_or (entries l) i d) more.1 ∙ (ap (λ l. get_or l i d) (entries_append seen more.0)
+    ∙ get_or_append_left (entries seen) (entries more.0) d i (omega (arith, long, inside)))
+
+-- the pass stays as it is
+pub learns_nothing : (a : Knowledge) → Learns a a
+learns_nothing a = record { more = ([], sym (append-nil a.seen)); mine = refl; pass = refl; pin = refl; moves = inl refl }
+
+-- names among some nodes are names among more
+pub names_more : (old new : List ℕ) (entry : Entry) → ((n : ℕ) → is_among old n ≡ true → is_among new n ≡ true) → NamesAmong old entry → NamesAmong new entry
+names_more old new entry more named = (named.0, (named.1, (named.2, All-weaker (IsNamedAmong old) (IsNamedAmong new) (λ s h. (h.0, (h.1, more h.0 h.2))) named.0 named.3)))
+
+-- one entry more whose nodes are among a list
+pub named_so_far : (log : List Entry) (old new : List ℕ) (entry : Entry) (from k : ℕ) → k < length log → entry ≡ get_or log k entry → ((n : ℕ) → is_among old n ≡ true → is_among new n ≡ true) → NamesAmong new entry →
+    ((i : ℕ) (d : Entry) → from ≤ i → i < k → NamesAmong old (get_or log i d)) → (i : ℕ) (d : Entry) → from ≤ i → i < k + 1 → NamesAmong new (get_or log i d)
+named_so_far log old new entry from k inside is keeps one before i d low high = elim (cases_lt i k) [
+  | inl early ↦ names_more old new (get_or log i d) keeps (before i d low early)
+  | inr late ↦ (let same : k ≡ i = omega (arith, high, late) in
+      subst (λ j. NamesAmong new (get_or log j d)) same (subst (NamesAmong new) (is ∙ get_or_default log k entry d inside) one))
+]
