@@ -143,9 +143,10 @@ impl Live {
         };
         store.join(pass, &mut mark.witness);
         pass.is_pass();
-        let found = add_changes(store, pass, mark.number, pin, nodes);
+        let most = most_asked(self.last.len());
+        let found = add_changes(store, pass, mark.number, pin, most, nodes);
         self.mark = Some(mark);
-        found
+        found && nodes.len() <= most
     }
 
     /// Asks the query of these nodes alone, and changes the last answer by what became of them.
@@ -220,8 +221,9 @@ impl Live {
     /// refresh, and asks the query of the nodes that they name. For that it tries the lock once; if
     /// it gets it, other passes' writes are Busy meanwhile. It asks the whole query, which costs
     /// what `refresh_whole` costs, if another pass holds the lock, the version is older than that
-    /// of the last refresh, more than 64 entries were written or 64 nodes named since then, or an
-    /// index was made or removed. Memory for what it returns.
+    /// of the last refresh, an index was made or removed since then, or many nodes were written:
+    /// more than 4, and one for each 32 of the last answer, or more than 64. Memory for what it
+    /// returns.
     pub fn refresh(&mut self, store: &Store, pass: &mut Pass) -> Result<Updates, Refusal>
         requires pass { IsPassOf store.now pass.old }
         requires pinned { (n : ℕ) × IsPinnedTo pass.old.knows n }
@@ -247,13 +249,20 @@ impl Live {
     }
 }
 
+/// How many nodes a refresh asks one by one if the last answer has so many. A node costs about as
+/// much as 32 in a range of an index.
+fn most_asked(nodes: usize) -> usize {
+    MOST.min(4 + nodes / 32)
+}
+
 /// Adds the nodes that the entries from one number of a version to a later one name. Returns false
-/// if there are too many, or if they make or remove an index.
+/// if there are more than `most` entries, or if they make or remove an index.
 fn add_changes(
     store: &Store,
     pass: &mut Pass,
     from: u64,
     end: u64,
+    most: usize,
     nodes: &mut ArrayVec<u64, 64>,
 ) -> bool
     requires pass { IsPassOf store.now pass.old }
@@ -266,7 +275,7 @@ fn add_changes(
     ensures named { result ≡ true → (i : ℕ) (d : AnyEntry) → from ≤ i → i < end →
         NamesAmong nodes.new.items (get_or (entries pass.old.knows.seen) i d) }
 {
-    if end < from || end - from > MOST as u64 {
+    if end < from || end - from > most as u64 {
         return false;
     }
     if from == end {
