@@ -13,6 +13,7 @@ use Rattle.be_volume.specs.declared.ops.Done.TheVariants.{Node, Unit as Nothing}
 use Rattle.be_volume.specs.declared.ops.Op.{Op}
 use Rattle.be_volume.specs.declared.ops.Op.TheVariants.{New, Drop, Set, Unset, MkIndex, RmIndex}
 use Rattle.be_entry_bytes.specs.Decoding.{◌>>=◌, answered_at, below_at, counted_at, first_at, kind_at, kind_numbered, mkindex_at, name_at, number_at, number_value_at, op_at, quiet_at, raw_at, set_at, step_at, steps_at, text_at, text_in, unset_at, value_at}
+use Rattle.be_entry_bytes.proofs.Loops.{bytes_left, skip_goes_on}
 use Rattle.be_entry_bytes.specs.Named.{changed_at, changed_with_node_at, is_counted, named_at, node_made, node_named, past_value_at}
 
 bound : {A B : Type 0} (f : A → Option B) (o : Option A) (x : A) (r : Option B) → o ≡ Some x → f x ≡ r → (o >>= f) ≡ r
@@ -205,3 +206,40 @@ is_told bytes some = by (step_at bytes) refl some
     by : (o : Option Step) → step_at bytes ≡ o → IsSome o → option_map (λ (x : Step). (node_named x.0 x.1, x.2)) o ≡ named_at bytes
     by None e h = cc
     by (Some x) e h = sym (step_told bytes x e)
+
+-- what is left after some operations, of those that are there
+pub record Left (count i : ℕ) (bytes : List ℕ) (all : Option (List ℕ)) : Type 0 where
+  pub left : bytes_left (steps_at (count - (i + 1)) bytes) ≡ all
+  pub some : IsSome (steps_at (count - (i + 1)) bytes)
+
+-- operations that are left begin with one
+pub next_there : (count i : ℕ) (bytes : List ℕ) → i < count → IsSome (steps_at (count - i) bytes) → IsSome (step_at bytes)
+unfolding steps_at
+next_there count i bytes short some =
+    let one : count - i ≡ suc (count - (i + 1)) = omega arith in
+    by (step_at bytes) refl (subst (λ n. IsSome (steps_at n bytes)) one some)
+  where
+    by : (o : Option Step) → step_at bytes ≡ o → IsSome (o >>= λ first. steps_at (count - (i + 1)) first.2 >>= λ others. Some (first.0 ∷ others.0, first.1 ∷ others.1, others.2)) → IsSome o
+    by None e h = cc
+    by (Some x) e h = refl
+
+-- and go on after it
+pub left_there : (count i : ℕ) (bytes : List ℕ) (node : Option ℕ) (after : List ℕ) (all : Option (List ℕ)) → i < count → option_map (λ (x : Step). (node_named x.0 x.1, x.2)) (step_at bytes) ≡ Some (node, after) →
+    bytes_left (steps_at (count - i) bytes) ≡ all → IsSome (steps_at (count - i) bytes) → Left count i after all
+unfolding steps_at
+left_there count i bytes node after all short read left some =
+    let one : count - i ≡ suc (count - (i + 1)) = omega arith in
+    by (step_at bytes) refl read (subst (λ n. IsSome (steps_at n bytes)) one some)
+  where
+    others_there : (o : Option (List Op × List Done × List ℕ)) (x : Step) → IsSome (o >>= λ others. Some (x.0 ∷ others.0, x.1 ∷ others.1, others.2)) → IsSome o
+    others_there None x h = cc
+    others_there (Some y) x h = refl
+
+    by : (o : Option Step) → step_at bytes ≡ o → option_map (λ (x : Step). (node_named x.0 x.1, x.2)) o ≡ Some (node, after) →
+        IsSome (o >>= λ first. steps_at (count - (i + 1)) first.2 >>= λ others. Some (first.0 ∷ others.0, first.1 ∷ others.1, others.2)) → Left count i after all
+    by None e g h = cc
+    by (Some x) e g h =
+        let same : x.2 ≡ after = ap (λ (p : Option ℕ × List ℕ). p.1) (same_Some (node_named x.0 x.1, x.2) (node, after) g) in record {
+          left = skip_goes_on count i bytes x.0 x.1 after all short (e ∙ ap (λ r. Some (x.0, x.1, r)) same) left;
+          some = subst (λ r. IsSome (steps_at (count - (i + 1)) r)) same (others_there (steps_at (count - (i + 1)) x.2) x h);
+        }

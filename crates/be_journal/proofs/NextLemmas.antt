@@ -1,5 +1,5 @@
 -- The next of the entries in bytes, as a reader comes to it.
-use Rattle.std.proofs.Common.{◌≡◌, ◌<◌, ℕ, zero, suc, ◌-◌, List, [], ◌∷◌, length, drop, All, Some, None, refl, sym, ap, subst, ◌∙◌, arith}
+use Rattle.std.proofs.Common.{◌≡◌, ◌<◌, ℕ, zero, suc, ◌-◌, List, [], ◌∷◌, length, drop, All, Some, None, IsSome, refl, sym, ap, subst, ◌∙◌, arith}
 use Rattle.std.specs.List.{flat_map}
 use Rattle.std.specs.Option.{option_map}
 use Rattle.std.specs.declared.option.Option.{Option}
@@ -66,6 +66,10 @@ skipped left bytes after are some is =
 
 never : (r : List ℕ) → None ≡ Some r → ⊥
 never r h = cc
+
+-- there is a next entry
+pub is_there : (left : ℕ) (bytes : List ℕ) → AreEntries left bytes → 0 < length (entries_at left bytes) → IsSome (entry_at bytes)
+is_there left bytes are some = let n = next_of left bytes are some in subst (λ (r : Option Found). IsSome r) (sym n.read) refl
 
 pub never_skipped : (left : ℕ) (bytes : List ℕ) → AreEntries left bytes → 0 < length (entries_at left bytes) → None ≡ option_map (λ x. x.3) (entry_at bytes) → ⊥
 never_skipped left bytes are some is =

@@ -1,9 +1,12 @@
 -- Views of entries: operations with their answers in bytes, one after the other.
 use Rattle.std.proofs.Common.{◌≡◌, ◌<◌, ℕ, zero, suc, ◌-◌, List, [], ◌∷◌, length, drop, map, IfSome, IsSome, Some, None, refl, sym, ap, subst, ◌∙◌, arith}
+use Rattle.std.proofs.lemmas.Option.{same_Some}
+use Rattle.std.specs.Option.{option_map}
 use Rattle.std.specs.declared.option.Option.{Option}
 use Rattle.be_volume.specs.declared.ops.Done.{Done}
 use Rattle.be_volume.specs.declared.ops.Op.{Op}
 use Rattle.be_entry_bytes.specs.Decoding.{◌>>=◌, step_at, steps_at, head_at, entry_at}
+use Rattle.be_entry_bytes.specs.Named.{node_named}
 use Rattle.be_entry_bytes.proofs.Entries.{entry_of_head, entry_of_none}
 use Rattle.be_journal.specs.Blocks.{entries_at, steps_in, AreEntries}
 use Rattle.be_journal.specs.declared.entries.Entry.{Entry}
@@ -102,3 +105,28 @@ never_next zero bytes are some is = some refl
 never_next (suc count) bytes are some is =
     let none : steps_in (suc count) bytes ≡ [] = rw (sym is) refl in
     absurd (omega (arith, sym (ap length none) ∙ are))
+
+-- there is a next operation while some are left
+pub some_step : (left : ℕ) (bytes : List ℕ) → length (steps_in left bytes) ≡ left → (left ≡ 0 → ⊥) → IsSome (step_at bytes)
+some_step left bytes are some = by (step_at bytes) refl
+  where
+    by : (o : Option (Op × Done × List ℕ)) → step_at bytes ≡ o → IsSome o
+    by None e = absurd (never_next left bytes are some (sym e))
+    by (Some x) e = refl
+
+abbrev pub named : Op × Done → Option ℕ
+named s = node_named s.0 s.1
+
+-- the node that the next operation changes, and those that the others change
+pub named_step : (left : ℕ) (bytes : List ℕ) (node : Option ℕ) (rest : List ℕ) → length (steps_in left bytes) ≡ left → (left ≡ 0 → ⊥) →
+    option_map (λ (x : Op × Done × List ℕ). (node_named x.0 x.1, x.2)) (step_at bytes) ≡ Some (node, rest) →
+    (map named (steps_in left bytes) ≡ node ∷ map named (steps_in (left - 1) rest)) × (length (steps_in (left - 1) rest) ≡ left - 1)
+named_step left bytes node rest are some h = by (step_at bytes) refl h
+  where
+    by : (o : Option (Op × Done × List ℕ)) → step_at bytes ≡ o → option_map (λ (x : Op × Done × List ℕ). (node_named x.0 x.1, x.2)) o ≡ Some (node, rest) →
+        (map named (steps_in left bytes) ≡ node ∷ map named (steps_in (left - 1) rest)) × (length (steps_in (left - 1) rest) ≡ left - 1)
+    by None e g = cc
+    by (Some x) e g =
+        let next = next_step left bytes x.0 x.1 x.2 are some (sym e) in
+        subst (λ (p : Option ℕ × List ℕ). (map named (steps_in left bytes) ≡ p.0 ∷ map named (steps_in (left - 1) p.1)) × (length (steps_in (left - 1) p.1) ≡ left - 1))
+        (same_Some (node_named x.0 x.1, x.2) (node, rest) g) (ap (map named) next.0, next.1)
