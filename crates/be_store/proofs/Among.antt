@@ -20,8 +20,8 @@ use Rattle.be_store.proofs.Answering.{held_at, lacks}
 pub among_contains : (xs : List ℕ) (n : ℕ) → is_among xs n ≡ true → Contains xs n
 among_contains xs n h =
     let found = Any-from_list_any (λ m. m == n) xs h in
-    let same : found.1 ≡ n = eqb-true found.1 n found.3.1 in
-    (found.0, found.2, subst (λ x. get_or xs found.0 x ≡ x) same found.3.0)
+    let same : found.1 ≡ n = eqb-true found.1 n found.4 in
+    (found.0, found.2, subst (λ x. get_or xs found.0 x ≡ x) same found.3)
 
 pub contains_among : (xs : List ℕ) (n : ℕ) → Contains xs n → is_among xs n ≡ true
 contains_among xs n h = list_any_at (λ m. m == n) xs h.0 n h.1 (eq-eqb (get_or xs h.0 n) n h.2)
@@ -124,7 +124,7 @@ without_this true false x e = ap (λ (b : Bool). not b) (sym e)
 without_this false true x e = by x e
   where
     by : (b : Bool) → b ≡ false → true ≡ (((b || false) || true) && not b)
-    by true f = sym f
+    by true f = f
     by false f = refl
 without_this false false x e = by x e
   where
@@ -227,3 +227,7 @@ there_already xs x n has = elim (cases_eq x n) [
     or_false : (b : Bool) → (b || false) ≡ b
     or_false true = refl
     or_false false = refl
+
+-- a search in a slice of a list
+pub of_slice : (xs ys : List ℕ) (x : ℕ) (r : Result ℕ ℕ) → xs ≡ ys → IsBinarySearchResult (λ y. nat_cmp y x) xs r → IsBinarySearchResult (λ y. nat_cmp y x) ys r
+of_slice xs ys x r e h = subst (λ l. IsBinarySearchResult (λ y. nat_cmp y x) l r) e h

@@ -69,7 +69,7 @@ apart : (nodes : List ℕ) (n k : ℕ) → is_among nodes n ≡ false → is_amo
 apart nodes n k other this same = let no : false ≡ true = sym other ∙ ap (is_among nodes) same ∙ this in cc
 
 -- the attribute of a node, by the node's attributes
-attribute_in : List ℕ → Option Attributes → Option Value
+abbrev attribute_in : List ℕ → Option Attributes → Option Value
 attribute_in name found = option_and_then (λ attributes. fin.get attributes name) found
 
 find_unpaired : (node : ℕ) (q : List ℕ) (es : List (List ℕ × Index)) → find name_cmp q (map (λ e. (e.0, unpaired e.1 node)) es) ≡ option_map (λ (i : Index). unpaired i node) (find name_cmp q es)
@@ -89,13 +89,15 @@ get_without indices node q =
 unpaired_other : (index : Index) (k n : ℕ) → (n ≡ k → ⊥) → fin.get (unpaired index k).pairs n ≡ fin.get index.pairs n
 unpaired_other index k n ne = gone_other nat_cmp_total nat_cmp-IsAntisymmetric index.pairs k n ne
 
+one_of_two : (b : Bool) (index i j k : Index) (n : ℕ) → i ≡ (if b then j else k) → fin.get j.pairs n ≡ fin.get index.pairs n → fin.get k.pairs n ≡ fin.get index.pairs n → fin.get i.pairs n ≡ fin.get index.pairs n
+one_of_two true index i j k n e f g = ap (λ (x : Index). fin.get x.pairs n) e ∙ f
+one_of_two false index i j k n e f g = ap (λ (x : Index). fin.get x.pairs n) e ∙ g
+
 -- and one that gets another node's pair
 paired_other : (index : Index) (k : ℕ) (value : Value) (n : ℕ) → (n ≡ k → ⊥) → fin.get (paired index k value).pairs n ≡ fin.get index.pairs n
-paired_other index k value n ne = by (same_kind index.kind (kind_of value))
-  where
-    by : (b : Bool) → fin.get (if b then (record { kind = index.kind; pairs = fin.insert index.pairs k value }) else (record { kind = index.kind; pairs = fin.remove index.pairs k })).pairs n ≡ fin.get index.pairs n
-    by true = get_other nat_cmp_total nat_cmp-IsAntisymmetric index.pairs k value n ne
-    by false = gone_other nat_cmp_total nat_cmp-IsAntisymmetric index.pairs k n ne
+paired_other index k value n ne =
+    one_of_two (same_kind index.kind (kind_of value)) index (paired index k value) (record { kind = index.kind; pairs = fin.insert index.pairs k value }) (record { kind = index.kind; pairs = fin.remove index.pairs k }) n refl
+    (get_other nat_cmp_total nat_cmp-IsAntisymmetric index.pairs k value n ne) (gone_other nat_cmp_total nat_cmp-IsAntisymmetric index.pairs k n ne)
 
 -- an index of one name is changed, as far as this node goes not at all
 module _ (indices : Indices) (at : List ℕ) (old new : Index) (n : ℕ) (was : fin.get indices at ≡ Some old) (same : fin.get new.pairs n ≡ fin.get old.pairs n) where
@@ -228,18 +230,19 @@ answered_after [] u t es fs h = ([], sym (ap (dones_in es) h) ∙ sym (append-ni
     dones_in : List Done → Result (State × List Done) Refusal → List Done
     dones_in d (Ok x) = x.1
     dones_in d (Err r) = d
-answered_after (op ∷ ops) u t es fs h = by (step u op) h
+answered_after (op ∷ ops) u t es fs h = by (λ v ds g. answered_after ops v t ds fs g) (step u op) h
   where
-    by : (x : Result (State × Done) Refusal) → fold advance (result_map_both (λ (answer : State × Done). (answer.0, es ++ answer.1 ∷ [])) (λ (e : Refusal). e) x) ops ≡ Ok (t, fs) → (rest : List Done) × (fs ≡ es ++ rest)
-    by (Err r) g = let no : Err r ≡ Ok (t, fs) = sym (refused_stays r ops) ∙ g in cc
-    by (Ok x) g =
-        let more = answered_after ops x.0 t (es ++ x.1 ∷ []) fs g in
+    by : ((v : State) (ds : List Done) → fold advance (Ok (v, ds)) ops ≡ Ok (t, fs) → (rest : List Done) × (fs ≡ ds ++ rest)) → (x : Result (State × Done) Refusal) →
+        fold advance (result_map_both (λ (answer : State × Done). (answer.0, es ++ answer.1 ∷ [])) (λ (e : Refusal). e) x) ops ≡ Ok (t, fs) → (rest : List Done) × (fs ≡ es ++ rest)
+    by again (Err r) g = let no : Err r ≡ Ok (t, fs) = sym (refused_stays r ops) ∙ g in cc
+    by again (Ok x) g =
+        let more = again x.0 (es ++ x.1 ∷ []) g in
         (x.1 ∷ more.0, more.1 ∙ append_assoc es (x.1 ∷ []) more.0)
 
 fold_same : (nodes : List ℕ) (pairs : List (Op × Done)) (s t : State) (ds : List Done) → fold advance (Ok (s, ds)) (map (λ p. p.0) pairs) ≡ Ok (t, ds ++ map (λ p. p.1) pairs) →
     All (IsNamedAmong nodes) pairs → AreSame nodes s t
 fold_same nodes [] s t ds h named = subst (AreSame nodes s) (ap (reached s) h) (are_same nodes s)
-fold_same nodes (p ∷ ps) s t ds h named = by (step s p.0) refl h
+fold_same nodes (p ∷ ps) s t ds h named = by (λ v es g. fold_same nodes ps v t es g (All-tail (IsNamedAmong nodes) p ps named)) (step s p.0) refl h
   where
     first_of : Done → List Done → Done
     first_of d [] = d
@@ -249,10 +252,10 @@ fold_same nodes (p ∷ ps) s t ds h named = by (step s p.0) refl h
     rest_of [] = []
     rest_of (x ∷ xs) = xs
 
-    by : (x : Result (State × Done) Refusal) → step s p.0 ≡ x →
+    by : ((v : State) (es : List Done) → fold advance (Ok (v, es)) (map (λ q. q.0) ps) ≡ Ok (t, es ++ map (λ q. q.1) ps) → AreSame nodes v t) → (x : Result (State × Done) Refusal) → step s p.0 ≡ x →
         fold advance (result_map_both (λ (answer : State × Done). (answer.0, ds ++ answer.1 ∷ [])) (λ (e : Refusal). e) x) (map (λ q. q.0) ps) ≡ Ok (t, ds ++ p.1 ∷ map (λ q. q.1) ps) → AreSame nodes s t
-    by (Err r) e g = let no : Err r ≡ Ok (t, ds ++ p.1 ∷ map (λ q. q.1) ps) = sym (refused_stays r (map (λ q. q.0) ps)) ∙ g in cc
-    by (Ok x) e g =
+    by again (Err r) e g = let no : Err r ≡ Ok (t, ds ++ p.1 ∷ map (λ q. q.1) ps) = sym (refused_stays r (map (λ q. q.0) ps)) ∙ g in cc
+    by again (Ok x) e g =
         let more = answered_after (map (λ q. q.0) ps) x.0 t (ds ++ x.1 ∷ []) (ds ++ p.1 ∷ map (λ q. q.1) ps) g in
         let both : p.1 ∷ map (λ q. q.1) ps ≡ x.1 ∷ more.0 = append_cancel_left ds (p.1 ∷ map (λ q. q.1) ps) (x.1 ∷ more.0) (more.1 ∙ append_assoc ds (x.1 ∷ []) more.0) in
         let one : p.1 ≡ x.1 = ap (first_of p.1) both in
@@ -261,7 +264,7 @@ fold_same nodes (p ∷ ps) s t ds h named = by (step s p.0) refl h
             g ∙ ap (λ l. Ok (t, l)) (more.1 ∙ ap (λ l. (ds ++ x.1 ∷ []) ++ l) (sym others)) in
         and_then_same nodes s x.0 t
         (step_same nodes s x.0 p.0 p.1 (e ∙ ap (λ d. Ok (x.0, d)) (sym one)) (All-head (IsNamedAmong nodes) p ps named))
-        (fold_same nodes ps x.0 t (ds ++ x.1 ∷ []) there (All-tail (IsNamedAmong nodes) p ps named))
+        (again x.0 (ds ++ x.1 ∷ []) there)
 
 -- the volume after an entry that agrees with it
 entry_same : (nodes : List ℕ) (s : State) (entry : Entry) → Agrees s entry → NamesAmong nodes entry → AreSame nodes s (state_after s entry.ops)
@@ -277,7 +280,9 @@ replay_more log i d lt = ap replay (take_more log i d lt) ∙ fold-append (λ s 
 -- the volumes after two beginnings of a legal journal, if the entries between name no other nodes
 pub replay_same : (nodes : List ℕ) (log : List Entry) (from more : ℕ) → IsLegal log → from + more ≤ length log →
     ((i : ℕ) (d : Entry) → from ≤ i → i < from + more → NamesAmong nodes (get_or log i d)) → AreSame nodes (replay (take from log)) (replay (take (from + more) log))
-replay_same nodes log from zero legal short named = are_same nodes (replay (take from log))
+replay_same nodes log from zero legal short named =
+    let e : from ≡ from + 0 = omega arith in
+    subst (λ k. AreSame nodes (replay (take from log)) (replay (take k log))) e (are_same nodes (replay (take from log)))
 replay_same nodes log from (suc more) legal short named =
     let i : ℕ = from + more in
     let before : AreSame nodes (replay (take from log)) (replay (take i log)) =

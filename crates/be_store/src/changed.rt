@@ -112,8 +112,9 @@ fn take_one(list: &mut Vec<u64>, number: u64)
     ensures left { (n : ℕ) → is_among list.new.items n ≡ (is_among list.old.items n
         && not (number == n)) }
 {
-    let Ok(at) = list.as_slice().binary_search(&number) else {
-        return;
+    let at = match list.as_slice().binary_search(&number) {
+        Ok(at) => at,
+        Err(_gap) => return,
     };
     list.remove(at);
 }
@@ -140,8 +141,9 @@ fn put_one(list: &mut Vec<u64>, number: u64)
     ensures room { (vec_len list.new ≤ vec_len list.old + 1)
         × (vec_capacity list.old ≤ vec_capacity list.new) }
 {
-    let Err(at) = list.as_slice().binary_search(&number) else {
-        return;
+    let at = match list.as_slice().binary_search(&number) {
+        Ok(_there) => return,
+        Err(at) => at,
     };
     let Ok(()) = list.insert(at, number) else {
         unreachable!()
