@@ -26,17 +26,17 @@ Past bytes rest = (part : List ℕ × List ℕ) × (counted_at bytes ≡ Some pa
 name_past : (bytes : List ℕ) (x : List ℕ × List ℕ) → name_at bytes ≡ Some x → Past bytes x.1
 unfolding name_at
 name_past bytes x h = option_and_then_some _ (counted_at bytes) x h (λ part e g. option_and_then_some _ (text_in part.0) x g (λ text t k. option_and_then_some _ (result_ok (name_from text)) x k (λ name n m.
-    (part, (e, ap (λ (p : List ℕ × List ℕ). p.1) (same_Some (name, part.1) x m))))))
+    (part, e, ap (λ (p : List ℕ × List ℕ). p.1) (same_Some (name, part.1) x m)))))
 
 text_past : (bytes : List ℕ) (x : List ℕ × List ℕ) → text_at bytes ≡ Some x → Past bytes x.1
 unfolding text_at
 text_past bytes x h = option_and_then_some _ (counted_at bytes) x h (λ part e g. option_and_then_some _ (text_in part.0) x g (λ text t k. option_and_then_some _ (result_ok (text_from text)) x k (λ name n m.
-    (part, (e, ap (λ (p : List ℕ × List ℕ). p.1) (same_Some (name, part.1) x m))))))
+    (part, e, ap (λ (p : List ℕ × List ℕ). p.1) (same_Some (name, part.1) x m)))))
 
 raw_past : (bytes : List ℕ) (x : List ℕ × List ℕ) → raw_at bytes ≡ Some x → Past bytes x.1
 unfolding raw_at
 raw_past bytes x h = option_and_then_some _ (counted_at bytes) x h (λ part e g. option_and_then_some _ (result_ok (bytes_from part.0)) x g (λ raw t m.
-    (part, (e, ap (λ (p : List ℕ × List ℕ). p.1) (same_Some (raw, part.1) x m)))))
+    (part, e, ap (λ (p : List ℕ × List ℕ). p.1) (same_Some (raw, part.1) x m))))
 
 -- after a number
 abbrev PastNumber : List ℕ → List ℕ → Type 0
@@ -52,10 +52,10 @@ below_past limit bytes x h = option_and_then_some _ (number_at bytes) x h (λ n 
 
 limited : (limit : ℕ) (bytes : List ℕ) (f : ℕ → Value) (x : Value × List ℕ) → (below_at limit bytes >>= (λ n. Some (f n.0, n.1))) ≡ Some x → PastNumber bytes x.1
 limited limit bytes f x h = option_and_then_some _ (below_at limit bytes) x h (λ n e g.
-    (n, (below_past limit bytes n e, ap (λ (p : Value × List ℕ). p.1) (same_Some (f n.0, n.1) x g))))
+    (n, below_past limit bytes n e, ap (λ (p : Value × List ℕ). p.1) (same_Some (f n.0, n.1) x g)))
 
 unlimited : (bytes : List ℕ) (f : ℕ → Value) (x : Value × List ℕ) → (number_at bytes >>= (λ n. Some (f n.0, n.1))) ≡ Some x → PastNumber bytes x.1
-unlimited bytes f x h = option_and_then_some _ (number_at bytes) x h (λ n e g. (n, (e, ap (λ (p : Value × List ℕ). p.1) (same_Some (f n.0, n.1) x g))))
+unlimited bytes f x h = option_and_then_some _ (number_at bytes) x h (λ n e g. (n, e, ap (λ (p : Value × List ℕ). p.1) (same_Some (f n.0, n.1) x g)))
 
 one_of : {A : Type 0} (b : Bool) (o p : Option A) (x : A) (P : Type 0) → (if b then o else p) ≡ Some x → (o ≡ Some x → P) → (p ≡ Some x → P) → P
 one_of true o p x P h f g = f h
@@ -79,7 +79,7 @@ after_number : (bytes rest : List ℕ) → PastNumber bytes rest → (number_at 
 after_number bytes rest p = bound (λ n. Some n.1) (number_at bytes) p.0 (Some rest) p.1 (ap Some p.2)
 
 worth : (bytes : List ℕ) (o : Option (List ℕ × List ℕ)) (f : List ℕ → Value) (x : Value × List ℕ) → (o >>= (λ t. Some (f t.0, t.1))) ≡ Some x → ((t : List ℕ × List ℕ) → o ≡ Some t → Past bytes t.1) → Past bytes x.1
-worth bytes o f x h past = option_and_then_some _ o x h (λ t e g. let p = past t e in (p.0, (p.1, p.2 ∙ ap (λ (q : Value × List ℕ). q.1) (same_Some (f t.0, t.1) x g))))
+worth bytes o f x h past = option_and_then_some _ o x h (λ t e g. let p = past t e in (p.0, p.1, p.2 ∙ ap (λ (q : Value × List ℕ). q.1) (same_Some (f t.0, t.1) x g)))
 
 value_past : (bytes : List ℕ) (x : Value × List ℕ) → value_at bytes ≡ Some x → past_value_at bytes ≡ Some x.1
 unfolding value_at past_value_at
@@ -108,13 +108,13 @@ told_last true o c x f h = f h
 told_last false o c x f h = let no : None ≡ Some x = h in cc
 
 told_new : (b : Bool) (bytes : List ℕ) (p : Option (Op × List ℕ)) (d : Option (Option ℕ × List ℕ)) (x : Op × List ℕ) → (p ≡ Some x → Told false d x) → (if b then Some (New, bytes) else p) ≡ Some x → Told b (if b then Some (None, bytes) else d) x
-told_new true bytes p d x g h = subst (λ y. Told true (Some (None, bytes)) y) (same_Some (New, bytes) x h) (None, (refl, (λ done. refl, refl)))
+told_new true bytes p d x g h = subst (λ y. Told true (Some (None, bytes)) y) (same_Some (New, bytes) x h) (None, refl, (λ done. refl), refl)
 told_new false bytes p d x g h = g h
 
 dropped_told : (bytes : List ℕ) (x : Op × List ℕ) → (number_at bytes >>= (λ node. Some (Drop node.0, node.1))) ≡ Some x → Told false (number_at bytes >>= (λ node. Some (Some node.0, node.1))) x
 dropped_told bytes x h = option_and_then_some _ (number_at bytes) x h (λ node e g.
     subst (λ y. Told false (number_at bytes >>= (λ node. Some (Some node.0, node.1))) y) (same_Some (Drop node.0, node.1) x g)
-    (Some node.0, (bound (λ (n : ℕ × List ℕ). Some (Some n.0, n.1)) (number_at bytes) node (Some (Some node.0, node.1)) e refl, (λ done. refl, refl))))
+    (Some node.0, bound (λ (n : ℕ × List ℕ). Some (Some n.0, n.1)) (number_at bytes) node (Some (Some node.0, node.1)) e refl, (λ done. refl), refl))
 
 set_told : (bytes : List ℕ) (x : Op × List ℕ) → set_at bytes ≡ Some x →
     Told false (number_at bytes >>= (λ node. counted_at node.1 >>= (λ name. past_value_at name.1 >>= (λ rest. Some (Some node.0, rest))))) x
@@ -122,27 +122,25 @@ unfolding set_at
 set_told bytes x h = option_and_then_some _ (number_at bytes) x h (λ node e g. option_and_then_some _ (name_at node.1) x g (λ name n k. option_and_then_some _ (value_at name.1) x k (λ value v m.
     let past = name_past node.1 name n in
     subst (λ y. Told false (number_at bytes >>= (λ node. counted_at node.1 >>= (λ name. past_value_at name.1 >>= (λ rest. Some (Some node.0, rest))))) y) (same_Some (Set node.0 name.0 value.0, value.1) x m)
-    (Some node.0, (
+    (Some node.0,
       bound (λ (n : ℕ × List ℕ). counted_at n.1 >>= (λ name. past_value_at name.1 >>= (λ rest. Some (Some n.0, rest)))) (number_at bytes) node (Some (Some node.0, value.1)) e
       (bound (λ (c : List ℕ × List ℕ). past_value_at c.1 >>= (λ rest. Some (Some node.0, rest))) (counted_at node.1) past.0 (Some (Some node.0, value.1)) past.1
       (bound (λ rest. Some (Some node.0, rest)) (past_value_at past.0.1) value.1 (Some (Some node.0, value.1)) (ap past_value_at past.2 ∙ value_past name.1 value v) refl)),
-      (λ done. refl, refl),
-    )))))
+      (λ done. refl), refl))))
 
 unset_told : (bytes : List ℕ) (x : Op × List ℕ) → unset_at bytes ≡ Some x → Told false (number_at bytes >>= (λ node. counted_at node.1 >>= (λ name. Some (Some node.0, name.1)))) x
 unfolding unset_at
 unset_told bytes x h = option_and_then_some _ (number_at bytes) x h (λ node e g. option_and_then_some _ (name_at node.1) x g (λ name n m.
     let past = name_past node.1 name n in
     subst (λ y. Told false (number_at bytes >>= (λ node. counted_at node.1 >>= (λ name. Some (Some node.0, name.1)))) y) (same_Some (Unset node.0 name.0, name.1) x m)
-    (Some node.0, (
+    (Some node.0,
       bound (λ (n : ℕ × List ℕ). counted_at n.1 >>= (λ name. Some (Some n.0, name.1))) (number_at bytes) node (Some (Some node.0, name.1)) e
       (bound (λ (c : List ℕ × List ℕ). Some (Some node.0, c.1)) (counted_at node.1) past.0 (Some (Some node.0, name.1)) past.1 (ap (λ r. Some (Some node.0, r)) past.2)),
-      (λ done. refl, refl),
-    ))))
+      (λ done. refl), refl)))
 
 kind_past : (bytes : List ℕ) (x : _) → kind_at bytes ≡ Some x → (first : ℕ × List ℕ) × (first_at bytes ≡ Some first) × (first.1 ≡ x.1)
 unfolding kind_at
-kind_past bytes x h = option_and_then_some _ (first_at bytes) x h (λ first e g. option_and_then_some _ (kind_numbered first.0) x g (λ kind k m. (first, (e, ap (λ p. p.1) (same_Some (kind, first.1) x m)))))
+kind_past bytes x h = option_and_then_some _ (first_at bytes) x h (λ first e g. option_and_then_some _ (kind_numbered first.0) x g (λ kind k m. (first, e, ap (λ p. p.1) (same_Some (kind, first.1) x m))))
 
 made_told : (bytes : List ℕ) (x : Op × List ℕ) → mkindex_at bytes ≡ Some x → Told false (counted_at bytes >>= (λ name. first_at name.1 >>= (λ kind. Some (None, kind.1)))) x
 unfolding mkindex_at
@@ -150,17 +148,16 @@ made_told bytes x h = option_and_then_some _ (name_at bytes) x h (λ name n g. o
     let past = name_past bytes name n in
     let first = kind_past name.1 kind k in
     subst (λ y. Told false (counted_at bytes >>= (λ name. first_at name.1 >>= (λ kind. Some (None, kind.1)))) y) (same_Some (MkIndex name.0 kind.0, kind.1) x m)
-    (None, (
+    (None,
       bound (λ (c : List ℕ × List ℕ). first_at c.1 >>= (λ kind. Some (None, kind.1))) (counted_at bytes) past.0 (Some (None, kind.1)) past.1
       (bound (λ (f : ℕ × List ℕ). Some (None, f.1)) (first_at past.0.1) first.0 (Some (None, kind.1)) (ap first_at past.2 ∙ first.1) (ap (λ r. Some (None, r)) first.2)),
-      (λ done. refl, refl),
-    ))))
+      (λ done. refl), refl)))
 
 removed_told : (bytes : List ℕ) (x : Op × List ℕ) → (name_at bytes >>= (λ name. Some (RmIndex name.0, name.1))) ≡ Some x → Told false (counted_at bytes >>= (λ name. Some (None, name.1))) x
 removed_told bytes x h = option_and_then_some _ (name_at bytes) x h (λ name n m.
     let past = name_past bytes name n in
     subst (λ y. Told false (counted_at bytes >>= (λ name. Some (None, name.1))) y) (same_Some (RmIndex name.0, name.1) x m)
-    (None, (bound (λ (c : List ℕ × List ℕ). Some (None, c.1)) (counted_at bytes) past.0 (Some (None, name.1)) past.1 (ap (λ r. Some (None, r)) past.2), (λ done. refl, refl))))
+    (None, bound (λ (c : List ℕ × List ℕ). Some (None, c.1)) (counted_at bytes) past.0 (Some (None, name.1)) past.1 (ap (λ r. Some (None, r)) past.2), (λ done. refl), refl))
 
 op_told : (form : ℕ) (bytes : List ℕ) (x : Op × List ℕ) → op_at form bytes ≡ Some x → Told (nat_eq form 0) (changed_at form bytes) x
 unfolding op_at changed_at

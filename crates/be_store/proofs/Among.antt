@@ -1,5 +1,5 @@
 -- Numbers among a list, and what edits of a rising list leave among it.
-use Rattle.std.proofs.Common.{◌≡◌, ◌<◌, ◌≤◌, ◌+◌, ◌-◌, ◌==◌, ◌&&◌, ◌||◌, not, if◌then◌else◌, ℕ, suc, Bool, true, false, List, [], ◌∷◌, ◌++◌, drop, filter, length, refl, sym, ap, subst, take, take-append-drop, ◌∙◌, inl, inr, arith, get_or}
+use Rattle.std.proofs.Common.{add-one, ◌≡◌, ◌<◌, ◌≤◌, ◌+◌, ◌-◌, ◌==◌, ◌&&◌, ◌||◌, not, if◌then◌else◌, ℕ, suc, Bool, true, false, List, [], ◌∷◌, ◌++◌, drop, filter, length, refl, sym, ap, subst, take, take-append-drop, ◌∙◌, inl, inr, arith, get_or}
 use Rattle.std.proofs.lemmas.Bool.{and_right, cases_eq, cases_lt, eq-eqb, eqb-true, ne_eqb}
 use Rattle.std.proofs.lemmas.List.{take_more}
 use Rattle.std.proofs.lemmas.List.Sorted.{searched}
@@ -144,9 +144,10 @@ among_remove xs i n up inside =
               ap (λ l. is_among l n) (sym (take-append-drop (i + 1) xs))
               ∙ (among_append (take (i + 1) xs) (drop (i + 1) xs) n
               ∙ ap (λ b. b || is_among (drop (i + 1) xs) n) (ap (λ l. is_among l n) (take_more xs i 0 inside) ∙ among_append (take i xs) (x ∷ []) n)) in
-          among_append (take i xs) (drop (i + 1) xs) n
+          ap (λ k. is_among (take i xs ++ drop k xs) n) (sym (add-one i))
+          ∙ (among_append (take i xs) (drop (i + 1) xs) n
           ∙ (without_this (is_among (take i xs) n) (is_among (drop (i + 1) xs) n) (x == n) (ne_eqb x n other)
-          ∙ ap (λ b. b && not (x == n)) (sym parts)))
+          ∙ ap (λ b. b && not (x == n)) (sym parts))))
     ]
 
 -- what a binary search among rising numbers says

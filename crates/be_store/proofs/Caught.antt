@@ -214,7 +214,7 @@ learns_nothing a = record { more = ([], sym (append-nil a.seen)); mine = refl; p
 
 -- names among some nodes are names among more
 pub names_more : (old new : List ℕ) (entry : Entry) → ((n : ℕ) → is_among old n ≡ true → is_among new n ≡ true) → NamesAmong old entry → NamesAmong new entry
-names_more old new entry more named = (named.0, (named.1, (named.2, All-weaker (IsNamedAmong old) (IsNamedAmong new) (λ s h. (h.0, (h.1, more h.0 h.2))) named.0 named.3)))
+names_more old new entry more named = (named.0, named.1, named.2, All-weaker (IsNamedAmong old) (IsNamedAmong new) (λ s h. (h.0, h.1, more h.0 h.2)) named.0 named.3)
 
 -- one entry more whose nodes are among a list
 pub named_so_far : (log : List Entry) (old new : List ℕ) (entry : Entry) (from k : ℕ) → k < length log → entry ≡ get_or log k entry → ((n : ℕ) → is_among old n ≡ true → is_among new n ≡ true) → NamesAmong new entry →

@@ -21,7 +21,7 @@ use Rattle.be_value.specs.declared.refusals.Refusal.{Refusal}
 use Rattle.be_value.specs.declared.values.Value.{Value}
 use Rattle.be_value.specs.Value.{kind_of}
 use Rattle.be_volume.proofs.MapLemmas.{exact_names, names_total}
-use Rattle.be_volume.proofs.StepLemmas.{accepted, made, refused_stays}
+use Rattle.be_volume.proofs.StepLemmas.{accepted, made, not_both, refused_stays}
 use Rattle.be_volume.specs.Ahead.{reached, state_after}
 use Rattle.be_volume.specs.Indices.{Indices, paired, paired_at, same_kind, unpaired, unpaired_at, with_pair, without_node, without_pair}
 use Rattle.be_volume.specs.Maps.{Attributes, attributes_of, name_cmp}
@@ -234,7 +234,7 @@ answered_after (op ∷ ops) u t es fs h = by (λ v ds g. answered_after ops v t 
   where
     by : ((v : State) (ds : List Done) → fold advance (Ok (v, ds)) ops ≡ Ok (t, fs) → (rest : List Done) × (fs ≡ ds ++ rest)) → (x : Result (State × Done) Refusal) →
         fold advance (result_map_both (λ (answer : State × Done). (answer.0, es ++ answer.1 ∷ [])) (λ (e : Refusal). e) x) ops ≡ Ok (t, fs) → (rest : List Done) × (fs ≡ es ++ rest)
-    by again (Err r) g = let no : Err r ≡ Ok (t, fs) = sym (refused_stays r ops) ∙ g in cc
+    by again (Err r) g = absurd (not_both r (t, fs) (sym (refused_stays r ops) ∙ g))
     by again (Ok x) g =
         let more = again x.0 (es ++ x.1 ∷ []) g in
         (x.1 ∷ more.0, more.1 ∙ append_assoc es (x.1 ∷ []) more.0)
@@ -254,7 +254,7 @@ fold_same nodes (p ∷ ps) s t ds h named = by (λ v es g. fold_same nodes ps v 
 
     by : ((v : State) (es : List Done) → fold advance (Ok (v, es)) (map (λ q. q.0) ps) ≡ Ok (t, es ++ map (λ q. q.1) ps) → AreSame nodes v t) → (x : Result (State × Done) Refusal) → step s p.0 ≡ x →
         fold advance (result_map_both (λ (answer : State × Done). (answer.0, ds ++ answer.1 ∷ [])) (λ (e : Refusal). e) x) (map (λ q. q.0) ps) ≡ Ok (t, ds ++ p.1 ∷ map (λ q. q.1) ps) → AreSame nodes s t
-    by again (Err r) e g = let no : Err r ≡ Ok (t, ds ++ p.1 ∷ map (λ q. q.1) ps) = sym (refused_stays r (map (λ q. q.0) ps)) ∙ g in cc
+    by again (Err r) e g = absurd (not_both r (t, ds ++ p.1 ∷ map (λ q. q.1) ps) (sym (refused_stays r (map (λ q. q.0) ps)) ∙ g))
     by again (Ok x) e g =
         let more = answered_after (map (λ q. q.0) ps) x.0 t (ds ++ x.1 ∷ []) (ds ++ p.1 ∷ map (λ q. q.1) ps) g in
         let both : p.1 ∷ map (λ q. q.1) ps ≡ x.1 ∷ more.0 = append_cancel_left ds (p.1 ∷ map (λ q. q.1) ps) (x.1 ∷ more.0) (more.1 ∙ append_assoc ds (x.1 ∷ []) more.0) in

@@ -8,4 +8,4 @@ pub invariant_of-result : goal.invariant_of-result
 invariant_of-result c = counted c.self.inside.count c.self.inside.bytes.now c.self.invariant
 
 pub returns : goal.returns
-returns c = (steps_in c.self.inside.count c.self.inside.bytes.now, (ap (λ (e : Entry). e.ops) c.self.view_is, (ap (λ (e : Entry). e.dones) c.self.view_is, refl)))
+returns c = (steps_in c.self.inside.count c.self.inside.bytes.now, ap (λ (e : Entry). e.ops) c.self.view_is, ap (λ (e : Entry). e.dones) c.self.view_is, refl)

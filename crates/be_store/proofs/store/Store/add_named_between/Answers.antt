@@ -2,7 +2,7 @@ use Rattle.std.proofs.Common.{◌≡◌, ◌<◌, ◌≤◌, true, arith, subst}
 use Rattle.be_store.specs.Named.{NamesAmong}
 use Rattle.be_store.proofs.Applied.{learns_only}
 use Rattle.be_store.proofs.Caught.{same_entry_at}
-use Rattle.be_store.proofs.named.Store.add_named_between.Goals as goal
+use Rattle.be_store.proofs.store.Store.add_named_between.Goals as goal
 
 pub returns-clause-learns : goal.returns-clause-learns
 returns-clause-learns c =
