@@ -1,5 +1,5 @@
 -- An operation that is passed over ends where it ends if it is read.
-use Rattle.std.proofs.Common.{◌≡◌, ◌-◌, ◌<◌, ◌≤◌, ◌||◌, ◌^◌, pos, negsuc, ℕ, suc, Bool, true, false, List, [], ◌∷◌, Some, None, IsSome, if◌then◌else◌, is_some, nat_eq, nat_lt, refl, sym, ap, ◌∙◌, subst, arith}
+use Rattle.std.proofs.Common.{◌+◌, ◌≡◌, ◌-◌, ◌<◌, ◌≤◌, ◌||◌, ◌^◌, pos, negsuc, ℕ, suc, Bool, true, false, List, [], ◌∷◌, Some, None, IsSome, if◌then◌else◌, is_some, nat_eq, nat_lt, refl, sym, ap, ◌∙◌, subst, arith}
 use Rattle.std.proofs.lemmas.Option.{option_and_then_some, same_Some}
 use Rattle.std.specs.Int.{Width}
 use Rattle.std.specs.Option.{option_and_then, option_map}

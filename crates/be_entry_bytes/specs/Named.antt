@@ -22,6 +22,10 @@ node_named (Unset node name) done = Some node
 node_named (MkIndex name kind) done = None
 node_named (RmIndex name) done = None
 
+-- what is read of an operation with its outcome, and the bytes after it
+abbrev pub told_of : Op × Done × List ℕ → Option ℕ × List ℕ
+told_of x = (node_named x.0 x.1, x.2)
+
 -- whether a value begins so that has its bytes counted, and no number
 abbrev pub is_counted : ℕ → Bool
 is_counted first = nat_eq first 1 || nat_eq first 4 || nat_eq first 5

@@ -93,7 +93,7 @@ fn named_of(bytes: &[u8]) -> Option<(Option<u64>, &[u8])>
 /// memory, and costs a few steps.
 pub fn read_named(bytes: &[u8]) -> (Option<u64>, &[u8])
     requires { IsSome (spec.step_at bytes.now) }
-    ensures { option_map (λ x. (named.node_named x.0 x.1, x.2)) (spec.step_at bytes.now)
+    ensures { option_map named.told_of (spec.step_at bytes.now)
         ≡ Some (result.0, result.1.now) }
 {
     match named_of(bytes) {
