@@ -14,7 +14,7 @@ use Rattle.be_volume.specs.declared.ops.Op.{Op}
 use Rattle.be_volume.specs.declared.ops.Op.TheVariants.{New, Drop, Set, Unset, MkIndex, RmIndex}
 use Rattle.be_entry_bytes.specs.Decoding.{◌>>=◌, answered_at, below_at, counted_at, first_at, kind_at, kind_numbered, mkindex_at, name_at, number_at, number_value_at, op_at, quiet_at, raw_at, set_at, step_at, steps_at, text_at, text_in, unset_at, value_at}
 use Rattle.be_entry_bytes.proofs.Loops.{bytes_left, skip_goes_on}
-use Rattle.be_entry_bytes.specs.Named.{changed_at, changed_with_node_at, is_counted, named_at, node_made, node_named, past_value_at}
+use Rattle.be_entry_bytes.specs.Named.{changed_at, changed_with_node_at, is_counted, named_at, node_made, node_named, past_value_at, told_of}
 
 bound : {A B : Type 0} (f : A → Option B) (o : Option A) (x : A) (r : Option B) → o ≡ Some x → f x ≡ r → (o >>= f) ≡ r
 bound f o x r e h = ap (λ p. p >>= f) e ∙ h
@@ -197,10 +197,10 @@ step_told bytes x h = option_and_then_some _ (first_at bytes) x h (λ first e g.
     by false n rest g = answered_told (n - 128) rest x g
 
 -- so of an operation that is there
-pub is_told : (bytes : List ℕ) → IsSome (step_at bytes) → option_map (λ (x : Step). (node_named x.0 x.1, x.2)) (step_at bytes) ≡ named_at bytes
+pub is_told : (bytes : List ℕ) → IsSome (step_at bytes) → option_map told_of (step_at bytes) ≡ named_at bytes
 is_told bytes some = by (step_at bytes) refl some
   where
-    by : (o : Option Step) → step_at bytes ≡ o → IsSome o → option_map (λ (x : Step). (node_named x.0 x.1, x.2)) o ≡ named_at bytes
+    by : (o : Option Step) → step_at bytes ≡ o → IsSome o → option_map told_of o ≡ named_at bytes
     by None e h = cc
     by (Some x) e h = sym (step_told bytes x e)
 
@@ -216,27 +216,35 @@ next_there count i bytes short some =
     let one : count - i ≡ suc (count - (i + 1)) = omega arith in
     by (step_at bytes) refl (subst (λ n. IsSome (steps_at n bytes)) one some)
   where
-    by : (o : Option Step) → step_at bytes ≡ o → IsSome (o >>= λ first. steps_at (count - (i + 1)) first.2 >>= λ others. Some (first.0 ∷ others.0, first.1 ∷ others.1, others.2)) → IsSome o
+    by : (o : Option Step) → step_at bytes ≡ o → IsSome {T = List Op × List Done × List ℕ} (o >>= λ first. steps_at (count - (i + 1)) first.2 >>= λ others. Some (first.0 ∷ others.0, first.1 ∷ others.1, others.2)) → IsSome o
     by None e h = cc
     by (Some x) e h = refl
 
 -- and go on after it
-pub left_there : (count i : ℕ) (bytes : List ℕ) (node : Option ℕ) (after : List ℕ) (all : Option (List ℕ)) → i < count → option_map (λ (x : Step). (node_named x.0 x.1, x.2)) (step_at bytes) ≡ Some (node, after) →
+pub left_there : (count i : ℕ) (bytes : List ℕ) (node : Option ℕ) (after : List ℕ) (all : Option (List ℕ)) → i < count → option_map told_of (step_at bytes) ≡ Some (node, after) →
     bytes_left (steps_at (count - i) bytes) ≡ all → IsSome (steps_at (count - i) bytes) → Left count i after all
 unfolding steps_at
 left_there count i bytes node after all short read left some =
     let one : count - i ≡ suc (count - (i + 1)) = omega arith in
     by (step_at bytes) refl read (subst (λ n. IsSome (steps_at n bytes)) one some)
   where
-    others_there : (o : Option (List Op × List Done × List ℕ)) (x : Step) → IsSome (o >>= λ others. Some (x.0 ∷ others.0, x.1 ∷ others.1, others.2)) → IsSome o
+    others_there : (o : Option (List Op × List Done × List ℕ)) (x : Step) → IsSome {T = List Op × List Done × List ℕ} (o >>= λ others. Some (x.0 ∷ others.0, x.1 ∷ others.1, others.2)) → IsSome o
     others_there None x h = cc
     others_there (Some y) x h = refl
 
-    by : (o : Option Step) → step_at bytes ≡ o → option_map (λ (x : Step). (node_named x.0 x.1, x.2)) o ≡ Some (node, after) →
-        IsSome (o >>= λ first. steps_at (count - (i + 1)) first.2 >>= λ others. Some (first.0 ∷ others.0, first.1 ∷ others.1, others.2)) → Left count i after all
+    by : (o : Option Step) → step_at bytes ≡ o → option_map told_of o ≡ Some (node, after) →
+        IsSome {T = List Op × List Done × List ℕ} (o >>= λ first. steps_at (count - (i + 1)) first.2 >>= λ others. Some (first.0 ∷ others.0, first.1 ∷ others.1, others.2)) → Left count i after all
     by None e g h = cc
     by (Some x) e g h =
         let same : x.2 ≡ after = ap (λ (p : Option ℕ × List ℕ). p.1) (same_Some (node_named x.0 x.1, x.2) (node, after) g) in record {
           left = skip_goes_on count i bytes x.0 x.1 after all short (e ∙ ap (λ r. Some (x.0, x.1, r)) same) left;
           some = subst (λ r. IsSome (steps_at (count - (i + 1)) r)) same (others_there (steps_at (count - (i + 1)) x.2) x h);
         }
+
+-- an operation that is there is never told to be none
+pub told_there : (bytes : List ℕ) → IsSome (step_at bytes) → None ≡ named_at bytes → ⊥
+told_there bytes some none = by (step_at bytes) some (is_told bytes some ∙ sym none)
+  where
+    by : (o : Option Step) → IsSome o → option_map told_of o ≡ None → ⊥
+    by None h e = cc
+    by (Some x) h e = cc
