@@ -248,7 +248,7 @@ impl Cursor {
 
     /// The leaf of the pair that comes next, with the number of the pair's item in it, and a step
     /// past all of the leaf's pairs.
-    pub(crate) fn step_leaf<L: Look>(&mut self, look: &mut L) -> Option<(u64, usize)>
+    pub fn step_leaf<L: Look>(&mut self, look: &mut L) -> Option<(u64, usize)>
         requires cursor { IsCursor (L.standing look.old) (L.words look.old) self.old }
         ensures none { IfNone result (remaining (L.words look.old) self.old ≡ []) }
         ensures leaf { IfSome result (λ at. IsTreeAt 0 1 (L.standing look.old) (L.words look.old)

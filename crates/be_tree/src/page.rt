@@ -24,10 +24,10 @@ use be_pages::{Look, Room};
 use std::cmp::Ordering;
 
 /// How many words come before a page's items: its level, and how many items it has.
-pub(crate) const HEADER_WORDS: usize = 2;
+pub const HEADER_WORDS: usize = 2;
 
 /// How many words an item has: one for its lengths, and 41 for at most 328 bytes.
-pub(crate) const ITEM_WORDS: usize = 42;
+pub const ITEM_WORDS: usize = 42;
 
 /// An item's first word has the length of its key in the bits from this one on, and the length of
 /// its payload in those below.

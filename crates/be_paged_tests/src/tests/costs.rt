@@ -282,6 +282,16 @@ query name=="101*" && size>=1500 => 50 found, 6770 words read"#;
     expect_rows(rt.alloc(), rows)
 }
 
+/// Queries by patterns that no range decides, of 300 texts of 18 bytes, which take three words
+/// each. The cost of the one that finds none would grow by 300 for each word more that is read of
+/// a key, as of its number, and that of the other too for each word more that is read of a node.
+#[test]
+fn text_costs(rt: HostRuntime) -> Result<(), Fail> {
+    let rows = r#"query name=="*x*" => 300 found, 2600 words read
+query name=="*z*" => 0 found, 1700 words read"#;
+    expect_rows(rt.alloc(), rows)
+}
+
 /// Prepared queries at their second asking. Each cost would grow by a search for its index, whose
 /// name is compared at its place of the first asking, or by a look at a node.
 #[test]
