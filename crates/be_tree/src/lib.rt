@@ -30,16 +30,21 @@
 mod clearing;
 mod cursor;
 mod edit;
+mod inserting;
 mod item;
 mod laws;
 mod lookup;
 mod numbers;
 mod page;
+mod path;
 mod payload;
 mod removal;
+mod rising;
+mod settling;
 mod siblings;
 mod slot;
-mod stop;
+mod splicing;
+mod taking;
 mod walk;
 mod writing;
 

@@ -1,4 +1,4 @@
-use Rattle.std.proofs.Common.{◌≡◌, ◌≤◌, ℕ, ◌+◌, ◌/◌, ◌^◌, drop, ap, sym, subst, ◌∙◌, arith}
+use Rattle.std.proofs.Common.{◌≡◌, ◌≤◌, ℕ, ◌/◌, ◌^◌, drop, ap, sym, subst, ◌∙◌, arith}
 use Rattle.be_tree.specs.Key.{key_cmp}
 use Rattle.be_tree.specs.Page.{item_at, key_len}
 use Rattle.be_tree.proofs.Bytes.Words.{behind_first, more_cmp}
