@@ -13,7 +13,7 @@ ghost use Rattle.be_tree.specs.Tree.{IsTree, pairs};
 ghost use Rattle.be_value.specs.declared.values.Kind.TheVariants.{Cstr};
 ghost use Rattle.be_volume.specs.Volume.{State};
 ghost use Rattle.be_paged.specs.Page.{contents_of};
-ghost use Rattle.be_paged.specs.Source.{StandsBehind};
+ghost use Rattle.be_paged.specs.Source.{StandsAfter};
 ghost use Rattle.be_paged.specs.Version.{IsVersion};
 ghost use Rattle.be_paged.specs.Entry.{Entry as AnyEntry};
 
@@ -86,7 +86,7 @@ impl<L: Look> PagedSource<L> {
             ≡ (slice_index_or (contents_of (L.words self.old.look self.old.page)).entries
             index.place d).root }
         requires tree { IsTree (L.standing self.old.look) (L.words self.old.look) index.root }
-        requires behind { StandsBehind (L.standing self.old.look) (L.words self.old.look)
+        requires beyond { StandsAfter (L.standing self.old.look) (L.words self.old.look)
             (contents_of (L.words self.old.look self.old.page)).entries self.old.cursor
             self.old.place self.old.last.0 self.old.last.1 }
         ensures cursor { IsCursor (L.standing self.new.look) (L.words self.new.look)

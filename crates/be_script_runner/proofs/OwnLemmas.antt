@@ -276,16 +276,16 @@ own_writes store new script out h =
 
 -- what a pass wrote that had seen nothing
 pub pass_writes : (a c : Knowledge) (script out : List ℕ) → a.seen ≡ [] → IsPass c → IsOutputTo (known a) script (known c) out → IsPartOf (operations c.mine) (write_ops script)
-pass_writes a c script out fresh behind h =
+pass_writes a c script out fresh beyond h =
     let part : IsPartOf (own_ops (known c)) (own_ops (known a) ++ write_ops script) = (own_writes (known a) (known c) script out h).1 in
-    subst (λ l. IsPartOf (operations l) (write_ops script)) behind.mine
+    subst (λ l. IsPartOf (operations l) (write_ops script)) beyond.mine
     (subst (λ (seen : List Commit). IsPartOf (own_ops (known c)) (operations (by_pass a.number (entries seen)) ++ write_ops script)) fresh part)
 
 -- what a script was replied that was served from such a pass, and what the pass wrote
 pub pass_served : (a first last c : Knowledge) (script old text : List ℕ) → first ≡ a → c ≡ last → a.seen ≡ [] → IsPass c → old ≡ [] →
     Wrote (Some old) (Some text) (IsOutputTo (known first) script (known last)) → IsOutputTo (known a) script (known c) text × IsPartOf (operations c.mine) (write_ops script)
-pass_served a first last c script old text begun ended fresh behind empty w =
+pass_served a first last c script old text begun ended fresh beyond empty w =
     let out : IsOutputTo (known first) script (known last) text = subst (IsOutputTo (known first) script (known last)) (sym (w.appended ∙ ap (λ l. l ++ w.out) empty)) w.is in
     let from : IsOutputTo (known a) script (known last) text = subst (λ (k : Knowledge). IsOutputTo (known k) script (known last) text) begun out in
     let to : IsOutputTo (known a) script (known c) text = subst (λ (k : Knowledge). IsOutputTo (known a) script (known k) text) (sym ended) from in
-    (to, pass_writes a c script text fresh behind to)
+    (to, pass_writes a c script text fresh beyond to)

@@ -128,12 +128,12 @@ pub(crate) fn run_lines<S: Server, G: Gate, W: Write>(
     let mut client = Client::new();
     let mut rest = script;
     let mut number = 1;
-    while let Some((line, behind)) = split_line(rest) {
+    while let Some((line, beyond)) = split_line(rest) {
         gate.before(pass, number);
         let ran = run_line(alloc, server, &mut client, line, writer);
         gate.after(pass, number);
         ran?;
-        rest = behind;
+        rest = beyond;
         number += 1;
     }
     if rest.is_empty() {

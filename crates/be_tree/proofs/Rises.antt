@@ -19,7 +19,7 @@ use Rattle.be_tree.proofs.Shape.Levels.{tree_in_use}
 use Rattle.be_tree.proofs.Shape.Parts.{all_one, becomes_part, starts_append, starts_first}
 use Rattle.be_tree.proofs.Ways.{branch_is, branch_names, rising_inside, step_leads, three}
 
--- a list that starts at a key starts there with more behind it, and without
+-- a list that starts at a key starts there with more after it, and without
 first_part : (k j : List ℕ) (xs ys : List Pair) → StartsAt j xs → StartsAt k (xs ++ ys) → StartsAt k xs
 first_part k j [] ys some starts = absurd some
 first_part k j (x ∷ xs) ys some starts = starts

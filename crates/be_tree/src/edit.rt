@@ -4,7 +4,7 @@
 //! A full leaf shares items with its left neighbour, which takes all that it can hold, or is split
 //! if that one is full too, and the first of the two pages takes as many items as leave six for
 //! the second. So does a page above that has got one branch too many. So keys that rise leave full
-//! pages behind them. An insertion writes two pages a level at most, and three at the root.
+//! pages after them. An insertion writes two pages a level at most, and three at the root.
 ghost use Rattle.std.specs.Prelude.{◌+◌, ◌≤◌, length, IfOk, OnErr, IfErr, IsTrue};
 ghost use Rattle.be_pages.specs.Pages.{KeepsStart};
 ghost use Rattle.be_pages.specs.Refusal.{IsFullOf};

@@ -20,7 +20,7 @@ ghost use Rattle.be_tree.specs.Words.{IsFirst, IsFirstOf};
 
 use crate::cursor::Cursor;
 use crate::lookup::{branch_for, end_of, is_above, search};
-use crate::page::{HEADER_WORDS, ITEM_WORDS, LENGTH_BITS, child_at, first_word, number_behind};
+use crate::page::{HEADER_WORDS, ITEM_WORDS, LENGTH_BITS, child_at, first_word, number_beyond};
 use crate::walk::key_at;
 use be_pages::Look;
 use std::alloc::AllocError;
@@ -346,5 +346,5 @@ pub fn number_at<L: Look>(look: &mut L, page: u64, at: usize) -> u64
     ensures unchanged { IsUnchanged L.kept L.standing L.words look.old look.new }
 {
     let key_len = (look.word(page, at) >> LENGTH_BITS) as usize;
-    number_behind(look, page, at + key_len / 8, key_len % 8)
+    number_beyond(look, page, at + key_len / 8, key_len % 8)
 }

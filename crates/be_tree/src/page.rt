@@ -47,12 +47,12 @@ pub(crate) fn child_at<L: Look>(look: &mut L, page: u64, at: usize) -> u64
     ensures unchanged { IsUnchanged L.kept L.standing L.words look.old look.new }
 {
     let key_len = (look.word(page, at) >> LENGTH_BITS) as usize;
-    number_behind(look, page, at + 1 + key_len / 8, key_len % 8)
+    number_beyond(look, page, at + 1 + key_len / 8, key_len % 8)
 }
 
 /// The number in the eight bytes that begin `skip` bytes after the start of a word: in that word
 /// alone, or in it and the next.
-pub(crate) fn number_behind<L: Look>(look: &mut L, page: u64, at: usize, skip: usize) -> u64
+pub(crate) fn number_beyond<L: Look>(look: &mut L, page: u64, at: usize, skip: usize) -> u64
     requires readable { IsTrue (is_readable (L.standing look.old page)) }
     requires skips { skip < 8 }
     requires in_page { at + words_for (skip + 8) ≤ 512 }

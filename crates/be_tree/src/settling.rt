@@ -74,7 +74,7 @@ fn settle_left<R: Room>(
 ) -> Result<Settled, Refusal>
     requires child { (start : R) × IsChildInHand R.kept R.standing R.words step was node.level
         node.pair.now node.slots.now start room.old }
-    requires behind { 0 < step.at }
+    requires beyond { 0 < step.at }
     requires room { R.words room.old (child
         (item_at (R.words room.old step.page) (item_place (step.at - 1)))) 1 + length node.slots.now
         ≤ 24 }
@@ -149,7 +149,7 @@ fn settle_right<R: Room>(
 fn left_has_room<R: Room>(room: &mut R, step: Step, was: u64, node: Node<'_>) -> bool
     requires child { (start : R) × IsChildInHand R.kept R.standing R.words step was node.level
         node.pair.now node.slots.now start room.old }
-    ensures behind { result ≡ true → 0 < step.at }
+    ensures beyond { result ≡ true → 0 < step.at }
     ensures room { result ≡ true → R.words room.old
         (child (item_at (R.words room.old step.page) (item_place (step.at - 1)))) 1 < 12 }
     ensures unchanged { IsUnchanged R.kept R.standing R.words room.old room.new }

@@ -50,8 +50,8 @@ settle_left-requires-2-clause-child g c =
 pub settle_left-requires-2-clause-open : goal.settle_left-requires-2-clause-open
 settle_left-requires-2-clause-open g c = subst (λ k. IsTrue (g.R.Look.is_open k)) (sym c.count_of.ensures.unchanged.kept) c.requires.open
 
-pub settle_left-requires-2-clause-behind : goal.settle_left-requires-2-clause-behind
-settle_left-requires-2-clause-behind g c =
+pub settle_left-requires-2-clause-beyond : goal.settle_left-requires-2-clause-beyond
+settle_left-requires-2-clause-beyond g c =
     child_beside g.R.Look.kept g.R.Look.standing g.R.Look.words c.args.step c.args.was c.args.node.level c.args.node.pair.now c.args.node.slots.now c.args.room.now c.count_of.new.look c.count_of.ensures.unchanged c.requires.child.0 c.requires.child.1 (omega (arith, c.if-step-count_of.false, c.count_of.ensures.count))
 
 pub settle_left-requires-2-clause-room : goal.settle_left-requires-2-clause-room

@@ -19,7 +19,7 @@ in_range g c =
     omega (arith, h.in_range, ap (λ (w : ℕ → ℕ). w 1) (above_same g.R.Look.kept g.R.Look.standing g.R.Look.words c.args.step c.args.was c.args.node.level c.args.node.pair.now c.args.node.slots.now c.requires.child.0 c.args.room.now h))
 
 pub overflow_sub-at : goal.overflow_sub-at
-overflow_sub-at g c = omega (arith, c.requires.behind)
+overflow_sub-at g c = omega (arith, c.requires.beyond)
 
 pub overflow_mul-at : goal.overflow_mul-at
 overflow_mul-at g c = omega (arith, c.requires.child.1.in_range, c.requires.child.1.tree.node.is_page.few)
@@ -46,13 +46,13 @@ pub fill_slots-requires-clause-readable : goal.fill_slots-requires-clause-readab
 fill_slots-requires-clause-readable g c =
     subst (λ s. IsTrue (is_readable (s c.child_at-left.result))) (sym c.child_at-left.ensures.unchanged.standing)
     (before_readable g.R.Look.kept g.R.Look.standing g.R.Look.words c.args.step c.args.was c.args.node.level c.args.node.pair.now c.args.node.slots.now c.requires.child.0 c.args.room.now c.requires.child.1
-    c.args.node.slots.now c.args.node.slots.now c.child_at-left.new.look c.child_at-left.ensures.unchanged (c.args.step.at - 1) c.child_at-left.result (omega (arith, c.requires.behind)) c.child_at-left.ensures.child)
+    c.args.node.slots.now c.args.node.slots.now c.child_at-left.new.look c.child_at-left.ensures.unchanged (c.args.step.at - 1) c.child_at-left.result (omega (arith, c.requires.beyond)) c.child_at-left.ensures.child)
 
 pub fill_slots-requires-clause-page : goal.fill_slots-requires-clause-page
 fill_slots-requires-clause-page g c =
     subst (λ (w : ℕ → ℕ → ℕ). IsPage (w c.child_at-left.result)) (sym c.child_at-left.ensures.unchanged.words)
     (before_page g.R.Look.kept g.R.Look.standing g.R.Look.words c.args.step c.args.was c.args.node.level c.args.node.pair.now c.args.node.slots.now c.requires.child.0 c.args.room.now c.requires.child.1
-    c.args.node.slots.now c.args.node.slots.now c.child_at-left.new.look c.child_at-left.ensures.unchanged (c.args.step.at - 1) c.child_at-left.result (omega (arith, c.requires.behind)) c.child_at-left.ensures.child)
+    c.args.node.slots.now c.args.node.slots.now c.child_at-left.new.look c.child_at-left.ensures.unchanged (c.args.step.at - 1) c.child_at-left.result (omega (arith, c.requires.beyond)) c.child_at-left.ensures.child)
 
 pub append-requires : goal.append-requires
 append-requires g c =
@@ -74,7 +74,7 @@ two : (g : Over) (c : After-deref g) (start : g.row.R.Denot) → IsChildInHand g
     (beside (suc c.args.node.level) (g.R.Look.words start) c.args.step (pairs_below c.args.node.level (g.R.Look.words c.args.room.now) (pairs_of (g.R.Look.words c.args.room.now) c.args.node.pair.now c.args.node.slots.now))) c.deref.result.now start c.fill_slots.new.look
 two g c start h =
     before_in_hand g.R.Look.kept g.R.Look.standing g.R.Look.words c.args.step c.args.was c.args.node.level c.args.node.pair.now c.args.node.slots.now start c.args.room.now h
-    c.fill_slots.new.slots.items c.deref.result.now c.fill_slots.new.look (same g c) (c.args.step.at - 1) c.child_at-left.result (omega (arith, c.requires.behind)) c.child_at-left.ensures.child (loaded g c) (whole g c)
+    c.fill_slots.new.slots.items c.deref.result.now c.fill_slots.new.look (same g c) (c.args.step.at - 1) c.child_at-left.result (omega (arith, c.requires.beyond)) c.child_at-left.ensures.child (loaded g c) (whole g c)
 
 pub pack_two-requires-clause-node : goal.pack_two-requires-clause-node
 pack_two-requires-clause-node g c = (two g (goal.at.pack_two-requires-clause-node g c).After-deref c.requires.child.0 c.requires.child.1).can
@@ -84,7 +84,7 @@ pack_two-requires-clause-size g c =
     let at = (goal.at.pack_two-requires-clause-size g c).After-deref in
     let h = c.requires.child.1 in
     let least = before_count g.R.Look.kept g.R.Look.standing g.R.Look.words c.args.step c.args.was c.args.node.level c.args.node.pair.now c.args.node.slots.now c.requires.child.0 c.args.room.now h
-    c.fill_slots.new.slots.items c.deref.result.now c.fill_slots.new.look (same g at) (c.args.step.at - 1) c.child_at-left.result (omega (arith, c.requires.behind)) c.child_at-left.ensures.child (loaded g at) (whole g at) in
+    c.fill_slots.new.slots.items c.deref.result.now c.fill_slots.new.look (same g at) (c.args.step.at - 1) c.child_at-left.result (omega (arith, c.requires.beyond)) c.child_at-left.ensures.child (loaded g at) (whole g at) in
     (omega (arith, least), c.deref.ensures.1)
 
 pub pack_two-requires-clause-two : goal.pack_two-requires-clause-two
@@ -100,7 +100,7 @@ returns-clause-ok g c = λ start h.
     let given = c.args.node.pair.now in
     let branches = c.in_ok-branches.branches.items in
     record {
-      in_range = omega (arith, h.in_range, c.requires.behind);
+      in_range = omega (arith, h.in_range, c.requires.beyond);
       gone = (omega arith, omega arith);
       some = c.in_ok-branches.ensures.some;
       before = omega arith;

@@ -4,7 +4,7 @@ use Rattle.be_query.specs.View.{formula}
 use Rattle.be_query.specs.declared.tree.Tree.{Tree}
 use Rattle.be_plan.specs.Spine.{IsUnderOr, StandsIn}
 use Rattle.be_plan.proofs.Spines.{left_under, right_under}
-use Rattle.be_plan.proofs.spine.+cut_behind.Goals as goal
+use Rattle.be_plan.proofs.spine.+cut_after.Goals as goal
 
 pub returns-then-pick-from-clause-under : goal.returns-then-pick-from-clause-under
 returns-then-pick-from-clause-under t c = λ whole u.
@@ -13,7 +13,7 @@ returns-then-pick-from-clause-under t c = λ whole u.
     let P : Formula → Type 0 = λ f. IsUnderOr whole 0 f in
     let split : formula c.args.tree.now ≡ Or a b = ap (λ (t : Tree). formula t) c.in-Or.is in
     let same : formula c.deref-then-pick-from.result.now ≡ a = ap (λ (t : Tree). formula t) c.deref-then-pick-from.ensures in
-    c.cut_behind.ensures.under whole (subst P (sym same) (left_under whole 0 a b (subst P split u)))
+    c.cut_after.ensures.under whole (subst P (sym same) (left_under whole 0 a b (subst P split u)))
 
 pub returns-then-pick-from-clause-stands : goal.returns-then-pick-from-clause-stands
 returns-then-pick-from-clause-stands t c = λ whole u.
@@ -22,7 +22,7 @@ returns-then-pick-from-clause-stands t c = λ whole u.
     let P : Formula → Type 0 = λ f. IsUnderOr whole 0 f in
     let split : formula c.args.tree.now ≡ Or a b = ap (λ (t : Tree). formula t) c.in-Or.is in
     let same : formula c.deref-then-pick-from.result.now ≡ a = ap (λ (t : Tree). formula t) c.deref-then-pick-from.ensures in
-    c.cut_behind.ensures.stands whole (subst P (sym same) (left_under whole 0 a b (subst P split u)))
+    c.cut_after.ensures.stands whole (subst P (sym same) (left_under whole 0 a b (subst P split u)))
 
 pub returns-else-pick-from-clause-stands : goal.returns-else-pick-from-clause-stands
 returns-else-pick-from-clause-stands t c = λ whole u.

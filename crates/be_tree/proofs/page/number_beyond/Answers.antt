@@ -4,7 +4,7 @@ use Rattle.std.proofs.lemmas.Nat.{from_be_bytes-to_be_bytes_8}
 use Rattle.be_tree.specs.Page.{bytes_at}
 use Rattle.be_tree.proofs.Codec.{word_bytes}
 use Rattle.be_tree.proofs.Bytes.Straddling.{straddling}
-use Rattle.be_tree.proofs.page.number_behind.Goals as goal
+use Rattle.be_tree.proofs.page.number_beyond.Goals as goal
 
 -- in two words
 pub returns-clause-number : goal.returns-clause-number

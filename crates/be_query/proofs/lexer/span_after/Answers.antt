@@ -1,6 +1,6 @@
 use Rattle.std.proofs.Common.{arith, sym}
 use Rattle.be_query.proofs.Blocks.{quoted_broken, quoted_on, skipped}
-use Rattle.be_query.proofs.lexer.span_behind.Goals as goal
+use Rattle.be_query.proofs.lexer.span_after.Goals as goal
 
 pub quoted-init : goal.quoted-init
 quoted-init c = record { within = c.requires.within; so_far = sym (skipped c.args.quote c.args.front c.args.bytes.now c.requires.within c.requires.unmarked) }

@@ -1,7 +1,7 @@
 use Rattle.std.proofs.Common.{sym}
 use Rattle.be_entry_bytes.specs.Decoding.{steps_at}
 use Rattle.be_entry_bytes.proofs.Loops.{bytes_left, skip_goes_on, skip_ends, skip_is_done}
-use Rattle.be_entry_bytes.proofs.reading.behind_steps.Goals as goal
+use Rattle.be_entry_bytes.proofs.reading.after_steps.Goals as goal
 
 pub returns-in_err-_op : goal.returns-in_err-_op
 returns-in_err-_op c = rw c.from_residual.ensures (sym (skip_ends c.args.count c.loop.counter c.loop.rest.now (bytes_left (steps_at c.args.count c.args.bytes.now))

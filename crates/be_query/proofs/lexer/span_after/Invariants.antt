@@ -1,7 +1,7 @@
 use Rattle.std.proofs.Common.{◌≡◌, ◌-◌, ◌≤◌, false, drop, length}
 use Rattle.be_query.specs.Lexing.{quoted_span}
 use Rattle.be_query.proofs.Spans.{shifted}
-use Rattle.be_query.proofs.lexer.span_behind.Given as goal
+use Rattle.be_query.proofs.lexer.span_after.Given as goal
 
 abbrev pub invariant-quoted : goal.invariant-quoted
 invariant-quoted l = record {

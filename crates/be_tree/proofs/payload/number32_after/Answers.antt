@@ -1,6 +1,6 @@
 use Rattle.std.proofs.Common.{◌≡◌, ℕ, ◌+◌, ◌-◌, ◌*◌, ◌/◌, ◌%◌, ◌^◌, ap, sym, ◌∙◌, arith}
 use Rattle.be_tree.proofs.Bytes.Straddling.{four_of_one, four_of_two}
-use Rattle.be_tree.proofs.payload.number32_behind.Goals as goal
+use Rattle.be_tree.proofs.payload.number32_after.Goals as goal
 
 -- in two words
 pub returns-clause-number : goal.returns-clause-number
