@@ -51,7 +51,7 @@ impl<'p> BytePattern<'p> {
         ensures { IsUtf8 text.now → result ≡ matches self.now (chars text.now) }
     {
         match &self.runs {
-            Some(runs) => runs.stand_in(text),
+            Some(runs) => runs.are_in(text),
             None => matches_chars(self.pattern, text),
         }
     }

@@ -18,7 +18,7 @@ pub(crate) struct Runs {
 impl Runs {
     /// Whether the bytes begin with the first run, end with the last one, and have the others
     /// between these in their order.
-    pub(crate) fn stand_in(&self, text: &[u8]) -> bool
+    pub(crate) fn are_in(&self, text: &[u8]) -> bool
         ensures { result ≡ matches (parts_of_runs self.now) text.now }
     {
         match after_run(text, self.front.as_bytes()) {
