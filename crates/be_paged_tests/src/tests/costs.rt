@@ -273,12 +273,12 @@ fn expect_rows(alloc: Global, rows: &str) -> Result<(), Fail> {
 #[test]
 fn read_costs(rt: HostRuntime) -> Result<(), Fail> {
     let rows = r#"get 150 size => 1 found, 44 words read
-query name=="10150-document.txt" => 1 found, 41 words read
+query name=="10150-document.txt" => 1 found, 42 words read
 query size==1510 => 1 found, 34 words read
 query size==1500 => 1 found, 87 words read
-query size>=1000 && size<2000 => 100 found, 465 words read
-query name=="101*" => 100 found, 463 words read
-query name=="101*" && size>=1500 => 50 found, 6770 words read"#;
+query size>=1000 && size<2000 => 100 found, 460 words read
+query name=="101*" => 100 found, 456 words read
+query name=="101*" && size>=1500 => 50 found, 6774 words read"#;
     expect_rows(rt.alloc(), rows)
 }
 
@@ -287,8 +287,8 @@ query name=="101*" && size>=1500 => 50 found, 6770 words read"#;
 /// a key, as of its number, and that of the other too for each word more that is read of a node.
 #[test]
 fn text_costs(rt: HostRuntime) -> Result<(), Fail> {
-    let rows = r#"query name=="*x*" => 300 found, 2600 words read
-query name=="*z*" => 0 found, 1700 words read"#;
+    let rows = r#"query name=="*x*" => 300 found, 2595 words read
+query name=="*z*" => 0 found, 1695 words read"#;
     expect_rows(rt.alloc(), rows)
 }
 
@@ -296,10 +296,10 @@ query name=="*z*" => 0 found, 1700 words read"#;
 /// name is compared at its place of the first asking, or by a look at a node.
 #[test]
 fn prepared_costs(rt: HostRuntime) -> Result<(), Fail> {
-    let rows = r#"again name=="10150-document.txt" => 1 found, 38 words read
+    let rows = r#"again name=="10150-document.txt" => 1 found, 39 words read
 again size==1510 => 1 found, 32 words read
 again size==1500 => 1 found, 85 words read
-again size>=1000 && size<2000 => 100 found, 463 words read"#;
+again size>=1000 && size<2000 => 100 found, 458 words read"#;
     expect_rows(rt.alloc(), rows)
 }
 
