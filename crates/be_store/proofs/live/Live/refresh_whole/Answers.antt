@@ -4,7 +4,7 @@ use Rattle.be_volume.specs.Query.{scan}
 use Rattle.be_store.specs.Live.{LiveQuery, without}
 use Rattle.be_store.specs.Passes.{volume_pinned}
 use Rattle.be_store.proofs.Answering.{refreshes, if_ok}
-use Rattle.be_store.proofs.live.Live.refresh.Goals as goal
+use Rattle.be_store.proofs.live.Live.refresh_whole.Goals as goal
 
 pub update-requires : goal.update-requires
 update-requires c = c.in_ok-query_prepared.ensures.rising
