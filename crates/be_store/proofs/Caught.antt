@@ -8,7 +8,7 @@ use Rattle.std.proofs.lemmas.List.Kept.{IsStrictlyIncreasing-filter}
 use Rattle.std.specs.FinMap as fin
 use Rattle.std.specs.List.{Contains}
 use Rattle.std.specs.List.Sorted.{IsStrictlyIncreasing}
-use Rattle.std.specs.Prelude.{Result}
+use Rattle.std.specs.Prelude.{OnOk, Result}
 use Rattle.be_core.specs.declared.event.Phase.TheVariants.{Pinned}
 use Rattle.be_core.specs.Machine.{InTime}
 use Rattle.be_journal.specs.Journal.{IsLegal, replay}
@@ -35,6 +35,8 @@ use Rattle.be_volume.specs.Sound.{IsPaired, IsSound}
 use Rattle.be_volume.specs.Volume.{State}
 use Rattle.be_store.specs.History.{Learns, LocksOnly}
 use Rattle.be_store.specs.Live.{IsAnswer, IsAnswerBut, is_among, without}
+use Rattle.be_store.specs.Marks.{IsMarkOf}
+use Rattle.be_table.specs.Place.{WitnessFacts}
 use Rattle.be_store.specs.Named.{IsNamedAmong, NamesAmong, node_named}
 use Rattle.be_volume.specs.declared.ops.Done.{Done}
 use Rattle.be_volume.specs.declared.ops.Op.{Op}
@@ -272,10 +274,43 @@ step_named ops dones old new op done k inside this its keeps one before short i 
 ]
 
 -- one entry more whose nodes are among a list
-pub named_so_far : (log : List Entry) (old new : List ℕ) (entry : Entry) (from k : ℕ) → k < length log → entry ≡ get_or log k entry → ((n : ℕ) → is_among old n ≡ true → is_among new n ≡ true) → NamesAmong new entry →
+pub named_so_far : (log : List Entry) (old new : List ℕ) (from k : ℕ) → ((n : ℕ) → is_among old n ≡ true → is_among new n ≡ true) → ((d : Entry) → NamesAmong new (get_or log k d)) →
     ((i : ℕ) (d : Entry) → from ≤ i → i < k → NamesAmong old (get_or log i d)) → (i : ℕ) (d : Entry) → from ≤ i → i < k + 1 → NamesAmong new (get_or log i d)
-named_so_far log old new entry from k inside is keeps one before i d low high = elim (cases_lt i k) [
+named_so_far log old new from k keeps one before i d low high = elim (cases_lt i k) [
   | inl early ↦ names_more old new (get_or log i d) keeps (before i d low early)
-  | inr late ↦ (let same : k ≡ i = omega (arith, high, late) in
-      subst (λ j. NamesAmong new (get_or log j d)) same (subst (NamesAmong new) (is ∙ get_or_default log k entry d inside) one))
+  | inr late ↦ (let same : k ≡ i = omega (arith, high, late) in subst (λ j. NamesAmong new (get_or log j d)) same (one d))
 ]
+
+-- a mark whose witness has seen more
+pub mark_joined : (f : Formula) (last : List ℕ) (old new : WitnessFacts) (n : ℕ) → IsMarkOf f last (record { witness = old; number = n }) → new.blank ≡ false → StartsWith new.seen old.seen → IsMarkOf f last (record { witness = new; number = n })
+mark_joined f last old new n mark fresh more =
+    let long = longer_seen new.seen old.seen more in
+    (fresh, omega (arith, mark.1, long), subst (λ l. IsAnswer (replay l) f last) (sym (front_same new.seen old.seen n more mark.1)) mark.2)
+
+-- a mark that is made at a pin
+pub mark_at : (f : Formula) (last : List ℕ) (a : Knowledge) (w : WitnessFacts) (n : ℕ) → IsPass a → IsPinnedTo a n → w.blank ≡ false → w.seen ≡ a.seen → IsAnswer (volume_pinned a) f last → IsMarkOf f last (record { witness = w; number = n })
+mark_at f last a w n pass pin fresh seen answer =
+    (fresh, subst (λ l. n ≤ length l) (sym seen) (pin_seen a n pass pin),
+    subst (λ s. IsAnswer s f last) (volume_is a n pin ∙ ap (λ l. replay (take n (entries l))) (sym seen)) answer)
+
+-- a list that was changed by what became of some nodes, whatever the names of what was read
+pub changed_so : (v w : State) (f g : Formula) (nodes last list new came went gone put mid grown : List ℕ) → IsSound v → IsStrictlyIncreasing nodes → IsStrictlyIncreasing last → IsStrictlyIncreasing new → IsAnswerBut nodes v f last →
+    w ≡ v → g ≡ f → list ≡ last → came ≡ filter (λ n. sat w g n && not (is_among list n)) nodes → went ≡ filter (λ n. is_among list n && not (sat w g n)) nodes → grown ≡ last → gone ≡ went → put ≡ came →
+    ((n : ℕ) → is_among mid n ≡ (is_among grown n && not (is_among gone n))) → ((n : ℕ) → is_among new n ≡ (is_among mid n || is_among put n)) →
+    IsAnswer v f new × (scan v f ≡ Ok new) × (came ≡ without new last) × (went ≡ without last new)
+changed_so v w f g nodes last list new came went gone put mid grown sound up_nodes up_last up_new but volume query same came_is went_is kept gone_is put_is left both =
+    let x : came ≡ filter (λ n. sat v f n && not (is_among last n)) nodes =
+        came_is ∙ ap (λ (t : State × Formula × List ℕ). filter (λ n. sat t.0 t.1 n && not (is_among t.2 n)) nodes) (λ i. (volume i, query i, same i)) in
+    let y : went ≡ filter (λ n. is_among last n && not (sat v f n)) nodes =
+        went_is ∙ ap (λ (t : State × Formula × List ℕ). filter (λ n. is_among t.2 n && not (sat t.0 t.1 n)) nodes) (λ i. (volume i, query i, same i)) in
+    let z : (n : ℕ) → is_among new n ≡ ((is_among last n && not (is_among went n)) || is_among came n) = λ n.
+        both n ∙ (ap (λ b. b || is_among put n) (left n)
+        ∙ ap (λ (t : List ℕ × List ℕ × List ℕ). (is_among t.0 n && not (is_among t.1 n)) || is_among t.2 n) (λ i. (kept i, gone_is i, put_is i))) in (
+      is_answer v f nodes last new came went sound up_nodes up_last up_new but x y z,
+      is_scan v f nodes last new came went sound up_nodes up_last up_new but x y z,
+      is_came v f nodes last new came went sound up_nodes up_last up_new but x y z,
+      is_went v f nodes last new came went sound up_nodes up_last up_new but x y z,
+    )
+
+pub on_ok : {T E : Type 0} (r : Result T E) (x : T) (P : Type 0) → r ≡ Ok x → OnOk r P → P
+on_ok r x P e h = subst (λ q. OnOk q P) e h

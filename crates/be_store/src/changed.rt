@@ -129,6 +129,8 @@ fn take_one(list: &mut Vec<u64>, number: u64)
     ensures rising { IsStrictlyIncreasing list.new.items }
     ensures left { (n : ℕ) → is_among list.new.items n ≡ (is_among list.old.items n
         && not (number == n)) }
+    ensures room { (vec_len list.new ≤ vec_len list.old)
+        × (vec_capacity list.new ≡ vec_capacity list.old) }
 {
     let at = match list.as_slice().binary_search(&number) {
         Ok(at) => at,
@@ -143,6 +145,8 @@ pub(crate) fn take_out(list: &mut Vec<u64>, numbers: &[u64])
     ensures rising { IsStrictlyIncreasing list.new.items }
     ensures left { (n : ℕ) → is_among list.new.items n ≡ (is_among list.old.items n
         && not (is_among numbers.now n)) }
+    ensures room { (vec_len list.new ≤ vec_len list.old)
+        × (vec_capacity list.new ≡ vec_capacity list.old) }
 {
     for number in numbers {
         take_one(list, *number);

@@ -168,6 +168,7 @@ impl Live {
         ensures own { IfOk result (λ u. IsLiveOf store.now self.new) }
         ensures err { IfErr result (λ e. (self.new ≡ self.old) × (e ≡ OutOfMemory)) }
     {
+        pass.is_pass();
         let mut updates = Updates {
             created: Vec::new(self.alloc),
             removed: Vec::new(self.alloc),

@@ -14,6 +14,7 @@ loop-number-preserved c =
           ∙ (ap (λ b. b && not (get_or numbers k 0 == n)) (c.loop-number.invariant.left n)
           ∙ (both_gone (is_among old n) (is_among (take k numbers) n) (get_or numbers k 0 == n)
           ∙ ap (λ b. is_among old n && not b) (sym (among_more numbers k n c.loop-number-test.true))));
+      room = (omega (arith, c.take_one.ensures.room.0, c.loop-number.invariant.room.0), c.take_one.ensures.room.1 ∙ c.loop-number.invariant.room.1);
     }
 
 pub returns-clause-left : goal.returns-clause-left

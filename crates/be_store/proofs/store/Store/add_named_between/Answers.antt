@@ -10,5 +10,5 @@ returns-clause-learns c =
 
 pub returns-clause-named : goal.returns-clause-named
 returns-clause-named c h i d low high =
-    subst (NamesAmong c.add_between.new.nodes.items) (same_entry_at c.in-Ok.held.knows.seen c.args.pass.now.knows.seen i d c.in-Ok.ensures.held.2.more (omega (arith, high, c.requires.end)))
+    subst (NamesAmong c.add_between-named.new.nodes.items) (same_entry_at c.in-Ok.held.knows.seen c.args.pass.now.knows.seen i d c.in-Ok.ensures.held.2.more (omega (arith, high, c.requires.end)))
     (c.add_between-named.ensures.named h i d low high)
