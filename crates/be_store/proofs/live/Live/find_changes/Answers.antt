@@ -1,4 +1,4 @@
-use Rattle.std.proofs.Common.{◌≡◌, true, false, List, ℕ, sym, ap, subst, ◌∙◌}
+use Rattle.std.proofs.Common.{◌≡◌, true, List, ℕ, sym, ap, subst, ◌∙◌}
 use Rattle.be_table.specs.History.{StartsWith}
 use Rattle.be_table.specs.declared.pass.Knowledge.{Knowledge}
 use Rattle.be_store.specs.Live.{IsAnswerBut, LiveQuery}
@@ -12,7 +12,7 @@ pub returns-clause-others : goal.returns-clause-others
 returns-clause-others c h =
     let found : c.add_changes-found.result ≡ true = elim c.if-found.branch [
       | then-found w ↦ w.if-found.true
-      | else-found w ↦ (let no : false ≡ true = sym w.result-is ∙ h in cc)
+      | else-found w ↦ sym w.result-is ∙ h
     ] in
     let a = c.args.pass.now.knows in
     let b = c.join.new.pass.knows in

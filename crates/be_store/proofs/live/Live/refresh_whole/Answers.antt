@@ -13,7 +13,7 @@ invariant_of-self-2 c =
     let v = volume_pinned a in
     let q = c.query_prepared.new.query in
     let nodes = c.query_prepared.new.nodes.items in
-    let number = c.in_ok-number.field-0 in
+    let number = c.in_ok-number.number in
     let pin = c.in_ok-number.ensures.pin in
     let answer = scan_is_answer v q nodes (pinned_sound a number c.is_pass.ensures pin) (ap (scan v) c.query_prepared.ensures.same ∙ c.in_ok-number.ensures.nodes) in
     (c.in_ok-number.ensures.rising, mark_at q nodes a c.witness-witness.result number c.is_pass.ensures pin c.witness-witness.ensures.witness.0.0
@@ -25,7 +25,7 @@ returns-clause-ok c =
     let last = c.as_slice.ensures.value ∙ ap (λ (l : LiveQuery). l.last) c.self.view_is in
     let now = c.as_slice-2.ensures.value in
     let told = c.in_ok-updates.ensures.ok in
-    refreshes v c.args.self.now _ c.query_prepared.new.nodes.items c.in_ok-updates.field-0.created.items c.in_ok-updates.field-0.removed.items
+    refreshes v c.args.self.now _ c.query_prepared.new.nodes.items c.in_ok-updates.updates.created.items c.in_ok-updates.updates.removed.items
     (ap (λ (l : LiveQuery). scan v l.query) (sym c.self.view_is) ∙ c.in_ok-number.ensures.nodes)
     (c.query_prepared.ensures.same ∙ ap (λ (l : LiveQuery). l.query) c.self.view_is) refl
     (told.0 ∙ ap (λ (x : List ℕ × List ℕ). without x.0 x.1) (λ i. (now i, last i)))
