@@ -48,8 +48,8 @@ fn node_named(op: &Op, done: &Done) -> Option<u64>
     }
 }
 
-/// Adds the node that an operation changes to a rising list. Returns false if it makes or removes an
-/// index, or there is no room for the node.
+/// Adds the node that an operation changes to a rising list. Returns false if it makes or removes
+/// an index, or there is no room for the node.
 fn add_step(nodes: &mut ArrayVec<u64, 64>, op: &Op, done: &Done) -> bool
     requires rising { IsStrictlyIncreasing nodes.old.items }
     ensures rising { IsStrictlyIncreasing nodes.new.items }

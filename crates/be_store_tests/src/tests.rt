@@ -118,15 +118,16 @@ fn live_query(rt: HostRuntime) -> Result<(), Fail> {
 /// made again.
 #[test]
 fn live_query_of_two_passes(rt: HostRuntime) -> Result<(), Fail> {
-    let lines = "live k>4 / 0 mkindex k LONG / 0 new;set 1 k LONG 5 => ok / commit 1 / ok / commit 2 / \
-         node 1 / ok
+    let lines = "live k>4 / 0 mkindex k LONG / 0 new;set 1 k LONG 5 => ok / commit 1 / ok / \
+         commit 2 / node 1 / ok
 0 pin / 0 refresh / 1 new;set 2 k LONG 9 => pin 2 / created 1 / removed / commit 3 / node 2 / ok
 1 pin / 1 refresh / 0 refresh / 1 refresh => pin 3 / created 2 / removed / created / removed 2 / \
          created 2 / removed
 1 drop 1;set 2 k LONG 1;new;set 3 k LONG 7 / 1 unpin / 1 pin => commit 4 / ok / ok / node 3 / ok / \
          ok / pin 4
 1 refresh / 1 rmindex k / 1 unpin / 1 pin => created 3 / removed 1 2 / commit 5 / ok / ok / pin 5
-1 refresh / 1 mkindex k LONG / 1 unpin / 1 pin => refused 17 NotCovered / commit 6 / ok / ok / pin 6
+1 refresh / 1 mkindex k LONG / 1 unpin / 1 pin => refused 17 NotCovered / commit 6 / ok / \
+         ok / pin 6
 1 refresh / 1 set 2 k LONG 8 / 1 unpin / 1 pin / 1 refresh => created / removed 3 / commit 7 / ok / \
          ok / pin 7 / created 2 / removed";
     check_lines(rt.alloc(), &mut for_two(rt.alloc(), 64, 100)?, lines)
