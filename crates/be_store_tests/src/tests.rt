@@ -128,8 +128,8 @@ fn live_query_of_two_passes(rt: HostRuntime) -> Result<(), Fail> {
 1 refresh / 1 rmindex k / 1 unpin / 1 pin => created 3 / removed 1 2 / commit 5 / ok / ok / pin 5
 1 refresh / 1 mkindex k LONG / 1 unpin / 1 pin => refused 17 NotCovered / commit 6 / ok / \
          ok / pin 6
-1 refresh / 1 set 2 k LONG 8 / 1 unpin / 1 pin / 1 refresh => created / removed 3 / commit 7 / ok / \
-         ok / pin 7 / created 2 / removed";
+1 refresh / 1 set 2 k LONG 8 / 1 unpin / 1 pin / 1 refresh => created / removed 3 / commit 7 / \
+         ok / ok / pin 7 / created 2 / removed";
     check_lines(rt.alloc(), &mut for_two(rt.alloc(), 64, 100)?, lines)
 }
 
