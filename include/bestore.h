@@ -264,8 +264,8 @@ uint32_t bes_move(bes_pass *pass, bes_pass *other);
 uint32_t bes_close(bes_pass *pass);
 
 /* Closes the store by its last handle, and writes the whole journal as text, as bes_journal does. Of each pass it has just the
- * transactions that the pass was told of, at their commit numbers. If bytes_room is less than count, nothing is written, and the handle
- * stays open: call again with more room. The handle may be pinned, and other passes wait or were given back by bes_close.
+ * transactions that calls of the pass have committed, at their commit numbers. If bytes_room is less than count, nothing is written, and
+ * the handle stays open: call again with more room. The handle may be pinned.
  * [in,out] pass  the last open handle of the store, which is closed
  * [out] bytes    the text. No zero byte follows it.
  * [out] count    how many bytes it has

@@ -131,7 +131,7 @@ class Pass(Owner, ABC):
     @abstractmethod
     def finish(self) -> str:
         """Closes the store by its last pass, which is then closed, and returns the whole journal, as `journal` does. Of each
-        pass it has just the writes that the pass was told of, at their commit numbers. `InUse` if another pass is open, and
+        pass it has just the writes that its calls have committed, at their commit numbers. `InUse` if another pass is open, and
         so always in a file: the store has a pass of its own there. `NoMemory`. The pass is as it was after either."""
 
     @abstractmethod

@@ -15,10 +15,10 @@ use Rattle.be_session.specs.declared.finishing.Unfinished.{Unfinished}
 use Rattle.be_session.specs.declared.finishing.Unfinished.TheVariants.{Kept, PassLost}
 
 -- A store with these limits was closed with this journal, and its passes know this; there is one of
--- each number. The journal is legal, and each of its entries can be spelled and is by a pass of the
--- store. It begins with what each pass has seen, and has just its own writes of each: an accepted
--- write lies at its commit number, and each pin was to a prefix of the journal. The moves of all
--- calls lie in one trace.
+-- each number. The journal is legal, each of its entries is by a pass of the store, and after each
+-- of them the volume fits into the pages. It begins with what each pass has seen, and has just its
+-- own writes of each: an accepted write lies at its commit number, and each pin was to a prefix of
+-- the journal. The moves of all calls lie in one trace.
 pub record IsClosedWith (limits : Limits) (passes : List Knowledge) (log : Log) : Type 0 where
   pub all : (k : ℕ) → k < limits.passes → Has passes k
   pub legal : IsLegal log.entries

@@ -7,7 +7,7 @@ use crate::{Fault, Session};
 pub enum Unfinished {
     /// Nothing has happened. InUse: another session of the store is open. OutOfMemory.
     Kept(Session, Fault),
-    /// A pass is missing, since its session was dropped without `close`. The store is gone: its
-    /// journal could not be had by anybody.
+    /// A pass is missing, since its session was dropped without `close`. The store is gone. Nobody
+    /// could have closed it any more.
     PassLost,
 }

@@ -66,7 +66,7 @@ impl Store {
     }
 
     /// Closes the store by its last clone, when no pass is open, and returns the whole journal as text, a line for each entry. Of each
-    /// pass it has just the writes that the pass was told of, at their commit numbers.
+    /// pass it has just the writes that its calls have committed, at their commit numbers.
     ///
     /// # Errors
     /// [`Error::InUse`]: another clone or a pass is open. [`Error::OutOfMemory`], [`Error::Forked`]. The store is returned with the
