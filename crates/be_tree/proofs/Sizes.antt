@@ -1,0 +1,2 @@
+-- How many pages trees of so many pairs have, and how many pages a write has in hand.
+pub mod Trees
