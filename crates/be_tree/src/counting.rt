@@ -4,9 +4,13 @@
 //! function that does nothing and whose contract is the law.
 ghost use Rattle.std.specs.Prelude.{ℕ, ◌+◌, ◌*◌, ◌≤◌, List, length};
 ghost use Rattle.be_pages.specs.declared.room.Standing.{Standing as Stands};
-ghost use Rattle.be_tree.specs.Counting.{CanBeHigh, pairs_of_all};
+ghost use Rattle.be_pages.specs.Pages.{Swaps};
+ghost use Rattle.be_tree.specs.Counting.{CanBeHigh, HasInHand, TakesAtMost, TakesFewer, in_hand};
+ghost use Rattle.be_tree.specs.Counting.{pairs_of_all};
 ghost use Rattle.be_tree.specs.Forest.{AreTrees, pages_of};
 ghost use Rattle.be_tree.specs.Tree.{IsTree, level_of_root, pages, pairs};
+
+use be_pages::Look;
 
 /// A tree has at most one page for each five of its pairs, and one more for those that are left
 /// over.
@@ -27,4 +31,29 @@ pub fn forest_pages()
 pub fn tree_level()
     ensures { (standing : ℕ → Stands) (words : ℕ → ℕ → ℕ) (root : ℕ) → IsTree standing words root
         → CanBeHigh (level_of_root words root) (length (pairs words root)) }
+{}
+
+/// What two changes take, one after the other, adds up.
+pub fn takes_add()
+    ensures both { (a b : ℕ) (s t u : ℕ → Stands) → TakesAtMost a s t → TakesAtMost b t u
+        → TakesAtMost (a + b) s u }
+    ensures refused { (a b : ℕ) (s t u : ℕ → Stands) → TakesAtMost a s t → TakesFewer b t u
+        → TakesFewer (a + b) s u }
+{}
+
+/// If pages in use are replaced, no more come into hand than are in use then; and if all pages in
+/// hand were among those in use, they still are.
+pub fn swaps_take<L: Look>()
+    ensures takes { (before after : List ℕ) (old new : L)
+        → Swaps L.kept L.standing L.words before after old new
+        → TakesAtMost (length after) (L.standing old) (L.standing new) }
+    ensures has { (before after : List ℕ) (old new : L)
+        → Swaps L.kept L.standing L.words before after old new
+        → HasInHand (L.standing old) before → HasInHand (L.standing new) after }
+{}
+
+/// A write has no more pages in hand than there are in a list that has them all.
+pub fn few_in_hand()
+    ensures { (standing : ℕ → Stands) (ps : List ℕ) → HasInHand standing ps → (n : ℕ)
+        → in_hand n standing ≤ length ps }
 {}
