@@ -87,8 +87,8 @@ module _ (a : Knowledge) (least : ℕ) (spent : IsSpent a least) where
       by true e = omega arith
       by false e = omega (arith, ap bit (spent.1 p lt (no_commit a.seen least p e)))
 
-  pub shared : a.limits.pages ≤ reached a.seen least a.limits.pages + length a.held
-  shared = omega (arith, all_counted (is_reached a.seen least (suc (length a.seen) - least)) (has a.held) a.limits.pages counted, listed a.held a.limits.pages)
+  pub shared : a.limits.pages ≤ reached a.seen least a.limits.pages + count_below (has a.held) a.limits.pages
+  shared = all_counted (is_reached a.seen least (suc (length a.seen) - least)) (has a.held) a.limits.pages counted
 
 -- of the current version alone
 false_right : (a : Bool) → (a || false) ≡ a
@@ -99,7 +99,7 @@ same_tests : (f g : ℕ → Bool) (n : ℕ) → ((p : ℕ) → f p ≡ g p) → 
 same_tests f g zero same = refl
 same_tests f g (suc n) same = omega (arith, ap bit (same n), same_tests f g n same)
 
-pub shared_now : (a : Knowledge) → IsSpent a (length a.seen) → a.limits.pages ≤ length (reach_at a.seen (length a.seen)) + length a.held
+pub shared_now : (a : Knowledge) → IsSpent a (length a.seen) → a.limits.pages ≤ length (reach_at a.seen (length a.seen)) + count_below (has a.held) a.limits.pages
 shared_now a spent =
     let now = length a.seen in
     let one : suc now - now ≡ 1 = omega arith in

@@ -8,6 +8,7 @@ ghost use Rattle.std.specs.Prelude.{IsTrue};
 ghost use Rattle.be_pages.specs.Pages.{is_kept, IsUnchanged};
 ghost use Rattle.be_pages.specs.Pages.{Swaps, KeepsStart};
 ghost use Rattle.be_pages.specs.Refusal.{IsFullOf};
+ghost use Rattle.be_tree.specs.Counting.{Takes, TakesFewer};
 ghost use Rattle.be_tree.specs.Slot.{IsBranchSlot, IsReady, branch_to, pair_of, pairs_of};
 ghost use Rattle.be_tree.specs.Tree.{IsBelow, IsWritten, BecomesTree, child, least_of_root};
 ghost use Rattle.be_tree.specs.Writing.{AreApart, CanBeWritten, IsApart, Replaces, ReplacesTree};
@@ -35,6 +36,7 @@ fn write_node<R: Room>(room: &mut R, node: Node<'_>) -> Result<u64, Refusal>
     ensures small { IfOk result (λ page. page < 2 ^ 32) }
     ensures err { OnErr result (KeepsStart R.kept R.standing R.words room.old room.new) }
     ensures full { IfErr result (IsFullOf (R.full room.new)) }
+    ensures takes { OnErr result (TakesFewer 1 (R.standing room.old) (R.standing room.new)) }
 {
     let page = room.take()?;
     room.fill(page, 0, node.level);
@@ -59,6 +61,7 @@ fn write_changed<R: Room>(room: &mut R, old: u64, node: Node<'_>) -> Result<u64,
     ensures small { IfOk result (λ page. page < 2 ^ 32) }
     ensures err { OnErr result (KeepsStart R.kept R.standing R.words room.old room.new) }
     ensures full { IfErr result (IsFullOf (R.full room.new)) }
+    ensures takes { OnErr result (TakesFewer 1 (R.standing room.old) (R.standing room.new)) }
 {
     let page = write_node(room, node)?;
     room.give_up(old);
@@ -79,6 +82,7 @@ pub(crate) fn write_branch<R: Room>(room: &mut R, old: u64, node: Node<'_>) -> R
     ensures small { IfOk result (λ page. page < 2 ^ 32) }
     ensures err { OnErr result (KeepsStart R.kept R.standing R.words room.old room.new) }
     ensures full { IfErr result (IsFullOf (R.full room.new)) }
+    ensures takes { Takes 1 result (R.standing room.old) (R.standing room.new) }
 {
     let page = write_changed(room, old, node)?;
     Ok(page)
@@ -106,6 +110,7 @@ fn write_parts<R: Room>(
     ensures small { IfOk result (λ both. (both.0 < 2 ^ 32) × (both.1 < 2 ^ 32)) }
     ensures err { OnErr result (KeepsStart R.kept R.standing R.words room.old room.new) }
     ensures full { IfErr result (IsFullOf (R.full room.new)) }
+    ensures takes { Takes 2 result (R.standing room.old) (R.standing room.new) }
 {
     let Node { level, slots, pair } = node;
     let (front, back) = slots.split_at(cut);
@@ -151,6 +156,7 @@ pub(crate) fn pack<R: Room>(
         × (length branches.items ≤ 2)) }
     ensures err { OnErr result (KeepsStart R.kept R.standing R.words room.old room.new) }
     ensures full { IfErr result (IsFullOf (R.full room.new)) }
+    ensures takes { Takes 2 result (R.standing room.old) (R.standing room.new) }
 {
     let mut branches = ArrayVec::new();
     if node.slots.len() <= MOST_ITEMS {
@@ -185,6 +191,7 @@ pub(crate) fn pack_two<R: Room>(
         × (length branches.items ≤ 2)) }
     ensures err { OnErr result (KeepsStart R.kept R.standing R.words room.old room.new) }
     ensures full { IfErr result (IsFullOf (R.full room.new)) }
+    ensures takes { Takes 2 result (R.standing room.old) (R.standing room.new) }
 {
     let branches = pack(room, left, node)?;
     room.give_up(right);

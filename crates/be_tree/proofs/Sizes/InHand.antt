@@ -15,6 +15,19 @@ takes_then a b s t u first second n = omega (arith, first n, second n)
 pub takes_fewer_then : (a b : ℕ) (s t u : ℕ → Standing) → TakesAtMost a s t → TakesFewer b t u → TakesFewer (a + b) s u
 takes_fewer_then a b s t u first second n = omega (arith, first n, second n)
 
+-- nothing is taken
+pub fewer_same : (s t : ℕ → Standing) → t ≡ s → TakesFewer 1 s t
+fewer_same s t e n = omega (arith, ap (in_hand n) e)
+
+pub takes_same : (s t : ℕ → Standing) → t ≡ s → TakesAtMost 0 s t
+takes_same s t e n = omega (arith, ap (in_hand n) e)
+
+pub takes_within : (a b : ℕ) (s t : ℕ → Standing) → a ≤ b → TakesAtMost a s t → TakesAtMost b s t
+takes_within a b s t le takes n = omega (arith, le, takes n)
+
+pub fewer_within : (a b : ℕ) (s t : ℕ → Standing) → a ≤ b → TakesFewer a s t → TakesFewer b s t
+fewer_within a b s t le takes n = omega (arith, le, takes n)
+
 -- how often the first n pages are among some
 all_times : ℕ → List ℕ → ℕ
 all_times zero ps = 0
