@@ -71,13 +71,10 @@ fn collect_named<S: Source>(
     ensures stays { S.kept source.new ≡ S.kept source.old }
     ensures answers { S.answers_for source.new volume }
     ensures keeps { Keeps found.old.items found.new.items }
-    ensures only { (n : ℕ) → Contains found.new.items n → Contains found.old.items n
-        ⊎ (sat volume (formula tree.now) n ≡ true) }
-    ensures has { OnOk result ((n : ℕ) → sat volume (formula tree.now) n ≡ true
-        → Contains found.new.items n) }
+    ensures only { AddsTrue volume (formula tree.now) found.old.items found.new.items }
+    ensures has { OnOk result (HasAllTrue volume (formula tree.now) found.new.items) }
     ensures covered { OnOk result (covered volume (formula tree.now) ≡ true) }
-    ensures refused { IfErr result (λ e. (e ≡ OutOfMemory)
-        ⊎ ((e ≡ NotCovered) × (covered volume (formula tree.now) ≡ false))) }
+    ensures refused { IfErr result (λ e. IsNoAnswer volume (formula tree.now) e) }
 {
     let Some(kind) = source.kind_of(name) else {
         return Err(Refusal::NotCovered);
@@ -103,13 +100,10 @@ fn collect_chosen<S: Source>(
     ensures stays { S.kept source.new ≡ S.kept source.old }
     ensures answers { S.answers_for source.new volume }
     ensures keeps { Keeps found.old.items found.new.items }
-    ensures only { (n : ℕ) → Contains found.new.items n → Contains found.old.items n
-        ⊎ (sat volume (formula tree.now) n ≡ true) }
-    ensures has { OnOk result ((n : ℕ) → sat volume (formula tree.now) n ≡ true
-        → Contains found.new.items n) }
+    ensures only { AddsTrue volume (formula tree.now) found.old.items found.new.items }
+    ensures has { OnOk result (HasAllTrue volume (formula tree.now) found.new.items) }
     ensures covered { OnOk result (covered volume (formula tree.now) ≡ true) }
-    ensures refused { IfErr result (λ e. (e ≡ OutOfMemory)
-        ⊎ ((e ≡ NotCovered) × (covered volume (formula tree.now) ≡ false))) }
+    ensures refused { IfErr result (λ e. IsNoAnswer volume (formula tree.now) e) }
 {
     let Some(cover) = choose_by_source(alloc, tree, source)? else {
         return Err(Refusal::NotCovered);
@@ -131,13 +125,10 @@ fn collect_side<S: Source>(
     ensures stays { S.kept source.new ≡ S.kept source.old }
     ensures answers { S.answers_for source.new volume }
     ensures keeps { Keeps found.old.items found.new.items }
-    ensures only { (n : ℕ) → Contains found.new.items n → Contains found.old.items n
-        ⊎ (sat volume (formula tree.now) n ≡ true) }
-    ensures has { OnOk result ((n : ℕ) → sat volume (formula tree.now) n ≡ true
-        → Contains found.new.items n) }
+    ensures only { AddsTrue volume (formula tree.now) found.old.items found.new.items }
+    ensures has { OnOk result (HasAllTrue volume (formula tree.now) found.new.items) }
     ensures covered { OnOk result (covered volume (formula tree.now) ≡ true) }
-    ensures refused { IfErr result (λ e. (e ≡ OutOfMemory)
-        ⊎ ((e ≡ NotCovered) × (covered volume (formula tree.now) ≡ false))) }
+    ensures refused { IfErr result (λ e. IsNoAnswer volume (formula tree.now) e) }
 {
     match only_name(tree) {
         Some(name) => collect_named(alloc, source, range, tree, name, found),
@@ -159,13 +150,10 @@ fn collect<S: Source>(
     requires few { comparisons (formula tree.now) ≤ 256 }
     ensures stays { S.kept source.new ≡ S.kept source.old }
     ensures answers { S.answers_for source.new volume }
-    ensures only { (n : ℕ) → Contains found.new.items n → Contains found.old.items n
-        ⊎ (sat volume (formula tree.now) n ≡ true) }
-    ensures has { OnOk result ((n : ℕ) → sat volume (formula tree.now) n ≡ true
-        → Contains found.new.items n) }
+    ensures only { AddsTrue volume (formula tree.now) found.old.items found.new.items }
+    ensures has { OnOk result (HasAllTrue volume (formula tree.now) found.new.items) }
     ensures covered { OnOk result (covered volume (formula tree.now) ≡ true) }
-    ensures refused { IfErr result (λ e. (e ≡ OutOfMemory)
-        ⊎ ((e ≡ NotCovered) × (covered volume (formula tree.now) ≡ false))) }
+    ensures refused { IfErr result (λ e. IsNoAnswer volume (formula tree.now) e) }
 {
     let mut rest = tree;
     'sides: while let Tree::Or(a, b) = rest {
