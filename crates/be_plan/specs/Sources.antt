@@ -10,4 +10,5 @@ pub record IsVolume (own : State) (volume : State) : Type 0 where
 
 -- the source answers for each volume that it answered for
 abbrev pub StillAnswers : {Own : Type 0} → (Own → State → Type 0) → Own → Own → Type 0
-StillAnswers answers_for old new = (volume : State) → answers_for old volume → answers_for new volume
+StillAnswers answers_for old new = (volume : State) → answers_for old volume
+    → answers_for new volume

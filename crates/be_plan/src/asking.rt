@@ -4,17 +4,15 @@
 //! under `||` alone, as most are, has nothing to choose from. Neither have comparisons of one name
 //! under `&&`, as the two ends of a range: their index is asked for once, and no cover is made. Of
 //! any other side under `&&` the choice is made as for a query of its own.
-ghost use Rattle.std.specs.Prelude.{◌≡◌, ◌⊎◌, ◌≤◌, ℕ, true, false, OnOk, IfOk, IfErr, IfSome};
-ghost use Rattle.std.specs.List.{Contains};
+ghost use Rattle.std.specs.Prelude.{◌≡◌, ◌≤◌, true, OnOk, IfOk, IfErr, IfSome};
 ghost use Rattle.std.specs.Option.{option_copied};
 ghost use Rattle.std.specs.List.Sorted.{IsStrictlyIncreasing};
 ghost use Rattle.be_value.specs.Refusal.{Answers};
-ghost use Rattle.be_value.specs.declared.refusals.Refusal.TheVariants.{OutOfMemory, NotCovered};
 ghost use Rattle.be_query.specs.Grammar.{comparisons};
 ghost use Rattle.be_query.specs.View.{formula};
-ghost use Rattle.be_volume.specs.Query.{covered, sat, scan};
+ghost use Rattle.be_volume.specs.Query.{covered, scan};
 ghost use Rattle.be_volume.specs.Volume.{State};
-ghost use Rattle.be_plan.specs.Walk.{AreAllOn, Keeps};
+ghost use Rattle.be_plan.specs.Walk.{AddsTrue, AreAllOn, HasAllTrue, IsNoAnswer, Keeps};
 
 use crate::Source;
 use crate::choosing::choose_by_source;

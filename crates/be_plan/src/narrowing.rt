@@ -31,7 +31,7 @@ ghost use Rattle.be_volume.specs.Maps.{name_cmp};
 ghost use Rattle.be_volume.specs.Query.{holds, holds_of_number, is_true_of, literal_number, sat};
 ghost use Rattle.be_volume.specs.Volume.{State};
 ghost use Rattle.be_plan.specs.Walk.{AreAllOn};
-ghost use Rattle.be_plan.specs.Narrow.{AllTrue, KeepsTrue, IsIn, IsBetween, IsPair, StandsFor};
+ghost use Rattle.be_plan.specs.Narrow.{AllTrueOf, KeepsTrueOf, IsIn, IsBetween, IsPair, StandsFor};
 ghost use Rattle.be_plan.specs.Narrow.{HasEnds, Allows, LeavesRest, high_of, limit, rest_true};
 
 use crate::ranges::Range;

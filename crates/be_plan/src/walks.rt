@@ -23,7 +23,7 @@ ghost use Rattle.be_volume.specs.Sound.{IsSound};
 ghost use Rattle.be_volume.specs.Volume.{State};
 ghost use Rattle.be_plan.specs.Narrow.{LeavesRest, high_of};
 ghost use Rattle.be_plan.specs.Texts.{IsKeyOf};
-ghost use Rattle.be_plan.specs.Walk.{HasOnlyTrue, HasWithin, IsNodeWithin, Keeps};
+ghost use Rattle.be_plan.specs.Walk.{AddsTrue, HasOnlyTrue, HasWithin, IsNodeWithin, Keeps};
 
 use crate::evaluating::{asks_name, is_true, satisfies};
 use crate::ranges::Range;
