@@ -172,3 +172,12 @@ abbrev pub IsValueAbsent : (words : ℕ → ℕ → ℕ) (catalog node : ℕ) (n
 IsValueAbsent words catalog node name place = (nodes : Nodes)
     → IsCatalog (pairs words catalog) nodes → AreValid nodes
     → IfNone place (value_at nodes node name ≡ None)
+
+-- after what was told before, these answers are told, which come from the nodes of the catalog
+abbrev pub Tells : (words : ℕ → ℕ → ℕ) (catalog : ℕ) → (Nodes → List (Result Value Refusal))
+    → (old_cells new_cells : List Cell) (old_bytes new_bytes : List ℕ) (old new : Filled) → Type 0
+Tells words catalog answers old_cells new_cells old_bytes new_bytes old new = (nodes : Nodes)
+    → IsCatalog (pairs words catalog) nodes → AreValid nodes
+    → (found : List (Result Value Refusal)) (cell_places : List Cell) (byte_places : List ℕ)
+    → AreTold found cell_places old_cells byte_places old_bytes old
+    → AreTold (found ++ answers nodes) cell_places new_cells byte_places new_bytes new

@@ -3,30 +3,25 @@
 //! A row is what one node has at the names. One descent leads to the first of its attributes. A
 //! cursor steps to the next name's as long as the names lie side by side, by ascending bytes. Any
 //! other name costs a descent. If a node has none of the names, the node itself is looked up.
-ghost use Rattle.std.specs.Prelude.{◌≡◌, ◌≢◌, ◌+◌, ◌*◌, ◌^◌, ◌<◌, ◌≤◌, ℕ, List, [], ◌∷◌, ◌++◌, Err};
+ghost use Rattle.std.specs.Prelude.{◌≡◌, ◌+◌, ◌*◌, ◌^◌, ◌<◌, ◌≤◌, [], ◌∷◌, Err};
 ghost use Rattle.std.specs.Prelude.{None, Some, IfSome, IfNone, drop, length, map as each};
 ghost use Rattle.std.specs.Prelude.{slice_get};
 ghost use Rattle.std.specs.FinMap as map;
-ghost use Rattle.std.specs.declared.result.Result.{Result as AnyResult};
 ghost use Rattle.be_pages.specs.Pages.{IsUnchanged};
 ghost use Rattle.be_tree.specs.Cursor.{IsCursor, remaining};
 ghost use Rattle.be_tree.specs.Page.{item_at};
 ghost use Rattle.be_tree.specs.Tree.{IsTree, pairs};
-ghost use Rattle.be_value.specs.declared.refusals.Refusal.{Refusal as AnyRefusal};
-ghost use Rattle.be_value.specs.declared.values.Value.{Value as AnyValue};
 ghost use Rattle.be_volume.specs.Maps.{Nodes as AllNodes};
 ghost use Rattle.be_volume.specs.Reading.{attribute};
 ghost use Rattle.be_volume.specs.Volume.{State};
 ghost use Rattle.be_paged.specs.Catalog.{IsCatalog};
-ghost use Rattle.be_paged.specs.Cells.{AreTold, IsAmong, IsFew, IsInRow, IsReadInto};
-ghost use Rattle.be_paged.specs.Cells.{IsValueAbsent, IsValuePlace, StartsElsewhere};
-ghost use Rattle.be_paged.specs.Cells.{TellsColumns, cell_of, found_at, name_in};
-ghost use Rattle.be_paged.specs.Cells.{why_none};
+ghost use Rattle.be_paged.specs.Cells.{IsAmong, IsFew, IsInRow, IsReadInto, IsValueAbsent};
+ghost use Rattle.be_paged.specs.Cells.{IsValuePlace, StartsElsewhere, Tells, TellsColumns};
+ghost use Rattle.be_paged.specs.Cells.{cell_of, found_at, name_in, why_none};
 ghost use Rattle.be_paged.specs.Place.{IsFoundAt};
 ghost use Rattle.be_paged.specs.Reading.{AreValid};
 ghost use Rattle.be_paged.specs.Source.{HasItem, IsItemAt};
 ghost use Rattle.be_paged.specs.Version.{HasVersion, IsVersion};
-ghost use Rattle.be_paged.specs.declared.cells.Cell.{Cell as AnyCell};
 
 use crate::cells::{Cell, Filled, HeldName, empty_cell, held_key, read_into, tell, tell_value};
 use be_pages::Look;
@@ -154,13 +149,9 @@ fn tell_attribute<L: Look>(
         known.old }
     requires cells { filled.old.cells < 2 ^ 32 }
     requires few { IsFew filled.old }
-    ensures told { (nodes : AllNodes) → IsCatalog (pairs (L.words look.old) catalog) nodes
-        → AreValid nodes
-        → (found : List (AnyResult AnyValue AnyRefusal)) (cell_places : List AnyCell)
-        (byte_places : List ℕ)
-        → AreTold found cell_places cells.old byte_places bytes.old filled.old
-        → AreTold (found ++ found_at nodes node (name_in name.now) ∷ []) cell_places cells.new
-        byte_places bytes.new filled.new }
+    ensures told { Tells (L.words look.old) catalog
+        (λ nodes. found_at nodes node (name_in name.now) ∷ []) cells.old cells.new bytes.old
+        bytes.new filled.old filled.new }
     ensures row { IsInRow (L.standing look.new) (L.words look.new) catalog node cursor.new
         known.new }
     ensures one { filled.new.cells ≡ filled.old.cells + 1 }
@@ -189,13 +180,9 @@ fn tell_row<L: Look>(
     requires tree { IsTree (L.standing look.old) (L.words look.old) catalog }
     requires cells { filled.old.cells + length names.now ≤ 2 ^ 32 }
     requires few { IsFew filled.old }
-    ensures told { (nodes : AllNodes) → IsCatalog (pairs (L.words look.old) catalog) nodes
-        → AreValid nodes
-        → (found : List (AnyResult AnyValue AnyRefusal)) (cell_places : List AnyCell)
-        (byte_places : List ℕ)
-        → AreTold found cell_places cells.old byte_places bytes.old filled.old
-        → AreTold (found ++ each (found_at nodes node) (each name_in names.now)) cell_places
-        cells.new byte_places bytes.new filled.new }
+    ensures told { Tells (L.words look.old) catalog
+        (λ nodes. each (found_at nodes node) (each name_in names.now)) cells.old cells.new
+        bytes.old bytes.new filled.old filled.new }
     ensures count { filled.new.cells ≡ filled.old.cells + length names.now }
     ensures few { IsFew filled.new }
     ensures unchanged { IsUnchanged L.kept L.standing L.words look.old look.new }
