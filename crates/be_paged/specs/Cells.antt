@@ -173,7 +173,7 @@ IsValueAbsent words catalog node name place = (nodes : Nodes)
     → IsCatalog (pairs words catalog) nodes → AreValid nodes
     → IfNone place (value_at nodes node name ≡ None)
 
--- after what was told before, these answers are told, which come from the nodes of the catalog
+-- after what was written before come these answers, which the nodes of the catalog give
 abbrev pub Tells : (words : ℕ → ℕ → ℕ) (catalog : ℕ) → (Nodes → List (Result Value Refusal))
     → (old_cells new_cells : List Cell) (old_bytes new_bytes : List ℕ) (old new : Filled) → Type 0
 Tells words catalog answers old_cells new_cells old_bytes new_bytes old new = (nodes : Nodes)
