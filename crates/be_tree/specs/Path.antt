@@ -49,13 +49,13 @@ pub record IsPathTo (standing : ℕ → Standing) (words : ℕ → ℕ → ℕ) 
 -- the way down to a key, whose place is this
 pub record IsPathAt {S : Type 0} (standing_of : S → ℕ → Standing) (words_of : S → ℕ → ℕ → ℕ)
     (now : S) (root : ℕ) (key : List ℕ) (path : Path) (place : Result ℕ ℕ) : Type 0 where
-  pub path : IsPathTo (standing_of now) (words_of now) root key path
+  pub leads : IsPathTo (standing_of now) (words_of now) root key path
   pub place_is : path.place ≡ place
 
 -- the way down to the key of a pair that may be put, whose place is this
 pub record IsPathFor {S : Type 0} (standing_of : S → ℕ → Standing) (words_of : S → ℕ → ℕ → ℕ)
     (now : S) (root : ℕ) (pair : Pair) (path : Path) (place : Result ℕ ℕ) : Type 0 where
-  pub path : IsPathTo (standing_of now) (words_of now) root pair.key path
+  pub leads : IsPathTo (standing_of now) (words_of now) root pair.key path
   pub place_is : path.place ≡ place
   pub key_fits : length pair.key ≤ 264
 

@@ -20,7 +20,7 @@ returns-then-root-eq0-clause-ok g c =
 
 pub take_out-requires-clause-path : goal.take_out-requires-clause-path
 take_out-requires-clause-path g c = record {
-  path = path_read g.R.Look.kept g.R.Look.standing g.R.Look.words c.args.room.now c.find_path.new.look c.find_path.ensures.unchanged c.args.root c.args.key.now c.find_path.new.path c.find_path.ensures.path;
+  leads = path_read g.R.Look.kept g.R.Look.standing g.R.Look.words c.args.room.now c.find_path.new.look c.find_path.ensures.unchanged c.args.root c.args.key.now c.find_path.new.path c.find_path.ensures.path;
   place_is = c.in-Ok.is;
 }
 
