@@ -12,6 +12,44 @@ use be_journal::Journal;
 use be_pages::PagePool;
 use be_value::Refusal;
 use be_volume::{Done, Op};
+use std::alloc::{AllocError, Global};
+use std::marker::Model;
+
+/// The writer state in a place of its own, so that a write takes it from the slot and gives it back
+/// as one pointer.
+#[derive(Drop)]
+pub struct LedgerBox {
+    pub(crate) inner: Box<Ledger>,
+}
+
+impl Model for LedgerBox {
+    ghost use Rattle.be_table.specs.declared.ledger.Ledger.{Ledger};
+
+    ghost Value = { Ledger };
+
+    ghost view = { λ b. b.inner.value };
+}
+
+impl LedgerBox {
+    ghost use Rattle.std.specs.Prelude.{◌≡◌, IfOk};
+
+    /// The state in a place that is taken for it.
+    pub fn new(alloc: Global, ledger: Ledger) -> Result<LedgerBox, AllocError>
+        ensures { IfOk result (λ b. b ≡ ledger) }
+    {
+        match Box::new(alloc, ledger) {
+            Ok(inner) => Ok(LedgerBox { inner }),
+            Err(_) => Err(AllocError),
+        }
+    }
+
+    /// The state without its place.
+    pub fn into_inner(self) -> Ledger
+        ensures { result ≡ self }
+    {
+        Box::into_inner(self.inner)
+    }
+}
 
 /// The journal, and where the pages of the current version and of older ones are.
 #[derive(Drop)]

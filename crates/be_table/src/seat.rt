@@ -8,14 +8,14 @@ ghost use Rattle.be_core.specs.Machine.{has};
 ghost use Rattle.be_core.specs.declared.event.Phase.TheVariants.{Pinned};
 ghost use Rattle.be_table.specs.Rule.{alone, pass_of, page_at, reach_at};
 
-use crate::ledger::Ledger;
+use crate::ledger::LedgerBox;
 use crate::marks::Marks;
 use crate::pass::View;
 use atomic_table::Badge;
 use std::marker::Model;
 use std::mem;
 
-pub(crate) type Base = atomic_table::Seat<Option<Ledger>, View>;
+pub(crate) type Base = atomic_table::Seat<Option<LedgerBox>, View>;
 
 /// What a pass steps with. A seat that was moved out is blank, and steps no more.
 #[derive(Drop)]

@@ -9,7 +9,7 @@ ghost use Rattle.be_core.specs.Machine.{has};
 ghost use Rattle.be_table.specs.Rule.{one_step_on, reach_at, word_place, page_at};
 
 use crate::deal::{deal, gather, lay_first};
-use crate::ledger::Ledger;
+use crate::ledger::{Ledger, LedgerBox};
 use crate::limits::Limits;
 use crate::marks::PinnedVersion;
 use crate::pass::View;
@@ -40,7 +40,7 @@ pub(crate) const ANNOUNCE: usize = 16;
 /// Then come the pages, of `PAGE_WORDS` each.
 pub(crate) const PAGES: usize = 528;
 
-pub(crate) type Inner = Table<Option<Ledger>, View, Limits, Law, Global>;
+pub(crate) type Inner = Table<Option<LedgerBox>, View, Limits, Law, Global>;
 
 /// The words, the slot and the limits. Passes share it by a `&`.
 #[derive(Drop)]
@@ -111,12 +111,16 @@ impl VersionTable {
         let Ok(pool) = PagePool::new(alloc, limits.pages as usize, 1) else {
             return Err(Refusal::OutOfMemory);
         };
-        slots.push_reserved(Some(Ledger {
+        let ledger = Ledger {
             journal: Journal::new(alloc, limits.commits),
             page: 0,
             pool,
             left: 0,
-        }));
+        };
+        let Ok(ledger) = LedgerBox::new(alloc, ledger) else {
+            return Err(Refusal::OutOfMemory);
+        };
+        slots.push_reserved(Some(ledger));
         let Ok(mut words) = vec![in alloc; 0; PAGES + PAGE_WORDS * limits.pages as usize] else {
             return Err(Refusal::OutOfMemory);
         };
@@ -347,6 +351,6 @@ impl VersionTable {
         let slot = closed.take(0);
         closed.free();
         let Some(ledger) = slot else { unreachable!() };
-        ledger.into_journal()
+        ledger.into_inner().into_journal()
     }
 }

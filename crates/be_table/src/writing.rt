@@ -25,7 +25,7 @@ ghost use Rattle.be_table.specs.Working.{HasWorked, MakesForReason};
 ghost use Rattle.be_table.specs.Works.{HasReasonToScan, Moves};
 ghost use Rattle.be_table.specs.declared.pass.Move.TheVariants as moves;
 
-use crate::ledger::Ledger;
+use crate::ledger::LedgerBox;
 use crate::limits::Limits;
 use crate::marks::Marks;
 use crate::rule::{Fill, FoundFill, GiveUp, NextVersion, OwnWord, Publish, Scan, TakePage, Unlock};
@@ -50,7 +50,7 @@ pub struct Writing<'a> {
     table: &'a VersionTable,
     base: Base,
     marks: Marks,
-    pub(crate) ledger: Ledger,
+    pub(crate) ledger: LedgerBox,
     reserved: usize,
 }
 
@@ -87,7 +87,7 @@ impl<'a> Writing<'a> {
         table: &'a VersionTable,
         base: Base,
         marks: Marks,
-        ledger: Ledger,
+        ledger: LedgerBox,
     ) -> Writing<'a>
         requires seat { (base.table_id ≡ table.now.id)
             × (base.me ≡ (alone (pass_of base.me.0), (0, None) ∷ [])) }
@@ -119,14 +119,14 @@ impl<'a> Writing<'a> {
             × (result.1 ≡ page_at self.now.knows.seen (length self.now.knows.seen)) }
         ensures next { (replay (entries self.now.knows.seen)).next + 64 < 2 ^ 64 }
     {
-        (self.ledger.journal.len(), self.ledger.page)
+        (self.ledger.inner.journal.len(), self.ledger.inner.page)
     }
 
     /// The journal's text. OutOfMemory. No step.
     pub fn journal_text(&self) -> Result<String, Refusal>
         ensures { Answers string_bytes result (Ok (lines_from 1 (entries self.now.knows.seen))) }
     {
-        self.ledger.journal.text()
+        self.ledger.inner.journal.text()
     }
 
     /// The journal's entry with this index, from 0, an entry of its own. OutOfMemory. No step.
@@ -135,7 +135,7 @@ impl<'a> Writing<'a> {
         ensures ok { IfOk result (λ entry. entry ≡ get_or (entries self.now.knows.seen) i entry) }
         ensures err { IfErr result (λ e. e ≡ OutOfMemory) }
     {
-        Ok(self.ledger.journal.get(i).to_entry()?)
+        Ok(self.ledger.inner.journal.get(i).to_entry()?)
     }
 
     /// Word i of a page, as the current version has it or as this write filled it. One load.
@@ -154,7 +154,7 @@ impl<'a> Writing<'a> {
         requires page { page < length self.now.knows.places }
         ensures { result ≡ is_in_hand (place_of self.now.knows.places page) }
     {
-        self.ledger.pool.is_in_hand(page)
+        self.ledger.inner.pool.is_in_hand(page)
     }
 
     /// Writes word i of a page that was taken in this write. One load, and one store if the word
@@ -174,7 +174,7 @@ impl<'a> Writing<'a> {
         ensures inside { word_place page i < length self.old.knows.words }
     {
         fill_word(self.table, &mut self.base, page, i, word);
-        self.ledger.pool.fill(page);
+        self.ledger.inner.pool.fill(page);
     }
 
     /// Gives a page up. One that was taken in this write is free at once; one of the current
@@ -194,7 +194,7 @@ impl<'a> Writing<'a> {
             .table
             .shared
             .load::<GiveUp>(&mut self.base, PAGES + PAGE_WORDS * page as usize);
-        self.ledger.pool.give_up(page);
+        self.ledger.inner.pool.give_up(page);
     }
 
     /// Takes the page that was freed last, if one is free.
@@ -215,7 +215,7 @@ impl<'a> Writing<'a> {
         ensures count { IfNone result (length self.old.knows.places ≡ self.old.knows.limits.pages) }
         ensures same { IfNone result (self.new ≡ self.old) }
     {
-        let page = self.ledger.pool.take()?;
+        let page = self.ledger.inner.pool.take()?;
         tell_taken(self.table, &mut self.base, page);
         Some(page)
     }
@@ -249,7 +249,7 @@ impl<'a> Writing<'a> {
             + 32 }
         ensures left { self.now.left ≤ count_by is_retired self.now.knows.places }
     {
-        self.ledger.pool.retired().saturating_sub(self.ledger.left) >= EARLY
+        self.ledger.inner.pool.retired().saturating_sub(self.ledger.inner.left) >= EARLY
     }
 
     /// Reads every announcement once. Returns the least of them and of the current number; the
@@ -272,9 +272,9 @@ impl<'a> Writing<'a> {
             self.old.knows.history self.new.knows.history result.oldest }
         ensures places { LieAt self.old.knows.limits self.new.knows.history self.new.knows.places }
     {
-        let current = self.ledger.journal.len();
+        let current = self.ledger.inner.journal.len();
         let found = read_all(self.table, &mut self.base, current);
-        self.ledger.sweep(found.least);
+        self.ledger.inner.sweep(found.least);
         found
     }
 
@@ -286,9 +286,9 @@ impl<'a> Writing<'a> {
         let Limits { pages, commits, .. } = self.table.limits();
         Status {
             pages,
-            free: self.ledger.pool.free() as u64,
-            retired: self.ledger.pool.retired() as u64,
-            entries: self.ledger.journal.len(),
+            free: self.ledger.inner.pool.free() as u64,
+            retired: self.ledger.inner.pool.retired() as u64,
+            entries: self.ledger.inner.journal.len(),
             commits,
             oldest,
         }
@@ -320,7 +320,7 @@ impl<'a> Writing<'a> {
             × (length self.old.knows.seen < self.old.knows.limits.commits))
             (λ r. (self.new ≡ self.old) × HasNoRoom r self.old.knows) }
     {
-        self.ledger.reserve(count)?;
+        self.ledger.inner.reserve(count)?;
         self.reserved = count;
         Ok(())
     }
@@ -365,10 +365,10 @@ impl<'a> Writing<'a> {
         replay_push();
         self.is_filled(page);
         let number = self.marks.number;
-        let version = self.ledger.journal.len() + 1;
+        let version = self.ledger.inner.journal.len() + 1;
         let word = (version << 32) + page;
         store_version::<Brand>(self.table, &mut self.base, number, ops, dones, page, word);
-        self.ledger.append(number, ops, dones, page);
+        self.ledger.inner.append(number, ops, dones, page);
         self.reserved = 0;
         version
     }
@@ -390,8 +390,8 @@ impl<'a> Writing<'a> {
             mut ledger,
             reserved: _,
         } = self;
-        marks.seen = ledger.journal.len();
-        ledger.rest();
+        marks.seen = ledger.inner.journal.len();
+        ledger.inner.rest();
         let shared = &table.table.shared;
         let _ = shared.exchange(&mut base, 0, Some(ledger));
         shared.store::<Unlock>(&mut base, LOCK, 0);
