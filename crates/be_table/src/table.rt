@@ -23,6 +23,7 @@ use crate::writing::Writing;
 use atomic_table::Table;
 use be_core::Phase;
 use be_journal::Journal;
+use be_paged::Version;
 use be_pages::{PAGE_WORDS, PagePool};
 use be_value::Refusal;
 use std::alloc::Global;
@@ -111,11 +112,15 @@ impl VersionTable {
         let Ok(pool) = PagePool::new(alloc, limits.pages as usize, 1) else {
             return Err(Refusal::OutOfMemory);
         };
+        let Ok(space) = Box::new(alloc, Version::new()) else {
+            return Err(Refusal::OutOfMemory);
+        };
         let ledger = Ledger {
             journal: Journal::new(alloc, limits.commits),
             page: 0,
             pool,
             left: 0,
+            space: Some(space),
         };
         let Ok(ledger) = LedgerBox::new(alloc, ledger) else {
             return Err(Refusal::OutOfMemory);
