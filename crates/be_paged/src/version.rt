@@ -62,9 +62,9 @@ pub(crate) fn store_version<R: Room>(room: &mut R, page: u64, version: &Version)
     ensures kept { R.kept room.new ≡ R.kept room.old }
 {
     room.fill(page, 0, 255);
-    room.fill(page, 1, version.entries.len() as u64);
-    room.fill(page, 2, version.next);
-    room.fill(page, 3, version.catalog);
+    room.refill(page, 1, version.entries.len() as u64);
+    room.refill(page, 2, version.next);
+    room.refill(page, 3, version.catalog);
     for i in 0..version.entries.len() {
         version.entries[i].store(room, page, 4 + 11 * i);
     }

@@ -32,16 +32,12 @@ fn copy_down<R: Room>(room: &mut R, from: u64, first: usize, page: u64, at: usiz
     ensures only { OnlyWrites R.kept R.standing R.words page (item_place at)
         (item_place (at + count)) room.old room.new }
 {
-    for i in 0..count {
-        let place = HEADER_WORDS + ITEM_WORDS * (first + i);
-        copy_item(
-            room,
-            page,
-            HEADER_WORDS + ITEM_WORDS * (at + i),
-            from,
-            place,
-        );
+    if from == page && first == at {
+        return;
     }
+    let place = HEADER_WORDS + ITEM_WORDS * first;
+    let target = HEADER_WORDS + ITEM_WORDS * at;
+    room.copy_runs(from, place, page, target, ITEM_WORDS, count);
 }
 
 /// Copies items to higher places, from the last one on.
@@ -106,7 +102,7 @@ fn open_here<R: Room>(room: &mut R, page: u64, cut: Cut, more: usize)
     let count = room.word(page, 1) as usize;
     let next = cut.at + cut.gone;
     let rest = count - next;
-    room.fill(page, 1, (cut.at + more + rest) as u64);
+    room.refill(page, 1, (cut.at + more + rest) as u64);
     move_items(room, page, next, cut.at + more, rest);
 }
 
@@ -129,7 +125,7 @@ fn open_copy<R: Room>(room: &mut R, page: u64, cut: Cut, more: usize) -> Result<
     let next = cut.at + cut.gone;
     let rest = count - next;
     room.fill(copy, 0, level);
-    room.fill(copy, 1, (cut.at + more + rest) as u64);
+    room.refill(copy, 1, (cut.at + more + rest) as u64);
     copy_down(room, page, 0, copy, 0, cut.at);
     copy_down(room, page, next, copy, cut.at + more, rest);
     Ok(copy)

@@ -38,7 +38,7 @@ fn write_node<R: Room>(room: &mut R, node: Node<'_>) -> Result<u64, Refusal>
 {
     let page = room.take()?;
     room.fill(page, 0, node.level);
-    room.fill(page, 1, node.slots.len() as u64);
+    room.refill(page, 1, node.slots.len() as u64);
     store_slots(room, page, 0, node.slots, node.pair);
     Ok(page)
 }
