@@ -327,6 +327,25 @@ pub(crate) fn copy_item<R: Room>(room: &mut R, page: u64, at: usize, from: u64, 
     room.copy_runs(from, place, page, at, ITEM_WORDS, 1);
 }
 
+/// Writes a number in eight bytes after the first `skip` bytes of a word, and zeros after it.
+#[inline(always)]
+fn store_number<R: Room>(
+    room: &mut R,
+    page: u64,
+    at: usize,
+    first: u64,
+    skip: usize,
+    number: u64,
+) {
+    if skip == 0 {
+        room.refill(page, at, number);
+        return;
+    }
+    let low = 64 - 8 * skip;
+    room.refill(page, at, (first >> low << low) + (number >> (8 * skip)));
+    room.refill(page, at + 1, number << low);
+}
+
 /// Writes the branch to another page at a place of a page that has a word filled. The whole words
 /// of its key are copied as words.
 fn store_branch<R: Room>(room: &mut R, page: u64, at: usize, child: u64)
@@ -347,10 +366,8 @@ fn store_branch<R: Room>(room: &mut R, page: u64, at: usize, child: u64)
         let word = room.word(child, 3 + i);
         room.refill(page, at + 1 + i, word);
     }
-    let mut rest: ArrayVec<u8, 16> = ArrayVec::new();
-    fill_bytes(room, child, 3 + whole, 0, key_len % 8, &mut rest);
-    extend(&mut rest, &child.to_be_bytes());
-    store_bytes(room, page, at + 1 + whole, &rest);
+    let last = room.word(child, 3 + whole);
+    store_number(room, page, at + 1 + whole, last, key_len % 8, child);
 }
 
 /// Writes the item of a slot at a place of a page that has a word filled.
