@@ -90,6 +90,10 @@ pub trait Room: Look {
         ensures words { Self.words self.new ≡ Self.words self.old }
         ensures kept { Self.kept self.new ≡ Self.kept self.old };
 
+    /// Takes a free page as `take` does, for a copy of a page: one that has most of its words
+    /// already, if there is such a one.
+    fn take_like(&mut self, page: u64) -> Result<u64, Refusal>;
+
     /// Writes one word of a page that was taken in this write.
     fn fill(&mut self, page: u64, i: usize, word: u64)
         requires open { IsTrue (Self.is_open (Self.kept self.old)) }
