@@ -32,44 +32,25 @@ use be_pages::{Look, Room};
 use be_tree::{has_key, insert, remove};
 use be_value::{Kind, Name, Refusal, Value, key_of, valid};
 
-/// The key of a pair in an index of this kind, if there is a value and it is of the kind.
-fn key_in(kind: Kind, value: Option<&Value>, node: u64) -> Option<ArrayVec<u8, 264>>
-    ensures some { IfSome result (λ k. (v : AnyValue) × (option_copied value.entry ≡ Some v)
-        × (kind_in v ≡ kind) × IsValue v × (k.items ≡ key v node)) }
-    ensures none { IfNone result ((v : AnyValue) → option_copied value.entry ≡ Some v → kind_in v
-        ≡ kind → IsTrue (is_indexable kind) → ⊥) }
-{
+/// Writes the key of a pair in an index of this kind into an empty vector, if there is a value and it
+/// is of the kind. A key has at least the eight bytes of its node, so an empty one is none. It is
+/// filled in place, since a key that is passed by value costs its whole capacity.
+fn fill_key(kind: Kind, value: Option<&Value>, node: u64, key: &mut ArrayVec<u8, 264>) {
     if !kind.indexable() {
-        return None;
+        return;
     }
     match value {
         Some(value) if value.kind() == kind => {
             valid(value);
-            Some(key_of(value, node))
+            *key = key_of(value, node);
         }
-        _ => None,
+        _ => {}
     }
 }
 
 /// Whether a tree has the key that both of two are. If they differ, it isn't looked for.
-fn holds_both<L: Look>(
-    look: &mut L,
-    root: u64,
-    other: &Option<ArrayVec<u8, 264>>,
-    key: &Option<ArrayVec<u8, 264>>,
-) -> bool
-    requires tree { IsTree (L.standing look.old) (L.words look.old) root }
-    ensures found { result ≡ true → (k : List ℕ) × (option_map (λ k. k.items) key.now ≡ Some k)
-        × (is_some (payload_at (pairs (L.words look.old) root) k) ≡ true) }
-    ensures finds { (k : List ℕ) → option_map (λ k. k.items) other.now ≡ Some k
-        → option_map (λ k. k.items) key.now ≡ Some k →
-        is_some (payload_at (pairs (L.words look.old) root) k) ≡ true → result ≡ true }
-    ensures unchanged { IsUnchanged L.kept L.standing L.words look.old look.new }
-{
-    match (other, key) {
-        (Some(other), Some(key)) => other.as_slice() == key.as_slice() && has_key(look, root, key),
-        _ => false,
-    }
+fn holds_both<L: Look>(look: &mut L, root: u64, other: &[u8], key: &[u8]) -> bool {
+    key.len() > 0 && other == key && has_key(look, root, key)
 }
 
 /// What becomes of a key.
@@ -84,7 +65,7 @@ fn turn_key<R: Room>(
     room: &mut R,
     root: u64,
     turn: Turn,
-    key: &Option<ArrayVec<u8, 264>>,
+    key: &[u8],
 ) -> Result<u64, Refusal>
     requires tree { IsTree (R.standing room.old) (R.words room.old) root }
     requires open { IsTrue (R.is_open (R.kept room.old)) }
@@ -96,9 +77,9 @@ fn turn_key<R: Room>(
     ensures err { OnErr result (KeepsStart R.kept R.standing R.words room.old room.new) }
     ensures full { IfErr result (IsFullOf (R.full room.new)) }
 {
-    let Some(key) = key else {
+    if key.len() == 0 {
         return Ok(root);
-    };
+    }
     match turn {
         Turn::Leaves => remove(room, root, key),
         Turn::Enters => insert(room, root, key, &[]),
@@ -136,8 +117,10 @@ fn change_root<R: Room>(
     ensures err { OnErr result (KeepsStart R.kept R.standing R.words room.old room.new) }
     ensures full { IfErr result (IsFullOf (R.full room.new)) }
 {
-    let leaves = key_in(kind, old, node);
-    let enters = key_in(kind, new, node);
+    let mut leaves = ArrayVec::new();
+    let mut enters = ArrayVec::new();
+    fill_key(kind, old, node, &mut leaves);
+    fill_key(kind, new, node, &mut enters);
     if holds_both(room, root, &leaves, &enters) {
         return Ok(root);
     }

@@ -34,7 +34,8 @@ pub fn insert<R: Room>(room: &mut R, root: u64, key: &[u8], payload: &[u8]) -> R
     ensures err { OnErr result (KeepsStart R.kept R.standing R.words room.old room.new) }
     ensures full { IfErr result (IsFullOf (R.full room.new)) }
 {
-    let pair = Item::new(key, payload);
+    let mut pair = Item::empty();
+    pair.fill(key, payload);
     if root == 0 {
         return write_first_root(room, &[Slot::New], &pair);
     }

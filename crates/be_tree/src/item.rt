@@ -1,5 +1,5 @@
 //! An item of a page.
-ghost use Rattle.std.specs.Prelude.{◌≡◌, ◌+◌, ◌≤◌, ◌++◌, length};
+ghost use Rattle.std.specs.Prelude.{◌≡◌, ◌+◌, ◌≤◌, ◌++◌, [], length};
 ghost use Rattle.be_tree.specs.Tree.{child};
 
 use arrayvec::ArrayVec;
@@ -27,6 +27,30 @@ impl Model for Item {
 }
 
 impl Item {
+    /// An item of nothing, which is filled in place: one that is passed by value costs its whole
+    /// capacity.
+    pub(crate) fn empty() -> Item
+        ensures key { result.key ≡ [] }
+        ensures payload { result.payload ≡ [] }
+    {
+        Item {
+            bytes: ArrayVec::new(),
+            key_len: 0,
+        }
+    }
+
+    /// Gets a key and a payload in the place of what it has.
+    pub(crate) fn fill(&mut self, key: &[u8], payload: &[u8])
+        requires { length key.now + length payload.now ≤ 328 }
+        ensures key { self.new.key ≡ key.now }
+        ensures payload { self.new.payload ≡ payload.now }
+    {
+        self.bytes.clear();
+        let _ = self.bytes.try_extend_from_slice(key);
+        let _ = self.bytes.try_extend_from_slice(payload);
+        self.key_len = key.len();
+    }
+
     /// The item of a key and a payload.
     pub(crate) fn new(key: &[u8], payload: &[u8]) -> Item
         requires { length key.now + length payload.now ≤ 328 }

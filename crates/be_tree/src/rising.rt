@@ -57,7 +57,7 @@ pub(crate) fn rise<R: Room>(
         (R.words room.old) changed.page)) new start room.new) }
     ensures refused { Refuses R.kept R.standing R.words R.full result room.old room.new }
 {
-    let none = Item::new(&[], &[]);
+    let none = Item::empty();
     let mut below = changed;
     for i in 0..above.len() {
         if below.page == below.was && below.same_least {

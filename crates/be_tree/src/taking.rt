@@ -35,7 +35,7 @@ pub(crate) fn take_out<R: Room>(
     if count_of(room, path.leaf) <= least_of_leaf(&path.above) {
         return underflow(room, root, key, path, at);
     }
-    let none = Item::new(&[], &[]);
+    let none = Item::empty();
     let edit = Edit {
         cut: Cut { at, gone: 1 },
         same_least: at > 0,
@@ -60,7 +60,7 @@ fn underflow<R: Room>(
         room.old room.new) }
     ensures refused { Refuses R.kept R.standing R.words R.full result room.old room.new }
 {
-    let none = Item::new(&[], &[]);
+    let none = Item::empty();
     let mut slots = ArrayVec::new();
     fill_slots(room, path.leaf, &mut slots);
     slots.remove(at);
