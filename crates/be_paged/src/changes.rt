@@ -24,12 +24,12 @@ ghost use Rattle.be_paged.specs.Page.{contents, IsNamedAt};
 ghost use Rattle.be_paged.specs.Place.{IsKnownOf};
 ghost use Rattle.be_paged.specs.Version.{IsInHand, Spells};
 
+use crate::catalog::value_at;
 use crate::entries::{index_at, search, set_root};
-use crate::reading::value_in;
 use crate::version::Version;
 use arrayvec::ArrayVec;
 use be_pages::{Look, Room};
-use be_tree::{has_key, insert, remove};
+use be_tree::{Path, has_key, insert, remove};
 use be_value::{Kind, Name, Refusal, Value, key_of, valid};
 
 /// Writes the key of a pair in an index of this kind into an empty vector, if there is a value and it
@@ -168,13 +168,13 @@ fn change_at<R: Room>(
 }
 
 /// Changes the node's pair in the index of a name, if there is one. The value that the node has is
-/// read only then, and looked for only if nothing is known of it.
+/// read only then, where a path leads to it.
 pub(crate) fn change_entry<R: Room>(
     room: &mut R,
     version: &mut Version,
     node: u64,
     name: &Name,
-    known: Option<Option<(u64, usize)>>,
+    path: &Path,
     new: Option<&Value>,
 ) -> Result<(), Refusal>
     requires in_hand { IsInHand (R.standing room.old) (R.words room.old) (contents version.old) }
@@ -201,7 +201,10 @@ pub(crate) fn change_entry<R: Room>(
     let Ok(at) = search(&version.entries, name) else {
         return Ok(());
     };
-    let old = value_in(room, version.catalog, node, name, known);
+    let old = match path.found() {
+        Some((page, at)) => value_at(room, page, at),
+        None => None,
+    };
     change_at(room, version, at, node, old.as_ref(), new)?;
     Ok(())
 }

@@ -23,7 +23,7 @@ use crate::entry::Entry;
 use crate::version::Version;
 use arrayvec::ArrayVec;
 use be_pages::Room;
-use be_tree::{clear, insert, remove};
+use be_tree::{Path, clear, find_path, insert, insert_on, remove, remove_on};
 use be_value::{Kind, Name, Refusal, Value};
 use be_volume::{Done, MAX_ATTRIBUTES, MAX_INDICES, Op};
 
@@ -54,7 +54,7 @@ fn set_value<R: Room>(
     node: u64,
     name: &Name,
     value: &Value,
-    known: Option<Option<(u64, usize)>>,
+    known: Option<&Path>,
 ) -> Result<Done, Refusal>
     requires in_hand { IsInHand (R.standing room.old) (R.words room.old) (contents version.old) }
     requires known { IsKnownOf (R.standing room.old) (R.words room.old) version.old.catalog node
@@ -75,10 +75,27 @@ fn set_value<R: Room>(
     ensures err { OnErr result (KeepsStart R.kept R.standing R.words room.old room.new) }
     ensures full { IfErr result (IsFullOf (R.full room.new)) }
 {
-    change_entry(room, version, node, name, known, Some(value))?;
     let key = catalog_key(node, name);
-    version.catalog = insert(room, version.catalog, &key, &payload_of(value))?;
+    let mut found = Path::new();
+    let path = path_of(room, version.catalog, &key, known, &mut found);
+    change_entry(room, version, node, name, path, Some(value))?;
+    version.catalog = insert_on(room, version.catalog, path, &key, &payload_of(value))?;
     Ok(Done::Unit)
+}
+
+/// The way to a key: the one that is known, or one that is found.
+fn path_of<'a, R: Room>(
+    room: &mut R,
+    root: u64,
+    key: &[u8],
+    known: Option<&'a Path>,
+    found: &'a mut Path,
+) -> &'a Path {
+    if let Some(path) = known {
+        return path;
+    }
+    find_path(room, root, key, found);
+    found
 }
 
 /// Takes an attribute away, and its pair before it.
@@ -87,7 +104,7 @@ fn unset_value<R: Room>(
     version: &mut Version,
     node: u64,
     name: &Name,
-    known: Option<Option<(u64, usize)>>,
+    known: Option<&Path>,
 ) -> Result<Done, Refusal>
     requires in_hand { IsInHand (R.standing room.old) (R.words room.old) (contents version.old) }
     requires known { IsKnownOf (R.standing room.old) (R.words room.old) version.old.catalog node
@@ -103,9 +120,11 @@ fn unset_value<R: Room>(
     ensures err { OnErr result (KeepsStart R.kept R.standing R.words room.old room.new) }
     ensures full { IfErr result (IsFullOf (R.full room.new)) }
 {
-    change_entry(room, version, node, name, known, None)?;
     let key = catalog_key(node, name);
-    version.catalog = remove(room, version.catalog, &key)?;
+    let mut found = Path::new();
+    let path = path_of(room, version.catalog, &key, known, &mut found);
+    change_entry(room, version, node, name, path, None)?;
+    version.catalog = remove_on(room, version.catalog, path, &key)?;
     Ok(Done::Unit)
 }
 
@@ -163,10 +182,10 @@ fn unset_all<R: Room>(room: &mut R, version: &mut Version, node: u64) -> Result<
     ensures full { IfErr result (IsFullOf (R.full room.new)) }
 {
     for _ in 0..MAX_ATTRIBUTES {
-        let Some((name, place)) = first_attribute(room, version.catalog, node) else {
+        let Some((name, _)) = first_attribute(room, version.catalog, node) else {
             return Ok(());
         };
-        unset_value(room, version, node, &name, Some(Some(place)))?;
+        unset_value(room, version, node, &name, None)?;
     }
     Ok(())
 }
@@ -239,7 +258,7 @@ pub(crate) fn edit_all<R: Room>(
     room: &mut R,
     version: &mut Version,
     ops: &[Op],
-    asked: Option<Asked>,
+    asked: &Option<Asked>,
     dones: &mut ArrayVec<Done, 64>,
 ) -> Result<(), Refusal>
     requires few { length ops.now ≤ 64 }
@@ -261,11 +280,12 @@ pub(crate) fn edit_all<R: Room>(
     ensures err { OnErr result (KeepsStart R.kept R.standing R.words room.old room.new) }
     ensures full { IfErr result (IsFullOf (R.full room.new)) }
 {
-    let mut first = asked;
+    let none = None;
+    let mut known = asked;
     for op in ops {
         op.valid();
-        dones.push(edit(room, version, op, &first)?);
-        first = None;
+        dones.push(edit(room, version, op, known)?);
+        known = &none;
     }
     Ok(())
 }

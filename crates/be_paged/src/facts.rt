@@ -13,10 +13,9 @@ ghost use Rattle.be_volume.specs.Volume.{State};
 ghost use Rattle.be_paged.specs.Facts.{AnswersFor, IsCounted, count_of as count_in};
 ghost use Rattle.be_paged.specs.Page.{contents};
 
-use crate::asked::{Asked, remember};
+use crate::asked::{Asked, look_for};
 use crate::attributes::attribute_count;
 use crate::entries::search;
-use crate::reading::attribute_place;
 use crate::version::Version;
 use be_pages::Look;
 use be_value::Name;
@@ -125,9 +124,7 @@ impl<L: Look> Facts for PageFacts<'_, L> {
         if is_bare(self.version, self.counted, node) {
             return false;
         }
-        let place = attribute_place(self.look, self.version.catalog, node, name);
-        remember(self.asked, node, name, place);
-        place.is_some()
+        look_for(self.look, self.version.catalog, node, name, self.asked)
     }
 
     fn attribute_count(&mut self, node: u64) -> usize {

@@ -123,7 +123,7 @@ pub fn apply_into<R: Room>(
     if let Some(reason) = refusal(room, version, ops, &mut asked) {
         return Err(reason);
     }
-    edit_all(room, version, ops, asked, dones)?;
+    edit_all(room, version, ops, &asked, dones)?;
     let page = replace_version(room, version_page, version)?;
     Ok(page)
 }

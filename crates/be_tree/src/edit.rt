@@ -34,12 +34,23 @@ pub fn insert<R: Room>(room: &mut R, root: u64, key: &[u8], payload: &[u8]) -> R
     ensures err { OnErr result (KeepsStart R.kept R.standing R.words room.old room.new) }
     ensures full { IfErr result (IsFullOf (R.full room.new)) }
 {
+    let mut path = Path::new();
+    find_path(room, root, key, &mut path);
+    insert_on(room, root, &path, key, payload)
+}
+
+/// The same where a path leads to the key: no descent.
+pub fn insert_on<R: Room>(
+    room: &mut R,
+    root: u64,
+    path: &Path,
+    key: &[u8],
+    payload: &[u8],
+) -> Result<u64, Refusal> {
     let mut pair = Item::empty();
     pair.fill(key, payload);
     if root == 0 {
         return write_first_root(room, &[Slot::New], &pair);
     }
-    let mut path = Path::new();
-    find_path(room, root, pair.key(), &mut path);
-    put_on(room, root, &path, &pair)
+    put_on(room, root, path, &pair)
 }

@@ -51,21 +51,6 @@ impl Item {
         self.key_len = key.len();
     }
 
-    /// The item of a key and a payload.
-    pub(crate) fn new(key: &[u8], payload: &[u8]) -> Item
-        requires { length key.now + length payload.now ≤ 328 }
-        ensures key { result.key ≡ key.now }
-        ensures payload { result.payload ≡ payload.now }
-    {
-        let mut bytes = ArrayVec::new();
-        let _ = bytes.try_extend_from_slice(key);
-        let _ = bytes.try_extend_from_slice(payload);
-        Item {
-            bytes,
-            key_len: key.len(),
-        }
-    }
-
     /// The key.
     pub(crate) fn key(&self) -> &[u8]
         ensures { result.now ≡ self.now.key }

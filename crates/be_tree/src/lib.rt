@@ -50,7 +50,7 @@ mod writing;
 
 pub use clearing::clear;
 pub use cursor::Cursor;
-pub use edit::insert;
+pub use edit::{insert, insert_on};
 pub use laws::{tree_beside, tree_kept, tree_replaced, tree_undone};
 pub use lookup::{find, find_into, find_place, has_key, is_key_at};
 pub use numbers::{first_of, is_past_at, number_at, numbers_within};
@@ -58,5 +58,6 @@ pub use page::{HEADER_WORDS, ITEM_WORDS, LENGTH_BITS, word_from};
 pub use payload::{
     fill_payload, payload_byte_at, payload_len_at, payload_number_at, payload_number32_at,
 };
-pub use removal::remove;
+pub use path::{Path, find_path};
+pub use removal::{remove, remove_on};
 pub use walk::{TreeItem, key_at, range};

@@ -12,7 +12,7 @@ ghost use Rattle.be_tree.specs.Tree.{IsTree};
 ghost use Rattle.be_tree.specs.Words.{IsFirst};
 
 use crate::lookup::{branch_for, end_of, item_number, search};
-use crate::page::{child_at, first_word};
+use crate::page::{HEADER_WORDS, ITEM_WORDS, child_at, first_word};
 use arrayvec::ArrayVec;
 use be_pages::Look;
 
@@ -32,7 +32,7 @@ impl Default for Step {
 /// The way from a tree's root down to a key. It serves as long as the tree's pages keep their
 /// words.
 #[derive(Drop)]
-pub(crate) struct Path {
+pub struct Path {
     /// The inner pages, the root first.
     pub(crate) above: ArrayVec<Step, 13>,
     /// The leaf's page.
@@ -43,7 +43,7 @@ pub(crate) struct Path {
 
 impl Path {
     /// A path to be filled.
-    pub(crate) fn new() -> Path
+    pub fn new() -> Path
         ensures { result.above.items ≡ [] }
     {
         Path {
@@ -51,6 +51,12 @@ impl Path {
             leaf: 0,
             place: Err(0),
         }
+    }
+
+    /// The page and the place of the item that has the key, if there is one.
+    pub fn found(&self) -> Option<(u64, usize)> {
+        let at = self.place.ok()?;
+        Some((self.leaf, HEADER_WORDS + ITEM_WORDS * at))
     }
 }
 
@@ -71,15 +77,18 @@ fn search_number<L: Look>(look: &mut L, page: u64, key: &[u8], first: u64) -> Re
     }
 }
 
-/// Goes down a tree that isn't empty to a key, and keeps the way in an empty path. It costs one
-/// descent.
-pub(crate) fn find_path<L: Look>(look: &mut L, root: u64, key: &[u8], path: &mut Path)
+/// Goes down a tree to a key, and keeps the way in an empty path, which stays empty in an empty
+/// tree. It costs one descent.
+pub fn find_path<L: Look>(look: &mut L, root: u64, key: &[u8], path: &mut Path)
     requires tree { IsTree (L.standing look.old) (L.words look.old) root }
     requires some { 0 < root }
     requires empty { path.old.above.items ≡ [] }
     ensures path { IsPathTo (L.standing look.old) (L.words look.old) root key.now path.new }
     ensures unchanged { IsUnchanged L.kept L.standing L.words look.old look.new }
 {
+    if root == 0 {
+        return;
+    }
     let first = first_word(key);
     let mut page = root - 1;
     let mut level = look.word(page, 0);

@@ -33,13 +33,20 @@ pub fn remove<R: Room>(room: &mut R, root: u64, key: &[u8]) -> Result<u64, Refus
     ensures err { OnErr result (KeepsStart R.kept R.standing R.words room.old room.new) }
     ensures full { IfErr result (IsFullOf (R.full room.new)) }
 {
-    if root == 0 {
-        return Ok(root);
-    }
     let mut path = Path::new();
     find_path(room, root, key, &mut path);
+    remove_on(room, root, &path, key)
+}
+
+/// The same where a path leads to the key: no descent.
+pub fn remove_on<R: Room>(
+    room: &mut R,
+    root: u64,
+    path: &Path,
+    key: &[u8],
+) -> Result<u64, Refusal> {
     match path.place {
-        Ok(at) => take_out(room, root, key, &path, at),
+        Ok(at) => take_out(room, root, key, path, at),
         Err(_) => Ok(root),
     }
 }
