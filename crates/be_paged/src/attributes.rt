@@ -28,7 +28,7 @@ use std::alloc::{AllocError, Global};
 use std::str;
 
 /// Whether the key of the item at a place begins with the node. Its first word decides.
-fn is_of_node<L: Look>(look: &mut L, page: u64, at: usize, node: u64) -> bool
+pub(crate) fn is_of_node<L: Look>(look: &mut L, page: u64, at: usize, node: u64) -> bool
     requires readable { IsTrue (is_readable (L.standing look.old page)) }
     requires in_page { at + 42 ≤ 512 }
     requires item { IsItem (L.words look.old page) at }
@@ -114,7 +114,7 @@ pub(crate) fn attribute_count<L: Look>(look: &mut L, catalog: u64, node: u64) ->
 }
 
 /// The name in the key of the item at a place of the catalog, after its node.
-fn name_at<L: Look>(look: &mut L, page: u64, at: usize) -> Option<Name>
+pub(crate) fn name_at<L: Look>(look: &mut L, page: u64, at: usize) -> Option<Name>
     requires readable { IsTrue (is_readable (L.standing look.old page)) }
     requires in_page { at + 42 ≤ 512 }
     requires item { IsItem (L.words look.old page) at }

@@ -24,6 +24,7 @@ ghost use Rattle.be_paged.specs.Page.{contents, IsNamedAt};
 ghost use Rattle.be_paged.specs.Place.{IsKnownOf};
 ghost use Rattle.be_paged.specs.Version.{IsInHand, Spells};
 
+use crate::attributes::name_at;
 use crate::catalog::value_at;
 use crate::entries::{index_at, search, set_root};
 use crate::version::Version;
@@ -207,4 +208,22 @@ pub(crate) fn change_entry<R: Room>(
     };
     change_at(room, version, at, node, old.as_ref(), new)?;
     Ok(())
+}
+
+/// Takes the pair of the attribute at a place of the catalog out of its index, if there is one.
+pub(crate) fn leave_index<R: Room>(
+    room: &mut R,
+    version: &mut Version,
+    page: u64,
+    at: usize,
+    node: u64,
+) -> Result<(), Refusal> {
+    let Some(name) = name_at(room, page, at) else {
+        return Ok(());
+    };
+    let Ok(index) = search(&version.entries, &name) else {
+        return Ok(());
+    };
+    let old = value_at(room, page, at);
+    change_at(room, version, index, node, old.as_ref(), None)
 }

@@ -15,15 +15,17 @@ ghost use Rattle.be_paged.specs.Place.{IsAsked, IsKnownOf};
 ghost use Rattle.be_paged.specs.Version.{IsInHand, Spells};
 
 use crate::asked::{Asked, known_of};
-use crate::attributes::first_attribute;
+use crate::attributes::{first_attribute, is_of_node};
 use crate::catalog::{catalog_key, payload_of};
-use crate::changes::change_entry;
+use crate::changes::{change_entry, leave_index};
 use crate::entries::search;
 use crate::entry::Entry;
 use crate::version::Version;
 use arrayvec::ArrayVec;
 use be_pages::Room;
-use be_tree::{Path, clear, find_path, insert, insert_on, remove, remove_on};
+use be_tree::{
+    HEADER_WORDS, ITEM_WORDS, Path, clear, find_path, insert, insert_on, remove_on, remove_run,
+};
 use be_value::{Kind, Name, Refusal, Value};
 use be_volume::{Done, MAX_ATTRIBUTES, MAX_INDICES, Op};
 
@@ -190,7 +192,8 @@ fn unset_all<R: Room>(room: &mut R, version: &mut Version, node: u64) -> Result<
     Ok(())
 }
 
-/// Drops a node: each of its attributes with its pair, and then its mark.
+/// Drops a node: its mark and the attributes that lie in one leaf with it in one cut, after their
+/// pairs have left the indices, and then each of the others with its pair.
 fn drop_node<R: Room>(room: &mut R, version: &mut Version, node: u64) -> Result<Done, Refusal>
     requires in_hand { IsInHand (R.standing room.old) (R.words room.old) (contents version.old) }
     requires open { IsTrue (R.is_open (R.kept room.old)) }
@@ -204,9 +207,46 @@ fn drop_node<R: Room>(room: &mut R, version: &mut Version, node: u64) -> Result<
     ensures err { OnErr result (KeepsStart R.kept R.standing R.words room.old room.new) }
     ensures full { IfErr result (IsFullOf (R.full room.new)) }
 {
-    unset_all(room, version, node)?;
-    version.catalog = remove(room, version.catalog, &node.to_be_bytes())?;
+    let mark = node.to_be_bytes();
+    let mut path = Path::new();
+    find_path(room, version.catalog, &mark, &mut path);
+    let run = leave_indices(room, version, node, &path)?;
+    version.catalog = remove_run(room, version.catalog, &path, &mark, 1 + run.count)?;
+    if !run.is_whole {
+        unset_all(room, version, node)?;
+    }
     Ok(Done::Unit)
+}
+
+/// The attributes of a node that lie in one leaf with its mark.
+struct Run {
+    count: usize,
+    /// Whether the node is known to have no others.
+    is_whole: bool,
+}
+
+/// Takes the pairs of the attributes out of their indices that lie after a node's mark in the leaf
+/// of a path.
+fn leave_indices<R: Room>(
+    room: &mut R,
+    version: &mut Version,
+    node: u64,
+    path: &Path,
+) -> Result<Run, Refusal> {
+    let mut count = 0;
+    let Some((page, place)) = path.found() else {
+        let is_whole = false;
+        return Ok(Run { count, is_whole });
+    };
+    let end = HEADER_WORDS + ITEM_WORDS * room.word(page, 1) as usize;
+    let mut at = place + ITEM_WORDS;
+    while at < end && is_of_node(room, page, at, node) {
+        leave_index(room, version, page, at, node)?;
+        count += 1;
+        at += ITEM_WORDS;
+    }
+    let is_whole = at < end;
+    Ok(Run { count, is_whole })
 }
 
 /// One operation, with what is remembered of an attribute, which may be another one.

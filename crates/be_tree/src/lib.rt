@@ -59,5 +59,5 @@ pub use payload::{
     fill_payload, payload_byte_at, payload_len_at, payload_number_at, payload_number32_at,
 };
 pub use path::{Path, find_path};
-pub use removal::{remove, remove_on};
+pub use removal::{remove, remove_on, remove_run};
 pub use walk::{TreeItem, key_at, range};

@@ -15,6 +15,7 @@ ghost use Rattle.be_tree.specs.Key.{payload_at, without};
 ghost use Rattle.be_tree.specs.Tree.{BecomesTree, IsTree, pages, pairs};
 
 use crate::path::{Path, find_path};
+use crate::splicing::Cut;
 use crate::taking::take_out;
 use be_pages::Room;
 use be_value::Refusal;
@@ -45,8 +46,20 @@ pub fn remove_on<R: Room>(
     path: &Path,
     key: &[u8],
 ) -> Result<u64, Refusal> {
+    remove_run(room, root, path, key, 1)
+}
+
+/// Takes out a key that a path leads to and the keys after it in its leaf, `count` in all, and
+/// returns the new root. If the tree hasn't the key, it returns the same root and takes no page.
+pub fn remove_run<R: Room>(
+    room: &mut R,
+    root: u64,
+    path: &Path,
+    key: &[u8],
+    count: usize,
+) -> Result<u64, Refusal> {
     match path.place {
-        Ok(at) => take_out(room, root, key, path, at),
+        Ok(at) => take_out(room, root, key, path, Cut { at, gone: count }),
         Err(_) => Ok(root),
     }
 }

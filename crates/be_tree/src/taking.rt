@@ -16,13 +16,13 @@ use arrayvec::ArrayVec;
 use be_pages::Room;
 use be_value::Refusal;
 
-/// Takes out the item that a path leads to, which has this number, and gives the new root.
+/// Takes out items of the leaf that a path leads to, and gives the new root.
 pub(crate) fn take_out<R: Room>(
     room: &mut R,
     root: u64,
     key: &[u8],
     path: &Path,
-    at: usize,
+    cut: Cut,
 ) -> Result<u64, Refusal>
     requires path { IsPathTo (R.standing room.old) (R.words room.old) root key.now path.now }
     requires found { path.now.place ≡ Ok at }
@@ -32,25 +32,25 @@ pub(crate) fn take_out<R: Room>(
         room.old room.new) }
     ensures refused { Refuses R.kept R.standing R.words R.full result room.old room.new }
 {
-    if count_of(room, path.leaf) <= least_of_leaf(&path.above) {
-        return underflow(room, root, key, path, at);
+    if count_of(room, path.leaf) < least_of_leaf(&path.above) + cut.gone {
+        return underflow(room, root, key, path, cut);
     }
     let none = Item::empty();
     let edit = Edit {
-        cut: Cut { at, gone: 1 },
-        same_least: at > 0,
+        cut,
+        same_least: cut.at > 0,
     };
     change_leaf(room, root, path, edit, &[], &none)
 }
 
-/// Takes an item out of a leaf that has no more than it has to keep.
+/// Takes items out of a leaf that is left with fewer than it has to keep.
 #[inline(never)]
 fn underflow<R: Room>(
     room: &mut R,
     root: u64,
     key: &[u8],
     path: &Path,
-    at: usize,
+    cut: Cut,
 ) -> Result<u64, Refusal>
     requires path { IsPathTo (R.standing room.old) (R.words room.old) root key.now path.now }
     requires found { path.now.place ≡ Ok at }
@@ -63,7 +63,9 @@ fn underflow<R: Room>(
     let none = Item::empty();
     let mut slots = ArrayVec::new();
     fill_slots(room, path.leaf, &mut slots);
-    slots.remove(at);
+    for _ in 0..cut.gone {
+        slots.remove(cut.at);
+    }
     settle(room, root, &path.above, path.leaf, slots, &none)
 }
 
