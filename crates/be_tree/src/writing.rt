@@ -13,7 +13,9 @@ ghost use Rattle.be_tree.specs.Tree.{IsBelow, IsWritten, BecomesTree, child, lea
 ghost use Rattle.be_tree.specs.Writing.{AreApart, CanBeWritten, IsApart, Replaces, ReplacesTree};
 
 use crate::item::Item;
-use crate::page::{LEAST_ITEMS, MOST_ITEMS, child_at};
+use crate::page::{
+    HEADER_WORDS, ITEM_WORDS, LEAST_ITEMS, MOST_ITEMS, child_at, copy_item, store_slot,
+};
 use crate::slot::{Node, Slot};
 use crate::splicing::store_slots;
 use arrayvec::ArrayVec;
@@ -65,7 +67,63 @@ fn write_changed<R: Room>(room: &mut R, old: u64, node: Node<'_>) -> Result<u64,
     Ok(page)
 }
 
-/// Writes a node with what is below it, as `write_changed` does, and gives its page.
+/// Writes the items of a page that has them at other places, those first that move up, from the last
+/// one on, so that none is written over before it is moved.
+fn move_up<R: Room>(room: &mut R, page: u64, slots: &[Slot]) {
+    for i in 0..slots.len() {
+        let number = slots.len() - 1 - i;
+        let target = HEADER_WORDS + ITEM_WORDS * number;
+        if let Slot::At(place, from) = slots[number] {
+            if from as u64 == page && (place as usize) < target {
+                copy_item(room, page, target, page, place as usize);
+            }
+        }
+    }
+}
+
+/// The same of those that move down, from the first one on.
+fn move_down<R: Room>(room: &mut R, page: u64, slots: &[Slot]) {
+    for number in 0..slots.len() {
+        let target = HEADER_WORDS + ITEM_WORDS * number;
+        if let Slot::At(place, from) = slots[number] {
+            if from as u64 == page && place as usize > target {
+                copy_item(room, page, target, page, place as usize);
+            }
+        }
+    }
+}
+
+/// Writes the slots of a node that aren't items of the page itself.
+fn store_others<R: Room>(room: &mut R, page: u64, node: Node<'_>) {
+    for number in 0..node.slots.len() {
+        let target = HEADER_WORDS + ITEM_WORDS * number;
+        match node.slots[number] {
+            Slot::At(_, from) if from as u64 == page => {}
+            slot => store_slot(room, page, target, slot, node.pair),
+        }
+    }
+}
+
+/// Writes a node over a page of its level that this write has taken. The node has some of the page's
+/// items, in their order.
+fn write_over<R: Room>(room: &mut R, page: u64, node: Node<'_>) {
+    room.refill(page, 1, node.slots.len() as u64);
+    move_up(room, page, node.slots);
+    move_down(room, page, node.slots);
+    store_others(room, page, node);
+}
+
+/// Writes a node that is changed: on its page, if this write has taken that, otherwise on a page of
+/// its own, and the old one is given up. Gives the page.
+fn rewrite<R: Room>(room: &mut R, old: u64, node: Node<'_>) -> Result<u64, Refusal> {
+    if room.is_taken(old) {
+        write_over(room, old, node);
+        return Ok(old);
+    }
+    write_changed(room, old, node)
+}
+
+/// Writes a node with what is below it, as `rewrite` does, and gives its page.
 pub(crate) fn write_branch<R: Room>(room: &mut R, old: u64, node: Node<'_>) -> Result<u64, Refusal>
     requires node { CanBeWritten node.level (R.standing room.old) (R.words room.old) node.pair.now
         node.slots.now }
@@ -80,7 +138,7 @@ pub(crate) fn write_branch<R: Room>(room: &mut R, old: u64, node: Node<'_>) -> R
     ensures err { OnErr result (KeepsStart R.kept R.standing R.words room.old room.new) }
     ensures full { IfErr result (IsFullOf (R.full room.new)) }
 {
-    let page = write_changed(room, old, node)?;
+    let page = rewrite(room, old, node)?;
     Ok(page)
 }
 
@@ -112,7 +170,7 @@ fn write_parts<R: Room>(
     let slots = back;
     let right = write_node(room, Node { level, slots, pair })?;
     let slots = front;
-    let left = write_changed(room, old, Node { level, slots, pair })?;
+    let left = rewrite(room, old, Node { level, slots, pair })?;
     Ok((left, right))
 }
 
@@ -234,7 +292,7 @@ pub(crate) fn write_root<R: Room>(room: &mut R, old: u64, node: Node<'_>) -> Res
     ensures full { IfErr result (IsFullOf (R.full room.new)) }
 {
     if node.slots.len() <= MOST_ITEMS {
-        let top = write_changed(room, old, node)?;
+        let top = rewrite(room, old, node)?;
         return Ok(top + 1);
     }
     let (left, right) = write_parts(room, old, node, first_of_two(node.slots.len()))?;
