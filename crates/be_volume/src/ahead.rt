@@ -214,10 +214,19 @@ fn attribute_after(op: &Op, next: u64, there: bool, node: u64, name: &Name) -> b
     match op {
         Op::New => node != next && there,
         Op::Drop(dropped) => node != *dropped && there,
-        Op::Set(changed, set, _) => (node == *changed && name == set) || there,
-        Op::Unset(changed, unset) => !(node == *changed && name == unset) && there,
+        Op::Set(changed, set, _) => there || (node == *changed && is_same(name, set)),
+        Op::Unset(changed, unset) => there && !(node == *changed && is_same(name, unset)),
         _ => there,
     }
+}
+
+/// Whether two names are the same. Names of one list mostly differ in their length or in their last
+/// byte, so these are compared first.
+#[inline(always)]
+fn is_same(name: &Name, other: &Name) -> bool {
+    let bytes = name.as_str().as_bytes();
+    let others = other.as_str().as_bytes();
+    bytes.len() == others.len() && bytes.last() == others.last() && name == other
 }
 
 /// Whether the node has as many attributes after these operations as it may. They are counted only
