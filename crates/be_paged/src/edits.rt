@@ -219,6 +219,7 @@ fn drop_node<R: Room>(room: &mut R, version: &mut Version, node: u64) -> Result<
 }
 
 /// The attributes of a node that lie in one leaf with its mark.
+#[derive(Clone, Copy)]
 struct Run {
     count: usize,
     /// Whether the node is known to have no others.
