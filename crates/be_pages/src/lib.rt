@@ -30,5 +30,5 @@ mod room;
 mod vec_room;
 
 pub use page_pool::{PagePool, Place};
-pub use room::{Look, PAGE_WORDS, Room, Standing, run_words};
+pub use room::{Look, PAGE_WORDS, Room, Standing};
 pub use vec_room::VecRoom;

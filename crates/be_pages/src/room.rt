@@ -16,12 +16,6 @@ use be_value::Refusal;
 /// How many words a page has.
 pub const PAGE_WORDS: usize = 512;
 
-/// How many words a run has after its first one, of which the two halves say how many bytes.
-#[inline(always)]
-pub fn run_words(header: u64) -> usize {
-    (((header >> 32) + header % (1 << 32) + 7) / 8) as usize
-}
-
 /// The state of a page in a write.
 #[derive(Clone, Copy, Debug, PartialEq, Eq)]
 pub enum Standing {
@@ -107,19 +101,6 @@ pub trait Room: Look {
 
     /// Writes one word of a page that has a word filled already.
     fn refill(&mut self, page: u64, i: usize, word: u64);
-
-    /// Copies runs of words to a page that has a word filled. A run begins with a word whose two
-    /// halves say how many bytes come after it, in whole words. Each begins `stride` words after the
-    /// one before it, on both pages.
-    fn copy_runs(
-        &mut self,
-        from: u64,
-        first: usize,
-        page: u64,
-        at: usize,
-        stride: usize,
-        count: usize,
-    );
 
     /// Gives a page up. One that was taken in this write is free at once; any other keeps its words
     /// until the write is kept.

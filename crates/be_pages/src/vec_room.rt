@@ -10,7 +10,7 @@ ghost use Rattle.be_pages.specs.Refusal.{IsFullOf, IsLimitOrMemory};
 ghost use Rattle.be_pages.specs.VecRoom.{NoneFree, standing_in, standings, pool_word};
 
 use crate::page_pool::PagePool;
-use crate::room::{Look, PAGE_WORDS, Room, Standing, run_words};
+use crate::room::{Look, PAGE_WORDS, Room, Standing};
 use be_value::Refusal;
 use std::alloc::{AllocError, Global};
 
@@ -77,24 +77,6 @@ impl Room for VecRoom {
 
     fn refill(&mut self, page: u64, i: usize, word: u64) {
         self.words[page as usize * PAGE_WORDS + i] = word;
-    }
-
-    fn copy_runs(
-        &mut self,
-        from: u64,
-        first: usize,
-        page: u64,
-        at: usize,
-        stride: usize,
-        count: usize,
-    ) {
-        for k in 0..count {
-            let words = run_words(self.word(from, first + stride * k));
-            for i in 0..words + 1 {
-                let word = self.word(from, first + stride * k + i);
-                self.refill(page, at + stride * k + i, word);
-            }
-        }
     }
 
     fn give_up(&mut self, page: u64) {

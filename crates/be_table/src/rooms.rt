@@ -57,18 +57,6 @@ impl<'a> Room for Writing<'a> {
         Writing::refill(self, page, i, word)
     }
 
-    fn copy_runs(
-        &mut self,
-        from: u64,
-        first: usize,
-        page: u64,
-        at: usize,
-        stride: usize,
-        count: usize,
-    ) {
-        Writing::copy_runs(self, from, first, page, at, stride, count)
-    }
-
     fn give_up(&mut self, page: u64) {
         Writing::give_up(self, page)
     }

@@ -34,7 +34,7 @@ use crate::status::{Announcement, Found, Status, older};
 use crate::table::{ANNOUNCE, CURRENT, LOCK, PAGES, VersionTable};
 use be_journal::{Entry, replay_push};
 use be_paged::Version;
-use be_pages::{PAGE_WORDS, Place, run_words};
+use be_pages::{PAGE_WORDS, Place};
 use be_value::Refusal;
 use be_volume::{Done, Op};
 use std::marker::{Brand, Model};
@@ -195,28 +195,6 @@ impl<'a> Writing<'a> {
     /// Writes word i of a page that has a word filled already.
     pub fn refill(&mut self, page: u64, i: usize, word: u64) {
         fill_word(self.table, &mut self.base, page, i, word);
-    }
-
-    /// Copies runs of words to a page that has a word filled, each word as `fill` writes it.
-    pub fn copy_runs(
-        &mut self,
-        from: u64,
-        first: usize,
-        page: u64,
-        at: usize,
-        stride: usize,
-        count: usize,
-    ) {
-        let source = PAGES + PAGE_WORDS * from as usize + first;
-        let target = PAGES + PAGE_WORDS * page as usize + at;
-        for k in 0..count {
-            copy_run(
-                self.table,
-                &mut self.base,
-                source + stride * k,
-                target + stride * k,
-            );
-        }
     }
 
     /// Gives a page up. One that was taken in this write is free at once; one of the current
@@ -545,28 +523,6 @@ fn fill_word(table: &VersionTable, base: &mut Base, page: u64, i: usize, word: u
     if found != word {
         shared.store::<Fill>(base, at, word);
     }
-}
-
-/// Copies a run of words from a place of the table to another one: the first word, and those after
-/// it.
-#[inline(always)]
-fn copy_run(table: &VersionTable, base: &mut Base, source: usize, target: usize) {
-    let header = copy_word(table, base, source, target);
-    for i in 1..run_words(header) + 1 {
-        copy_word(table, base, source + i, target + i);
-    }
-}
-
-/// Copies a word, which is stored if it isn't there already, and returns it.
-#[inline(always)]
-fn copy_word(table: &VersionTable, base: &mut Base, source: usize, target: usize) -> u64 {
-    let shared = &table.table.shared;
-    let word = shared.load::<OwnWord>(base, source);
-    let found = shared.load::<FoundFill>(base, target);
-    if found != word {
-        shared.store::<Fill>(base, target, word);
-    }
-    word
 }
 
 /// One announcement, of the pass whose turn it is.

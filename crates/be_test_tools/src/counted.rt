@@ -1,7 +1,7 @@
 //! Pages that count accesses.
 ghost use Rattle.std.specs.Prelude.{◌≡◌};
 
-use be_pages::{Look, Room, run_words};
+use be_pages::{Look, Room};
 use be_value::Refusal;
 
 /// A reader of pages, or a room of them, which counts the words that are read and stored, and the
@@ -78,24 +78,6 @@ impl<R: Room> Room for Counted<R> {
             self.stores = self.stores.wrapping_add(1);
         }
         self.pages.refill(page, i, word);
-    }
-
-    fn copy_runs(
-        &mut self,
-        from: u64,
-        first: usize,
-        page: u64,
-        at: usize,
-        stride: usize,
-        count: usize,
-    ) {
-        for k in 0..count {
-            let words = run_words(self.word(from, first + stride * k));
-            for i in 0..words + 1 {
-                let word = self.word(from, first + stride * k + i);
-                self.refill(page, at + stride * k + i, word);
-            }
-        }
     }
 
     fn give_up(&mut self, page: u64) {

@@ -309,6 +309,7 @@ pub(crate) fn store_item<R: Room>(room: &mut R, page: u64, at: usize, item: &Ite
 
 /// Copies the words of an item to a place of a page that has a word filled. An item that lies there
 /// already is left alone.
+#[inline(always)]
 pub(crate) fn copy_item<R: Room>(room: &mut R, page: u64, at: usize, from: u64, place: usize)
     requires filled { R.standing room.old page ≡ Filled }
     requires in_page { at + 42 ≤ 512 }
@@ -324,7 +325,13 @@ pub(crate) fn copy_item<R: Room>(room: &mut R, page: u64, at: usize, from: u64, 
     if from == page && place == at {
         return;
     }
-    room.copy_runs(from, place, page, at, ITEM_WORDS, 1);
+    let header = room.word(from, place);
+    room.refill(page, at, header);
+    let n = ((header >> LENGTH_BITS) + header % (1 << LENGTH_BITS)) as usize;
+    for i in 0..(n + 7) / 8 {
+        let word = room.word(from, place + 1 + i);
+        room.refill(page, at + 1 + i, word);
+    }
 }
 
 /// Writes a number in eight bytes after the first `skip` bytes of a word, and zeros after it.

@@ -35,9 +35,11 @@ fn copy_down<R: Room>(room: &mut R, from: u64, first: usize, page: u64, at: usiz
     if from == page && first == at {
         return;
     }
-    let place = HEADER_WORDS + ITEM_WORDS * first;
-    let target = HEADER_WORDS + ITEM_WORDS * at;
-    room.copy_runs(from, place, page, target, ITEM_WORDS, count);
+    for i in 0..count {
+        let place = HEADER_WORDS + ITEM_WORDS * (first + i);
+        let target = HEADER_WORDS + ITEM_WORDS * (at + i);
+        copy_item(room, page, target, from, place);
+    }
 }
 
 /// Copies items to higher places, from the last one on.
