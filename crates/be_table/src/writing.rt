@@ -39,11 +39,10 @@ use be_value::Refusal;
 use be_volume::{Done, Op};
 use std::marker::{Brand, Model};
 
-/// A retired page is used again only once a scan has freed it. A write that lets the pool run empty
-/// first goes through the memory of every page, where those that were given up last are still near.
-/// A write gives up 6 to 16, all of which use the same few lines of the cache. So those of two or
-/// three writes are still in its nearest levels. A scan a write would find no more of them there,
-/// and costs a load for each pass.
+/// How many more pages are retired before a write scans again, if the last whole scan had to leave
+/// some for readers. If it left none, each write scans, so that the pages that the write before gave
+/// up are free and near, and copies of upper pages go to their own earlier pages. While readers keep
+/// pages, a scan loads lines that they have just written, and mostly frees nothing.
 const EARLY: usize = 32;
 
 /// The lock is held by this pass. It has no `Drop`, so it ends in `unlock`.
@@ -275,9 +274,8 @@ impl<'a> Writing<'a> {
         }
     }
 
-    /// Whether a scan pays though pages may be free: 32 or more pages are retired beyond those that
-    /// the last whole scan had to leave for readers, which are no more than are retired now. No
-    /// step.
+    /// Whether a scan pays though pages may be free: a page is retired, if the last whole scan left
+    /// none for readers, or 32 more than it had to leave. No step.
     pub fn is_scan_due(&self) -> bool
         ensures due { result ≡ true → self.now.left + 32
             ≤ count_by is_retired self.now.knows.places }
