@@ -33,9 +33,9 @@ use be_pages::{Look, Room};
 use be_tree::{Path, has_key, insert, remove};
 use be_value::{Kind, Name, Refusal, Value, key_of, valid};
 
-/// Writes the key of a pair in an index of this kind into an empty vector, if there is a value and it
-/// is of the kind. A key has at least the eight bytes of its node, so an empty one is none. It is
-/// filled in place, since a key that is passed by value costs its whole capacity.
+/// Writes the key of a pair in an index of this kind into an empty vector, if there is a value and
+/// it is of the kind. A key has at least the eight bytes of its node, so an empty one is none. It
+/// is filled in place, since a key that is passed by value costs its whole capacity.
 fn fill_key(kind: Kind, value: Option<&Value>, node: u64, key: &mut ArrayVec<u8, 264>) {
     if !kind.indexable() {
         return;

@@ -40,9 +40,9 @@ use be_volume::{Done, Op};
 use std::marker::{Brand, Model};
 
 /// How many more pages are retired before a write scans again, if the last whole scan had to leave
-/// some for readers. If it left none, each write scans, so that the pages that the write before gave
-/// up are free and near, and copies of upper pages go to their own earlier pages. While readers keep
-/// pages, a scan loads lines that they have just written, and mostly frees nothing.
+/// some for readers. If it left none, each write scans, so that the pages that the write before
+/// gave up are free and near, and copies of upper pages go to their own earlier pages. While
+/// readers keep pages, a scan loads lines that they have just written, and mostly frees nothing.
 const EARLY: usize = 32;
 
 /// The lock is held by this pass. It has no `Drop`, so it ends in `unlock`.

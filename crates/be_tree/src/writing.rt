@@ -67,8 +67,8 @@ fn write_changed<R: Room>(room: &mut R, old: u64, node: Node<'_>) -> Result<u64,
     Ok(page)
 }
 
-/// Writes the items of a page that has them at other places, those first that move up, from the last
-/// one on, so that none is written over before it is moved.
+/// Writes the items of a page that has them at other places, those first that move up, from the
+/// last one on, so that none is written over before it is moved.
 fn move_up<R: Room>(room: &mut R, page: u64, slots: &[Slot]) {
     for i in 0..slots.len() {
         let number = slots.len() - 1 - i;
@@ -104,8 +104,8 @@ fn store_others<R: Room>(room: &mut R, page: u64, node: Node<'_>) {
     }
 }
 
-/// Writes a node over a page of its level that this write has taken. The node has some of the page's
-/// items, in their order.
+/// Writes a node over a page of its level that this write has taken. The node has some of the
+/// page's items, in their order.
 fn write_over<R: Room>(room: &mut R, page: u64, node: Node<'_>) {
     room.refill(page, 1, node.slots.len() as u64);
     move_up(room, page, node.slots);
