@@ -14,12 +14,13 @@ ghost use Rattle.be_store.specs.Writing.{Begins, HasRoomAtFull, ScansEarly, Writ
 
 use crate::ApplyIfError;
 use arrayvec::ArrayVec;
-use be_paged::apply_into;
+use be_paged::{Version, apply_into};
 use be_table::Writing;
 use be_value::Refusal;
 use be_volume::{Done, Op};
 
-/// Applies the operations to a version, in an open write.
+/// Applies the operations to a version, in an open write, whose place for contents it takes and puts
+/// back.
 fn apply_to(
     writing: &mut Writing<'_>,
     version_page: u64,
@@ -39,7 +40,26 @@ fn apply_to(
         (λ w least. IsSpent w.knows least)
         volume ops.now e writing.old writing.new) }
 {
-    apply_into(writing, version_page, ops, dones)
+    let mut space = writing.take_space();
+    let answer = match space.as_mut() {
+        Some(version) => apply_into(writing, version, version_page, ops, dones),
+        None => apply_apart(writing, version_page, ops, dones),
+    };
+    writing.put_space(space);
+    answer
+}
+
+/// The same in a place of its own. It is a function apart, since a function clears all its places
+/// as it begins.
+#[inline(never)]
+fn apply_apart(
+    writing: &mut Writing<'_>,
+    version_page: u64,
+    ops: &[Op],
+    dones: &mut ArrayVec<Done, 64>,
+) -> Result<u64, Refusal> {
+    let mut version = Version::new();
+    apply_into(writing, &mut version, version_page, ops, dones)
 }
 
 /// Scans if a scan is due, and only then, so that the write takes pages that were given up lately.

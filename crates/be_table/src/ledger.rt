@@ -9,6 +9,7 @@ ghost use Rattle.be_pages.specs.Place.{published_place};
 ghost use Rattle.be_journal.specs.Journal.{Grows, extended, with_room};
 
 use be_journal::Journal;
+use be_paged::Version;
 use be_pages::PagePool;
 use be_value::Refusal;
 use be_volume::{Done, Op};
@@ -23,6 +24,8 @@ pub struct Ledger {
     pub pool: PagePool,
     /// How many pages the last whole scan left retired.
     pub left: usize,
+    /// A place for a version's contents, which a write takes out and puts back.
+    pub space: Option<Box<Version>>,
 }
 
 impl Ledger {
@@ -86,6 +89,7 @@ impl Ledger {
             page: _,
             pool: _,
             left: _,
+            space: _,
         } = self;
         journal
     }

@@ -23,6 +23,7 @@ use crate::writing::Writing;
 use atomic_table::Table;
 use be_core::Phase;
 use be_journal::Journal;
+use be_paged::Version;
 use be_pages::{PAGE_WORDS, PagePool};
 use be_value::Refusal;
 use std::alloc::Global;
@@ -111,12 +112,30 @@ impl VersionTable {
         let Ok(pool) = PagePool::new(alloc, limits.pages as usize, 1) else {
             return Err(Refusal::OutOfMemory);
         };
+        let Ok(space) = Box::new(alloc, Version::new()) else {
+            return Err(Refusal::OutOfMemory);
+        };
         slots.push_reserved(Some(Ledger {
             journal: Journal::new(alloc, limits.commits),
             page: 0,
             pool,
             left: 0,
+            space: Some(space),
         }));
+            journal: Journal::new(alloc, limits.commits),
+            page: 0,
+            pool,
+            left: 0,
+<<<<<<< HEAD
+        }));
+=======
+            space: Some(space),
+        };
+        let Ok(ledger) = LedgerBox::new(alloc, ledger) else {
+            return Err(Refusal::OutOfMemory);
+        };
+        slots.push_reserved(Some(ledger));
+>>>>>>> f0892012 (WIP, unproved: a version's contents lie in a place that the writer keeps)
         let Ok(mut words) = vec![in alloc; 0; PAGES + PAGE_WORDS * limits.pages as usize] else {
             return Err(Refusal::OutOfMemory);
         };
