@@ -57,7 +57,20 @@ fn apply_apart(
     version_page: u64,
     ops: &[Op],
     dones: &mut ArrayVec<Done, 64>,
-) -> Result<u64, Refusal> {
+) -> Result<u64, Refusal>
+    ghost volume: { State }
+    requires version { IsVersion (standing_among writing.old.knows.places)
+        (word_of_page writing.old.knows.words) version_page volume }
+    requires count { (1 ≤ length ops.now) × (length ops.now ≤ 64) }
+    requires fits { volume.next + 64 < 2 ^ 64 }
+    requires open { writing.old.knows.published ≡ false }
+    requires empty { dones.old.items ≡ [] }
+    ensures ok { IfOk result (λ page. Applies open_of standing_in_work words_of version_page page
+        volume ops.now dones.new.items writing.old writing.new) }
+    ensures err { IfErr result (λ e. IsRefusedList open_of standing_in_work words_of
+        (λ w least. IsSpent w.knows least)
+        volume ops.now e writing.old writing.new) }
+{
     let mut version = Version::new();
     apply_into(writing, &mut version, version_page, ops, dones)
 }

@@ -122,20 +122,6 @@ impl VersionTable {
             left: 0,
             space: Some(space),
         }));
-            journal: Journal::new(alloc, limits.commits),
-            page: 0,
-            pool,
-            left: 0,
-<<<<<<< HEAD
-        }));
-=======
-            space: Some(space),
-        };
-        let Ok(ledger) = LedgerBox::new(alloc, ledger) else {
-            return Err(Refusal::OutOfMemory);
-        };
-        slots.push_reserved(Some(ledger));
->>>>>>> f0892012 (WIP, unproved: a version's contents lie in a place that the writer keeps)
         let Ok(mut words) = vec![in alloc; 0; PAGES + PAGE_WORDS * limits.pages as usize] else {
             return Err(Refusal::OutOfMemory);
         };
