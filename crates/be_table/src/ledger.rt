@@ -13,6 +13,7 @@ use be_paged::Version;
 use be_pages::PagePool;
 use be_value::Refusal;
 use be_volume::{Done, Op};
+use std::alloc::{AllocError, Global};
 
 /// The journal, and where the pages of the current version and of older ones are.
 #[derive(Drop)]
@@ -26,6 +27,14 @@ pub struct Ledger {
     pub left: usize,
     /// A place for a version's contents, which a write takes out and puts back.
     pub space: Option<Box<Version>>,
+}
+
+/// A place for a version's contents.
+pub(crate) fn first_space(alloc: Global) -> Result<Box<Version>, AllocError> {
+    match Box::new(alloc, Version::new()) {
+        Ok(space) => Ok(space),
+        Err(_) => Err(AllocError),
+    }
 }
 
 impl Ledger {

@@ -9,7 +9,7 @@ ghost use Rattle.be_core.specs.Machine.{has};
 ghost use Rattle.be_table.specs.Rule.{one_step_on, reach_at, word_place, page_at};
 
 use crate::deal::{deal, gather, lay_first};
-use crate::ledger::Ledger;
+use crate::ledger::{Ledger, first_space};
 use crate::limits::Limits;
 use crate::marks::PinnedVersion;
 use crate::pass::View;
@@ -23,7 +23,6 @@ use crate::writing::Writing;
 use atomic_table::Table;
 use be_core::Phase;
 use be_journal::Journal;
-use be_paged::Version;
 use be_pages::{PAGE_WORDS, PagePool};
 use be_value::Refusal;
 use std::alloc::Global;
@@ -112,7 +111,7 @@ impl VersionTable {
         let Ok(pool) = PagePool::new(alloc, limits.pages as usize, 1) else {
             return Err(Refusal::OutOfMemory);
         };
-        let Ok(space) = Box::new(alloc, Version::new()) else {
+        let Ok(space) = first_space(alloc) else {
             return Err(Refusal::OutOfMemory);
         };
         slots.push_reserved(Some(Ledger {
