@@ -41,16 +41,40 @@ fn apply_to(
         volume ops.now e writing.old writing.new) }
 {
     let mut space = writing.take_space();
-    let answer = match space.as_mut() {
-        Some(version) => apply_into(writing, version, version_page, ops, dones),
-        None => apply_apart(writing, version_page, ops, dones),
-    };
+    let answer = apply_in(writing, &mut space, version_page, ops, dones);
     writing.put_space(space);
     answer
 }
 
-/// The same in a place of its own. It is a function apart, since a function clears all its places
-/// as it begins.
+/// Applies the operations with a place for the version's contents, if there is one.
+fn apply_in(
+    writing: &mut Writing<'_>,
+    space: &mut Option<Box<Version>>,
+    version_page: u64,
+    ops: &[Op],
+    dones: &mut ArrayVec<Done, 64>,
+) -> Result<u64, Refusal>
+    ghost volume: { State }
+    requires version { IsVersion (standing_among writing.old.knows.places)
+        (word_of_page writing.old.knows.words) version_page volume }
+    requires count { (1 ≤ length ops.now) × (length ops.now ≤ 64) }
+    requires fits { volume.next + 64 < 2 ^ 64 }
+    requires open { writing.old.knows.published ≡ false }
+    requires empty { dones.old.items ≡ [] }
+    ensures ok { IfOk result (λ page. Applies open_of standing_in_work words_of version_page page
+        volume ops.now dones.new.items writing.old writing.new) }
+    ensures err { IfErr result (λ e. IsRefusedList open_of standing_in_work words_of
+        (λ w least. IsSpent w.knows least)
+        volume ops.now e writing.old writing.new) }
+{
+    match space {
+        Some(version) => apply_into(writing, version, version_page, ops, dones),
+        None => apply_apart(writing, version_page, ops, dones),
+    }
+}
+
+/// Applies the operations with a place of its own. It is a function apart, since a function clears
+/// all its places as it begins.
 #[inline(never)]
 fn apply_apart(
     writing: &mut Writing<'_>,
