@@ -9,8 +9,8 @@ use crate::entry::Entry;
 use arrayvec::ArrayVec;
 use be_pages::{Look, Room};
 
-/// A version page's contents in hand. It is large, so a writer keeps one from one write to the next,
-/// whatever its contents are then.
+/// A version page's contents in hand. It is large, so a writer keeps one from one write to the
+/// next, whatever its contents are then.
 #[derive(Drop)]
 pub struct Version {
     pub(crate) next: u64,

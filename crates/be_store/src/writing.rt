@@ -19,8 +19,8 @@ use be_table::Writing;
 use be_value::Refusal;
 use be_volume::{Done, Op};
 
-/// Applies the operations to a version, in an open write, whose place for contents it takes and puts
-/// back.
+/// Applies the operations to a version, in an open write, whose place for contents it takes and
+/// puts back.
 fn apply_to(
     writing: &mut Writing<'_>,
     version_page: u64,
