@@ -95,8 +95,8 @@ pub trait Room: Look {
         ensures others { (q : ℕ) → q ≢ page → Self.words self.new q ≡ Self.words self.old q }
         ensures kept { Self.kept self.new ≡ Self.kept self.old };
 
-    /// Writes one word of a page that has a word filled in this write. It is `fill` for such a page,
-    /// and costs less, since where the page is needn't be looked up.
+    /// Writes one word of a page that has a word filled in this write. It is `fill` for such a
+    /// page, and costs less, since where the page is needn't be looked up.
     fn refill(&mut self, page: u64, i: usize, word: u64)
         requires open { IsTrue (Self.is_open (Self.kept self.old)) }
         requires filled { Self.standing self.old page ≡ Filled }

@@ -177,8 +177,8 @@ impl<'a> Writing<'a> {
         self.ledger.pool.fill(page);
     }
 
-    /// Writes word i of a page that has a word filled in this write, as `fill` does. Where the page is
-    /// needn't be looked up.
+    /// Writes word i of a page that has a word filled in this write, as `fill` does. Where the page
+    /// is needn't be looked up.
     pub fn refill(&mut self, page: u64, i: usize, word: u64)
         requires open { self.old.knows.published ≡ false }
         requires filled { (page < length self.old.knows.places)
