@@ -42,8 +42,8 @@ IsMoment [] c = ⊥
 IsMoment (z ∷ passes) c = LeadTo c z ⊎ IsMoment passes c
 
 -- What holds of the calls of passes that are in one order. Of any two moments of theirs, one comes
--- before the other. What a pass has seen at a moment is a prefix of the journal, and what it shows a
--- script then is the volume after one. An accepted write is the journal's entry of its number. A
+-- before the other. What a pass has seen at a moment is a prefix of the journal, and what it shows
+-- a script then is the volume after one. An accepted write is the journal's entry of its number. A
 -- pin reads the volume after as many entries as it says, and has each write that comes before it.
 pub record FollowOneOrder (journal : List Entry) (passes : List Knowledge) : Type 0 where
   pub total : (c d : Knowledge) → IsMoment passes c → IsMoment passes d
