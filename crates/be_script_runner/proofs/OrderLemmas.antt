@@ -88,7 +88,6 @@ pinned_read d m journal b p front =
     ap (λ k. take k (entries d.seen)) count ∙ (take-length (entries d.seen) ∙ (first_elements journal (entries d.seen) front ∙ ap (λ k. take k journal) (sym count))) in
     ap (λ o. option_map_or (λ k. replay (take k (entries d.seen))) o empty) p.pin ∙ ap replay all
 
-
 pub follows_one_order : (limits : Limits) (journal : List Entry) (passes : List Knowledge) → AreInOneOrder limits journal passes → FollowOneOrder journal passes
 follows_one_order limits journal passes o = record {
   total = λ c d m n.

@@ -190,17 +190,15 @@ impl<'a> Model for PassServer<'a> {
     ghost Value = { Seated };
 
     ghost use Rattle.be_store.specs.Passes.{IsPassOf};
-
     ghost use Rattle.be_script_runner.specs.Lines.{LeadTo};
 
     ghost view = { λ s. record {
-        store = s.store.now;
-        knows = s.pass.knows;
-        first = s.first.value.knows;
+      store = s.store.now;
+      knows = s.pass.knows;
+      first = s.first.value.knows;
     } };
 
-    ghost invariant = { λ s. IsPassOf s.store.now s.pass × LeadTo s.first.value.knows s.pass.knows
-    };
+    ghost invariant = { λ s. IsPassOf s.store.now s.pass × LeadTo s.first.value.knows s.pass.knows };
 }
 
 impl<'a> PassServer<'a> {
@@ -213,18 +211,19 @@ impl<'a> PassServer<'a> {
     }
 
     /// The same, and says that this is what the pass knew at first.
-    pub(crate) fn at_first(
-        alloc: Global,
-        store: &'a be_store::Store,
-        pass: Pass,
-    ) -> PassServer<'a>
+    pub(crate) fn at_first(alloc: Global, store: &'a be_store::Store, pass: Pass) -> PassServer<'a>
         requires { IsPassOf store.now pass }
         ensures store { result.store ≡ store.now }
         ensures knows { result.knows ≡ pass.knows }
         ensures first { result.first ≡ pass.knows }
     {
         let first = Snapshot::of(&pass);
-        PassServer { alloc, store, pass, first }
+        PassServer {
+            alloc,
+            store,
+            pass,
+            first,
+        }
     }
 
     /// Gives the pass back.
