@@ -1,6 +1,8 @@
 -- How a pass serves a script: what it knows after each line, and the calls that led there.
 use Rattle.std.specs.Prelude.{◌≡◌, ℕ, List, [], ◌∷◌, ◌++◌}
 use Rattle.be_store.specs.Calls.{Calls}
+use Rattle.be_store.specs.Passes.{IsPassOf}
+use Rattle.be_table.specs.Place.{Opened, SeatFacts}
 use Rattle.be_table.specs.declared.pass.Knowledge.{Knowledge}
 use Rattle.be_script_language.specs.Request.{lines_of}
 use Rattle.be_script_runner.specs.Output.{Answered, Session, opening}
@@ -9,6 +11,10 @@ use Rattle.be_script_runner.specs.Served.{known}
 -- calls of a pass lead from what it knew to what it knows then
 abbrev pub LeadTo : Knowledge → Knowledge → Type 0
 LeadTo a c = (calls : List Knowledge) × Calls a calls c
+
+-- a pass of this store, to which calls led from what it was at first
+abbrev pub IsLedFrom : SeatFacts → Opened → SeatFacts → Type 0
+IsLedFrom first store pass = IsPassOf store pass × LeadTo first.knows pass.knows
 
 -- The text that a line is replied by a pass that knows `a` and then `c`: its calls lead from one to
 -- the other, and the line is answered by the store that it then shows.

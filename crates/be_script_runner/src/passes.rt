@@ -52,7 +52,7 @@ pub(crate) fn serve_lines<G: Gate>(
     script: &[u8],
     replies: &mut Vec<u8>,
 ) -> (Pass, Result<(), RunFault>)
-    requires pass { IsPassOf store.now pass }
+    requires { IsPassOf store.now pass }
     ensures pass { IsPassOf store.now result.0 }
     ensures number { result.0.knows.number ≡ pass.knows.number }
     ensures served { OnOk result.1 (Wrote (Some replies.old.items) (Some replies.new.items)

@@ -189,8 +189,7 @@ impl<'a> Model for PassServer<'a> {
 
     ghost Value = { Seated };
 
-    ghost use Rattle.be_store.specs.Passes.{IsPassOf};
-    ghost use Rattle.be_script_runner.specs.Lines.{LeadTo};
+    ghost use Rattle.be_script_runner.specs.Lines.{IsLedFrom};
 
     ghost view = { λ s. record {
       store = s.store.now;
@@ -198,7 +197,7 @@ impl<'a> Model for PassServer<'a> {
       first = s.first.value.knows;
     } };
 
-    ghost invariant = { λ s. IsPassOf s.store.now s.pass × LeadTo s.first.value.knows s.pass.knows };
+    ghost invariant = { λ s. IsLedFrom s.first.value s.store.now s.pass };
 }
 
 impl<'a> PassServer<'a> {

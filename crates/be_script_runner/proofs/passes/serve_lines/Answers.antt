@@ -29,14 +29,14 @@ loop-line-preserved g c = record {
   next = inr (c.loop-line.number, refl, c.after.ensures);
   told = told_more (g.G.Gate.begun c.args.gate.now c.loop-line.place) (g.G.Gate.ended c.args.gate.now c.loop-line.place) c.loop-line.number c.loop-line.invariant.told
       c.before-in-Some.ensures c.after.ensures;
-  few = c.serve_line.ensures.few;
-  of = c.serve_line.ensures.pass;
-  same = c.serve_line.ensures.number ∙ c.loop-line.invariant.same;
+  few = c.serve_line-next.ensures.few;
+  of = c.serve_line-next.ensures.pass;
+  same = c.serve_line-next.ensures.number ∙ c.loop-line.invariant.same;
   so_far = one_served c.args.pass.knows c.args.script.now c.loop-line.rest.now c.in-Some.line.now c.in-Some.beyond.now
-      c.loop-line.current.knows c.serve_line.result.0.knows
-      (session (known c.loop-line.current.knows) c.loop-line.client) (session (known c.serve_line.result.0.knows) c.serve_line.new.client)
-      (Some c.args.replies.now.items) (Some c.loop-line.replies.items) (Some c.serve_line.new.replies.items)
-      c.in-Some.ensures.first c.loop-line.invariant.so_far (on_at_ok _ c.in-Ok.is c.serve_line.ensures.ok);
+      c.loop-line.current.knows c.serve_line-next.result.0.knows
+      (session (known c.loop-line.current.knows) c.loop-line.client) (session (known c.serve_line-next.result.0.knows) c.serve_line-next.new.client)
+      (Some c.args.replies.now.items) (Some c.loop-line.replies.items) (Some c.serve_line-next.new.replies.items)
+      c.in-Some.ensures.first c.loop-line.invariant.so_far (on_at_ok _ c.in-Ok.is c.serve_line-next.ensures.ok);
 }
 
 pub returns-then-is_empty-clause-served : goal.returns-then-is_empty-clause-served
@@ -46,11 +46,11 @@ returns-then-is_empty-clause-served g c =
     (Some c.args.replies.now.items) (Some c.loop-line.replies.items) none c.loop-line.invariant.so_far
 
 pub returns-clause-served : goal.returns-clause-served
-returns-clause-served g c = on_ok c.serve_line-2.result.1 (λ w.
-    last_served c.args.pass.knows c.args.script.now c.loop-line.rest.now c.loop-line.current.knows c.serve_line-2.result.0.knows
-    (session (known c.loop-line.current.knows) c.loop-line.client) (session (known c.serve_line-2.result.0.knows) c.serve_line-2.new.client)
-    (Some c.args.replies.now.items) (Some c.loop-line.replies.items) (Some c.serve_line-2.new.replies.items)
-    c.in_default.ensures.last c.loop-line.invariant.so_far w) c.serve_line-2.ensures.ok
+returns-clause-served g c = on_ok c.serve_line-last.result.1 (λ w.
+    last_served c.args.pass.knows c.args.script.now c.loop-line.rest.now c.loop-line.current.knows c.serve_line-last.result.0.knows
+    (session (known c.loop-line.current.knows) c.loop-line.client) (session (known c.serve_line-last.result.0.knows) c.serve_line-last.new.client)
+    (Some c.args.replies.now.items) (Some c.loop-line.replies.items) (Some c.serve_line-last.new.replies.items)
+    c.in_default.ensures.last c.loop-line.invariant.so_far w) c.serve_line-last.ensures.ok
 
 pub returns-then-is_empty-clause-told : goal.returns-then-is_empty-clause-told
 returns-then-is_empty-clause-told g c =
@@ -65,6 +65,6 @@ returns-clause-told g c =
     let one : line_count c.loop-line.rest.now ≡ 1 = last_is_one c.loop-line.rest.now c.in_default.ensures.last some in
     let told = told_more (g.G.Gate.begun c.args.gate.now c.loop-line.place) (g.G.Gate.ended c.args.gate.now c.loop-line.place) c.loop-line.number c.loop-line.invariant.told
     c.before-2.ensures c.after-2.ensures in
-    always_ok c.serve_line-2.result.1
+    always_ok c.serve_line-last.result.1
     (subst (λ n. AreTold (g.G.Gate.begun c.args.gate.now n) (g.G.Gate.ended c.args.gate.now n) (line_count c.args.script.now)) c.number-place.ensures
     (λ line first last. told line first (omega (arith, last, one, c.loop-line.invariant.numbered))))
