@@ -1,5 +1,5 @@
 -- The calls of several passes in one order.
-use Rattle.std.proofs.Common.{◌≡◌, ◌⊎◌, ◌-◌, ◌≤◌, ◌+◌, ℕ, List, [], ◌∷◌, ◌++◌, All, drop, length, take, Option, Some, None, refl, sym, ap, ◌∙◌, subst, arith, inl, inr, length-append}
+use Rattle.std.proofs.Common.{◌≡◌, ◌⊎◌, ◌-◌, ◌+◌, ℕ, List, [], ◌∷◌, ◌++◌, All, drop, length, take, Option, Some, None, refl, sym, ap, ◌∙◌, arith, inl, inr}
 use Rattle.std.specs.Prelude.{slice_get}
 use Rattle.std.specs.Option.{option_map, option_map_or}
 use Rattle.std.proofs.lemmas.List.{length-map, take-append-drop, take-append-le}
@@ -10,7 +10,6 @@ use Rattle.be_journal.specs.declared.entries.Entry.{Entry}
 use Rattle.be_store.specs.Calls.{HasFronts, HasWrites}
 use Rattle.be_store.specs.History.{Accepts, Pins}
 use Rattle.be_store.specs.Passes.{volume_pinned, volume_seen}
-use Rattle.be_store.specs.Told.{EndedBefore}
 use Rattle.be_store.proofs.Applied.{entries_append}
 use Rattle.be_store.proofs.Calls.{calls_seen, starts_trans}
 use Rattle.be_store.proofs.Told.{current_later}

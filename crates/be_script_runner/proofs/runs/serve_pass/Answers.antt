@@ -1,8 +1,3 @@
-use Rattle.std.proofs.Common.{Some, subst}
-use Rattle.std.specs.Prelude.{OnOk}
-use Rattle.be_script_runner.specs.Gates.{AreTold, line_count}
-use Rattle.be_script_runner.specs.Lines.{IsServedBy}
-use Rattle.be_script_runner.specs.Run.{Wrote}
 use Rattle.be_script_runner.proofs.OwnLemmas.{pass_served}
 use Rattle.be_script_runner.proofs.RaceLemmas.{on_at_ok}
 use Rattle.be_script_runner.proofs.runs.serve_pass.Goals as goal
