@@ -59,7 +59,7 @@ on_both (Ok x) p q f = f x p q
 on_both (Err e) p q f = tt
 
 -- what is so where there is an answer is so of this one
-on_at_ok : {X E : Type 0} {r : Result X E} {x : X} (P : Type 0) → r ≡ Ok x → OnOk r P → P
+pub on_at_ok : {X E : Type 0} {r : Result X E} {x : X} (P : Type 0) → r ≡ Ok x → OnOk r P → P
 on_at_ok P is h = subst (λ r. OnOk r P) is h
 
 -- a new pass sees an empty store

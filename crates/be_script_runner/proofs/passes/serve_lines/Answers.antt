@@ -27,7 +27,7 @@ loop-line-preserved g c = record {
   counted = omega (arith, c.in-Some.ensures.shorter, c.loop-line.invariant.counted);
   numbered = omega (arith, line_counted c.loop-line.rest.now c.in-Some.line.now c.in-Some.beyond.now c.in-Some.ensures.first, c.loop-line.invariant.numbered);
   next = inr (c.loop-line.number, refl, c.after.ensures);
-  told = told_more (g.G.Gate.begun c.args.gate.now c.loop-line.place) (g.G.Gate.ended c.args.gate.now c.loop-line.place) c.loop-line.number c.loop-line.invariant.told
+  told = told_more (g.G.Gate.begun c.args.gate.now c.number-place.result) (g.G.Gate.ended c.args.gate.now c.number-place.result) c.loop-line.number c.loop-line.invariant.told
       c.before-in-Some.ensures c.after.ensures;
   few = c.serve_line-next.ensures.few;
   of = c.serve_line-next.ensures.pass;
@@ -63,7 +63,7 @@ pub returns-clause-told : goal.returns-clause-told
 returns-clause-told g c =
     let some : 1 ≤ length c.loop-line.rest.now = grind (arith, nat_tests, c.if-is_empty.ensures) in
     let one : line_count c.loop-line.rest.now ≡ 1 = last_is_one c.loop-line.rest.now c.in_default.ensures.last some in
-    let told = told_more (g.G.Gate.begun c.args.gate.now c.loop-line.place) (g.G.Gate.ended c.args.gate.now c.loop-line.place) c.loop-line.number c.loop-line.invariant.told
+    let told = told_more (g.G.Gate.begun c.args.gate.now c.number-place.result) (g.G.Gate.ended c.args.gate.now c.number-place.result) c.loop-line.number c.loop-line.invariant.told
     c.before-2.ensures c.after-2.ensures in
     always_ok c.serve_line-last.result.1
     (subst (λ n. AreTold (g.G.Gate.begun c.args.gate.now n) (g.G.Gate.ended c.args.gate.now n) (line_count c.args.script.now)) c.number-place.ensures
