@@ -79,7 +79,7 @@ fn after_letters(text: &str) -> &str
         ≡ ending_of total (length result.now) }
 {
     let mut rest = text;
-    'after: while let Some((_, after)) = split_letter(rest) {
+    'beyond: while let Some((_, after)) = split_letter(rest) {
         rest = after;
     }
     rest

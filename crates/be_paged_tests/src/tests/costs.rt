@@ -265,7 +265,7 @@ fn expect_rows(alloc: Global, rows: &str) -> Result<(), Fail> {
 }
 
 /// What each cost would grow by. The get: a second descent of the catalog's tree. A query of one
-/// node: a second descent of its index's tree, or a look at the node. The size 1500 has the least
+/// node: a second descent of its index's tree, or a look at the node. The size 1420 has the least
 /// key of its leaf: its range begins at the end of the leaf before, so it takes that second
 /// descent. A range and a front: a descent for each key, instead of a step along the leaves. The
 /// filter makes a descent of the catalog's tree for each of a hundred nodes: it would grow by a
@@ -274,8 +274,8 @@ fn expect_rows(alloc: Global, rows: &str) -> Result<(), Fail> {
 fn read_costs(rt: HostRuntime) -> Result<(), Fail> {
     let rows = r#"get 150 size => 1 found, 44 words read
 query name=="10150-document.txt" => 1 found, 42 words read
-query size==1510 => 1 found, 34 words read
-query size==1500 => 1 found, 87 words read
+query size==1430 => 1 found, 34 words read
+query size==1420 => 1 found, 83 words read
 query size>=1000 && size<2000 => 100 found, 460 words read
 query name=="101*" => 100 found, 456 words read
 query name=="101*" && size>=1500 => 50 found, 6774 words read"#;
@@ -297,8 +297,8 @@ query name=="*z*" => 0 found, 1695 words read"#;
 #[test]
 fn prepared_costs(rt: HostRuntime) -> Result<(), Fail> {
     let rows = r#"again name=="10150-document.txt" => 1 found, 39 words read
-again size==1510 => 1 found, 32 words read
-again size==1500 => 1 found, 85 words read
+again size==1430 => 1 found, 32 words read
+again size==1420 => 1 found, 81 words read
 again size>=1000 && size<2000 => 100 found, 458 words read"#;
     expect_rows(rt.alloc(), rows)
 }
