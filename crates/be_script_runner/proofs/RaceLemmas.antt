@@ -24,6 +24,9 @@ use Rattle.std.specs.Io.KnownBytes.{Appends}
 use Rattle.be_script_runner.specs.Output.{IsOutputTo}
 use Rattle.be_script_runner.specs.Run.{IsFrontOf, Wrote}
 use Rattle.be_script_runner.specs.Served.{known}
+use Rattle.be_script_runner.specs.Lines.{IsServedBy}
+use Rattle.be_script_runner.specs.Order.{AreServedBy}
+use Rattle.be_script_runner.proofs.CallLemmas.{served_output}
 use Rattle.be_script_runner.proofs.RunLemmas.{none_written, written_both}
 use Rattle.be_script_runner.specs.Race.{HaveServed, AreRepliesOf, IsOutcome, IsRace, IsRaceInPart, IsReplied, AreFirstPasses, AreFirstTexts, pass_line, replies_text}
 
@@ -56,19 +59,20 @@ on_both (Ok x) p q f = f x p q
 on_both (Err e) p q f = tt
 
 -- what is so where there is an answer is so of this one
-on_at_ok : {X E : Type 0} {r : Result X E} {x : X} (P : Type 0) → r ≡ Ok x → OnOk r P → P
+pub on_at_ok : {X E : Type 0} {r : Result X E} {x : X} (P : Type 0) → r ≡ Ok x → OnOk r P → P
 on_at_ok P is h = subst (λ r. OnOk r P) is h
 
 -- a new pass sees an empty store
-pub from_new : {X E : Type 0} (text : X → List ℕ) (limits : Limits) (steps k : ℕ) (a c : Knowledge) (script : List ℕ) (r : Result X E) → a ≡ newcomer limits steps k → c.number ≡ k →
-    OnOk r (by_pass c.number (entries c.seen) ≡ c.mine) → OnOk r (IsPartOf (operations c.mine) (write_ops script)) → IfOk r (λ x. IsOutputTo (known a) script (known c) (text x)) →
+pub from_new : {X E : Type 0} (text : X → List ℕ) (limits : Limits) (k : ℕ) (a c : Knowledge) (script : List ℕ) (r : Result X E) → a ≡ newcomer limits (k + 1) k → c.number ≡ k →
+    OnOk r (by_pass c.number (entries c.seen) ≡ c.mine) → OnOk r (IsPartOf (operations c.mine) (write_ops script)) → IfOk r (λ x. IsServedBy a script c (text x)) →
     IfOk r (λ x. IsOutcome limits k script c (text x))
-from_new text limits steps k a c script (Ok x) is number mine own replies = record {
+from_new text limits k a c script (Ok x) is number mine own replies = record {
   mine = subst (λ n. by_pass n (entries c.seen) ≡ c.mine) number mine;
   own = own;
-  output = subst (λ (b : Knowledge). IsOutputTo (known b) script (known c) (text x)) is replies;
+  output = subst (λ (b : Knowledge). IsOutputTo (known b) script (known c) (text x)) is (served_output a c script (text x) replies);
+  served = subst (λ (b : Knowledge). IsServedBy b script c (text x)) is replies;
 }
-from_new text limits steps k a c script (Err e) is number mine own replies = tt
+from_new text limits k a c script (Err e) is number mine own replies = tt
 
 -- a journal that keeps what a pass has seen and written is that of its script's replies
 replied_by : (limits : Limits) (journal : List Entry) (k : ℕ) (script text : List ℕ) (a : Knowledge) → a.number ≡ k → IsOutcome limits k script a text → StartsWith journal (entries a.seen) →
@@ -100,8 +104,9 @@ module _ {V E : Type 0} (store : Opened) (items : V → List ℕ) (Told : ℕ �
       map Ok texts ≡ map (λ (o : SeatFacts × Result V E). o.1) outcomes →
       HaveServed store k (map items scripts) (map (λ (o : SeatFacts × Result V E). o.0) outcomes)
       × AreRepliesOf store.limits k (map items scripts) (map (λ (o : SeatFacts × Result V E). o.0) outcomes) (map items texts)
+      × AreServedBy store.limits k (map items scripts) (map knows_of (map (λ (o : SeatFacts × Result V E). o.0) outcomes)) (map items texts)
       × ((i : ℕ) → i < length (map items scripts) → Told (k + i) (slice_index_or (map items scripts) i []))
-  served_from k [] [] [] count each all = (tt, λ journal keeps. tt, λ i below. absurd (omega (arith, below)))
+  served_from k [] [] [] count each all = (tt, λ journal keeps. tt, tt, λ i below. absurd (omega (arith, below)))
   served_from k [] [] (t ∷ ts) count each all = cc
   served_from k [] (o ∷ os) texts count each all = absurd (omega (arith, count))
   served_from k (s ∷ ss) [] texts count each all = absurd (omega (arith, count))
@@ -115,7 +120,8 @@ module _ {V E : Type 0} (store : Opened) (items : V → List ℕ) (Told : ℕ �
       let e : k + suc i ≡ (k + 1) + i = omega arith in subst (λ n. EndsAs n (get_or ss i u) (get_or os i d)) e (each (suc i) d u (omega arith))) rest in (
         (record { pass = here.0; number = here.1; own = told.own }, beyond.0),
         (λ journal keeps. (replied_by store.limits journal k (items s) (items t) o.0.knows here.1 told keeps.0 keeps.1, beyond.1 journal keeps.2)),
-        told_each Told k (items s) (map items ss) (on_at_ok (Told k (items s)) (sym first) here.3) beyond.2,
+        (told.served, beyond.2),
+        told_each Told k (items s) (map items ss) (on_at_ok (Told k (items s)) (sym first) here.3) beyond.3,
       )
 
 -- an end is one by equal promises
