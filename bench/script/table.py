@@ -138,11 +138,17 @@ def table_lines(results: Results) -> Iterator[str]:
 
 
 def write_table(results: Results, path: str) -> None:
-    """Puts the table in the place of what stands between the two marks of a document."""
+    """Puts the table between the two marks of a document that are its own."""
+    write_between(path, "table", list(table_lines(results)))
+
+
+def write_between(path: str, name: str, lines: list[str]) -> None:
+    """Puts lines in the place of those between the two marks with a name, in a document."""
+    first, last = f"<!-- {name} -->\n", f"<!-- end of the {name} -->\n"
     with open(path) as file:
-        before, mark, rest = file.read().partition("<!-- table -->\n")
-    _, end, after = rest.partition("<!-- end of the table -->\n")
+        before, mark, rest = file.read().partition(first)
+    _, end, after = rest.partition(last)
     if not end:
-        sys.exit(f"{path} has no marks <!-- table --> and <!-- end of the table -->")
+        sys.exit(f"{path} has no marks {first.strip()} and {last.strip()}")
     with open(path, "w") as file:
-        file.write("\n".join([before + mark, *table_lines(results), "", end + after]))
+        file.write("\n".join([before + mark, *lines, "", end + after]))

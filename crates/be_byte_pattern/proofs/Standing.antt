@@ -1,5 +1,5 @@
 -- Runs of literal parts in a list, with any run of the list between two.
-use Rattle.std.proofs.Common.{◌≡◌, ℕ, ◌+◌, ◌-◌, ◌<◌, ◌≤◌, Bool, true, false, List, [], ◌∷◌, ◌++◌, map, length, drop, ◌&&◌, ◌||◌, refl, sym, ap, ◌∙◌, subst, arith, zero, suc, take, length-append, length-drop}
+use Rattle.std.proofs.Common.{◌≡◌, ℕ, ◌+◌, ◌-◌, ◌<◌, ◌≤◌, Bool, true, false, List, [], ◌∷◌, ◌++◌, map, length, drop, ◌&&◌, ◌||◌, get_or, refl, sym, ap, ◌∙◌, subst, arith, zero, suc, take, length-append, length-drop}
 use Rattle.std.specs.Bool.{Decides}
 use Rattle.std.specs.Cmp.{both_ways}
 use Rattle.std.specs.Prelude.{nat_eq}
@@ -69,6 +69,37 @@ first_serves r after ps = both_ways _ _ there back
 pub next_place : (p : List ℕ → Bool) (c : ℕ) (cs : List ℕ) → p (c ∷ cs) ≡ false → some_tail p (c ∷ cs) ≡ some_tail p cs
 next_place p c cs h = ap (λ b. b || some_tail p cs) h
 
+-- where the first of a run isn't, the run doesn't begin
+other_first : (first : ℕ) (others cs : List ℕ) (k : ℕ) (ps : List Part) → k < length cs → (get_or cs k 0 ≡ first → ⊥) → matches (map Only (first ∷ others) ++ ps) (drop k cs) ≡ false
+other_first first others [] k ps lt differs = absurd (omega (arith, lt))
+other_first first others (c ∷ cs) zero ps lt differs = run_missing (first ∷ others) (c ∷ cs) ps (λ rest e. differs (head (others ++ rest) e))
+  where
+    head : (rest : List ℕ) → c ∷ cs ≡ first ∷ rest → c ≡ first
+    head rest e = cc
+other_first first others (c ∷ cs) (suc k) ps lt differs = other_first first others cs k ps (omega (arith, lt)) differs
+
+-- such places are passed
+places_passed : (p : List ℕ → Bool) (n : ℕ) (cs : List ℕ) → ((k : ℕ) → k < n → p (drop k cs) ≡ false) → some_tail p (drop n cs) ≡ some_tail p cs
+places_passed p zero cs h = refl
+places_passed p (suc n) [] h = refl
+places_passed p (suc n) (c ∷ cs) h = places_passed p n cs (λ k lt. h (suc k) (omega (arith, lt))) ∙ sym (next_place p c cs (h zero (omega arith)))
+
+pub passed_to : (run cs : List ℕ) (first : ℕ) (others : List ℕ) (n : ℕ) (ps : List Part) → run ≡ first ∷ others → n ≤ length cs → ((k : ℕ) → k < n → get_or cs k 0 ≡ first → ⊥)
+    → some_tail (matches (map Only run ++ ps)) (drop n cs) ≡ some_tail (matches (map Only run ++ ps)) cs
+passed_to run cs first others n ps e le differs =
+    places_passed (matches (map Only run ++ ps)) n cs
+    (λ k lt. ap (λ (r : List ℕ). matches (map Only r ++ ps) (drop k cs)) e ∙ other_first first others cs k ps (omega (arith, lt, le)) (differs k lt))
+
+-- and so is one at which the run isn't
+pub one_passed : (p : List ℕ → Bool) (cs : List ℕ) → p cs ≡ false → some_tail p (drop 1 cs) ≡ some_tail p cs
+one_passed p [] h = refl
+one_passed p (c ∷ cs) h = sym (next_place p c cs h)
+
+-- an empty run is at the first place
+pub nothing_sought : (run cs : List ℕ) (ps : List Part) → length run ≡ 0 → some_tail (matches (map Only run ++ (Run ∷ ps))) cs ≡ some_tail (matches ps) cs
+nothing_sought [] cs ps e = first_serves [] cs ps
+nothing_sought (d ∷ run) cs ps e = absurd (omega (arith, e))
+
 -- a list that is shorter than the run doesn't have it
 pub run_too_long : (r cs : List ℕ) (ps : List Part) → length cs < length r → some_tail (matches (map Only r ++ ps)) cs ≡ false
 run_too_long r cs ps short = false_from_ne_true (some_tail (matches (map Only r ++ ps)) cs) (λ h.
@@ -137,12 +168,6 @@ run_passed left [] r sought rest shorter whole e some is found so_far = absurd (
 run_passed left (s ∷ after) r sought rest shorter whole e some is found so_far =
     sym (found (map Only s ++ after_stars after)) ∙ ap (λ l. some_tail (matches (map Only l ++ after_stars (s ∷ after))) rest) is
     ∙ ap (λ l. matches (after_stars l) rest) (sym e) ∙ so_far
-
--- what doesn't begin with a run is not empty where it is as long
-pub nothing_fits : (bytes run : List ℕ) → length run ≤ length bytes → length bytes ≡ 0 → ((rest : List ℕ) → bytes ≡ run ++ rest → ⊥) → ⊥
-nothing_fits [] [] fits none missing = missing [] refl
-nothing_fits [] (d ∷ run) fits none missing = omega (arith, fits)
-nothing_fits (b ∷ bytes) run fits none missing = omega (arith, none)
 
 pub none_mapped : {X : Type 0} (f : X → List ℕ) (xs : List X) → length xs ≡ 0 → map f xs ≡ []
 none_mapped f [] e = refl

@@ -46,15 +46,25 @@ impl<'p> BytePattern<'p> {
 
     /// Whether the pattern matches the whole text, given by its bytes, as `Pattern::matches` does.
     /// It takes no memory. Bytes that are no text get any answer.
+    #[inline(always)]
     pub fn matches(&self, text: &[u8]) -> bool
         ensures { IsUtf8 text.now → result ≡ matches self.now (chars text.now) }
     {
         match &self.runs {
-            Some(runs) => runs.stand_in(text),
-            None => match str::from_utf8(text) {
-                Ok(text) => self.pattern.matches(text),
-                Err(_) => false,
-            },
+            Some(runs) => runs.are_in(text),
+            None => matches_chars(self.pattern, text),
         }
+    }
+}
+
+/// Whether a pattern matches a text, character by character. It is a function of its own, so that
+/// who asks of bytes needs no room for it.
+#[inline(never)]
+fn matches_chars(pattern: &Pattern, text: &[u8]) -> bool
+    ensures { IsUtf8 text.now → result ≡ matches pattern.now (chars text.now) }
+{
+    match str::from_utf8(text) {
+        Ok(text) => pattern.matches(text),
+        Err(_) => false,
     }
 }

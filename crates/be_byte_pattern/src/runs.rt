@@ -1,6 +1,7 @@
 //! Runs of literal bytes with a `*` between two.
-ghost use Rattle.std.specs.Prelude.{◌≡◌, ◌≤◌, ◌++◌, ◌∷◌, List, ℕ, true, false, map, length, take};
-ghost use Rattle.std.specs.Prelude.{nat_eq, IfNone, IfSome, string_bytes};
+ghost use Rattle.std.specs.Prelude.{◌≡◌, ◌≢◌, ◌<◌, ◌≤◌, ◌++◌, ◌∷◌, List, ℕ, true, false, map};
+ghost use Rattle.std.specs.Prelude.{nat_eq, length, take, drop, IfNone, IfSome, slice_index};
+ghost use Rattle.std.specs.Prelude.{string_bytes};
 ghost use Rattle.std.specs.List.{ends_with};
 ghost use Rattle.be_pattern.specs.Match.{Part, Only, Run, matches, some_tail};
 ghost use Rattle.be_byte_pattern.specs.Runs.{after_stars, parts_of_runs};
@@ -17,7 +18,7 @@ pub(crate) struct Runs {
 impl Runs {
     /// Whether the bytes begin with the first run, end with the last one, and have the others
     /// between these in their order.
-    pub(crate) fn stand_in(&self, text: &[u8]) -> bool
+    pub(crate) fn are_in(&self, text: &[u8]) -> bool
         ensures { result ≡ matches (parts_of_runs self.now) text.now }
     {
         match after_run(text, self.front.as_bytes()) {
@@ -67,7 +68,34 @@ fn ends_with(bytes: &[u8], run: &[u8]) -> bool
     begins_with(end, run)
 }
 
-/// The bytes after the first place at which a run is found.
+/// The first place before an end at which a byte is, or the end.
+#[inline(always)]
+fn place_of(byte: u8, bytes: &[u8], end: usize) -> usize
+    requires { end ≤ length bytes.now }
+    ensures within { result ≤ end }
+    ensures missing { (k : ℕ) → k < result → slice_index bytes.now k ≢ byte }
+{
+    for at in 0..end {
+        if bytes[at] == byte {
+            return at;
+        }
+    }
+    end
+}
+
+/// The bytes after the first one.
+#[inline(always)]
+fn after_byte(bytes: &[u8]) -> &[u8]
+    ensures { result.now ≡ drop 1 bytes.now }
+{
+    match bytes.split_first() {
+        Some((_, rest)) => rest,
+        None => bytes,
+    }
+}
+
+/// The bytes after the first place at which a run is found. Its first byte is looked for, and the
+/// run is compared only where that is.
 fn after_first<'a>(bytes: &'a [u8], run: &[u8]) -> Option<&'a [u8]>
     ensures some { IfSome result (λ rest. (ps : List Part) →
         some_tail (matches (map Only run.now ++ (Run ∷ ps))) bytes.now
@@ -75,15 +103,21 @@ fn after_first<'a>(bytes: &'a [u8], run: &[u8]) -> Option<&'a [u8]>
     ensures none { IfNone result ((ps : List Part)
         → some_tail (matches (map Only run.now ++ ps)) bytes.now ≡ false) }
 {
+    let Some((first, others)) = run.split_first() else {
+        return Some(bytes);
+    };
     let mut rest = bytes;
     'places: while run.len() <= rest.len() {
-        if let Some(after) = after_run(rest, run) {
+        let end = rest.len() - others.len();
+        let at = place_of(*first, rest, end);
+        if at == end {
+            return None;
+        }
+        let (_, here) = rest.split_at(at);
+        if let Some(after) = after_run(here, run) {
             return Some(after);
         }
-        let Some((_, shorter)) = rest.split_first() else {
-            return None;
-        };
-        rest = shorter;
+        rest = after_byte(here);
     }
     None
 }

@@ -98,7 +98,7 @@ fn run_command<'a>(alloc: Global) -> Result<Command<'a>, AllocError> {
     let journal = flag(
         alloc,
         JOURNAL,
-        "Print the journal and its check behind the replies",
+        "Print the journal and its check after the replies",
     );
     let strict = flag(
         alloc,

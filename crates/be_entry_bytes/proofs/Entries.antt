@@ -14,7 +14,7 @@ use Rattle.be_entry_bytes.specs.Decoding.{◌>>=◌, op_at, set_at, unset_at, mk
 use Rattle.be_entry_bytes.proofs.Numbers.{number_again}
 use Rattle.be_entry_bytes.proofs.Values.{name_again, kind_again, value_again}
 
--- three parts and what stands behind them
+-- three parts and what stands after them
 regrouped : (a b c rest : List ℕ) → (a ++ (b ++ c)) ++ rest ≡ a ++ (b ++ (c ++ rest))
 regrouped a b c rest = append_assoc a (b ++ c) rest ∙ ap (λ x. a ++ x) (append_assoc b c rest)
 

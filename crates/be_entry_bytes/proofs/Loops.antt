@@ -9,52 +9,52 @@ use Rattle.be_entry_bytes.specs.Encoding.{step_bytes, steps_bytes}
 use Rattle.be_entry_bytes.specs.Decoding.{◌>>=◌, step_at, steps_at, Found}
 
 -- what was read before, and what is still read
-abbrev pub behind : List Op → List Done → Option (List Op × List Done × List ℕ) → Option (List Op × List Done × List ℕ)
-behind ops dones read = read >>= λ x. Some (ops ++ x.0, dones ++ x.1, x.2)
+abbrev pub beyond : List Op → List Done → Option (List Op × List Done × List ℕ) → Option (List Op × List Done × List ℕ)
+beyond ops dones read = read >>= λ x. Some (ops ++ x.0, dones ++ x.1, x.2)
 
 -- at first nothing was read
-pub nothing_behind : (read : Option (List Op × List Done × List ℕ)) → behind [] [] read ≡ read
-nothing_behind None = refl
-nothing_behind (Some x) = refl
+pub nothing_after : (read : Option (List Op × List Done × List ℕ)) → beyond [] [] read ≡ read
+nothing_after None = refl
+nothing_after (Some x) = refl
 
 pushed : {X : Type 0} (front : List X) (x : X) (rest : List X) → front ++ x ∷ rest ≡ (front ++ x ∷ []) ++ rest
 pushed front x rest = sym (append_assoc front (x ∷ []) rest)
 
 regrouped : (ops : List Op) (dones : List Done) (op : Op) (done : Done) (read : Option (List Op × List Done × List ℕ)) →
-    behind ops dones (read >>= λ x. Some (op ∷ x.0, done ∷ x.1, x.2)) ≡ behind (ops ++ op ∷ []) (dones ++ done ∷ []) read
+    beyond ops dones (read >>= λ x. Some (op ∷ x.0, done ∷ x.1, x.2)) ≡ beyond (ops ++ op ∷ []) (dones ++ done ∷ []) read
 regrouped ops dones op done None = refl
 regrouped ops dones op done (Some x) =
     ap (λ (xs : List Op). Some (xs, dones ++ done ∷ x.1, x.2)) (pushed ops op x.0)
     ∙ ap (λ (xs : List Done). Some ((ops ++ op ∷ []) ++ x.0, xs, x.2)) (pushed dones done x.1)
 
 pub goes_on : (ops : List Op) (dones : List Done) (count i : ℕ) (bytes : List ℕ) (op : Op) (done : Done) (after : List ℕ) (all : Option (List Op × List Done × List ℕ)) →
-    i < count → step_at bytes ≡ Some (op, done, after) → behind ops dones (steps_at (count - i) bytes) ≡ all →
-    behind (ops ++ op ∷ []) (dones ++ done ∷ []) (steps_at (count - (i + 1)) after) ≡ all
+    i < count → step_at bytes ≡ Some (op, done, after) → beyond ops dones (steps_at (count - i) bytes) ≡ all →
+    beyond (ops ++ op ∷ []) (dones ++ done ∷ []) (steps_at (count - (i + 1)) after) ≡ all
 unfolding steps_at
 goes_on ops dones count i bytes op done after all short is so_far =
     let one : count - i ≡ suc (count - (i + 1)) = omega arith in
-    let next : behind ops dones (steps_at (count - i) bytes) ≡ behind (ops ++ op ∷ []) (dones ++ done ∷ []) (steps_at (count - (i + 1)) after) =
+    let next : beyond ops dones (steps_at (count - i) bytes) ≡ beyond (ops ++ op ∷ []) (dones ++ done ∷ []) (steps_at (count - (i + 1)) after) =
     rw (one, is) (regrouped ops dones op done (steps_at (count - (i + 1)) after)) in
     sym next ∙ so_far
 
 pub ends : (ops : List Op) (dones : List Done) (count i : ℕ) (bytes : List ℕ) (all : Option (List Op × List Done × List ℕ)) →
-    i < count → step_at bytes ≡ None → behind ops dones (steps_at (count - i) bytes) ≡ all → all ≡ None
+    i < count → step_at bytes ≡ None → beyond ops dones (steps_at (count - i) bytes) ≡ all → all ≡ None
 unfolding steps_at
 ends ops dones count i bytes all short is so_far =
     let one : count - i ≡ suc (count - (i + 1)) = omega arith in
-    let none : behind ops dones (steps_at (count - i) bytes) ≡ None = rw (one, is) refl in
+    let none : beyond ops dones (steps_at (count - i) bytes) ≡ None = rw (one, is) refl in
     sym so_far ∙ none
 
 pub is_done : (ops : List Op) (dones : List Done) (count i : ℕ) (bytes : List ℕ) (all : Option (List Op × List Done × List ℕ)) →
-    count ≤ i → behind ops dones (steps_at (count - i) bytes) ≡ all → all ≡ Some (ops, dones, bytes)
+    count ≤ i → beyond ops dones (steps_at (count - i) bytes) ≡ all → all ≡ Some (ops, dones, bytes)
 unfolding steps_at
 is_done ops dones count i bytes all long so_far =
     let none : count - i ≡ 0 = omega arith in
-    let last : behind ops dones (steps_at (count - i) bytes) ≡ Some (ops, dones, bytes) =
+    let last : beyond ops dones (steps_at (count - i) bytes) ≡ Some (ops, dones, bytes) =
     rw none (ap (λ (xs : List Op). Some (xs, dones ++ [], bytes)) (append-nil ops) ∙ ap (λ (xs : List Done). Some (ops, xs, bytes)) (append-nil dones)) in
     sym so_far ∙ last
 
--- the bytes behind what was read
+-- the bytes after what was read
 abbrev pub bytes_left : Option (List Op × List Done × List ℕ) → Option (List ℕ)
 bytes_left read = option_map (λ x. x.2) read
 
@@ -84,7 +84,7 @@ skip_is_done count i bytes all long so_far =
     let last : bytes_left (steps_at (count - i) bytes) ≡ Some bytes = rw none refl in
     sym so_far ∙ last
 
--- the bytes behind an entry are those behind its steps
+-- the bytes after an entry are those after its steps
 pub left_of_entry : (by : ℕ) (read : Option (List Op × List Done × List ℕ)) → option_map (λ (x : Found). x.3) (read >>= λ x. Some (by, x.0, x.1, x.2)) ≡ bytes_left read
 left_of_entry by None = refl
 left_of_entry by (Some x) = refl

@@ -1,4 +1,4 @@
--- A number that was written is read back, and so are bytes behind their count.
+-- A number that was written is read back, and so are bytes after their count.
 use Rattle.std.proofs.Common.{◌≡◌, ℕ, ◌^◌, ◌<◌, Bool, true, false, nat_lt, nat_eq, List, ◌++◌, length, Some, refl, ap, ◌∙◌, append_assoc, arith}
 use Rattle.std.specs.Int.{Width, w16, w32, w64, byte_len, from_be_bytes, to_be_bytes}
 use Rattle.std.proofs.lemmas.Bool.{ltb-true, le-ltb, lt-ltb}

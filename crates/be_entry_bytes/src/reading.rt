@@ -374,7 +374,7 @@ pub fn read_entry(
 }
 
 /// The bytes after the first `count` operations with their outcomes.
-fn behind_steps(count: u64, bytes: &[u8]) -> Option<&[u8]>
+fn after_steps(count: u64, bytes: &[u8]) -> Option<&[u8]>
     ensures { option_map (λ x. x.now) result
         ≡ option_map (λ x. x.2) (spec.steps_at count bytes.now) }
 {
@@ -393,5 +393,5 @@ pub fn skip_entry(bytes: &[u8]) -> Option<&[u8]>
     ensures { option_map (λ x. x.now) result ≡ option_map (λ x. x.3) (spec.entry_at bytes.now) }
 {
     let (_by, count, rest) = read_head(bytes)?;
-    behind_steps(count, rest)
+    after_steps(count, rest)
 }

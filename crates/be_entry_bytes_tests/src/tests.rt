@@ -23,7 +23,7 @@ fn written(alloc: Global, by: u64, ops: &[Op], dones: &[Done]) -> Result<Vec<u8>
 }
 
 /// Whether the bytes are read as this entry, with these bytes after it.
-fn is_read(alloc: Global, bytes: &[u8], entry: &Entry, behind: &[u8]) -> Result<bool, AllocError> {
+fn is_read(alloc: Global, bytes: &[u8], entry: &Entry, beyond: &[u8]) -> Result<bool, AllocError> {
     let Some((by, ops, dones, rest)) = read_entry(alloc, bytes)? else {
         return Ok(false);
     };
@@ -31,7 +31,7 @@ fn is_read(alloc: Global, bytes: &[u8], entry: &Entry, behind: &[u8]) -> Result<
         by == entry.by
             && ops.as_slice() == entry.ops.as_slice()
             && dones.as_slice() == entry.dones.as_slice()
-            && rest == behind,
+            && rest == beyond,
     )
 }
 

@@ -31,8 +31,8 @@ pub record Holds (count : ℕ) (bytes : List ℕ) (es : List Entry) : Type 0 whe
 
 pub holds : (es : List Entry) (count : ℕ) (bytes : List ℕ) → All IsStored es → bytes ≡ flat_map bytes_of es → length es ≡ count → Holds count bytes es
 holds es count bytes stored whole len =
-    let behind : bytes ≡ flat_map bytes_of es ++ [] = whole ∙ sym (append-nil (flat_map bytes_of es)) in
-    let same : entries_at count bytes ≡ es = ap (λ n. entries_at n bytes) (sym len) ∙ ap (entries_at (length es)) behind ∙ entries_again es [] stored in
+    let beyond : bytes ≡ flat_map bytes_of es ++ [] = whole ∙ sym (append-nil (flat_map bytes_of es)) in
+    let same : entries_at count bytes ≡ es = ap (λ n. entries_at n bytes) (sym len) ∙ ap (entries_at (length es)) beyond ∙ entries_again es [] stored in
     record {
       same = same;
       are = record { whole = whole ∙ ap (flat_map bytes_of) (sym same); counted = ap length same ∙ len; stored = subst (All IsStored) (sym same) stored };
@@ -42,7 +42,7 @@ holds es count bytes stored whole len =
 pub one_more : (es : List Entry) (e : Entry) → flat_map bytes_of (es ++ e ∷ []) ≡ flat_map bytes_of es ++ bytes_of e
 one_more es e = flat_map-append bytes_of es (e ∷ []) ∙ ap (λ b. flat_map bytes_of es ++ b) (flat_map-cons bytes_of e [] ∙ append-nil (bytes_of e))
 
--- one more entry behind the others
+-- one more entry after the others
 pub pushed : (count : ℕ) (bytes : List ℕ) (e : Entry) → AreEntries count bytes → IsStored e → Holds (count + 1) (bytes ++ bytes_of e) (entries_at count bytes ++ e ∷ [])
 pushed count bytes e are is =
     let es = entries_at count bytes in
@@ -61,11 +61,11 @@ taken_of count bytes [] whole len are same = absurd (omega (arith, len))
 taken_of count bytes (e ∷ es) whole len are same =
     let rest = flat_map bytes_of es in
     let others = holds es count rest (All-tail IsStored e es are) refl (omega (arith, len)) in
-    let behind : flat_map bytes_of (e ∷ es) ≡ flat_map bytes_of (e ∷ es) ++ [] = sym (append-nil (flat_map bytes_of (e ∷ es))) in (
+    let beyond : flat_map bytes_of (e ∷ es) ≡ flat_map bytes_of (e ∷ es) ++ [] = sym (append-nil (flat_map bytes_of (e ∷ es))) in (
       e,
       rest,
       record {
-        read = ap entry_at (whole ∙ behind) ∙ first_again e es [] (All-head IsStored e es are) ∙ ap (λ b. Some (e.by, e.ops, e.dones, b)) (append-nil rest);
+        read = ap entry_at (whole ∙ beyond) ∙ first_again e es [] (All-head IsStored e es are) ∙ ap (λ b. Some (e.by, e.ops, e.dones, b)) (append-nil rest);
         first = same ∙ ap (λ (xs : List Entry). e ∷ xs) (sym others.same);
         stored = All-head IsStored e es are;
         left = others.are;

@@ -34,7 +34,7 @@ same_entry blocks k b i left short is place within e =
     ∙ sym (get_or-flat_map (λ (x : Filled). x.entries) blocks k left b e short here)
     ∙ ap (λ n. get_or (entries_of blocks) n e) (sym place)
 
--- behind the last block there is no entry
+-- after the last block there is no entry
 pub past_all : (blocks : List Filled) (k i left : ℕ) → length blocks ≤ k → i ≡ length (entries_of (take k blocks)) + left → i < length (entries_of blocks) → ⊥
 past_all blocks k i left past place within =
     let all : length (entries_of (take k blocks)) ≡ length (entries_of blocks) = ap (λ (bs : List Filled). length (entries_of bs)) (take_all k blocks past) in

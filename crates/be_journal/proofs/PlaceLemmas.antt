@@ -19,7 +19,7 @@ no_places = record { each = λ k short. absurd (omega (arith, short)); all = ome
 pub from_place : (before place count : ℕ) (bytes : List ℕ) → AreEntries count bytes → IsPlace before place count bytes → Holds (count - before) (drop place bytes) (drop before (entries_at count bytes))
 from_place before place count bytes are is =
     let es = entries_at count bytes in
-    holds (drop before es) (count - before) (drop place bytes) (All-drop IsStored before es are.stored) is.behind (length-drop before es ∙ ap (λ n. n - before) are.counted)
+    holds (drop before es) (count - before) (drop place bytes) (All-drop IsStored before es are.stored) is.beyond (length-drop before es ∙ ap (λ n. n - before) are.counted)
 
 -- a place stays one with one more entry
 still_place : (before place count : ℕ) (bytes : List ℕ) (e : Entry) → AreEntries count bytes → IsStored e → IsPlace before place count bytes → IsPlace before place (count + 1) (bytes ++ bytes_of e)
@@ -30,8 +30,8 @@ still_place before place count bytes e are stored is =
     record {
       known = omega arith;
       within = omega (arith, length-append bytes (bytes_of e));
-      behind = drop-append-le place bytes (bytes_of e) within
-          ∙ ap (λ b. b ++ bytes_of e) is.behind
+      beyond = drop-append-le place bytes (bytes_of e) within
+          ∙ ap (λ b. b ++ bytes_of e) is.beyond
           ∙ sym (one_more (drop before es) e)
           ∙ ap (flat_map bytes_of) (sym (drop-append-le before es (e ∷ []) (omega (arith, are.counted))))
           ∙ ap (λ (xs : List Entry). flat_map bytes_of (drop before xs)) (sym (pushed count bytes e are stored).same);
@@ -44,7 +44,7 @@ new_place count bytes e are stored =
     record {
       known = omega arith;
       within = omega (arith, length-append bytes (bytes_of e));
-      behind = drop_at bytes (bytes_of e) (length bytes) refl
+      beyond = drop_at bytes (bytes_of e) (length bytes) refl
           ∙ sym (append-nil (bytes_of e))
           ∙ sym (flat_map-cons bytes_of e [])
           ∙ ap (flat_map bytes_of) (sym (drop_at es (e ∷ []) count are.counted))

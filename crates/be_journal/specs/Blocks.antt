@@ -41,7 +41,7 @@ pub record AreEntries (count : ℕ) (bytes : List ℕ) : Type 0 where
 pub record IsPlace (before place count : ℕ) (bytes : List ℕ) : Type 0 where
   pub known : before ≤ count
   pub within : place ≤ length bytes
-  pub behind : drop place bytes ≡ flat_map bytes_of (drop before (entries_at count bytes))
+  pub beyond : drop place bytes ≡ flat_map bytes_of (drop before (entries_at count bytes))
 
 -- the offsets of every 16th entry, from the first on
 pub record ArePlaces (places : List ℕ) (count : ℕ) (bytes : List ℕ) : Type 0 where

@@ -28,7 +28,7 @@ cut_once (op ∷ ops) some =
     let less : length (drop 64 (op ∷ ops)) ≡ length (op ∷ ops) - 64 = length-drop 64 (op ∷ ops) in
     ap (λ (lists : List (List Op)). take 64 (op ∷ ops) ∷ lists) (same_cut (length ops) (length (drop 64 (op ∷ ops))) (drop 64 (op ∷ ops)) (omega (arith, less)) (omega arith))
 
--- A list of up to 64, behind which nothing stands where it isn't full.
+-- A list of up to 64, after which nothing stands where it isn't full.
 module _ (ops rest : List Op) (few : length ops ≤ 64) (last : length ops < 64 → rest ≡ []) where
   front : take 64 (ops ++ rest) ≡ ops
   front = by (nat_lt (length ops) 64) refl
@@ -51,7 +51,7 @@ module _ (ops rest : List Op) (few : length ops ≤ 64) (last : length ops < 64 
       let long : length (ops ++ rest) ≡ length ops + length rest = length-append ops rest in
       cut_once (ops ++ rest) (omega (arith, long, some)) ∙ ap (λ (l : List Op). l ∷ cut (drop 64 (ops ++ rest))) front ∙ ap (λ (l : List Op). ops ∷ cut l) back
 
-  -- the lines of that list, and those of the others behind it
+  -- the lines of that list, and those of the others after it
   pub lines_step : (old : List Op) (before now : List ℕ) → old ≡ ops ++ rest → 1 ≤ length ops → now ≡ before ++ write_lines ops → now ++ cut_lines rest ≡ before ++ cut_lines old
   lines_step old before now is some e =
       let lines : cut_lines old ≡ write_lines ops ++ cut_lines rest =
@@ -59,7 +59,7 @@ module _ (ops rest : List Op) (few : length ops ≤ 64) (last : length ops < 64 
       ap (λ (l : List ℕ). l ++ cut_lines rest) e ∙ append_assoc before (write_lines ops) (cut_lines rest) ∙ ap (λ (l : List ℕ). before ++ l) (sym lines)
 
 pub can_step : (old ops rest : List Op) → old ≡ ops ++ rest → All CanBeOp ops → All CanBeOp rest → All CanBeOp old
-can_step old ops rest is can behind = subst (All CanBeOp) (sym is) (All-append CanBeOp ops rest can behind)
+can_step old ops rest is can beyond = subst (All CanBeOp) (sym is) (All-append CanBeOp ops rest can beyond)
 
 pub fewer_left : (old ops rest : List Op) → old ≡ ops ++ rest → 1 ≤ length ops → length rest < length old
 fewer_left old ops rest is some = let long = ap length is ∙ length-append ops rest in omega (arith, long, some)
@@ -71,8 +71,8 @@ few_within (suc most) n [] few = omega arith
 few_within (suc most) zero (op ∷ ops) few = absurd (omega (arith, few))
 few_within (suc most) (suc n) (op ∷ ops) few =
     let less : length (drop 64 (op ∷ ops)) ≡ length (op ∷ ops) - 64 = length-drop 64 (op ∷ ops) in
-    let behind : length (cut_within most (drop 64 (op ∷ ops))) ≤ n = few_within most n (drop 64 (op ∷ ops)) (omega (arith, less, few)) in
-    omega (arith, behind)
+    let beyond : length (cut_within most (drop 64 (op ∷ ops))) ≤ n = few_within most n (drop 64 (op ∷ ops)) (omega (arith, less, few)) in
+    omega (arith, beyond)
 
 pub few_lists : (n : ℕ) (ops : List Op) → length ops ≤ 64 * n → length (cut ops) ≤ n
 few_lists n ops few = few_within (length ops) n ops few

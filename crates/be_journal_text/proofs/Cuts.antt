@@ -8,11 +8,11 @@ use Rattle.be_volume.specs.declared.ops.Done.TheVariants.{Node, Unit as Nothing}
 use Rattle.be_journal_text.specs.declared.parts.Quoting.{Quoting}
 use Rattle.be_journal_text.specs.declared.parts.Quoting.TheVariants.{Outside, Inside, Escaped}
 
--- where the byte behind this one stands: in quotes or outside; a backslash in quotes takes the next byte along
-abbrev pub behind : Quoting → ℕ → Quoting
-behind Outside c = if nat_eq c 34 then Inside else Outside
-behind Inside c = if nat_eq c 92 then Escaped else if nat_eq c 34 then Outside else Inside
-behind Escaped c = Inside
+-- where the byte after this one stands: in quotes or outside; a backslash in quotes takes the next byte along
+abbrev pub beyond : Quoting → ℕ → Quoting
+beyond Outside c = if nat_eq c 34 then Inside else Outside
+beyond Inside c = if nat_eq c 92 then Escaped else if nat_eq c 34 then Outside else Inside
+beyond Escaped c = Inside
 
 -- a part ends at this byte, outside quotes
 abbrev pub is_end : ℕ → Quoting → ℕ → Bool
@@ -23,7 +23,7 @@ is_end end Escaped c = false
 -- how many bytes stand before the first end
 abbrev pub length_to : ℕ → Quoting → List ℕ → ℕ
 length_to end quoting [] = 0
-length_to end quoting (c ∷ text) = if is_end end quoting c then 0 else 1 + length_to end (behind quoting c) text
+length_to end quoting (c ∷ text) = if is_end end quoting c then 0 else 1 + length_to end (beyond quoting c) text
 
 -- the node of an answer, if it has one
 abbrev pub done_of : Option ℕ → Done
@@ -34,8 +34,8 @@ abbrev pub done_in : List ℕ → Done
 done_in text = done_of (word_in (drop 5 text))
 
 -- the line without its number and ` by `
-abbrev pub behind_number : ℕ → List ℕ → List ℕ
-behind_number number line = drop (length (decimal number ++ codes " by ")) line
+abbrev pub after_number : ℕ → List ℕ → List ℕ
+after_number number line = drop (length (decimal number ++ codes " by ")) line
 
 -- what stands before the first end, and what follows the end
 abbrev pub before : ℕ → List ℕ → List ℕ
@@ -47,22 +47,22 @@ after end text = drop (length_to end Outside text + 1) text
 abbrev pub without_last_two : List ℕ → List ℕ
 without_last_two text = take (length text - 2) text
 
--- in the line of the entry N: the pass, behind `N by `; what follows it; the operations, before ` ->`; and the answers
+-- in the line of the entry N: the pass, after `N by `; what follows it; the operations, before ` ->`; and the answers
 abbrev pub by_part : ℕ → List ℕ → List ℕ
-by_part number line = before 32 (behind_number number line)
+by_part number line = before 32 (after_number number line)
 
-abbrev pub behind_by : ℕ → List ℕ → List ℕ
-behind_by number line = after 32 (behind_number number line)
+abbrev pub after_by : ℕ → List ℕ → List ℕ
+after_by number line = after 32 (after_number number line)
 
 abbrev pub ops_part : ℕ → List ℕ → List ℕ
-ops_part number line = without_last_two (before 62 (behind_by number line))
+ops_part number line = without_last_two (before 62 (after_by number line))
 
 abbrev pub dones_part : ℕ → List ℕ → List ℕ
-dones_part number line = before 10 (drop 1 (after 62 (behind_by number line)))
+dones_part number line = before 10 (drop 1 (after 62 (after_by number line)))
 
 -- the first line with its LF, and what follows it
 abbrev pub first_line : List ℕ → List ℕ
 first_line text = take (length_to 10 Outside text + 1) text
 
-abbrev pub behind_line : List ℕ → List ℕ
-behind_line text = after 10 text
+abbrev pub after_line : List ℕ → List ℕ
+after_line text = after 10 text

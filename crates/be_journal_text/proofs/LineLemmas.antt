@@ -23,7 +23,7 @@ use Rattle.be_journal.specs.declared.entries.Entry.{Entry}
 use Rattle.be_journal.specs.Text.{done_text, entry_line, hex, hex_digit, op_text, quoted, value_text}
 use Rattle.be_journal_text.specs.History.{CanBeDone, CanBeOp, HasBytes, CanBeEntry}
 use Rattle.be_journal_text.specs.Parts.{IsLinePart}
-use Rattle.be_journal_text.proofs.Cuts.{after, before, behind_by, behind_line, behind_number, by_part, done_in, dones_part, first_line, ops_part, without_last_two}
+use Rattle.be_journal_text.proofs.Cuts.{after, before, after_by, after_line, after_number, by_part, done_in, dones_part, first_line, ops_part, without_last_two}
 use Rattle.be_journal_text.proofs.NumberLemmas.{decimal_digits, word_of_decimal}
 use Rattle.be_journal_text.proofs.PartLemmas.{both_parts, bytes_part, hex_part, is_word_byte, no_part, part_before, part_whole, quoted_part, unlike, words_part}
 
@@ -150,7 +150,7 @@ drop_past (x ∷ xs) =
     let one : length (x ∷ xs) + 1 ≡ suc (length xs + 1) = omega arith in
     ap (λ n. drop n (x ∷ xs)) one ∙ drop_past xs
 
--- what stands before an end that follows a part, and behind it
+-- what stands before an end that follows a part, and after it
 pub before_end : (end : ℕ) (xs ys : List ℕ) → IsLinePart end xs → before end (xs ++ end ∷ ys) ≡ xs
 before_end end xs ys h = ap (λ n. take n (xs ++ end ∷ ys)) (part_before end xs ys h) ∙ take_front xs (end ∷ ys)
 
@@ -208,25 +208,25 @@ module _ (number : ℕ) (entry : Entry) (w : CanBeEntry entry) where
   abbrev pub dones_of : List ℕ
   dones_of = join_by done_text (codes "; ") entry.dones
 
-  abbrev pub behind_arrow : List ℕ
-  behind_arrow = dones_of ++ codes "\n"
+  abbrev pub after_arrow : List ℕ
+  after_arrow = dones_of ++ codes "\n"
 
-  abbrev pub behind_pass : List ℕ
-  behind_pass = ops_of ++ (codes " -> " ++ behind_arrow)
+  abbrev pub after_pass : List ℕ
+  after_pass = ops_of ++ (codes " -> " ++ after_arrow)
 
-  number_taken : behind_number number (entry_line number entry) ≡ decimal entry.by ++ 32 ∷ behind_pass
+  number_taken : after_number number (entry_line number entry) ≡ decimal entry.by ++ 32 ∷ after_pass
   number_taken =
-      ap (drop (length (decimal number ++ codes " by "))) (sym (append_assoc (decimal number) (codes " by ") (decimal entry.by ++ 32 ∷ behind_pass)))
-      ∙ drop_front (decimal number ++ codes " by ") (decimal entry.by ++ 32 ∷ behind_pass)
+      ap (drop (length (decimal number ++ codes " by "))) (sym (append_assoc (decimal number) (codes " by ") (decimal entry.by ++ 32 ∷ after_pass)))
+      ∙ drop_front (decimal number ++ codes " by ") (decimal entry.by ++ 32 ∷ after_pass)
 
   pub pass_part : IsLinePart 32 (decimal entry.by)
   pass_part = digits_part 32 (decimal entry.by) refl (decimal_digits entry.by w.by)
 
   pub by_read : by_part number (entry_line number entry) ≡ decimal entry.by
-  by_read = ap (before 32) number_taken ∙ before_end 32 (decimal entry.by) behind_pass pass_part
+  by_read = ap (before 32) number_taken ∙ before_end 32 (decimal entry.by) after_pass pass_part
 
-  by_taken : behind_by number (entry_line number entry) ≡ behind_pass
-  by_taken = ap (after 32) number_taken ∙ after_end 32 (decimal entry.by) behind_pass pass_part
+  by_taken : after_by number (entry_line number entry) ≡ after_pass
+  by_taken = ap (after 32) number_taken ∙ after_end 32 (decimal entry.by) after_pass pass_part
 
   pub before_arrow : IsLinePart 62 (ops_of ++ codes " -")
   before_arrow = both_parts 62 ops_of (codes " -")
@@ -234,8 +234,8 @@ module _ (number : ℕ) (entry : Entry) (w : CanBeEntry entry) where
       entry.ops w.ops)
       (words_part 62 (codes " -") refl refl)
 
-  pub arrow_split : behind_pass ≡ (ops_of ++ codes " -") ++ 62 ∷ 32 ∷ behind_arrow
-  arrow_split = sym (append_assoc ops_of (codes " -") (62 ∷ 32 ∷ behind_arrow))
+  pub arrow_split : after_pass ≡ (ops_of ++ codes " -") ++ 62 ∷ 32 ∷ after_arrow
+  arrow_split = sym (append_assoc ops_of (codes " -") (62 ∷ 32 ∷ after_arrow))
 
   pub less_two : (xs : List ℕ) → without_last_two (xs ++ codes " -") ≡ xs
   less_two xs =
@@ -244,7 +244,7 @@ module _ (number : ℕ) (entry : Entry) (w : CanBeEntry entry) where
 
   pub ops_read : ops_part number (entry_line number entry) ≡ join_by op_text (codes "; ") entry.ops
   ops_read = ap (λ l. without_last_two (before 62 l)) (by_taken ∙ arrow_split)
-      ∙ (ap without_last_two (before_end 62 (ops_of ++ codes " -") (32 ∷ behind_arrow) before_arrow) ∙ less_two ops_of)
+      ∙ (ap without_last_two (before_end 62 (ops_of ++ codes " -") (32 ∷ after_arrow) before_arrow) ∙ less_two ops_of)
 
   pub answers_part : IsLinePart 10 dones_of
   answers_part = list_part 10 CanBeDone done_text refl refl (λ done h. done_part 10 refl refl done h)
@@ -252,9 +252,9 @@ module _ (number : ℕ) (entry : Entry) (w : CanBeEntry entry) where
 
   pub dones_read : dones_part number (entry_line number entry) ≡ join_by done_text (codes "; ") entry.dones
   dones_read = ap (λ l. before 10 (drop 1 (after 62 l))) (by_taken ∙ arrow_split)
-      ∙ (ap (λ l. before 10 (drop 1 l)) (after_end 62 (ops_of ++ codes " -") (32 ∷ behind_arrow) before_arrow) ∙ before_end 10 dones_of [] answers_part)
+      ∙ (ap (λ l. before 10 (drop 1 l)) (after_end 62 (ops_of ++ codes " -") (32 ∷ after_arrow) before_arrow) ∙ before_end 10 dones_of [] answers_part)
 
-  -- the line is a part, and the LF behind it ends it
+  -- the line is a part, and the LF after it ends it
   abbrev pub body : List ℕ
   body = decimal number ++ (codes " by " ++ (decimal entry.by ++ (codes " " ++ (ops_of ++ (codes " -> " ++ dones_of)))))
 
@@ -281,7 +281,7 @@ module _ (number : ℕ) (entry : Entry) (w : CanBeEntry entry) where
       let whole : entry_line number entry ++ more ≡ body ++ 10 ∷ more = ap (λ l. l ++ more) body_line ∙ append_assoc body (10 ∷ []) more in
       ap first_line whole ∙ (first_taken body more (body_part h) ∙ sym body_line)
 
-  pub line_behind : number < 2 ^ 64 → (more : List ℕ) → behind_line (entry_line number entry ++ more) ≡ more
-  line_behind h more =
+  pub line_after : number < 2 ^ 64 → (more : List ℕ) → after_line (entry_line number entry ++ more) ≡ more
+  line_after h more =
       let whole : entry_line number entry ++ more ≡ body ++ 10 ∷ more = ap (λ l. l ++ more) body_line ∙ append_assoc body (10 ∷ []) more in
-      ap behind_line whole ∙ after_end 10 body more (body_part h)
+      ap after_line whole ∙ after_end 10 body more (body_part h)

@@ -21,7 +21,7 @@ use Rattle.std.specs.declared.result.Result.{Result}
 use Rattle.be_journal.specs.Text.{escaped, hex, op_text, quoted, value_text}
 use Rattle.be_script_language.specs.Request.{Request, asked, command_in, command_named, command_of, is_comment, malformed, request_in, named, set_from, set_in, set_op, write}
 use Rattle.be_script_language.specs.Values.{kind_in, value_in}
-use Rattle.be_script_language.specs.Words.{behind, bytes_of, end_of_word, ends_word, first_word, if_ended, is_blank, is_empty, one_word, quoted_in, skip, two_words}
+use Rattle.be_script_language.specs.Words.{beyond, bytes_of, end_of_word, ends_word, first_word, if_ended, is_blank, is_empty, one_word, quoted_in, skip, two_words}
 use Rattle.be_script_language.specs.declared.commands.Command.{Command}
 use Rattle.be_script_language.specs.declared.commands.Command.TheVariants as commands
 use Rattle.be_script_language.proofs.WordLemmas.{quoted-end, quoted-plain}
@@ -52,10 +52,10 @@ escaped_chars c =
     else c ∷ []
 
 abbrev IsRead : List ℕ → ℕ → Type 0
-IsRead text d = quoted_in (escaped_chars d ++ text) ≡ behind (encode_utf8 d) (quoted_in text)
+IsRead text d = quoted_in (escaped_chars d ++ text) ≡ beyond (encode_utf8 d) (quoted_in text)
 
 -- one character is read on
-char_read : (c : ℕ) (text : List ℕ) → quoted_in (escaped_chars c ++ text) ≡ behind (encode_utf8 c) (quoted_in text)
+char_read : (c : ℕ) (text : List ℕ) → quoted_in (escaped_chars c ++ text) ≡ beyond (encode_utf8 c) (quoted_in text)
 char_read c text = by34 (nat_eq c 34) refl
   where
     by13 : (b : Bool) → nat_eq c 13 ≡ b → nat_eq c 34 ≡ false → nat_eq c 92 ≡ false → nat_eq c 10 ≡ false → IsRead text c
@@ -74,14 +74,14 @@ char_read c text = by34 (nat_eq c 34) refl
     by34 true e = subst (IsRead text) (sym (same_byte c 34 e)) refl
     by34 false e = by92 (nat_eq c 92) refl e
 
--- all characters, and the quote behind them
+-- all characters, and the quote after them
 pub quoted_read : (cs rest : List ℕ) → quoted_in (flat_map escaped_chars cs ++ 34 ∷ rest) ≡ Some (bytes_of cs, rest)
 quoted_read [] rest = quoted-end rest
 quoted_read (c ∷ cs) rest =
     ap (λ l. quoted_in (l ++ 34 ∷ rest)) (flat_map-cons escaped_chars c cs)
     ∙ (ap quoted_in (append_assoc (escaped_chars c) (flat_map escaped_chars cs) (34 ∷ rest))
     ∙ (char_read c (flat_map escaped_chars cs ++ 34 ∷ rest)
-    ∙ (ap (behind (encode_utf8 c)) (quoted_read cs rest)
+    ∙ (ap (beyond (encode_utf8 c)) (quoted_read cs rest)
     ∙ ap (λ l. Some (l, rest)) (sym (flat_map-cons encode_utf8 c cs)))))
 
 -- Bytes of a text, and its characters.
@@ -176,8 +176,8 @@ spelled_then {cs} {text} head low h = spelled_both head head cs text (spelled_lo
 abbrev Ends : List ℕ → Type 0
 Ends text = (front : List ℕ) × (c : ℕ) × (text ≡ front ++ c ∷ []) × (nat_eq c 13 ≡ false)
 
-ends_behind : (xs ys : List ℕ) → Ends ys → Ends (xs ++ ys)
-ends_behind xs ys h = (xs ++ h.0, h.1, ap (λ l. xs ++ l) h.2 ∙ sym (append_assoc xs h.0 (h.1 ∷ [])), h.3)
+ends_after : (xs ys : List ℕ) → Ends ys → Ends (xs ++ ys)
+ends_after xs ys h = (xs ++ h.0, h.1, ap (λ l. xs ++ l) h.2 ∙ sym (append_assoc xs h.0 (h.1 ∷ [])), h.3)
 
 -- so it is kept
 kept : (text : List ℕ) → Ends text → strip_carriage_return text ≡ text
@@ -220,7 +220,7 @@ plain_is_not_blank c h = rw (unlike is_plain c 32 h refl) (rw (unlike is_plain c
 ends_plain : (w : List ℕ) → list_all is_plain w ≡ true → 1 ≤ length w → Ends w
 ends_plain [] h some = absurd (omega (arith, some))
 ends_plain (c ∷ []) h some = ([], c, refl, unlike is_plain c 13 (and_parts (is_plain c) true h).0 refl)
-ends_plain (c ∷ d ∷ w) h some = ends_behind (c ∷ []) (d ∷ w) (ends_plain (d ∷ w) (and_parts (is_plain c) (list_all is_plain (d ∷ w)) h).1 (omega arith))
+ends_plain (c ∷ d ∷ w) h some = ends_after (c ∷ []) (d ∷ w) (ends_plain (d ∷ w) (and_parts (is_plain c) (list_all is_plain (d ∷ w)) h).1 (omega arith))
 
 first_blank : (w rest : List ℕ) → list_all is_plain w ≡ true → ends_word rest ≡ true → position_or_len is_blank (w ++ rest) ≡ length w
 first_blank [] [] h e = refl
@@ -282,8 +282,8 @@ words_read [] rest h = quoted-end rest
 words_read (c ∷ ws) rest h =
     let p = and_parts (is_word_byte c) (list_all is_word_byte ws) h in
     quoted-plain c (ws ++ 34 ∷ rest) (is_other c 34 p.0 refl) (is_other c 92 p.0 refl)
-    ∙ (ap (λ (l : List ℕ). behind l (quoted_in (ws ++ 34 ∷ rest))) (encode_ascii c (low_byte c (word_low c p.0)))
-    ∙ ap (behind (c ∷ [])) (words_read ws rest p.1))
+    ∙ (ap (λ (l : List ℕ). beyond l (quoted_in (ws ++ 34 ∷ rest))) (encode_ascii c (low_byte c (word_low c p.0)))
+    ∙ ap (beyond (c ∷ [])) (words_read ws rest p.1))
 
 -- The words of a line.
 
@@ -397,7 +397,7 @@ drop_asked node h =
     let number = number_value node h in
     asked_of (codes "drop " ++ decimal node) (codes "drop " ++ decimal node)
     (spelled_then (codes "drop ") refl (spelled_plain (decimal node) (decimal_plain node h)))
-    (ends_behind (codes "drop ") (decimal node) number.ends) refl
+    (ends_after (codes "drop ") (decimal node) number.ends) refl
     ∙ (command_read (codes "drop") (32 ∷ decimal node) commands.Drop refl refl refl
     ∙ (ap (λ (o : Option (List ℕ)). answer (option_map (λ n. write (Ok (Drop n))) (option_and_then word_in o)))
     (one_read (32 ∷ decimal node) (decimal node) (last_plain (decimal node) (decimal_plain node h) (decimal_nonempty node h)))
@@ -412,7 +412,7 @@ unset_asked node name h is u =
     asked_of (codes "unset " ++ (decimal node ++ text)) (codes "unset " ++ (decimal node ++ rest))
     (spelled_then (codes "unset ") refl
     (spelled_then (decimal node) (plain_low (decimal node) (decimal_plain node h)) (spelled_then (codes " ") refl (spelled_quoted name u))))
-    (ends_behind (codes "unset ") (decimal node ++ text) (ends_behind (decimal node) text (ends_behind (codes " ") (quoted name) word.ends))) refl
+    (ends_after (codes "unset ") (decimal node ++ text) (ends_after (decimal node) text (ends_after (codes " ") (quoted name) word.ends))) refl
     ∙ (command_read (codes "unset") (32 ∷ (decimal node ++ rest)) commands.Unset refl refl refl
     ∙ (ap (λ (o : Option (List ℕ × List ℕ)). answer
     (option_map (λ (words : ℕ × List ℕ). write (named (λ m. Unset words.0 m) words.1))
@@ -430,8 +430,8 @@ mkindex_asked name kind is u =
     (spelled_then (codes "mkindex ") refl
     (spelled_both (quoted_chars name) (quoted name) text text (spelled_quoted name u)
     (spelled_then (codes " ") refl (spelled_plain (kind_name kind) plain))))
-    (ends_behind (codes "mkindex ") (quoted name ++ text)
-    (ends_behind (quoted name) text (ends_behind (codes " ") (kind_name kind) (ends_plain (kind_name kind) plain (kind_long kind))))) refl
+    (ends_after (codes "mkindex ") (quoted name ++ text)
+    (ends_after (quoted name) text (ends_after (codes " ") (kind_name kind) (ends_plain (kind_name kind) plain (kind_long kind))))) refl
     ∙ (command_read (codes "mkindex") (32 ∷ (quoted_chars name ++ text)) commands.MkIndex refl refl refl
     ∙ (ap (λ (o : Option (List ℕ × List ℕ)). answer
     (option_and_then (λ (words : List ℕ × List ℕ). option_map (λ k. write (named (λ m. MkIndex m k) words.0)) (kind_in words.1)) o))
@@ -443,7 +443,7 @@ rmindex_asked : (name : List ℕ) → name_from name ≡ Ok name → IsUtf8 name
 rmindex_asked name is u =
     let word = quoted_value name u in
     asked_of (codes "rmindex " ++ quoted name) (codes "rmindex " ++ quoted_chars name) (spelled_then (codes "rmindex ") refl (spelled_quoted name u))
-    (ends_behind (codes "rmindex ") (quoted name) word.ends) refl
+    (ends_after (codes "rmindex ") (quoted name) word.ends) refl
     ∙ (command_read (codes "rmindex") (32 ∷ quoted_chars name) commands.RmIndex refl refl refl
     ∙ (ap (λ (o : Option (List ℕ)). answer (option_map (λ m. write (named RmIndex m)) o)) (one_read (32 ∷ quoted_chars name) name (last_name name u))
     ∙ ap (λ r. write (result_map_both RmIndex (λ e. e) r)) is))
@@ -491,11 +491,11 @@ set_asked node name v h named_is u is bytes =
     spelled_then (codes " ") refl (spelled_then k low (spelled_then (codes " ") refl p.spelled)) in
     let spelled_words : Spells (codes " " ++ (quoted_chars name ++ 32 ∷ (k ++ 32 ∷ p.characters))) words =
     spelled_then (codes " ") refl (spelled_both (quoted_chars name) (quoted name) (32 ∷ (k ++ 32 ∷ p.characters)) kind (spelled_quoted name u) spelled_kind) in
-    let ends_kind : Ends kind = ends_behind (codes " ") (k ++ value) (ends_behind k value (ends_behind (codes " ") (value_text v) p.ends)) in
-    let ends_words : Ends words = ends_behind (codes " ") (quoted name ++ kind) (ends_behind (quoted name) kind ends_kind) in
+    let ends_kind : Ends kind = ends_after (codes " ") (k ++ value) (ends_after k value (ends_after (codes " ") (value_text v) p.ends)) in
+    let ends_words : Ends words = ends_after (codes " ") (quoted name ++ kind) (ends_after (quoted name) kind ends_kind) in
     asked_of (codes "set " ++ (decimal node ++ words)) (codes "set" ++ rest)
     (spelled_then (codes "set ") refl (spelled_then (decimal node) (plain_low (decimal node) (decimal_plain node h)) spelled_words))
-    (ends_behind (codes "set ") (decimal node ++ words) (ends_behind (decimal node) words ends_words)) refl
+    (ends_after (codes "set ") (decimal node ++ words) (ends_after (decimal node) words ends_words)) refl
     ∙ (command_read (codes "set") rest commands.Set refl refl refl
     ∙ (ap answer (set_read node name v p.characters h u p.read) ∙ set_made node name v h named_is is bytes))
 

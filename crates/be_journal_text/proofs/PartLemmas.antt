@@ -15,17 +15,17 @@ use Rattle.be_journal.specs.Text.{escaped, quoted}
 use Rattle.be_journal_text.specs.Parts.{IsApart, IsLinePart, Piece, byte, in_quotes, piece_text}
 use Rattle.be_journal_text.specs.declared.parts.Quoting.{Quoting}
 use Rattle.be_journal_text.specs.declared.parts.Quoting.TheVariants.{Outside, Inside, Escaped}
-use Rattle.be_journal_text.proofs.Cuts.{behind, is_end, length_to}
+use Rattle.be_journal_text.proofs.Cuts.{beyond, is_end, length_to}
 
--- where one stands behind these bytes
+-- where one stands after these bytes
 abbrev pub walk : Quoting → List ℕ → Quoting
 walk q [] = q
-walk q (c ∷ text) = walk (behind q c) text
+walk q (c ∷ text) = walk (beyond q c) text
 
 -- no end is among these bytes
 abbrev pub IsQuiet : ℕ → Quoting → List ℕ → Type 0
 IsQuiet end q [] = Unit {0}
-IsQuiet end q (c ∷ text) = (is_end end q c ≡ false) × IsQuiet end (behind q c) text
+IsQuiet end q (c ∷ text) = (is_end end q c ≡ false) × IsQuiet end (beyond q c) text
 
 -- no LF
 abbrev pub in_line : ℕ → Bool
@@ -54,17 +54,17 @@ both_in_line xs ys h g = list_all-append in_line xs ys ∙ rw h g
 
 pub walk-append : (q : Quoting) (xs ys : List ℕ) → walk q (xs ++ ys) ≡ walk (walk q xs) ys
 walk-append q [] ys = refl
-walk-append q (x ∷ xs) ys = walk-append (behind q x) xs ys
+walk-append q (x ∷ xs) ys = walk-append (beyond q x) xs ys
 
 pub quiet_append : (end : ℕ) (q : Quoting) (xs ys : List ℕ) → IsQuiet end q xs → IsQuiet end (walk q xs) ys → IsQuiet end q (xs ++ ys)
 quiet_append end q [] ys h g = g
-quiet_append end q (x ∷ xs) ys h g = (h.0, quiet_append end (behind q x) xs ys h.1 g)
+quiet_append end q (x ∷ xs) ys h g = (h.0, quiet_append end (beyond q x) xs ys h.1 g)
 
 pub length_through : (end : ℕ) (q : Quoting) (xs ys : List ℕ) → IsQuiet end q xs → length_to end q (xs ++ ys) ≡ length xs + length_to end (walk q xs) ys
 length_through end q [] ys h = sym (zero-add (length_to end q ys))
 length_through end q (x ∷ xs) ys h =
-    let more = length_through end (behind q x) xs ys h.1 in
-    let sum : 1 + (length xs + length_to end (walk (behind q x) xs) ys) ≡ length (x ∷ xs) + length_to end (walk (behind q x) xs) ys = omega arith in
+    let more = length_through end (beyond q x) xs ys h.1 in
+    let sum : 1 + (length xs + length_to end (walk (beyond q x) xs) ys) ≡ length (x ∷ xs) + length_to end (walk (beyond q x) xs) ys = omega arith in
     rw h.0 (ap (λ n. 1 + n) more ∙ sum)
 
 both_closed : (end : ℕ) (xs ys : List ℕ) → IsClosed end xs → IsClosed end ys → IsClosed end (xs ++ ys)
@@ -96,7 +96,7 @@ unlike test c d h g = by (nat_eq c d) refl
 pub is_other : (c d : ℕ) → is_word_byte c ≡ true → is_word_byte d ≡ false → nat_eq c d ≡ false
 is_other c d h g = unlike is_word_byte c d h g
 
--- Inside quotes no part ends, and one stays there but behind a `"` and a `\`.
+-- Inside quotes no part ends, and one stays there but after a `"` and a `\`.
 
 -- Quotes are no end anywhere inside them: this is so of each byte that is escaped or stays inside.
 pub record IsInside (end : ℕ) (text : List ℕ) : Type 0 where
@@ -123,7 +123,7 @@ inner_inside end [] h = no_inside end
 inner_inside end (c ∷ text) h =
     let first = h 0 (omega arith) in
     let more = inner_inside end text (λ k l. h (suc k) (omega (arith, l))) in
-    let inside : behind Inside c ≡ Inside = rw first.1 (rw first.0 refl) in
+    let inside : beyond Inside c ≡ Inside = rw first.1 (rw first.0 refl) in
     record {
       quiet = (refl, subst (λ (q : Quoting). IsQuiet end q text) (sym inside) more.quiet);
       back = ap (λ (q : Quoting). walk q text) inside ∙ more.back;
@@ -295,12 +295,12 @@ pub none_of_length : (text : List ℕ) → length text ≡ 0 → text ≡ []
 none_of_length [] h = refl
 none_of_length (c ∷ text) h = absurd (omega (arith, h))
 
-pub behind_is : (quoting next : Quoting) (c : ℕ) → (quoting ≡ Outside → next ≡ (if nat_eq c 34 then Inside else Outside)) →
+pub beyond_is : (quoting next : Quoting) (c : ℕ) → (quoting ≡ Outside → next ≡ (if nat_eq c 34 then Inside else Outside)) →
     (quoting ≡ Inside → next ≡ (if nat_eq c 92 then Escaped else if nat_eq c 34 then Outside else Inside)) → (quoting ≡ Escaped → next ≡ Inside) →
-    next ≡ behind quoting c
-behind_is Outside next c outside inside escaped_is = outside refl
-behind_is Inside next c outside inside escaped_is = inside refl
-behind_is Escaped next c outside inside escaped_is = escaped_is refl
+    next ≡ beyond quoting c
+beyond_is Outside next c outside inside escaped_is = outside refl
+beyond_is Inside next c outside inside escaped_is = inside refl
+beyond_is Escaped next c outside inside escaped_is = escaped_is refl
 
 pub is_end_is : (end : ℕ) (quoting : Quoting) (c : ℕ) (answer : Bool) → (answer ≡ true) ↔ ((quoting ≡ Outside) × (c ≡ end)) → answer ≡ is_end end quoting c
 is_end_is end Outside c true h = let is = (h.0 refl).1 in grind (arith, nat_tests, is)
@@ -324,7 +324,7 @@ counted_all end count quoting text rest so_far is =
     sym (so_far ∙ (ap (λ l. count + length_to end quoting l) is ∙ sum))
 
 pub counted_on : (end : ℕ) (quoting : Quoting) (rest more : List ℕ) (c : ℕ) → rest ≡ c ∷ more → is_end end quoting c ≡ false →
-    length_to end quoting rest ≡ 1 + length_to end (behind quoting c) more
+    length_to end quoting rest ≡ 1 + length_to end (beyond quoting c) more
 counted_on end quoting rest more c is here = ap (length_to end quoting) is ∙ rw here refl
 
 -- the count of bytes before the first end

@@ -38,14 +38,14 @@ pub all_left : {X : Type 0} (P : X → Type 0) (text_of : X → List ℕ) (text 
 all_left P text_of text xs are is = (xs, refl, is)
 
 -- The first element's text and that of the others, where what is joined by `; ` is cut at its first end.
-pub joined_cut : {X : Type 0} (P : X → Type 0) (text_of : X → List ℕ) (rest part behind : List ℕ) → ((y : X) → P y → IsLinePart 59 (text_of y)) →
-    ((xs more : List ℕ) → IsLinePart 59 xs → rest ≡ xs ++ 59 ∷ more → (part ≡ xs) × (behind ≡ more)) → (IsLinePart 59 rest → (part ≡ rest) × (behind ≡ [])) →
-    (y : X) (more : List X) → P y → rest ≡ join_by text_of (codes "; ") (y ∷ more) → (part ≡ text_of y) × (drop 1 behind ≡ join_by text_of (codes "; ") more)
-joined_cut P text_of rest part behind each ends alone y [] can now =
+pub joined_cut : {X : Type 0} (P : X → Type 0) (text_of : X → List ℕ) (rest part beyond : List ℕ) → ((y : X) → P y → IsLinePart 59 (text_of y)) →
+    ((xs more : List ℕ) → IsLinePart 59 xs → rest ≡ xs ++ 59 ∷ more → (part ≡ xs) × (beyond ≡ more)) → (IsLinePart 59 rest → (part ≡ rest) × (beyond ≡ [])) →
+    (y : X) (more : List X) → P y → rest ≡ join_by text_of (codes "; ") (y ∷ more) → (part ≡ text_of y) × (drop 1 beyond ≡ join_by text_of (codes "; ") more)
+joined_cut P text_of rest part beyond each ends alone y [] can now =
     let is : rest ≡ text_of y = now ∙ append-nil (text_of y) in
     let cut = alone (subst (λ (l : List ℕ). IsLinePart 59 l) (sym is) (each y can)) in
     (cut.0 ∙ is, ap (λ l. drop 1 l) cut.1)
-joined_cut P text_of rest part behind each ends alone y (z ∷ zs) can now =
+joined_cut P text_of rest part beyond each ends alone y (z ∷ zs) can now =
     let more = flat_map (λ x. codes "; " ++ text_of x) zs in
     let is : rest ≡ text_of y ++ 59 ∷ 32 ∷ (text_of z ++ more) = now ∙ ap (λ l. text_of y ++ l) (flat_map-cons (λ x. codes "; " ++ text_of x) z zs) in
     let cut = ends (text_of y) (32 ∷ (text_of z ++ more)) (each y can) is in
@@ -161,10 +161,10 @@ first_line_left text rest first rest' read some left cut entries are is = let h 
 
 -- a line has its LF at least
 pub entry_line_long : (n : ℕ) (e : Entry) → 1 ≤ length (entry_line n e)
-entry_line_long n e = let long = length-append (decimal n) (codes " by " ++ behind_by) in omega (arith, long)
+entry_line_long n e = let long = length-append (decimal n) (codes " by " ++ after_by) in omega (arith, long)
   where
-    behind_by : List ℕ
-    behind_by = decimal e.by ++ (codes " " ++ (join_by op_text (codes "; ") e.ops ++ (codes " -> " ++ (join_by done_text (codes "; ") e.dones ++ codes "\n"))))
+    after_by : List ℕ
+    after_by = decimal e.by ++ (codes " " ++ (join_by op_text (codes "; ") e.ops ++ (codes " -> " ++ (join_by done_text (codes "; ") e.dones ++ codes "\n"))))
 
 -- no line is left
 pub no_lines_left : (text rest : List ℕ) (read : List Entry) → length rest ≡ 0 → AreLeft text read rest → (entries : List Entry) → CanBeJournal entries →

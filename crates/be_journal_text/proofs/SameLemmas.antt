@@ -10,8 +10,8 @@ use Rattle.be_volume.specs.declared.ops.Done.{Done}
 use Rattle.be_volume.specs.declared.ops.Op.{Op}
 use Rattle.be_journal_text.specs.History.{CanBeDone, CanBeOp, CanBeEntry, entry_of}
 use Rattle.be_journal_text.specs.Parts.{IsLinePart}
-use Rattle.be_journal_text.proofs.Cuts.{after, before, behind_line, by_part, done_in, dones_part, first_line, ops_part}
-use Rattle.be_journal_text.proofs.LineLemmas.{by_read, done_part, done_read, dones_read, first_joined, line_behind, line_first, op_part, ops_read, rest_joined}
+use Rattle.be_journal_text.proofs.Cuts.{after, before, after_line, by_part, done_in, dones_part, first_line, ops_part}
+use Rattle.be_journal_text.proofs.LineLemmas.{by_read, done_part, done_read, dones_read, first_joined, line_after, line_first, op_part, ops_read, rest_joined}
 use Rattle.be_journal_text.proofs.OpLemmas.{op_asked}
 use Rattle.be_journal_text.proofs.ReadLemmas.{done_long, entry_line_long, entry_made, inside, op_long}
 
@@ -66,7 +66,7 @@ same_lines n (i ∷ es) (o ∷ os) h g few e =
     let fewer : n + 1 + length es ≤ 2 ^ 64 = omega (arith, few) in
     let first : entry_line n i ≡ entry_line n o = sym (line_first n i w small (lines_from (n + 1) es))
     ∙ (ap first_line e ∙ line_first n o v small (lines_from (n + 1) os)) in
-    let rest : lines_from (n + 1) es ≡ lines_from (n + 1) os = sym (line_behind n i w small (lines_from (n + 1) es))
-    ∙ (ap behind_line e ∙ line_behind n o v small (lines_from (n + 1) os)) in
+    let rest : lines_from (n + 1) es ≡ lines_from (n + 1) os = sym (line_after n i w small (lines_from (n + 1) es))
+    ∙ (ap after_line e ∙ line_after n o v small (lines_from (n + 1) os)) in
     ap (λ z. z ∷ es) (same_entry n i o w v first) ∙ ap (λ l. o ∷ l)
     (same_lines (n + 1) es os (All-tail CanBeEntry i es h) (All-tail CanBeEntry o os g) fewer rest)

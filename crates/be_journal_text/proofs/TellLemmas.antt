@@ -18,7 +18,7 @@ use Rattle.be_journal.specs.declared.entries.Entry.{Entry}
 use Rattle.be_journal_text.specs.Finding.{AreLines, IsFromJ, IsFromLastJ, TextTells, head}
 use Rattle.be_journal_text.specs.History.{CanBeJournal, CanBeEntry}
 use Rattle.be_journal_text.specs.Parts.{IsLinePart}
-use Rattle.be_journal_text.proofs.Cuts.{behind_line, first_line}
+use Rattle.be_journal_text.proofs.Cuts.{after_line, first_line}
 use Rattle.be_journal_text.proofs.LineLemmas.{after_end, body, body_line, body_part, differs, digits_part, drop_front, first_taken, take_front}
 use Rattle.be_journal_text.proofs.NumberLemmas.{decimal_digits}
 use Rattle.be_journal_text.proofs.PartLemmas.{both_parts, in_line, part_line, same_byte, words_part}
@@ -99,39 +99,39 @@ result_is_last es are =
     ∙ lines_passed 1 es (codes "replay ok\n") are.0 (omega (arith, are.1))))) in
     ap (λ o. or_else o (Some (result_text es))) none
 
--- whether a line starts behind these bytes
-abbrev start_behind : Bool → List ℕ → Bool
-start_behind start [] = start
-start_behind start (c ∷ text) = start_behind (nat_eq c 10) text
+-- whether a line starts after these bytes
+abbrev start_beyond : Bool → List ℕ → Bool
+start_beyond start [] = start
+start_beyond start (c ∷ text) = start_beyond (nat_eq c 10) text
 
-behind_front : (start : Bool) (front text result : List ℕ) → from_last_j (start_behind start front) text ≡ Some result →
+beyond_front : (start : Bool) (front text result : List ℕ) → from_last_j (start_beyond start front) text ≡ Some result →
     from_last_j start (front ++ text) ≡ Some result
-behind_front start [] text result h = h
-behind_front start (c ∷ front) text result h =
-    ap (λ o. or_else o (if start && nat_eq c 106 then Some (c ∷ (front ++ text)) else None)) (behind_front (nat_eq c 10) front text result h)
+beyond_front start [] text result h = h
+beyond_front start (c ∷ front) text result h =
+    ap (λ o. or_else o (if start && nat_eq c 106 then Some (c ∷ (front ++ text)) else None)) (beyond_front (nat_eq c 10) front text result h)
 
-starts_behind : (start : Bool) (front : List ℕ) → start_behind start (front ++ 10 ∷ []) ≡ true
-starts_behind start [] = refl
-starts_behind start (c ∷ front) = starts_behind (nat_eq c 10) front
+starts_beyond : (start : Bool) (front : List ℕ) → start_beyond start (front ++ 10 ∷ []) ≡ true
+starts_beyond start [] = refl
+starts_beyond start (c ∷ front) = starts_beyond (nat_eq c 10) front
 
-starts_behind_lines : (front : List ℕ) → AreLines front → start_behind true front ≡ true
-starts_behind_lines front (inl none) = ap (start_behind true) none
-starts_behind_lines front (inr some) = ap (start_behind true) some.1 ∙ starts_behind true some.0
+starts_after_lines : (front : List ℕ) → AreLines front → start_beyond true front ≡ true
+starts_after_lines front (inl none) = ap (start_beyond true) none
+starts_after_lines front (inr some) = ap (start_beyond true) some.1 ∙ starts_beyond true some.0
 
-last_byte : (start : Bool) (c : ℕ) (text : List ℕ) → start_behind start (c ∷ text) ≡ true → (front : List ℕ) × (c ∷ text ≡ front ++ 10 ∷ [])
+last_byte : (start : Bool) (c : ℕ) (text : List ℕ) → start_beyond start (c ∷ text) ≡ true → (front : List ℕ) × (c ∷ text ≡ front ++ 10 ∷ [])
 last_byte start c [] h = ([], ap (λ d. d ∷ []) (same_byte c 10 h))
 last_byte start c (d ∷ text) h = let more = last_byte (nat_eq c 10) d text h in (c ∷ more.0, ap (λ l. c ∷ l) more.1)
 
-are_lines : (front : List ℕ) → start_behind true front ≡ true → AreLines front
+are_lines : (front : List ℕ) → start_beyond true front ≡ true → AreLines front
 are_lines [] h = inl refl
 are_lines (c ∷ text) h = inr (last_byte true c text h)
 
 -- where it was found
-abbrev IsBehind : Bool → List ℕ → List ℕ → Type 0
-IsBehind start text result = (front : List ℕ) × (more : List ℕ) × (start_behind start front ≡ true) × (text ≡ front ++ result) × (result ≡ 106 ∷ more)
+abbrev IsBeyond : Bool → List ℕ → List ℕ → Type 0
+IsBeyond start text result = (front : List ℕ) × (more : List ℕ) × (start_beyond start front ≡ true) × (text ≡ front ++ result) × (result ≡ 106 ∷ more)
 
 found_here : (start : Bool) (c : ℕ) (text result : List ℕ) → (b : Bool) → (start && nat_eq c 106) ≡ b →
-    (if b then Some (c ∷ text) else None) ≡ Some result → IsBehind start (c ∷ text) result
+    (if b then Some (c ∷ text) else None) ≡ Some result → IsBeyond start (c ∷ text) result
 found_here start c text result true e h =
     let p = and_parts start (nat_eq c 106) e in
     let is = inside (c ∷ text) result h in
@@ -139,19 +139,19 @@ found_here start c text result true e h =
 found_here start c text result false e h = never_some result h
 
 found_in : (start : Bool) (c : ℕ) (text result : List ℕ) (o : Option (List ℕ)) → o ≡ from_last_j (nat_eq c 10) text →
-    (from_last_j (nat_eq c 10) text ≡ Some result → IsBehind (nat_eq c 10) text result) →
-    or_else o (if start && nat_eq c 106 then Some (c ∷ text) else None) ≡ Some result → IsBehind start (c ∷ text) result
+    (from_last_j (nat_eq c 10) text ≡ Some result → IsBeyond (nat_eq c 10) text result) →
+    or_else o (if start && nat_eq c 106 then Some (c ∷ text) else None) ≡ Some result → IsBeyond start (c ∷ text) result
 found_in start c text result None e again h = found_here start c text result (start && nat_eq c 106) refl h
 found_in start c text result (Some later) e again h = let more = again (sym e ∙ h) in (c ∷ more.0, more.1, more.2, ap (λ l. c ∷ l) more.3, more.4)
 
-found_behind : (start : Bool) (text result : List ℕ) → from_last_j start text ≡ Some result → IsBehind start text result
-found_behind start [] result h = never_some result h
-found_behind start (c ∷ text) result h = found_in start c text result (from_last_j (nat_eq c 10) text) refl (found_behind (nat_eq c 10) text result) h
+found_after : (start : Bool) (text result : List ℕ) → from_last_j start text ≡ Some result → IsBeyond start text result
+found_after start [] result h = never_some result h
+found_after start (c ∷ text) result h = found_in start c text result (from_last_j (nat_eq c 10) text) refl (found_after (nat_eq c 10) text result) h
 
 found_from_j : (text result : List ℕ) → from_last_j true text ≡ Some result → IsFromJ text result
-found_from_j text result h = let found = found_behind true text result h in (found.0, found.1, are_lines found.0 found.2, found.3, found.4)
+found_from_j text result h = let found = found_after true text result h in (found.0, found.1, are_lines found.0 found.2, found.3, found.4)
 
--- a line that begins so is found, or one behind it
+-- a line that begins so is found, or one after it
 found_from : (more : List ℕ) → (result : List ℕ) × (from_last_j true (106 ∷ more) ≡ Some result) × (length result ≤ length (106 ∷ more))
 found_from more = by (from_last_j false more) refl
   where
@@ -159,17 +159,17 @@ found_from more = by (from_last_j false more) refl
         (result : List ℕ) × (from_last_j true (106 ∷ more) ≡ Some result) × (length result ≤ length (106 ∷ more))
     by None e = (106 ∷ more, ap (λ o. or_else o (Some (106 ∷ more))) e, omega arith)
     by (Some later) e =
-        let found = found_behind false more later e in
+        let found = found_after false more later e in
         (later, ap (λ o. or_else o (Some (106 ∷ more))) e, omega (arith, ap length found.3, length-append found.0 later))
 
 found_at : (text rest : List ℕ) → IsFromJ text rest → (result : List ℕ) × (from_last_j true text ≡ Some result) × (length result ≤ length rest)
 found_at text rest h =
     let found = found_from h.1 in
     let is : text ≡ h.0 ++ 106 ∷ h.1 = h.3 ∙ ap (λ l. h.0 ++ l) h.4 in
-    let begins : from_last_j (start_behind true h.0) (106 ∷ h.1) ≡ Some found.0 =
-    ap (λ b. from_last_j b (106 ∷ h.1)) (starts_behind_lines h.0 h.2) ∙ found.1 in (
+    let begins : from_last_j (start_beyond true h.0) (106 ∷ h.1) ≡ Some found.0 =
+    ap (λ b. from_last_j b (106 ∷ h.1)) (starts_after_lines h.0 h.2) ∙ found.1 in (
       found.0,
-      ap (from_last_j true) is ∙ behind_front true h.0 (106 ∷ h.1) found.0 begins,
+      ap (from_last_j true) is ∙ beyond_front true h.0 (106 ∷ h.1) found.0 begins,
       omega (arith, found.2, ap length h.4),
     )
 
@@ -212,8 +212,8 @@ tells_last : (text : List ℕ) (es : List Entry) → CanBeJournal es → TextTel
 tells_last text es are (inl is) = inl (ap (from_last_j true) is ∙ none_in_lines es are, is)
 tells_last text es are (inr told) =
     inr (ap (from_last_j true) told.2
-    ∙ behind_front true told.0 (result_text es) (result_text es)
-    (ap (λ b. from_last_j b (result_text es)) (starts_behind_lines told.0 told.1) ∙ result_is_last es are))
+    ∙ beyond_front true told.0 (result_text es) (result_text es)
+    (ap (λ b. from_last_j b (result_text es)) (starts_after_lines told.0 told.1) ∙ result_is_last es are))
 
 pub some_told : (text result : List ℕ) (es : List Entry) → CanBeJournal es → TextTells text es → from_last_j true text ≡ Some result → result ≡ result_text es
 some_told text result es are tells h =
@@ -258,10 +258,10 @@ module _ {X E : Type 0} (r : Result (Option X) E) (items : X → List Entry) (te
 -- The lines of a race's result.
 
 -- its first line, and what follows that, where a text is cut at its first LF
-pub result_cut : (text first behind : List ℕ) →
-    ((line more : List ℕ) → IsLinePart 10 line → text ≡ line ++ 10 ∷ more → (first ≡ line ++ 10 ∷ []) × (behind ≡ more)) → (es : List Entry) → CanBeJournal es →
-    text ≡ result_text es → (first ≡ head (length es)) × (behind ≡ lines_from 1 es ++ codes "replay ok\n")
-result_cut text first behind cut es are is =
+pub result_cut : (text first beyond : List ℕ) →
+    ((line more : List ℕ) → IsLinePart 10 line → text ≡ line ++ 10 ∷ more → (first ≡ line ++ 10 ∷ []) × (beyond ≡ more)) → (es : List Entry) → CanBeJournal es →
+    text ≡ result_text es → (first ≡ head (length es)) × (beyond ≡ lines_from 1 es ++ codes "replay ok\n")
+result_cut text first beyond cut es are is =
     let n = length es in
     let small : n < 2 ^ 64 = omega (arith, are.1) in
     let lines = lines_from 1 es ++ codes "replay ok\n" in
@@ -272,11 +272,11 @@ result_cut text first behind cut es are is =
     let parted = cut front lines part split in
     (parted.0, parted.1)
 
-pub result_made : (text first behind lines : List ℕ) (es : List Entry) → first ++ behind ≡ text → first ≡ head (length es) →
-    behind ≡ lines ++ codes "replay ok\n" → lines ≡ lines_from 1 es → text ≡ result_text es
-result_made text first behind lines es whole of_first of_behind is =
+pub result_made : (text first beyond lines : List ℕ) (es : List Entry) → first ++ beyond ≡ text → first ≡ head (length es) →
+    beyond ≡ lines ++ codes "replay ok\n" → lines ≡ lines_from 1 es → text ≡ result_text es
+result_made text first beyond lines es whole of_first of_after is =
     sym whole
-    ∙ (ap (λ l. l ++ behind) of_first ∙ (ap (λ l. head (length es) ++ l) of_behind ∙ ap (λ l. head (length es) ++ (l ++ codes "replay ok\n")) is))
+    ∙ (ap (λ l. l ++ beyond) of_first ∙ (ap (λ l. head (length es) ++ l) of_after ∙ ap (λ l. head (length es) ++ (l ++ codes "replay ok\n")) is))
 
 same_front : (rest lines : List ℕ) → rest ≡ lines ++ codes "replay ok\n" → take (length rest - 10) rest ≡ lines
 same_front rest lines is =
@@ -293,17 +293,17 @@ one_front rest lines others h g = sym (same_front rest lines h) ∙ same_front r
 one_text : (es os : List Entry) → CanBeJournal es → CanBeJournal os → lines_from 1 es ≡ lines_from 1 os → es ≡ os
 one_text es os are were same = same_lines 1 es os are.0 were.0 (omega (arith, are.1)) same
 
-abbrev result_behind : List Entry → List ℕ
-result_behind es = lines_from 1 es ++ codes "replay ok\n"
+abbrev result_after : List Entry → List ℕ
+result_after es = lines_from 1 es ++ codes "replay ok\n"
 
 one_result : (es os : List Entry) → CanBeJournal es → CanBeJournal os → result_text es ≡ result_text os → es ≡ os
 one_result es os are were same =
     let text = result_text es in
-    let cut : (line more : List ℕ) → IsLinePart 10 line → text ≡ line ++ 10 ∷ more → (first_line text ≡ line ++ 10 ∷ []) × (behind_line text ≡ more) =
-    λ line more part h. (ap first_line h ∙ first_taken line more part, ap behind_line h ∙ after_end 10 line more part) in
-    let here = result_cut text (first_line text) (behind_line text) cut es are refl in
-    let there = result_cut text (first_line text) (behind_line text) cut os were same in
-    one_text es os are were (one_front (behind_line text) (lines_from 1 es) (lines_from 1 os) here.1 there.1)
+    let cut : (line more : List ℕ) → IsLinePart 10 line → text ≡ line ++ 10 ∷ more → (first_line text ≡ line ++ 10 ∷ []) × (after_line text ≡ more) =
+    λ line more part h. (ap first_line h ∙ first_taken line more part, ap after_line h ∙ after_end 10 line more part) in
+    let here = result_cut text (first_line text) (after_line text) cut es are refl in
+    let there = result_cut text (first_line text) (after_line text) cut os were same in
+    one_text es os are were (one_front (after_line text) (lines_from 1 es) (lines_from 1 os) here.1 there.1)
 
 pub one_journal : (text : List ℕ) (es os : List Entry) → CanBeJournal es → CanBeJournal os → TextTells text es → TextTells text os → es ≡ os
 one_journal text es os are were tells told = by (tells_last text es are tells) (tells_last text os were told)

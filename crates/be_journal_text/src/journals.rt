@@ -37,7 +37,7 @@ fn entry_of(by: u64, ops: Vec<Op>, dones: Vec<Done>) -> Option<Entry>
 }
 
 /// What follows `N by ` in the line of the entry N.
-fn behind_number(alloc: Global, number: u64, line: &[u8]) -> Result<&[u8], AllocError>
+fn after_number(alloc: Global, number: u64, line: &[u8]) -> Result<&[u8], AllocError>
     ensures { IfOk result (λ rest. (more : List ℕ) → line.now ≡ decimal number
         ++ (codes " by " ++ more) → rest.now ≡ more) }
 {
@@ -52,7 +52,7 @@ fn parts_of(alloc: Global, number: u64, line: &[u8]) -> Result<(&[u8], &[u8], &[
         (parts.0.now ≡ decimal entry.by) × (parts.1.now ≡ join_by op_text (codes "; ") entry.ops)
         × (parts.2.now ≡ join_by done_text (codes "; ") entry.dones)) }
 {
-    let rest = behind_number(alloc, number, line)?;
+    let rest = after_number(alloc, number, line)?;
     let (by, rest) = split_around(b' ', rest);
     let (ops, dones) = split_around(b'>', rest);
     let (dones, _) = split_around(b'\n', skip(1, dones));
@@ -129,13 +129,13 @@ pub fn read_journal(alloc: Global, text: &[u8]) -> Result<Option<Vec<Entry>>, Al
     let mut number = 1;
     let mut rest = text;
     while !rest.is_empty() {
-        let (line, behind) = first_line(rest);
+        let (line, beyond) = first_line(rest);
         let Some(entry) = read_entry(alloc, number, line)? else {
             return Ok(None);
         };
         entries.push(entry)?;
         number += 1;
-        rest = behind;
+        rest = beyond;
     }
     if entries.len() > MAX_ENTRIES {
         return Ok(None);

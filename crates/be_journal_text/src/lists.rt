@@ -52,7 +52,7 @@ pub fn read_ops(alloc: Global, text: &[u8]) -> Result<Option<Vec<Op>>, AllocErro
     let mut ops = Vec::new(alloc);
     let mut rest = text;
     while !rest.is_empty() {
-        let (part, behind) = split_around(b';', rest);
+        let (part, beyond) = split_around(b';', rest);
         if part.is_empty() {
             return Ok(None);
         }
@@ -60,7 +60,7 @@ pub fn read_ops(alloc: Global, text: &[u8]) -> Result<Option<Vec<Op>>, AllocErro
             return Ok(None);
         };
         ops.push(op)?;
-        rest = skip(1, behind);
+        rest = skip(1, beyond);
     }
     Ok(Some(ops))
 }
@@ -74,12 +74,12 @@ pub fn read_dones(alloc: Global, text: &[u8]) -> Result<Option<Vec<Done>>, Alloc
     let mut dones = Vec::new(alloc);
     let mut rest = text;
     while !rest.is_empty() {
-        let (part, behind) = split_around(b';', rest);
+        let (part, beyond) = split_around(b';', rest);
         if part.is_empty() {
             return Ok(None);
         }
         dones.push(read_done(part))?;
-        rest = skip(1, behind);
+        rest = skip(1, beyond);
     }
     Ok(Some(dones))
 }

@@ -24,12 +24,12 @@ fn from_last_j(text: &[u8]) -> Option<&[u8]>
     let mut found = None;
     let mut is_start = true;
     let mut rest = text;
-    while let Some((byte, behind)) = rest.split_first() {
+    while let Some((byte, beyond)) = rest.split_first() {
         if is_start && *byte == b'j' {
             found = Some(rest);
         }
         is_start = *byte == b'\n';
-        rest = behind;
+        rest = beyond;
     }
     found
 }

@@ -16,7 +16,7 @@ pub enum Quoting {
 }
 
 /// Whether the byte after this one is in quotes.
-fn behind(quoting: Quoting, byte: u8) -> Quoting
+fn beyond(quoting: Quoting, byte: u8) -> Quoting
     ensures outside { quoting ≡ Quoting.Outside → result
         ≡ (if nat_eq byte 34 then Quoting.Inside else Quoting.Outside) }
     ensures inside { quoting ≡ Quoting.Inside → result ≡ (if nat_eq byte 92 then Quoting.Escaped
@@ -68,7 +68,7 @@ fn length_to(end: u8, text: &[u8]) -> usize
         if is_end(end, quoting, *byte) {
             return count;
         }
-        quoting = behind(quoting, *byte);
+        quoting = beyond(quoting, *byte);
         count += 1;
         rest = more;
     }

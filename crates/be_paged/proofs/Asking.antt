@@ -2,5 +2,6 @@
 pub mod Walks
 pub mod SourceKeys
 pub mod RangeNodes
+pub mod PassingNodes
 pub mod Counting
 pub mod SeenValues

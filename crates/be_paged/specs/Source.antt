@@ -28,7 +28,7 @@ pub record IsItemAt (standing : ℕ → Standing) (words : ℕ → ℕ → ℕ) 
 
 -- the cursor is in the tree of the index at a place, after the key of the item at a place of a
 -- page; at a place past the indices it is in no tree
-pub record StandsBehind (standing : ℕ → Standing) (words : ℕ → ℕ → ℕ) (entries : List Entry)
+pub record StandsAfter (standing : ℕ → Standing) (words : ℕ → ℕ → ℕ) (entries : List Entry)
     (cursor : Cursor) (place : ℕ) (last_page last_at : ℕ) : Type 0 where
   pub can_go_on : place < length entries → IsCursor standing words cursor
   pub last : place < length entries → IsItemAt standing words last_page last_at
@@ -64,5 +64,5 @@ pub record SourceOf (standing : ℕ → Standing) (words : ℕ → ℕ → ℕ) 
     (cursor : Cursor) (place : ℕ) (last_page last_at : ℕ) (volume : State) : Type 0 where
   pub version : IsVersion standing words page volume
   pub known_is : IsKnown (contents_of (words page)).entries known
-  pub behind : StandsBehind standing words (contents_of (words page)).entries cursor place last_page
+  pub beyond : StandsAfter standing words (contents_of (words page)).entries cursor place last_page
       last_at

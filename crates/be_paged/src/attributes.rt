@@ -120,7 +120,7 @@ fn name_at<L: Look>(look: &mut L, page: u64, at: usize) -> Option<Name>
     requires item { IsItem (L.words look.old page) at }
     ensures name { (node : ℕ) (name : List ℕ) → IsName name
         → (item_at (L.words look.old page) at).key ≡ catalog_key node name → result ≡ Some name }
-    ensures behind { IfSome result (λ name. name
+    ensures beyond { IfSome result (λ name. name
         ≡ drop 8 (item_at (L.words look.old page) at).key) }
     ensures unchanged { IsUnchanged L.kept L.standing L.words look.old look.new }
 {
@@ -206,7 +206,7 @@ fn next_name<L: Look>(look: &mut L, cursor: &mut Cursor, node: u64) -> Option<(N
         (is_readable (L.standing look.old found.1.0))) }
     ensures in_page { IfSome result (λ found. found.1.1 + 42 ≤ 512) }
     ensures fits { IfSome result (λ found. IsItem (L.words look.old found.1.0) found.1.1) }
-    ensures behind { IfSome result (λ found. found.0
+    ensures beyond { IfSome result (λ found. found.0
         ≡ drop 8 (item_at (L.words look.old found.1.0) found.1.1).key) }
     ensures unchanged { IsUnchanged L.kept L.standing L.words look.old look.new }
 {

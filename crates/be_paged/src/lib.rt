@@ -38,6 +38,7 @@ mod prepared;
 mod reading;
 mod rows;
 mod spelling;
+mod texts;
 mod version;
 mod writes;
 

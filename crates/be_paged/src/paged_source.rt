@@ -3,24 +3,26 @@
 //! A walk over an index asks for one key after the other. So the source keeps a cursor of the tree
 //! that it walked last, and the place of the item whose key it gave last: where the next key is
 //! asked from that very key, it goes on from there and makes no descent. The nodes of a range are
-//! read leaf by leaf, and no key is unpacked. A query asks for the same index again and again, so
-//! the source keeps what it found last.
+//! read leaf by leaf, and texts are tested so: no key is unpacked. A query asks for the same index
+//! again and again, so the source keeps what it found last.
 ghost use Rattle.std.specs.Prelude.{◌≡◌, ◌<◌, ℕ, true, length, slice_index_or};
 ghost use Rattle.be_pages.specs.Pages.{IsUnchanged};
 ghost use Rattle.be_tree.specs.Cursor.{IsCursor, remaining};
 ghost use Rattle.be_tree.specs.Range.{pairs_from};
 ghost use Rattle.be_tree.specs.Tree.{IsTree, pairs};
+ghost use Rattle.be_value.specs.declared.values.Kind.TheVariants.{Cstr};
 ghost use Rattle.be_volume.specs.Volume.{State};
 ghost use Rattle.be_paged.specs.Page.{contents_of};
-ghost use Rattle.be_paged.specs.Source.{StandsBehind};
+ghost use Rattle.be_paged.specs.Source.{StandsAfter};
 ghost use Rattle.be_paged.specs.Version.{IsVersion};
 ghost use Rattle.be_paged.specs.Entry.{Entry as AnyEntry};
 
 use crate::on_page::{FoundIndex, known_index};
 use crate::reading::{get, holds_in};
+use crate::texts::nodes_passing;
 use arrayvec::ArrayVec;
 use be_pages::Look;
-use be_plan::{KeyRange, Source};
+use be_plan::{KeyRange, Source, TextTest};
 use be_query::Comparison;
 use be_tree::{Cursor, has_key, is_key_at, key_at, numbers_within};
 use be_value::{Kind, Name, Refusal, Value};
@@ -37,6 +39,13 @@ pub struct PagedSource<L> {
     cursor: Cursor,
     place: usize,
     last: (u64, usize),
+}
+
+/// Whether the keys of an index of a kind have texts.
+fn has_texts(kind: Kind) -> bool
+    ensures { result ≡ true → kind ≡ Cstr }
+{
+    kind == Kind::Cstr
 }
 
 /// The version of a page as a source. It reads nothing yet, and keeps the look until `into_look`.
@@ -77,7 +86,7 @@ impl<L: Look> PagedSource<L> {
             ≡ (slice_index_or (contents_of (L.words self.old.look self.old.page)).entries
             index.place d).root }
         requires tree { IsTree (L.standing self.old.look) (L.words self.old.look) index.root }
-        requires behind { StandsBehind (L.standing self.old.look) (L.words self.old.look)
+        requires beyond { StandsAfter (L.standing self.old.look) (L.words self.old.look)
             (contents_of (L.words self.old.look self.old.page)).entries self.old.cursor
             self.old.place self.old.last.0 self.old.last.1 }
         ensures cursor { IsCursor (L.standing self.new.look) (L.words self.new.look)
@@ -137,6 +146,22 @@ impl<L: Look> Source for PagedSource<L> {
         };
         numbers_within(&mut self.look, index.root, keys.low, keys.high, found)?;
         Ok(())
+    }
+
+    fn nodes_passing(
+        &mut self,
+        keys: KeyRange<'_>,
+        test: &TextTest<'_>,
+        found: &mut Vec<u64>,
+    ) -> Result<bool, Refusal> {
+        let Some(index) = known_index(&mut self.look, self.page, keys.name, &mut self.known) else {
+            return Ok(false);
+        };
+        if !has_texts(index.kind) {
+            return Ok(false);
+        }
+        nodes_passing(&mut self.look, index.root, keys.low, keys.high, test, found)?;
+        Ok(true)
     }
 
     fn has_key(&mut self, name: &Name, key: &[u8]) -> bool {

@@ -20,7 +20,7 @@ use crate::tests::asking::read_query;
 use crate::tests::both::Both;
 use crate::tests::lines::{answer_text, nodes_text, refused, request_of, written_text};
 use be_script_language::{Reply, Request};
-use be_test_tools::{EXAMPLES, LISTS, TWO_INDICES, behind, list_of};
+use be_test_tools::{EXAMPLES, LISTS, TWO_INDICES, beyond, list_of};
 use be_value::{Name, Refusal, word_of};
 use be_volume::Op;
 use std::alloc::Global;
@@ -121,7 +121,7 @@ fn run_line(alloc: Global, both: Both, line: &str) -> Result<Both, Fail> {
     for request in requests.split(" / ") {
         let (next, text) = reply(alloc, both, request)?;
         both = next;
-        expected = match behind(expected, text.as_str()) {
+        expected = match beyond(expected, text.as_str()) {
             Some(rest) => rest,
             None => return Err(Fail::new(line)),
         };

@@ -5,7 +5,7 @@ use Rattle.std.specs.List.{list_any, list_all, before_first, position_or_len, fl
 use Rattle.std.specs.Bool.{◌==◌}
 use Rattle.std.proofs.lemmas.Bool.{cond_both, and_parts, and_from}
 use Rattle.be_pattern.specs.Match.{Part, Run, One, Among, Only}
-use Rattle.be_pattern.specs.Parse.{Letter, letters, ending_backslash, is_bare, are_members, members, set_with, set_of, with_length, set_at, and_then, parts_behind, pattern}
+use Rattle.be_pattern.specs.Parse.{Letter, letters, ending_backslash, is_bare, are_members, members, set_with, set_of, with_length, set_at, and_then, parts_after, pattern}
 use Rattle.be_pattern.specs.Canonical.{marked, is_special, is_special_in_set, member_char, member, class_opening, part_text, canonical, has_only, notation}
 
 -- Of a text that is read.
@@ -93,7 +93,7 @@ unfolding OnParts
 then_on p part (Ok ps) h k = and_from _ _ h k
 then_on p part (Err at) h k = tt
 
-parts_on : (p : ℕ → Bool) (n : ℕ) (ls : List Letter) → On p ls → OnParts p (parts_behind n ls)
+parts_on : (p : ℕ → Bool) (n : ℕ) (ls : List Letter) → On p ls → OnParts p (parts_after n ls)
 unfolding On OnParts OnSet
 parts_on p zero [] h = refl
 parts_on p (suc n) [] h = refl
@@ -104,9 +104,9 @@ parts_on p zero (l ∷ ls) h =
     (λ w. cond_both (is_bare 63 l) _ _ (OnParts p) (λ w. then_on p One _ refl (parts_on p 0 ls k.1))
     (λ w. cond_both (is_bare 91 l) _ _ (OnParts p) (λ w. go (set_at ls) (at_on p ls k.1) (λ n. parts_on p n ls k.1)) (λ w. then_on p (Only l.char) _ k.0 (parts_on p 0 ls k.1))))
   where
-    go : (o : Option (Part × ℕ)) → OnSet p o → ((n : ℕ) → OnParts p (parts_behind n ls)) → OnParts p (elim o [ None ↦ Err l.at | Some s ↦ and_then s.0 (parts_behind s.1 ls) ])
+    go : (o : Option (Part × ℕ)) → OnSet p o → ((n : ℕ) → OnParts p (parts_after n ls)) → OnParts p (elim o [ None ↦ Err l.at | Some s ↦ and_then s.0 (parts_after s.1 ls) ])
     go None h k = tt
-    go (Some s) h k = then_on p s.0 (parts_behind s.1 ls) h (k s.1)
+    go (Some s) h k = then_on p s.0 (parts_after s.1 ls) h (k s.1)
 
 read_on : (p : ℕ → Bool) (o : Option ℕ) (r : Result (List Part) ℕ) → OnParts p r → OnParts p (elim o [ Some at ↦ Err at | None ↦ r ])
 unfolding OnParts

@@ -9,10 +9,10 @@ all_taken : (cs : List ℕ) → some_tail (matches []) cs ≡ true
 all_taken [] = refl
 all_taken (c ∷ cs) = or_right (matches [] (c ∷ cs)) (some_tail (matches []) cs) (all_taken cs)
 
-pub front_matches : (parts : List Part) (behind : List ℕ) → is_prefix parts ≡ true → (is_plain parts ≡ true → behind ≡ []) → matches parts (literal_prefix parts ++ behind) ≡ true
-front_matches [] behind h whole = ap (matches []) (whole refl)
-front_matches (Run ∷ []) behind h whole = all_taken behind
-front_matches (Run ∷ p ∷ ps) behind h whole = cc
-front_matches (One ∷ ps) behind h whole = cc
-front_matches (Among n ms ∷ ps) behind h whole = cc
-front_matches (Only c ∷ ps) behind h whole = ap (λ b. b && matches ps (literal_prefix ps ++ behind)) (eq-eqb c c refl) ∙ front_matches ps behind h whole
+pub front_matches : (parts : List Part) (beyond : List ℕ) → is_prefix parts ≡ true → (is_plain parts ≡ true → beyond ≡ []) → matches parts (literal_prefix parts ++ beyond) ≡ true
+front_matches [] beyond h whole = ap (matches []) (whole refl)
+front_matches (Run ∷ []) beyond h whole = all_taken beyond
+front_matches (Run ∷ p ∷ ps) beyond h whole = cc
+front_matches (One ∷ ps) beyond h whole = cc
+front_matches (Among n ms ∷ ps) beyond h whole = cc
+front_matches (Only c ∷ ps) beyond h whole = ap (λ b. b && matches ps (literal_prefix ps ++ beyond)) (eq-eqb c c refl) ∙ front_matches ps beyond h whole

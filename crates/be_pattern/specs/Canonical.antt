@@ -73,7 +73,7 @@ run_if stands = if stands then Run ∷ [] else []
 
 -- a literal text, with `*` before it and after it if the flags are set
 abbrev pub around : Bool → List ℕ → Bool → List Part
-around before cs behind = run_if before ++ (map Only cs ++ run_if behind)
+around before cs beyond = run_if before ++ (map Only cs ++ run_if beyond)
 
 -- a set has members, and none that falls
 abbrev pub is_formed : Part → Bool

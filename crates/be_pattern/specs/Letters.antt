@@ -38,8 +38,8 @@ abbrev pub member_end : ℕ → List Letter → ℕ × List Letter
 member_end c ls = end_or (c, ls) (dashed ls)
 
 -- the members up to the first plain `]`, and the letters after that
-abbrev pub members_behind : List Letter → Option (List (ℕ × ℕ) × List Letter)
-members_behind ls =
+abbrev pub members_after : List Letter → Option (List (ℕ × ℕ) × List Letter)
+members_after ls =
     let body = before_first (is_bare 93) ls in
     if list_any (is_bare 93) ls then Some (members body, drop (length body + 1) ls) else None
 
@@ -52,15 +52,15 @@ with_members negated None = None
 with_members negated (Some p) = with_rest p.1 (set_with negated p.0)
 
 -- the set after a `[`, and the letters after it
-abbrev pub set_behind : List Letter → Option (Part × List Letter)
-set_behind [] = None
-set_behind (l ∷ ls) = if is_bare 94 l then with_members true (members_behind ls)
-    else with_members false (members_behind (l ∷ ls))
+abbrev pub set_after : List Letter → Option (Part × List Letter)
+set_after [] = None
+set_after (l ∷ ls) = if is_bare 94 l then with_members true (members_after ls)
+    else with_members false (members_after (l ∷ ls))
 
 -- the token that begins with a letter, and the letters after it
 abbrev pub token_at : Letter → List Letter → Option (Part × List Letter)
 token_at l ls =
     if is_bare 42 l then Some (Run, ls)
     else (if is_bare 63 l then Some (One, ls)
-    else (if is_bare 91 l then set_behind ls
+    else (if is_bare 91 l then set_after ls
     else Some (Only l.char, ls)))

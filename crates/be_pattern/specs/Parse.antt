@@ -76,20 +76,20 @@ and_then p (Err at) = Err at
 
 -- The tokens of the letters after the first ones, which were taken already; or where the first
 -- faulty set begins.
-abbrev pub parts_behind : ℕ → List Letter → Result (List Part) ℕ
-parts_behind taken [] = Ok []
-parts_behind (suc taken) (l ∷ ls) = parts_behind taken ls
-parts_behind zero (l ∷ ls) =
-    if is_bare 42 l then and_then Run (parts_behind 0 ls)
-    else (if is_bare 63 l then and_then One (parts_behind 0 ls)
+abbrev pub parts_after : ℕ → List Letter → Result (List Part) ℕ
+parts_after taken [] = Ok []
+parts_after (suc taken) (l ∷ ls) = parts_after taken ls
+parts_after zero (l ∷ ls) =
+    if is_bare 42 l then and_then Run (parts_after 0 ls)
+    else (if is_bare 63 l then and_then One (parts_after 0 ls)
     else (if is_bare 91 l then (elim (set_at ls)
-    [ None ↦ Err l.at | Some s ↦ and_then s.0 (parts_behind s.1 ls) ])
-    else and_then (Only l.char) (parts_behind 0 ls)))
+    [ None ↦ Err l.at | Some s ↦ and_then s.0 (parts_after s.1 ls) ])
+    else and_then (Only l.char) (parts_after 0 ls)))
 
 -- The tokens of a pattern's text, or the place of its fault.
 abbrev pub pattern : List ℕ → Result (List Part) ℕ
 pattern cs = elim (ending_backslash false 0 cs)
-    [ Some at ↦ Err at | None ↦ parts_behind 0 (letters false 0 cs) ]
+    [ Some at ↦ Err at | None ↦ parts_after 0 (letters false 0 cs) ]
 
 -- the refusal of a text of that many bytes: out of memory, or the place of its fault
 abbrev pub IsFault : Result (List Part) ℕ → ℕ → Refusal → Type 0

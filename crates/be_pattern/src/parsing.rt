@@ -8,7 +8,7 @@ ghost use Rattle.be_pattern.specs.Canonical.{is_special};
 ghost use Rattle.be_pattern.specs.Match.{Only, part_of, parts_of};
 ghost use Rattle.be_pattern.specs.Parse.{pattern, IsFault, is_bare, falls, are_members};
 ghost use Rattle.be_pattern.specs.Letters.{letters_in, ending_in, ending_of, letter_of, dashed};
-ghost use Rattle.be_pattern.specs.Letters.{member_end, with_members, members_behind, set_behind};
+ghost use Rattle.be_pattern.specs.Letters.{member_end, with_members, members_after, set_after};
 ghost use Rattle.be_pattern.specs.Letters.{token_at};
 
 use crate::matching::split_first_char;
@@ -73,13 +73,13 @@ fn split_letter(text: &str) -> Option<(Letter, &str)>
 }
 
 /// The text after the last letter: empty, or an ending backslash.
-fn behind_letters(text: &str) -> &str
+fn after_letters(text: &str) -> &str
     ensures within { length result.now ≤ length text.now }
     ensures ending { (total : ℕ) → length text.now ≤ total → ending_in total text.now
         ≡ ending_of total (length result.now) }
 {
     let mut rest = text;
-    'behind: while let Some((_, after)) = split_letter(rest) {
+    'beyond: while let Some((_, after)) = split_letter(rest) {
         rest = after;
     }
     rest
@@ -110,18 +110,18 @@ pub(crate) fn parse(alloc: Global, text: &str) -> Result<Vec<Token>, Refusal>
     ensures ok { IfOk result (λ v. pattern (chars text.now) ≡ Ok (parts_of v.items)) }
     ensures err { IfErr result (IsFault (pattern (chars text.now)) (length text.now)) }
 {
-    let ending = behind_letters(text).len();
+    let ending = after_letters(text).len();
     if ending != 0 {
         return Err(Refusal::BadPattern(text.len() - ending));
     }
     let mut tokens = Vec::with_capacity(alloc, room_for(text))?;
     let mut rest = text;
     'tokens: while let Some((letter, after)) = split_letter(rest) {
-        let Some((token, behind)) = read_token(alloc, letter, after)? else {
+        let Some((token, beyond)) = read_token(alloc, letter, after)? else {
             return Err(Refusal::BadPattern(text.len() - rest.len()));
         };
         tokens.push(token)?;
-        rest = behind;
+        rest = beyond;
     }
     Ok(tokens)
 }
@@ -154,11 +154,11 @@ fn read_token(
 /// The text after a `^` that comes first.
 fn split_caret(text: &str) -> Option<&str>
     ensures some { IfSome result (λ after. (total : ℕ) → length text.now ≤ total
-        → set_behind (letters_in total text.now)
-        ≡ with_members true (members_behind (letters_in total after.now))) }
+        → set_after (letters_in total text.now)
+        ≡ with_members true (members_after (letters_in total after.now))) }
     ensures none { IfNone result ((total : ℕ) → length text.now ≤ total
-        → set_behind (letters_in total text.now)
-        ≡ with_members false (members_behind (letters_in total text.now))) }
+        → set_after (letters_in total text.now)
+        ≡ with_members false (members_after (letters_in total text.now))) }
     ensures shorter { IfSome result (λ after. length after.now ≤ length text.now) }
 {
     let Some((letter, after)) = split_letter(text) else {
@@ -174,8 +174,8 @@ fn split_caret(text: &str) -> Option<&str>
 /// The set after a `[`, and the text after its `]`, or nothing if it is faulty.
 fn read_set(alloc: Global, text: &str) -> Result<Option<(Token, &str)>, AllocError>
     ensures set { IfOk result (λ o. (total : ℕ) → length text.now ≤ total → MatchOption o
-        (set_behind (letters_in total text.now) ≡ None)
-        (λ p. set_behind (letters_in total text.now)
+        (set_after (letters_in total text.now) ≡ None)
+        (λ p. set_after (letters_in total text.now)
         ≡ Some (part_of p.0, letters_in total p.1.now))) }
     ensures within { IfOk result (λ o. IfSome o (λ p. length p.1.now ≤ length text.now)) }
 {
@@ -193,8 +193,8 @@ fn read_members(
     text: &str,
 ) -> Result<Option<(Token, &str)>, AllocError>
     ensures set { IfOk result (λ o. (total : ℕ) → length text.now ≤ total → MatchOption o
-        (with_members negated (members_behind (letters_in total text.now)) ≡ None)
-        (λ p. with_members negated (members_behind (letters_in total text.now))
+        (with_members negated (members_after (letters_in total text.now)) ≡ None)
+        (λ p. with_members negated (members_after (letters_in total text.now))
         ≡ Some (part_of p.0, letters_in total p.1.now))) }
     ensures within { IfOk result (λ o. IfSome o (λ p. length p.1.now ≤ length text.now)) }
 {
@@ -208,9 +208,9 @@ fn read_members(
             return Ok(Some((Token::Set { negated, members }, after)));
         }
         let first = first.char;
-        let (last, behind) = range_end(first, after);
+        let (last, beyond) = range_end(first, after);
         members.push((first, last))?;
-        rest = behind;
+        rest = beyond;
     }
     Ok(None)
 }
@@ -229,14 +229,14 @@ fn split_range(text: &str) -> Option<(char, &str)>
     if !dash.is_plain('-') {
         return None;
     }
-    let Some((last, behind)) = split_letter(after) else {
+    let Some((last, beyond)) = split_letter(after) else {
         return None;
     };
     if last.is_plain(']') {
         return None;
     }
     let last = last.char;
-    Some((last, behind))
+    Some((last, beyond))
 }
 
 /// The last character of a member that begins with this one, and the text after the member.

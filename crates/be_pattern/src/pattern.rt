@@ -64,13 +64,13 @@ impl Pattern {
 
     /// The pattern of a text whose characters are all literal, with a `*` before it and after it if
     /// the arguments say so.
-    pub fn around(alloc: Global, before: bool, text: &str, behind: bool) -> Result<Pattern, Refusal>
-        ensures ok { IfOk result (λ p. p ≡ around before (chars text.now) behind) }
+    pub fn around(alloc: Global, before: bool, text: &str, beyond: bool) -> Result<Pattern, Refusal>
+        ensures ok { IfOk result (λ p. p ≡ around before (chars text.now) beyond) }
         ensures err { IfErr result (λ e. e ≡ OutOfMemory) }
     {
         let tokens = push_run(Vec::new(alloc), before)?;
         let tokens = push_literals(tokens, text)?;
-        let tokens = push_run(tokens, behind)?;
+        let tokens = push_run(tokens, beyond)?;
         Ok(pattern_of(alloc, tokens)?)
     }
 
@@ -97,9 +97,9 @@ impl Pattern {
     pub fn is_prefix(&self) -> bool
         ensures told { result ≡ is_prefix self.now }
         // It matches its prefix, and with the `*` also the prefix followed by anything.
-        ensures decides { result ≡ true → (behind : List ℕ)
-            → (is_plain self.now ≡ true → behind ≡ []) →
-            matches self.now (literal_prefix self.now ++ behind) ≡ true }
+        ensures decides { result ≡ true → (beyond : List ℕ)
+            → (is_plain self.now ≡ true → beyond ≡ []) →
+            matches self.now (literal_prefix self.now ++ beyond) ≡ true }
     {
         self.is_prefix
     }

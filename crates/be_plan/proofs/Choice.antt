@@ -20,23 +20,23 @@ use Rattle.be_plan.proofs.Ways.{IsPart, length-leaves, left_part, right_part, or
 
 any_front : (p : ℕ → Bool) (xs ys : List ℕ) → list_any p xs ≡ true → list_any p (xs ++ ys) ≡ true
 any_front p [] ys h = cc
-any_front p (x ∷ xs) ys h = or_cases (p x) (list_any p xs) h (list_any p ((x ∷ xs) ++ ys) ≡ true) (λ e. ap (λ t. t || list_any p (xs ++ ys)) e) (λ e. behind (p x) _ (any_front p xs ys e))
+any_front p (x ∷ xs) ys h = or_cases (p x) (list_any p xs) h (list_any p ((x ∷ xs) ++ ys) ≡ true) (λ e. ap (λ t. t || list_any p (xs ++ ys)) e) (λ e. beyond (p x) _ (any_front p xs ys e))
   where
-    behind : (a b : Bool) → b ≡ true → (a || b) ≡ true
-    behind true b h = refl
-    behind false b h = h
+    beyond : (a b : Bool) → b ≡ true → (a || b) ≡ true
+    beyond true b h = refl
+    beyond false b h = h
 
 any_back : (p : ℕ → Bool) (xs ys : List ℕ) → list_any p ys ≡ true → list_any p (xs ++ ys) ≡ true
 any_back p [] ys h = h
-any_back p (x ∷ xs) ys h = behind (p x) _ (any_back p xs ys h)
+any_back p (x ∷ xs) ys h = beyond (p x) _ (any_back p xs ys h)
   where
-    behind : (a b : Bool) → b ≡ true → (a || b) ≡ true
-    behind true b h = refl
-    behind false b h = h
+    beyond : (a b : Bool) → b ≡ true → (a || b) ≡ true
+    beyond true b h = refl
+    beyond false b h = h
 
-behind : (a b : Bool) → b ≡ true → (a || b) ≡ true
-behind true b h = refl
-behind false b h = h
+beyond : (a b : Bool) → b ≡ true → (a || b) ≡ true
+beyond true b h = refl
+beyond false b h = h
 
 all_both : (p : ℕ → Bool) (xs ys : List ℕ) → list_all p xs ≡ true → list_all p ys ≡ true → list_all p (xs ++ ys) ≡ true
 all_both p [] ys h g = g
@@ -47,7 +47,7 @@ grows : (ps qs : List ℕ) → ((n : ℕ) → list_any (nat_eq n) ps ≡ true �
 grows ps qs g at (Leaf name op literal) h = g at h
 grows ps qs g at (And a b) h =
     or_cases (covers_part ps at a) (covers_part ps (at + comparisons a) b) h (covers_part qs at (And a b) ≡ true)
-    (λ e. ap (λ t. t || covers_part qs (at + comparisons a) b) (grows ps qs g at a e)) (λ e. behind (covers_part qs at a) _ (grows ps qs g (at + comparisons a) b e))
+    (λ e. ap (λ t. t || covers_part qs (at + comparisons a) b) (grows ps qs g at a e)) (λ e. beyond (covers_part qs at a) _ (grows ps qs g (at + comparisons a) b e))
 grows ps qs g at (Or a b) h =
     ap (λ t. t && covers_part qs (at + comparisons a) b) (grows ps qs g at a (and_first (covers_part ps at a) (covers_part ps (at + comparisons a) b) h))
     ∙ grows ps qs g (at + comparisons a) b (and_second (covers_part ps at a) (covers_part ps (at + comparisons a) b) h)
@@ -82,7 +82,7 @@ module _ (indexed : List ℕ → Bool) (whole : Formula) where
   }
 
   to_right : (at : ℕ) (a b : Formula) (cover : Cover) → Covering (at + comparisons a) b cover → Covering at (And a b) cover
-  to_right at a b cover h = record { rest = behind (rests indexed a) _ h.rest; indices = h.indices; part = behind (covers_part cover.picks at a) _ h.part }
+  to_right at a b cover h = record { rest = beyond (rests indexed a) _ h.rest; indices = h.indices; part = beyond (covers_part cover.picks at a) _ h.part }
 
   of_both : (at : ℕ) (a b : Formula) (x y : Option Cover) → IsChoice at a x → IsChoice (at + comparisons a) b y → IsChoice at (And a b) (cheaper x y)
   of_both at a b None None h g = neither _ _ h g

@@ -86,8 +86,8 @@ is_greater Equal h = cc
 is_greater Greater h = refl
 
 -- what is not below a low end above the bound is above the bound
-pub behind : (k low bound : List ℕ) → is_gt (name_cmp low bound) ≡ true → is_lt (name_cmp k low) ≡ false → is_gt (name_cmp k bound) ≡ true
-behind k low bound up h = ap is_gt (above_too k low bound _ refl h (is_greater _ up))
+pub beyond : (k low bound : List ℕ) → is_gt (name_cmp low bound) ≡ true → is_lt (name_cmp k low) ≡ false → is_gt (name_cmp k bound) ≡ true
+beyond k low bound up h = ap is_gt (above_too k low bound _ refl h (is_greater _ up))
 
 -- what is not above a high end below the bound is below the bound
 pub before : (k high bound : List ℕ) → is_gt (name_cmp bound high) ≡ true → is_gt (name_cmp k high) ≡ false → is_lt (name_cmp k bound) ≡ true

@@ -60,7 +60,7 @@ module _ (end : ℕ) (s : List ℕ) where
 pub front_decides : (parts : List Part) (text : List ℕ) (n : ℕ) → IsUtf8 (front_bytes parts) → has_nul (front_bytes parts) ≡ false → has_nul text ≡ false →
     is_lt (name_cmp (key (Cstr text) n) (front_bytes parts)) ≡ false →
     is_gt (name_cmp (key (Cstr text) n) (front_bytes parts ++ limit (is_plain parts) ∷ [])) ≡ false →
-    ((behind : List ℕ) → (is_plain parts ≡ true → behind ≡ []) → matches parts (literal_prefix parts ++ behind) ≡ true) →
+    ((beyond : List ℕ) → (is_plain parts ≡ true → beyond ≡ []) → matches parts (literal_prefix parts ++ beyond) ≡ true) →
     matches parts (chars text) ≡ true
 unfolding chars
 front_decides parts text n utf8 bare clean low high decides =

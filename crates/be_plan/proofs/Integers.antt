@@ -22,7 +22,7 @@ number_value kinds.Ulng (Some (pos n)) = Ulng n
 number_value kinds.Ullg (Some (pos n)) = Ullg n
 number_value _ _ = Ulng 0
 
--- behind a number stand the eight bytes of the node
+-- after a number stand the eight bytes of the node
 pub number_ends : (b : Value) (bytes : List ℕ) → bytes ≡ value_key b → HasEnds b bytes (0 ∷ 0 ∷ 0 ∷ 0 ∷ 0 ∷ 0 ∷ 0 ∷ 0 ∷ []) (255 ∷ 255 ∷ 255 ∷ 255 ∷ 255 ∷ 255 ∷ 255 ∷ 255 ∷ 0 ∷ [])
 number_ends b bytes e = record {
   below = 0 ∷ 0 ∷ 0 ∷ 0 ∷ 0 ∷ 0 ∷ 0 ∷ [];
@@ -33,7 +33,7 @@ number_ends b bytes e = record {
   greatest = ap (λ f. f ++ 255 ∷ 255 ∷ 255 ∷ 255 ∷ 255 ∷ 255 ∷ 255 ∷ 255 ∷ []) e;
 }
 
--- and behind a text before these a zero byte
+-- and after a text before these a zero byte
 pub text_ends : (text : List ℕ) → HasEnds (Cstr text) text (0 ∷ 0 ∷ 0 ∷ 0 ∷ 0 ∷ 0 ∷ 0 ∷ 0 ∷ 0 ∷ []) (0 ∷ 255 ∷ 255 ∷ 255 ∷ 255 ∷ 255 ∷ 255 ∷ 255 ∷ 255 ∷ 0 ∷ [])
 text_ends text = record {
   below = 0 ∷ 0 ∷ 0 ∷ 0 ∷ 0 ∷ 0 ∷ 0 ∷ 0 ∷ [];

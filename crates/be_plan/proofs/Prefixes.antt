@@ -71,7 +71,7 @@ shows_front (Only c ∷ ps) = shown (encode c) (front_bytes ps) (some_encode c)
     shown [] ys h = absurd (omega arith)
     shown (x ∷ xs) ys h = positive (length (xs ++ ys))
 
--- What a pattern matches begins with its literal characters, and has nothing behind them where it has no wildcard.
+-- What a pattern matches begins with its literal characters, and has nothing after them where it has no wildcard.
 record Prefixed (parts : List Part) (cs : List ℕ) : Type 0 where
   pub rest : List ℕ
   pub characters : scalars rest ≡ true
@@ -95,7 +95,7 @@ prefixed (Only d ∷ ps) (c ∷ cs) s h =
       whole = more.whole;
     }
 
--- the byte behind the literal characters
+-- the byte after the literal characters
 begins_tail : (rest after : List ℕ) (plain : Bool) → scalars rest ≡ true → (plain ≡ true → rest ≡ []) → Begins ((encodes rest ++ 0 ∷ []) ++ after) (limit plain)
 begins_tail [] after true s h = record { first = 0; later = after; is = refl; below = omega arith }
 begins_tail [] after false s h = record { first = 0; later = after; is = refl; below = omega arith }

@@ -13,7 +13,7 @@ use Rattle.be_volume.specs.Query.{holds, is_true_of}
 use Rattle.be_plan.specs.Narrow.{IsPair, StandsFor, HasEnds, last_node}
 use Rattle.be_plan.proofs.Beside.{above_zero, below_zero, longer}
 use Rattle.be_plan.proofs.Bounds.{above, below, equal_at_least, equal_at_most, not_below, not_above, from_least, from_last, to_least, to_last, from_both}
-use Rattle.be_plan.proofs.Ends.{behind, before}
+use Rattle.be_plan.proofs.Ends.{beyond, before}
 
 module _ (literal : Literal) (kind : Kind) (b : Value) (stands : StandsFor literal kind b) (front first after : List ℕ) (e : HasEnds b front first after)
     (v : Value) (n : ℕ) (p : IsPair kind v n) where
@@ -73,7 +73,7 @@ module _ (literal : Literal) (kind : Kind) (b : Value) (stands : StandsFor liter
   pub higher_told : is_lt (name_cmp (key v n) (front ++ after)) ≡ false → holds Gt v literal ≡ true
   higher_told h =
       let up : is_gt (name_cmp (front ++ after) (key b last_node)) ≡ true = ap (λ k. is_gt (name_cmp k (key b last_node))) after_is ∙ longer (key b last_node) in
-      is Gt ∙ from_last b v n stands.is_value indexable pair (behind (key v n) (front ++ after) (key b last_node) up h)
+      is Gt ∙ from_last b v n stands.is_value indexable pair (beyond (key v n) (front ++ after) (key b last_node) up h)
 
   pub at_least_told : is_lt (name_cmp (key v n) (front ++ first)) ≡ false → holds Ge v literal ≡ true
   at_least_told h = is Ge ∙ from_least b v n stands.is_value indexable pair (from_low h)

@@ -22,7 +22,7 @@ use Rattle.be_volume.specs.Volume.{State}
 use Rattle.be_volume.specs.declared.maps.Index.{Index}
 use Rattle.be_plan.specs.Texts.{text_in}
 
-text_of_key : (text : List ℕ) (node : ℕ) → text_in (key (Cstr text) node) ≡ text
+pub text_of_key : (text : List ℕ) (node : ℕ) → text_in (key (Cstr text) node) ≡ text
 text_of_key text node =
     let tail = 0 ∷ to_be_bytes w64 node in
     let whole : key (Cstr text) node ≡ text ++ tail = append_assoc text (0 ∷ []) (to_be_bytes w64 node) in
@@ -32,6 +32,16 @@ text_of_key text node =
 -- a key is long enough for a node
 pub key_long : (s : State) (name bytes : List ℕ) → IsKey s name bytes → 8 ≤ length bytes
 key_long s name bytes k = omega (arith, ap length k.is, length-append (value_key k.value) (to_be_bytes w64 k.node))
+
+-- the text in the key of a text is one
+pub text_valid : (value : Value) (node : ℕ) → kind_of value ≡ kinds.Cstr → IsValue value → IsUtf8 (text_in (key value node))
+text_valid (Cstr t) node kind valid = subst IsUtf8 (sym (text_of_key t node)) valid.1
+text_valid (Long n) node kind valid = absurd (cc kind)
+text_valid (Llng n) node kind valid = absurd (cc kind)
+text_valid (Mims t) node kind valid = absurd (cc kind)
+text_valid (Rawt bytes) node kind valid = absurd (cc kind)
+text_valid (Ulng n) node kind valid = absurd (cc kind)
+text_valid (Ullg n) node kind valid = absurd (cc kind)
 
 module _ (op : Cmp) (literal : Literal) (text : List ℕ) (node : ℕ) (answer : Bool) (told : IsUtf8 text → answer ≡ holds_of_text op text literal) where
   of_value : (value : Value) → kind_of value ≡ kinds.Cstr → IsValue value → text ≡ text_in (key value node) → answer ≡ holds op value literal

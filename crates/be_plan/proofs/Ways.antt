@@ -39,14 +39,14 @@ leaf_right a b i h =
     let e : length (leaves a) + (i - comparisons a) ≡ i = omega (arith, length-leaves a) in
     ap (slice_get (leaves a ++ leaves b)) (sym e) ∙ slice_get_right (leaves a) (leaves b) (i - comparisons a)
 
--- and there is none behind both
-slice_get_behind : (xs : List Comparison) (i : ℕ) → length xs ≤ i → None ≡ slice_get xs i
-slice_get_behind [] i h = refl
-slice_get_behind (x ∷ xs) zero h = absurd (omega arith)
-slice_get_behind (x ∷ xs) (suc i) h = slice_get_behind xs i (omega arith)
+-- and there is none after both
+slice_get_after : (xs : List Comparison) (i : ℕ) → length xs ≤ i → None ≡ slice_get xs i
+slice_get_after [] i h = refl
+slice_get_after (x ∷ xs) zero h = absurd (omega arith)
+slice_get_after (x ∷ xs) (suc i) h = slice_get_after xs i (omega arith)
 
-pub none_behind : (f : Formula) (i : ℕ) → comparisons f ≤ i → None ≡ slice_get (leaves f) i
-none_behind f i h = slice_get_behind (leaves f) i (omega (arith, length-leaves f))
+pub none_after : (f : Formula) (i : ℕ) → comparisons f ≤ i → None ≡ slice_get (leaves f) i
+none_after f i h = slice_get_after (leaves f) i (omega (arith, length-leaves f))
 
 -- the part is the whole's from the place `at` on
 abbrev pub IsPart : Formula → ℕ → Formula → Type 0

@@ -57,6 +57,13 @@ abbrev pub HasOnly : State → List ℕ → List ℕ → Option (List ℕ) → L
 HasOnly s name low high before after = (n : ℕ) → Contains after n → Contains before n
     ⊎ IsNodeWithin s name low high n
 
+-- each of the nodes has a key from `low` to `high` and the formula is true of it, or it was there
+-- before
+abbrev pub HasOnlyTrue : State → Formula → List ℕ → List ℕ → Option (List ℕ) → List ℕ → List ℕ
+    → Type 0
+HasOnlyTrue s f name low high before after = (n : ℕ) → Contains after n → Contains before n
+    ⊎ (IsNodeWithin s name low high n × (sat s f n ≡ true))
+
 -- the same of the keys that are not ahead of the walk, whose place is `from`
 abbrev pub HasPassed : State → (ℕ → Type 0) → List ℕ → List ℕ → Option (List ℕ) → List ℕ → Bool
     → List ℕ → Type 0

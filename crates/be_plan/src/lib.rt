@@ -40,3 +40,4 @@ pub use prepared::PreparedQuery;
 pub use running::run;
 pub use sorting::put_in_order;
 pub use source::{KeyRange, Source};
+pub use texts::{TextTest, text_of};

@@ -444,7 +444,7 @@ pub(crate) fn narrow_all<'a>(
         range.new.low.items (high_of range.new)
         (option_map formula (option_copied rest))) }
     ensures inside { IfOk result (λ _. pick < at + comparisons (formula tree.now)) }
-    ensures behind { IfErr result (λ end. (end ≡ at + comparisons (formula tree.now)) × (end ≤ pick)
+    ensures beyond { IfErr result (λ end. (end ≡ at + comparisons (formula tree.now)) × (end ≤ pick)
         × (range.new ≡ range.old)) }
 {
     match tree {

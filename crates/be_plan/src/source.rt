@@ -1,12 +1,12 @@
 //! What answers for a volume.
 //!
-//! A source is read by six calls, and each may change the source itself: a cursor moves, a reader
+//! A source is read by seven calls, and each may change the source itself: a cursor moves, a reader
 //! counts its steps. What stays is said in two ways. `kept` names the facts of the source that no
 //! call changes, and `answers_for` is the relation between the source and the volume that it reads.
 //! It is a relation and not a function, since a reader of pages encodes a volume but can't compute
 //! it: a contract says what holds of each volume in that relation, and the caller, who knows the
 //! volume, names it.
-ghost use Rattle.std.specs.Prelude.{◌≡◌, true, OnOk, IfErr};
+ghost use Rattle.std.specs.Prelude.{◌≡◌, true, false, OnOk, IfErr, IfOk};
 ghost use Rattle.std.specs.Option.{option_copied, option_map};
 ghost use Rattle.be_value.specs.declared.refusals.Refusal.TheVariants.{OutOfMemory};
 ghost use Rattle.be_query.specs.Grammar.{Leaf};
@@ -16,8 +16,9 @@ ghost use Rattle.be_volume.specs.Reading.{attribute, index_kind};
 ghost use Rattle.be_volume.specs.Volume.{State};
 ghost use Rattle.be_volume.specs.Keys.{IsKey, IsNextKey};
 ghost use Rattle.be_volume.specs.Sound.{IsSound};
-ghost use Rattle.be_plan.specs.Walk.{HasNodes, HasOnly, Keeps};
+ghost use Rattle.be_plan.specs.Walk.{HasNodes, HasOnly, HasOnlyTrue, HasWithin, Keeps};
 
+use crate::TextTest;
 use arrayvec::ArrayVec;
 use be_query::Comparison;
 use be_value::{Kind, Name, Refusal, Value, key_of};
@@ -77,6 +78,36 @@ pub trait Source {
         ensures stays { kept self.new ≡ kept self.old }
         ensures answers { (volume : State) → answers_for self.old volume
             → answers_for self.new volume };
+
+    /// Adds the node of each of these keys of whose text the comparison is true, and returns true,
+    /// if the source tests texts where they are and the index is one of texts. Otherwise it adds
+    /// nothing and returns false, and the caller goes from key to key.
+    fn nodes_passing(
+        &mut self,
+        keys: KeyRange<'_>,
+        test: &TextTest<'_>,
+        found: &mut Vec<u64>,
+    ) -> Result<bool, Refusal>
+        requires { (volume : State) × answers_for self.old volume }
+        ensures memory { IfErr result (λ e. e ≡ OutOfMemory) }
+        ensures keeps { Keeps found.old.items found.new.items }
+        ensures only { (volume : State) → answers_for self.old volume →
+            HasOnlyTrue volume (Leaf keys.entry.name.now test.now.0 test.now.1)
+            keys.entry.name.now keys.entry.low.now (option_copied keys.entry.high)
+            found.old.items found.new.items }
+        ensures has { IfOk result (λ tested. tested ≡ true → (volume : State)
+            → answers_for self.old volume →
+            HasWithin volume (Leaf keys.entry.name.now test.now.0 test.now.1)
+            keys.entry.name.now keys.entry.low.now (option_copied keys.entry.high)
+            found.new.items) }
+        ensures none { IfOk result (λ tested. tested ≡ false
+            → found.new.items ≡ found.old.items) }
+        ensures stays { kept self.new ≡ kept self.old }
+        ensures answers { (volume : State) → answers_for self.old volume
+            → answers_for self.new volume }
+    {
+        Ok(false)
+    }
 
     /// Whether the index of that name has the key; false without an index.
     fn has_key(&mut self, name: &Name, key: &[u8]) -> bool

@@ -41,7 +41,7 @@ pub(crate) fn whole_front(tree: &Tree) -> Front<'_>
 
 /// The front that is left of a front of that many comparisons if the last sides that begin after
 /// the pick are cut off: so the pick is in its last side.
-fn cut_behind(tree: &Tree, end: usize, pick: usize) -> Front<'_>
+fn cut_after(tree: &Tree, end: usize, pick: usize) -> Front<'_>
     requires end { end ≡ comparisons (formula tree.now) }
     requires few { end ≤ 256 }
     requires within { pick < end }
@@ -57,7 +57,7 @@ fn cut_behind(tree: &Tree, end: usize, pick: usize) -> Front<'_>
         Tree::Or(a, b) => {
             let from = end - count(b);
             if pick < from {
-                return cut_behind(a, from, pick);
+                return cut_after(a, from, pick);
             }
             Front {
                 tree,
@@ -90,8 +90,8 @@ pub(crate) fn front_for<'a>(whole: &'a Tree, before: &Front<'a>, pick: usize) ->
     ensures side { result.from + comparisons (formula result.side.now) ≡ result.end }
 {
     if pick < before.end {
-        cut_behind(before.tree, before.end, pick)
+        cut_after(before.tree, before.end, pick)
     } else {
-        cut_behind(whole, count(whole), pick)
+        cut_after(whole, count(whole), pick)
     }
 }

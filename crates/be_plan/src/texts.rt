@@ -24,7 +24,7 @@ enum Compared<'q> {
 
 /// A comparison that is ready to be asked of texts. A contract sees its operator and its literal.
 #[derive(Drop)]
-pub(crate) struct TextTest<'q> {
+pub struct TextTest<'q> {
     op: Cmp,
     compared: Compared<'q>,
 }
@@ -41,7 +41,7 @@ impl<'q> Model for TextTest<'q> {
 
 impl<'q> TextTest<'q> {
     /// Makes a comparison ready. It takes memory for a pattern alone.
-    pub(crate) fn new(alloc: Global, comparison: &'q Comparison) -> Result<TextTest<'q>, Refusal>
+    pub fn new(alloc: Global, comparison: &'q Comparison) -> Result<TextTest<'q>, Refusal>
         ensures ok { IfOk result (λ test. test
             ≡ (comparison.now.op, literal comparison.now.literal)) }
         ensures err { IfErr result (λ e. e ≡ OutOfMemory) }
@@ -57,7 +57,7 @@ impl<'q> TextTest<'q> {
     }
 
     /// Whether the comparison is true of a text, given by its bytes.
-    pub(crate) fn passes(&self, text: &[u8]) -> bool
+    pub fn passes(&self, text: &[u8]) -> bool
         ensures { IsUtf8 text.now → result ≡ holds_of_text self.now.0 text.now self.now.1 }
     {
         match &self.compared {
@@ -72,7 +72,7 @@ impl<'q> TextTest<'q> {
 
 /// The text of a key of an index of texts: what comes before a zero byte and the eight bytes of the
 /// node.
-pub(crate) fn text_of(key: &[u8]) -> &[u8]
+pub fn text_of(key: &[u8]) -> &[u8]
     ensures { result.now ≡ text_in key.now }
 {
     &key[..key.len().saturating_sub(9)]

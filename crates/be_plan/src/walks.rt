@@ -3,9 +3,10 @@
 //! A walk collects the nodes of the keys in a range of which the query is true. If the range
 //! decides the query, all of them are answers, and the source gives them by one call. If it decides
 //! all that the query says of the index's name, the source gives them too, and is asked the rest of
-//! each, the least number first. Otherwise the walk goes from key to key by `next_key`, from the
-//! range's low end to the first key above its high end, and asks the query of each node. It asks
-//! for one key more than it passes.
+//! each, the least number first. If one comparison with a text is left, the source is asked for the
+//! nodes of which it is true. Otherwise, and if the source doesn't test texts, the walk goes from
+//! key to key by `next_key`, from the range's low end to the first key above its high end, and asks
+//! the query of each node. It asks for one key more than it passes.
 ghost use Rattle.std.specs.Prelude.{◌≡◌, ◌⊎◌, ◌<◌, ◌^◌, ℕ, true, Some, OnOk, IfErr, IfSome};
 ghost use Rattle.std.specs.Option.{option_copied, option_map};
 ghost use Rattle.std.specs.List.{Contains};
@@ -22,7 +23,7 @@ ghost use Rattle.be_volume.specs.Sound.{IsSound};
 ghost use Rattle.be_volume.specs.Volume.{State};
 ghost use Rattle.be_plan.specs.Narrow.{LeavesRest, high_of};
 ghost use Rattle.be_plan.specs.Texts.{IsKeyOf};
-ghost use Rattle.be_plan.specs.Walk.{IsNodeWithin, Keeps, HasWithin};
+ghost use Rattle.be_plan.specs.Walk.{HasOnlyTrue, HasWithin, IsNodeWithin, Keeps};
 
 use crate::evaluating::{asks_name, is_true, satisfies};
 use crate::ranges::Range;
@@ -158,6 +159,40 @@ fn visit_texts<S: Source>(
     Ok(())
 }
 
+/// Adds the nodes of the keys in the range of whose texts the comparison is true: by one call, if
+/// the source tests texts where they are, otherwise from key to key.
+fn test_texts<S: Source>(
+    source: &mut S,
+    test: &TextTest<'_>,
+    name: &Name,
+    range: &Range,
+    found: &mut Vec<u64>,
+) -> Result<(), Refusal>
+    ghost volume: { State }
+    requires answers { S.answers_for source.old volume }
+    requires kind { index_kind volume name.now ≡ Some Cstr }
+    ensures stays { S.kept source.new ≡ S.kept source.old }
+    ensures answers { S.answers_for source.new volume }
+    ensures memory { IfErr result (λ e. e ≡ OutOfMemory) }
+    ensures keeps { Keeps found.old.items found.new.items }
+    ensures only { HasOnlyTrue volume (Leaf name.now test.now.0 test.now.1) name.now
+        range.now.low.items (high_of range.now) found.old.items found.new.items }
+    ensures has { OnOk result (HasWithin volume (Leaf name.now test.now.0 test.now.1) name.now
+        range.now.low.items
+        (high_of range.now) found.new.items) }
+{
+    let keys = KeyRange {
+        name,
+        low: range.low(),
+        high: range.high(),
+    };
+    let tested = source.nodes_passing(keys, test, found)?;
+    if tested {
+        return Ok(());
+    }
+    visit_texts(source, test, name, range, found)
+}
+
 /// Adds the node, if the tree is true of it. The source is asked for each comparison.
 fn add_if_true<S: Source>(
     source: &mut S,
@@ -267,7 +302,7 @@ fn walk_rest<S: Source>(
 {
     if let Some(comparison) = asked_of_texts(rest, name, kind) {
         let test = TextTest::new(alloc, comparison)?;
-        return visit_texts(source, &test, name, range, found);
+        return test_texts(source, &test, name, range, found);
     }
     if asks_name(rest, name) {
         visit_all(source, tree, name, kind, range, found)

@@ -57,7 +57,7 @@ none_left (x ∷ ys) a e = go x.lexeme refl
     go (Broken n) k = absurd (false≢true (sym (ap (λ l. elim l [ Whole t ↦ all_whole ys | Broken n ↦ false | Odd ↦ false ]) k) ∙ a))
     go Odd k = absurd (false≢true (sym (ap (λ l. elim l [ Whole t ↦ all_whole ys | Broken n ↦ false | Odd ↦ false ]) k) ∙ a))
 
--- Behind d parentheses and n comparisons the tokens of an operand are read to its end, with m comparisons then, if at most
+-- After d parentheses and n comparisons the tokens of an operand are read to its end, with m comparisons then, if at most
 -- 64 parentheses are open at their deepest. Else that is the fault.
 Reads : ℕ → ℕ → ℕ → List Token → ℕ → Type 0
 Reads d n deepest ts m = (len : ℕ) (xs : List Placed) (more : List Token) → d ≤ 64 → all_whole xs ≡ true → whole xs ≡ ts ++ more

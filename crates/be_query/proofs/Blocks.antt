@@ -6,7 +6,7 @@ use Rattle.std.proofs.lemmas.List.Folds.{list_any-append}
 use Rattle.std.specs.Bool.{◌==◌}
 use Rattle.be_query.specs.declared.lexer.Span.{Span}
 use Rattle.be_query.specs.declared.lexer.Span.TheVariants.{Ends, Breaks}
-use Rattle.be_query.specs.Lexing.{IsBehind, IsLone, further, is_mark, is_word, word_span, quoted_span}
+use Rattle.be_query.specs.Lexing.{IsBeyond, IsLone, further, is_mark, is_word, word_span, quoted_span}
 use Rattle.be_query.proofs.Spans.{shifted, shifted_none, stops_at_end, stops, quoted_backslash, quoted_escaped, quoted_plain, word_backslash, word_escaped, word_plain}
 
 further_shifted : (n : ℕ) (s : Span) → further (shifted n s) ≡ shifted (suc n) s
@@ -81,12 +81,12 @@ module _ (bs : List ℕ) (i : ℕ) (h : i < length bs) (whole : Span) where
   pub word_taken : get_or bs i 0 ≡ 92 → i + 1 < length bs → (get_or bs (i + 1) 0 ≡ 0 → ⊥) → shifted i (word_span false (drop i bs)) ≡ whole → shifted (i + 1 + 1) (word_span false (drop (i + 1 + 1) bs)) ≡ whole
   word_taken n l z k = word_escaped bs (i + 1) l true whole refl z (word_backslash bs i h false whole refl n k)
 
-  -- it goes on behind a byte, or behind the one that a backslash takes
-  pub word_on : (next : ℕ) → IsBehind bs i next → is_word (get_or bs i 0) ≡ true → shifted i (word_span false (drop i bs)) ≡ whole → shifted next (word_span false (drop next bs)) ≡ whole
+  -- it goes on after a byte, or after the one that a backslash takes
+  pub word_on : (next : ℕ) → IsBeyond bs i next → is_word (get_or bs i 0) ≡ true → shifted i (word_span false (drop i bs)) ≡ whole → shifted next (word_span false (drop next bs)) ≡ whole
   word_on next (inl p) w k = subst (λ m. shifted m (word_span false (drop m bs)) ≡ whole) (sym p.1) (word_plain bs i h false whole refl p.0 w k)
   word_on next (inr p) w k = subst (λ m. shifted m (word_span false (drop m bs)) ≡ whole) (sym p.3) (word_taken p.0 p.1 p.2 k)
 
-  pub quoted_on : (q next : ℕ) → (get_or bs i 0 ≡ q → ⊥) → (get_or bs i 0 ≡ 0 → ⊥) → IsBehind bs i next → shifted i (quoted_span q false (drop i bs)) ≡ whole
+  pub quoted_on : (q next : ℕ) → (get_or bs i 0 ≡ q → ⊥) → (get_or bs i 0 ≡ 0 → ⊥) → IsBeyond bs i next → shifted i (quoted_span q false (drop i bs)) ≡ whole
       → shifted next (quoted_span q false (drop next bs)) ≡ whole
   quoted_on q next nq n0 (inl p) k = subst (λ m. shifted m (quoted_span q false (drop m bs)) ≡ whole) (sym p.1) (quoted_plain bs i h false whole q refl nq n0 p.0 k)
   quoted_on q next nq n0 (inr p) k = subst (λ m. shifted m (quoted_span q false (drop m bs)) ≡ whole) (sym p.3) (quoted_taken q nq n0 p.0 p.1 p.2 k)

@@ -316,10 +316,10 @@ compares_stand at n op things (Some c) l h = go (bad_pattern op c.1)
     go (Some x) = tt
     go None = counts_stand n (Leaf c.0 op (rpn.given_literal op c.1)) c.2 refl (omega arith)
 
-surrounds_stand : (at n : ℕ) (before behind : Bool) (things : List rpn.Thing) (o : Option (List ℕ × List ℕ × List rpn.Thing)) → LeavesComparison things o → on_stack things ≤ n → Stands (rpn.surrounds at n before behind o)
+surrounds_stand : (at n : ℕ) (before beyond : Bool) (things : List rpn.Thing) (o : Option (List ℕ × List ℕ × List rpn.Thing)) → LeavesComparison things o → on_stack things ≤ n → Stands (rpn.surrounds at n before beyond o)
 unfolding LeavesComparison Stands
-surrounds_stand at n before behind things None l h = tt
-surrounds_stand at n before behind things (Some c) l h = counts_stand n _ c.2 refl (omega arith)
+surrounds_stand at n before beyond things None l h = tt
+surrounds_stand at n before beyond things (Some c) l h = counts_stand n _ c.2 refl (omega arith)
 
 work_stands : (at n : ℕ) (things : List rpn.Thing) (i : rpn.Item) → on_stack things ≤ n → n ≤ 256 → Stands (rpn.work at n things i)
 unfolding Stands on_stack LeavesTree LeavesTrees LeavesComparison
@@ -327,7 +327,7 @@ work_stands at n things (rpn.Attr name) h k = (h, k)
 work_stands at n things (rpn.Given text) h k = cond_both (has_nul text) _ _ Stands (λ e. tt) (λ e. (h, k))
 work_stands at n things (rpn.Number text) h k = (h, k)
 work_stands at n things (rpn.Compare op) h k = compares_stand at n op things _ (comparison_left things) h
-work_stands at n things (rpn.Around before behind) h k = surrounds_stand at n before behind things _ (comparison_left things) h
+work_stands at n things (rpn.Around before beyond) h k = surrounds_stand at n before beyond things _ (comparison_left things) h
 work_stands at n things rpn.Both h k = go (rpn.top_trees things) (trees_left things)
   where
     go : (o : Option (Formula × Formula × List rpn.Thing)) → LeavesTrees things o → Stands (rpn.joins at n And o)

@@ -107,7 +107,7 @@ pick false false false false false false false true a0 x1 x2 x3 x4 x5 x6 x7 x8 x
 pick false false false false false false false false true x1 x2 x3 x4 x5 x6 x7 x8 x9 z w h = refl
 pick false false false false false false false false false x1 x2 x3 x4 x5 x6 x7 x8 x9 z w h = absurd (true≢false (sym h))
 
--- a sign is known from the byte behind it
+-- a sign is known from the byte after it
 pub sign_stands : (b : ℕ) (bs : List ℕ) → is_separator b ≡ false → is_quote b ≡ false → (is_sign b || (b == 0)) ≡ true → front b bs ≡ front b (take 1 bs)
 sign_stands b [] h q s = refl
 sign_stands b (c ∷ cs) h q s =
@@ -173,11 +173,11 @@ module _ (text : List ℕ) (l : 0 < length text) (h : is_separator (get_or text 
   pub word_broken : (n : ℕ) → is_quote (get_or text 0 0) ≡ false → is_sign (get_or text 0 0) ≡ false → (get_or text 0 0 == 0) ≡ false → Breaks n ≡ word_span false text → (width : ℕ) × HasLexeme text (Broken n) width 0 × (n ≤ length text)
   word_broken n q g z e = (1, stands_from text _ 1 0 l (word_at (Breaks n) q g z e), word_breaks text n e)
 
-  pub quoted_token : (q : ℕ) (behind raw tail rest : List ℕ) (n : ℕ) → get_or text 0 0 ≡ q → is_quote (get_or text 0 0) ≡ true → behind ≡ drop 1 text → Ends n ≡ quoted_span q false behind → raw ≡ take n behind → tail ≡ drop n behind → rest ≡ drop 1 tail → TokenAt text (Text raw) 1 rest
-  quoted_token q behind raw tail rest n f k b e r d t =
-      let w = quoted_ends q behind n e in
-      let lens : length behind ≡ length text - 1 = ap length b ∙ length-drop 1 text in
-      let len = ap length r ∙ length-take-le n behind (omega arith) in
+  pub quoted_token : (q : ℕ) (beyond raw tail rest : List ℕ) (n : ℕ) → get_or text 0 0 ≡ q → is_quote (get_or text 0 0) ≡ true → beyond ≡ drop 1 text → Ends n ≡ quoted_span q false beyond → raw ≡ take n beyond → tail ≡ drop n beyond → rest ≡ drop 1 tail → TokenAt text (Text raw) 1 rest
+  quoted_token q beyond raw tail rest n f k b e r d t =
+      let w = quoted_ends q beyond n e in
+      let lens : length beyond ≡ length text - 1 = ap length b ∙ length-drop 1 text in
+      let len = ap length r ∙ length-take-le n beyond (omega arith) in
       let span : Ends n ≡ quoted_span (get_or text 0 0) false (drop 1 text) = e ∙ ap (quoted_span q false) b ∙ ap (λ v. quoted_span v false (drop 1 text)) (sym f) in
       let order : 1 + n + 1 ≡ n + 2 = omega arith in (
         n + 2,
@@ -188,20 +188,20 @@ module _ (text : List ℕ) (l : 0 < length text) (h : is_separator (get_or text 
         omega arith,
       )
 
-  pub quoted_broken : (q : ℕ) (behind : List ℕ) (n : ℕ) → get_or text 0 0 ≡ q → is_quote (get_or text 0 0) ≡ true → behind ≡ drop 1 text → Breaks n ≡ quoted_span q false behind → (width : ℕ) × HasLexeme text (Broken (n + 1)) width 0 × (n + 1 ≤ length text)
-  quoted_broken q behind n f k b e =
-      let w = quoted_breaks q behind n e in
-      let lens : length behind ≡ length text - 1 = ap length b ∙ length-drop 1 text in
+  pub quoted_broken : (q : ℕ) (beyond : List ℕ) (n : ℕ) → get_or text 0 0 ≡ q → is_quote (get_or text 0 0) ≡ true → beyond ≡ drop 1 text → Breaks n ≡ quoted_span q false beyond → (width : ℕ) × HasLexeme text (Broken (n + 1)) width 0 × (n + 1 ≤ length text)
+  quoted_broken q beyond n f k b e =
+      let w = quoted_breaks q beyond n e in
+      let lens : length beyond ≡ length text - 1 = ap length b ∙ length-drop 1 text in
       let span : Breaks n ≡ quoted_span (get_or text 0 0) false (drop 1 text) = e ∙ ap (quoted_span q false) b ∙ ap (λ v. quoted_span v false (drop 1 text)) (sym f) in
       (1, stands_from text _ 1 0 l (quoted_stands (get_or text 0 0) (drop 1 text) (Breaks n) h k span), omega arith)
 
-pub tail_boundary : (q : ℕ) (behind tail : List ℕ) (n : ℕ) → IsUtf8 behind → q < 128 → Ends n ≡ quoted_span q false behind → tail ≡ drop n behind → IsCharBoundary tail 1
-tail_boundary q behind tail n u a e t =
-    let w = quoted_ends q behind n e in
-    let ut = subst IsUtf8 (sym t) (IsUtf8-drop behind n u (before_ascii behind n (omega arith) (λ l. omega (arith, w.1)))) in
+pub tail_boundary : (q : ℕ) (beyond tail : List ℕ) (n : ℕ) → IsUtf8 beyond → q < 128 → Ends n ≡ quoted_span q false beyond → tail ≡ drop n beyond → IsCharBoundary tail 1
+tail_boundary q beyond tail n u a e t =
+    let w = quoted_ends q beyond n e in
+    let ut = subst IsUtf8 (sym t) (IsUtf8-drop beyond n u (before_ascii beyond n (omega arith) (λ l. omega (arith, w.1)))) in
     let zero_more : n + 0 ≡ n = omega arith in
-    let first : get_or tail 0 0 ≡ q = ap (λ l. get_or l 0 0) t ∙ get_or-drop n behind 0 0 ∙ ap (λ k. get_or behind k 0) zero_more ∙ w.1 in
-    let len : length tail ≡ length behind - n = ap length t ∙ length-drop n behind in
+    let first : get_or tail 0 0 ≡ q = ap (λ l. get_or l 0 0) t ∙ get_or-drop n beyond 0 0 ∙ ap (λ k. get_or beyond k 0) zero_more ∙ w.1 in
+    let len : length tail ≡ length beyond - n = ap length t ∙ length-drop n beyond in
     IsCharBoundary-after_ascii tail 0 ut (omega arith) (omega arith)
 
 pub second_byte : (text : List ℕ) → second_of (slice_get text 1) ≡ take 1 (drop 1 text)

@@ -7,7 +7,7 @@ use Rattle.be_query.specs.Reading.{Operand}
 use Rattle.be_query.specs.Lexing.{Placed, Lexeme, Front, Separator, Takes, front, lexemes}
 use Rattle.be_query.specs.Faults.{first_fault, fault}
 use Rattle.be_query.specs.View.{HasLexeme, BeginsSeparated}
-use Rattle.be_query.proofs.Sentences.{lexemes_behind}
+use Rattle.be_query.proofs.Sentences.{lexemes_after}
 
 after_front : ℕ → List ℕ → Front → List Placed
 after_front at bs Separator = lexemes 0 (at + 1) bs
@@ -44,9 +44,9 @@ taken (b ∷ bs) rest len (suc width) shift lexeme h r p w k =
     let place : at + 1 + width ≡ len - length rest = omega arith in
     by_front at b bs ∙ ap (after_front at bs) h
     ∙ ap (λ l. record { at = at; start = at + shift; lexeme = lexeme } ∷ l)
-    (ap (λ n. lexemes n (at + 1) bs) one ∙ lexemes_behind width (at + 1) bs ∙ ap (λ a. lexemes 0 a (drop width bs)) place ∙ ap (lexemes 0 (len - length rest)) (sym r))
+    (ap (λ n. lexemes n (at + 1) bs) one ∙ lexemes_after width (at + 1) bs ∙ ap (λ a. lexemes 0 a (drop width bs)) place ∙ ap (lexemes 0 (len - length rest)) (sym r))
 
--- a lexeme stands there, whatever comes behind it
+-- a lexeme stands there, whatever comes after it
 pub stands : (text : List ℕ) (at width shift : ℕ) (lexeme : Lexeme) → HasLexeme text lexeme width shift → (more : List Placed) × (lexemes 0 at text ≡ record { at = at; start = at + shift; lexeme = lexeme } ∷ more)
 unfolding after_front
 stands [] at width shift lexeme h = absurd h

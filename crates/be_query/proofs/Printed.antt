@@ -13,11 +13,11 @@ use Rattle.be_query.specs.Tokens.{Token, Open, Close, Both, Either, Compares, Te
 use Rattle.be_query.specs.Grammar.{Formula, Leaf, And, Or, Literal, Spells}
 use Rattle.be_query.specs.Lexing.{further, quoted_span, quoted_front, lexemes, whole, all_whole, tokens, Whole}
 use Rattle.be_query.specs.Printing.{wants_backslash, with_backslashes, literal_text, cmp_text, leaf_text, or_text, and_text, operand_text, leaf_tokens, or_printed, and_printed, operand_printed, IsPrintable, IsWhole, IsQuotable}
-use Rattle.be_query.proofs.Sentences.{lexemes_behind}
+use Rattle.be_query.proofs.Sentences.{lexemes_after}
 use Rattle.be_query.proofs.Loop.{taken_at}
 use Rattle.be_query.proofs.Spelt.{printed_spells}
 
--- whatever stands behind the text, it gives these tokens
+-- whatever stands after the text, it gives these tokens
 Lexes : List ℕ → List Token → Type 0
 Lexes text ts = (at : ℕ) (rest : List ℕ) → (next : ℕ) × (whole (lexemes 0 at (text ++ rest)) ≡ ts ++ whole (lexemes 0 next rest)) × (all_whole (lexemes 0 at (text ++ rest)) ≡ all_whole (lexemes 0 next rest))
 
@@ -68,10 +68,10 @@ quoted xs h at rest =
       ap (λ x. whole (lexemes 0 at (34 ∷ x))) (append_assoc xs (34 ∷ []) rest)
           ∙ ap whole (taken_at at 34 bs (Whole (Text (take (length xs) bs))) (length xs + 2) 1 (ap (quoted_front bs) (h rest)))
           ∙ ap (λ x. Text x ∷ whole (lexemes n (at + 1) bs)) (take_front xs (34 ∷ rest))
-          ∙ ap (λ l. Text xs ∷ whole l) (lexemes_behind n (at + 1) bs ∙ ap (lexemes 0 (at + 1 + n)) (drop_front xs rest 34 n more)),
+          ∙ ap (λ l. Text xs ∷ whole l) (lexemes_after n (at + 1) bs ∙ ap (lexemes 0 (at + 1 + n)) (drop_front xs rest 34 n more)),
       ap (λ x. all_whole (lexemes 0 at (34 ∷ x))) (append_assoc xs (34 ∷ []) rest)
           ∙ ap all_whole (taken_at at 34 bs (Whole (Text (take (length xs) bs))) (length xs + 2) 1 (ap (quoted_front bs) (h rest)))
-          ∙ ap all_whole (lexemes_behind n (at + 1) bs ∙ ap (lexemes 0 (at + 1 + n)) (drop_front xs rest 34 n more)),
+          ∙ ap all_whole (lexemes_after n (at + 1) bs ∙ ap (lexemes 0 (at + 1 + n)) (drop_front xs rest 34 n more)),
     )
 
 -- an operator before a quote

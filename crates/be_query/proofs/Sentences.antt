@@ -83,8 +83,8 @@ built_spells ts s t e h =
     let same : Some (or_tree o.0) ≡ Some t = sym (tree_built o.0) ∙ ap (λ l. tree_of (build_from (Some nothing_built) l)) o.1 ∙ ap tree_of e ∙ h in
     (o.0, o.1, cc)
 
--- what is left behind the bytes that a lexeme took
-pub lexemes_behind : (n at : ℕ) (bs : List ℕ) → lexemes n at bs ≡ lexemes 0 (at + n) (drop n bs)
-lexemes_behind zero at bs = ap (λ a. lexemes 0 a bs) (omega arith)
-lexemes_behind (suc n) at [] = refl
-lexemes_behind (suc n) at (b ∷ bs) = lexemes_behind n (at + 1) bs ∙ ap (λ a. lexemes 0 a (drop n bs)) (omega arith)
+-- what is left after the bytes that a lexeme took
+pub lexemes_after : (n at : ℕ) (bs : List ℕ) → lexemes n at bs ≡ lexemes 0 (at + n) (drop n bs)
+lexemes_after zero at bs = ap (λ a. lexemes 0 a bs) (omega arith)
+lexemes_after (suc n) at [] = refl
+lexemes_after (suc n) at (b ∷ bs) = lexemes_after n (at + 1) bs ∙ ap (λ a. lexemes 0 a (drop n bs)) (omega arith)

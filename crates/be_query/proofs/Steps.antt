@@ -22,7 +22,7 @@ length-negations (suc n) marks = ap suc (length-negations n marks) ∙ omega ari
 pub negations_within : (level : Level) (outer : List Level) → level.negations ≤ length (marks_of level outer)
 negations_within level outer = omega (arith, length-negations level.negations (outer_marks outer))
 
--- the reading goes on behind a token that can follow and has no fault
+-- the reading goes on after a token that can follow and has no fault
 pub goes_on : (place : Awaited) (marks : List Mark) (n len : ℕ) (x : Placed) (t : Token) (xs : List Placed) (s : Awaited × List Mark)
     → x.lexeme ≡ Whole t → next place marks t ≡ Some s → own_fault place marks n x.start t ≡ None
     → first_fault place marks n len (x ∷ xs) ≡ first_fault s.0 s.1 (comparisons_with place n) len xs

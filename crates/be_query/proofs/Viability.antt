@@ -86,7 +86,7 @@ negated (or_more e a) = let p = negated e in (or_more p.0 a, ap (λ l. l ++ Eith
 
 -- What the tokens read so far are, at each open `(`.
 
--- with any phrase behind them they are a phrase
+-- with any phrase after them they are a phrase
 abbrev Continues : List Token → Type 0
 Continues ts = (e : OrPhrase) → (o : OrPhrase) × (or_tokens o ≡ ts ++ or_tokens e)
 

@@ -90,20 +90,20 @@ end_all : (test : Part → Bool) (stands : Bool) → test Run ≡ true → list_
 end_all test true h = and_from _ _ h refl
 end_all test false h = refl
 
-around_all : (test : Part → Bool) (before behind : Bool) (cs : List ℕ) → test Run ≡ true → list_all (λ c. test (Only c)) cs ≡ true → list_all test (around before cs behind) ≡ true
-around_all test before behind cs r h = run_all test before (map Only cs ++ run_if behind) r (only_all test cs (run_if behind) h (end_all test behind r))
+around_all : (test : Part → Bool) (before beyond : Bool) (cs : List ℕ) → test Run ≡ true → list_all (λ c. test (Only c)) cs ≡ true → list_all test (around before cs beyond) ≡ true
+around_all test before beyond cs r h = run_all test before (map Only cs ++ run_if beyond) r (only_all test cs (run_if beyond) h (end_all test beyond r))
 
 all_true : (cs : List ℕ) → list_all (λ c. is_formed (Only c)) cs ≡ true
 all_true [] = refl
 all_true (c ∷ cs) = all_true cs
 
-around_kept : (before behind : Bool) (text : List ℕ) → has_nul text ≡ false → IsUtf8 text → IsKeptBy Eq (Wild (around before (chars text) behind))
-around_kept before behind text h u =
+around_kept : (before beyond : Bool) (text : List ℕ) → has_nul text ≡ false → IsUtf8 text → IsKeptBy Eq (Wild (around before (chars text) beyond))
+around_kept before beyond text h u =
     let cs = chars text in
-    let ps = around before cs behind in
-    let k = parts_kept ps (canonical_read ps (around_all is_formed before behind cs refl (all_true cs)))
-    (around_all (has_only some) before behind cs refl (all_some cs (chars_clean text u h)))
-    (around_all (has_only scalar) before behind cs refl (sym (scalars_all cs) ∙ scalars-chars text u)) in
+    let ps = around before cs beyond in
+    let k = parts_kept ps (canonical_read ps (around_all is_formed before beyond cs refl (all_true cs)))
+    (around_all (has_only some) before beyond cs refl (all_some cs (chars_clean text u h)))
+    (around_all (has_only scalar) before beyond cs refl (sym (scalars_all cs) ∙ scalars-chars text u)) in
     (refl, k.0, k.1, k.2)
 
 -- Items.
@@ -128,10 +128,10 @@ compares_kept at n op (Some c) h = go (bad_pattern op c.1)
     go (Some x) = tt
     go None = counts_kept n (Leaf c.0 op (given_literal op c.1)) c.2 (h.0, given_kept op c.1 h.1.0 h.1.1) h.2
 
-surrounds_kept : (at n : ℕ) (before behind : Bool) (o : Option (List ℕ × List ℕ × List Thing)) → ComparisonKept o → WorkKept (surrounds at n before behind o)
+surrounds_kept : (at n : ℕ) (before beyond : Bool) (o : Option (List ℕ × List ℕ × List Thing)) → ComparisonKept o → WorkKept (surrounds at n before beyond o)
 unfolding ComparisonKept
-surrounds_kept at n before behind None h = tt
-surrounds_kept at n before behind (Some c) h = counts_kept n (Leaf c.0 Eq (Wild (around before (chars c.1) behind))) c.2 (h.0, around_kept before behind c.1 h.1.0 h.1.1) h.2
+surrounds_kept at n before beyond None h = tt
+surrounds_kept at n before beyond (Some c) h = counts_kept n (Leaf c.0 Eq (Wild (around before (chars c.1) beyond))) c.2 (h.0, around_kept before beyond c.1 h.1.0 h.1.1) h.2
 
 both_kept : (at n : ℕ) (o : Option (Formula × Formula × List Thing)) → TreesKept o → WorkKept (joins at n And o)
 unfolding TreesKept
@@ -154,7 +154,7 @@ work_kept at n things (Attr name) k c = (c, k)
 work_kept at n things (Given text) k c = cond_both (has_nul text) _ _ WorkKept (λ e. tt) (λ e. ((e, c), k))
 work_kept at n things (Number text) k c = (c, k)
 work_kept at n things (Compare op) k c = compares_kept at n op _ (comparison_kept things k)
-work_kept at n things (Around before behind) k c = surrounds_kept at n before behind _ (comparison_kept things k)
+work_kept at n things (Around before beyond) k c = surrounds_kept at n before beyond _ (comparison_kept things k)
 work_kept at n things Both k c = both_kept at n _ (trees_kept things k)
 work_kept at n things Either k c = either_kept at n _ (trees_kept things k)
 work_kept at n things Complement k c = other_kept at n things k

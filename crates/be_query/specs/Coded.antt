@@ -82,9 +82,9 @@ abbrev pub Symbol : Type 0
 Symbol = (List ℕ × (Cmp × Literal)) ⊎ Bool
 
 abbrev pub symbols : Formula → List Symbol → List Symbol
-symbols (Leaf name op value) behind = inl (name, (op, value)) ∷ behind
-symbols (And l r) behind = symbols l (symbols r (inr true ∷ behind))
-symbols (Or l r) behind = symbols l (symbols r (inr false ∷ behind))
+symbols (Leaf name op value) beyond = inl (name, (op, value)) ∷ beyond
+symbols (And l r) beyond = symbols l (symbols r (inr true ∷ beyond))
+symbols (Or l r) beyond = symbols l (symbols r (inr false ∷ beyond))
 
 abbrev pub join : Bool → List Formula → List Formula
 join both [] = []
@@ -98,16 +98,16 @@ top (t ∷ stack) = t
 
 abbrev pub build : List Symbol → List Formula → Formula
 build [] stack = top stack
-build (inl c ∷ behind) stack = build behind (Leaf c.0 c.1.0 c.1.1 ∷ stack)
-build (inr both ∷ behind) stack = build behind (join both stack)
+build (inl c ∷ beyond) stack = build beyond (Leaf c.0 c.1.0 c.1.1 ∷ stack)
+build (inr both ∷ beyond) stack = build beyond (join both stack)
 
-pub same_build : (t : Formula) (behind : List Symbol) (stack : List Formula)
-    → build (symbols t behind) stack ≡ build behind (t ∷ stack)
-same_build (Leaf name op value) behind stack = refl
-same_build (And l r) behind stack = same_build l (symbols r (inr true ∷ behind)) stack ∙ same_build
-    r (inr true ∷ behind) (l ∷ stack)
-same_build (Or l r) behind stack = same_build l (symbols r (inr false ∷ behind)) stack ∙ same_build
-    r (inr false ∷ behind) (l ∷ stack)
+pub same_build : (t : Formula) (beyond : List Symbol) (stack : List Formula)
+    → build (symbols t beyond) stack ≡ build beyond (t ∷ stack)
+same_build (Leaf name op value) beyond stack = refl
+same_build (And l r) beyond stack = same_build l (symbols r (inr true ∷ beyond)) stack ∙ same_build
+    r (inr true ∷ beyond) (l ∷ stack)
+same_build (Or l r) beyond stack = same_build l (symbols r (inr false ∷ beyond)) stack ∙ same_build
+    r (inr false ∷ beyond) (l ∷ stack)
 
 abbrev pub to_symbols : Formula → List Symbol
 to_symbols t = symbols t []

@@ -28,8 +28,8 @@ abbrev pub is_mark : ℕ → ℕ → Bool
 is_mark quote b = (b == quote) || (b == 0) || (b == 92)
 
 -- the place after a byte; of a backslash, the place after the byte that it escapes
-abbrev pub IsBehind : List ℕ → ℕ → ℕ → Type 0
-IsBehind bytes at next =
+abbrev pub IsBeyond : List ℕ → ℕ → ℕ → Type 0
+IsBeyond bytes at next =
     ((slice_index bytes at ≢ 92) × (next ≡ at + 1))
     ⊎ ((slice_index bytes at ≡ 92) × (at + 1 < length bytes) × (slice_index bytes (at + 1) ≢ 0)
     × (next ≡ at + 1 + 1))

@@ -80,9 +80,9 @@ compares at n op (Some c) = elim (bad_pattern op c.1)
 
 abbrev pub surrounds : ℕ → ℕ → Bool → Bool → Option (List ℕ × List ℕ × List Thing)
     → Result (ℕ × List Thing) Refusal
-surrounds at n before behind None = Err (BadRpn at)
-surrounds at n before behind (Some c) = counts n
-    (Leaf c.0 Eq (Wild (around before (chars c.1) behind))) c.2
+surrounds at n before beyond None = Err (BadRpn at)
+surrounds at n before beyond (Some c) = counts n
+    (Leaf c.0 Eq (Wild (around before (chars c.1) beyond))) c.2
 
 abbrev pub joins : ℕ → ℕ → (Formula → Formula → Formula) → Option (Formula × Formula × List Thing)
     → Result (ℕ × List Thing) Refusal
@@ -99,7 +99,7 @@ work at n stack (Attr name) = Ok (n, Attribute name ∷ stack)
 work at n stack (Given text) = if has_nul text then Err (BadRpn at) else Ok (n, Value text ∷ stack)
 work at n stack (Number text) = Ok (n, Value text ∷ stack)
 work at n stack (Compare op) = compares at n op (top_comparison stack)
-work at n stack (Around before behind) = surrounds at n before behind (top_comparison stack)
+work at n stack (Around before beyond) = surrounds at n before beyond (top_comparison stack)
 work at n stack Both = joins at n And (top_trees stack)
 work at n stack Either = joins at n Or (top_trees stack)
 work at n stack Complement = complements at n (top_tree stack)
@@ -159,7 +159,7 @@ ItemClean (Attr name) = name_from name ≡ Ok name
 ItemClean (Given text) = IsUtf8 text
 ItemClean (Number text) = (has_nul text ≡ false) × IsUtf8 text
 ItemClean (Compare op) = Unit {0}
-ItemClean (Around before behind) = Unit {0}
+ItemClean (Around before beyond) = Unit {0}
 ItemClean Both = Unit {0}
 ItemClean Either = Unit {0}
 ItemClean Complement = Unit {0}

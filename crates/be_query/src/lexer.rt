@@ -4,7 +4,7 @@ ghost use Rattle.std.specs.Prelude.{false, true, ◌||◌, ℕ, ◌≡◌, ◌�
 ghost use Rattle.std.specs.Prelude.{drop, slice_get, slice_index, IfNone, IfSome};
 ghost use Rattle.std.specs.List.{list_any};
 ghost use Rattle.be_query.specs.View.{IsClean, IsCleanFront, token_of, IsFront, SignIs};
-ghost use Rattle.be_query.specs.Lexing.{IsBehind, IsLone, is_quote, is_separator, is_sign, is_word};
+ghost use Rattle.be_query.specs.Lexing.{IsBeyond, IsLone, is_quote, is_separator, is_sign, is_word};
 ghost use Rattle.be_query.specs.Lexing.{is_mark, word_span, quoted_span};
 
 use crate::token::Token;
@@ -72,9 +72,9 @@ fn is_sign(b: u8) -> bool
 
 /// The place after a byte; of a backslash, the place after the byte that it escapes. None if that
 /// byte is a NUL, or is missing.
-fn behind(bytes: &[u8], at: usize) -> Option<usize>
+fn beyond(bytes: &[u8], at: usize) -> Option<usize>
     requires { at < length bytes.now }
-    ensures next { IfSome result (λ next. IsBehind bytes.now at next) }
+    ensures next { IfSome result (λ next. IsBeyond bytes.now at next) }
     ensures within { IfSome result (λ next. (at < next) × (next ≤ length bytes.now)) }
     ensures lone { IfNone result (IsLone bytes.now at) }
 {
@@ -100,7 +100,7 @@ fn word_span(bytes: &[u8]) -> Span
         if !is_word(bytes[at]) {
             return Span::Ends(at);
         }
-        let Some(next) = behind(bytes, at) else {
+        let Some(next) = beyond(bytes, at) else {
             return Span::Breaks(at + 1);
         };
         at = next;
@@ -113,7 +113,7 @@ fn quoted_span(quote: u8, bytes: &[u8]) -> Span
     ensures { result ≡ quoted_span quote false bytes.now }
 {
     let front = unmarked_front(quote, bytes);
-    span_behind(quote, bytes, front)
+    span_after(quote, bytes, front)
 }
 
 /// How many bytes at the front, by whole blocks, are neither a backslash nor anything that ends the
@@ -154,7 +154,7 @@ fn has_byte(byte: u8, block: &[u8]) -> bool
 }
 
 /// How far the text after a quote goes, if it doesn't end within that many bytes at its front.
-fn span_behind(quote: u8, bytes: &[u8], front: usize) -> Span
+fn span_after(quote: u8, bytes: &[u8], front: usize) -> Span
     requires within { front ≤ length bytes.now }
     requires unmarked { list_any (is_mark quote) (take front bytes.now) ≡ false }
     ensures { result ≡ quoted_span quote false bytes.now }
@@ -168,7 +168,7 @@ fn span_behind(quote: u8, bytes: &[u8], front: usize) -> Span
         if b == 0 {
             return Span::Breaks(at);
         }
-        let Some(next) = behind(bytes, at) else {
+        let Some(next) = beyond(bytes, at) else {
             return Span::Breaks(at + 1);
         };
         at = next;
@@ -207,10 +207,10 @@ fn quoted_front(quote: u8, text: &str) -> Front<'_>
     ensures front { IsFront text.now result }
     ensures clean { IsCleanFront result }
 {
-    let (_, behind) = text.split_at(1);
-    match quoted_span(quote, behind.as_bytes()) {
+    let (_, beyond) = text.split_at(1);
+    match quoted_span(quote, beyond.as_bytes()) {
         Span::Ends(len) => {
-            let (raw, rest) = behind.split_at(len);
+            let (raw, rest) = beyond.split_at(len);
             let (_, rest) = rest.split_at(1);
             Front::Token(Token::Text(raw), 1, rest)
         }

@@ -401,7 +401,7 @@ fn split_plain(text: &str) -> Option<(char, &str)>
         return Some((c, after));
     }
     match split_first_char(after) {
-        Some((escaped, behind)) => Some((escaped, behind)),
+        Some((escaped, beyond)) => Some((escaped, beyond)),
         None => Some((c, after)),
     }
 }

@@ -81,10 +81,10 @@ pub fn parse(alloc: Global, text: &str) -> Result<Query, Refusal>
     'lexemes: while !rest.is_empty() {
         let at = text.len() - rest.len();
         match split_front(rest) {
-            Front::Separator(behind) => rest = behind,
-            Front::Token(token, shift, behind) => {
+            Front::Separator(beyond) => rest = beyond,
+            Front::Token(token, shift, beyond) => {
                 stage = context.take(alloc, stage, at, at + shift, token)?;
-                rest = behind;
+                rest = beyond;
             }
             Front::Broken(len) => return Err(stage.broken(at, len)),
             Front::Odd => return Err(Refusal::Syntax(at)),

@@ -263,18 +263,18 @@ fn surround(
     stack: &mut Stack,
     at: usize,
     before: bool,
-    behind: bool,
+    beyond: bool,
 ) -> Result<(), Refusal>
-    ensures ok { IfOk result (λ _. surrounds at (stack_of stack.old).0 before behind
+    ensures ok { IfOk result (λ _. surrounds at (stack_of stack.old).0 before beyond
         (top_comparison (stack_of stack.old).1) ≡ Ok (stack_of stack.new)) }
     ensures err { IfErr result (λ e. IsMemory e
-        (surrounds at (stack_of stack.old).0 before behind (top_comparison (stack_of stack.old).1)
+        (surrounds at (stack_of stack.old).0 before beyond (top_comparison (stack_of stack.old).1)
         ≡ Err e)) }
 {
     let Some((name, text)) = pop_comparison(&mut stack.things) else {
         return Err(Refusal::BadRpn(at));
     };
-    let literal = Literal::Pattern(Pattern::around(alloc, before, &text, behind)?);
+    let literal = Literal::Pattern(Pattern::around(alloc, before, &text, beyond)?);
     let op = Cmp::Eq;
     push_comparison(stack, Comparison { name, op, literal })
 }

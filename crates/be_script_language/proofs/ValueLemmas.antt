@@ -7,7 +7,7 @@ use Rattle.be_script_language.specs.Values.{hex_in, first_byte_in, byte_in}
 same_inside : (p q : ℕ × List ℕ) → Some p ≡ Some q → p ≡ q
 same_inside p q h = cc
 
--- the first byte, and the bytes behind it
+-- the first byte, and the bytes after it
 hex-first : (rest rest' : List ℕ) (byte : ℕ) → first_byte_in rest ≡ Some (byte, rest') → hex_in rest ≡ option_map (λ bytes. byte ∷ bytes) (hex_in rest')
 hex-first [] rest' byte h = cc
 hex-first (c ∷ []) rest' byte h = cc

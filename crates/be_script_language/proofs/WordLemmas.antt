@@ -3,15 +3,15 @@ use Rattle.std.proofs.Common.{◌≡◌, ℕ, false, List, [], ◌∷◌, ◌++�
 use Rattle.std.specs.declared.option.Option.{Option}
 use Rattle.std.specs.Char.{encode_utf8}
 use Rattle.std.specs.Option.{option_and_then}
-use Rattle.be_script_language.specs.Words.{quoted_in, behind, meaning_of}
+use Rattle.be_script_language.specs.Words.{quoted_in, beyond, meaning_of}
 
 -- two parts of a word before
-pub behind_both : (xs ys : List ℕ) (parts : Option (List ℕ × List ℕ)) → behind xs (behind ys parts) ≡ behind (xs ++ ys) parts
-behind_both xs ys None = refl
-behind_both xs ys (Some p) = ap (λ z. Some (z, p.1)) (sym (append_assoc xs ys p.0))
+pub after_both : (xs ys : List ℕ) (parts : Option (List ℕ × List ℕ)) → beyond xs (beyond ys parts) ≡ beyond (xs ++ ys) parts
+after_both xs ys None = refl
+after_both xs ys (Some p) = ap (λ z. Some (z, p.1)) (sym (append_assoc xs ys p.0))
 
 -- a character that is no quote and no backslash stands for itself
-pub quoted-plain : (c : ℕ) (text : List ℕ) → nat_eq c 34 ≡ false → nat_eq c 92 ≡ false → quoted_in (c ∷ text) ≡ behind (encode_utf8 c) (quoted_in text)
+pub quoted-plain : (c : ℕ) (text : List ℕ) → nat_eq c 34 ≡ false → nat_eq c 92 ≡ false → quoted_in (c ∷ text) ≡ beyond (encode_utf8 c) (quoted_in text)
 quoted-plain c [] h g = rw h refl
 quoted-plain c (d ∷ text) h g = rw h (rw g refl)
 
@@ -20,21 +20,21 @@ pub quoted-end : (text : List ℕ) → quoted_in (34 ∷ text) ≡ Some ([], tex
 quoted-end [] = refl
 quoted-end (d ∷ text) = refl
 
-pub behind_none : (parts : Option (List ℕ × List ℕ)) → parts ≡ behind [] parts
-behind_none None = refl
-behind_none (Some p) = refl
+pub beyond_none : (parts : Option (List ℕ × List ℕ)) → parts ≡ beyond [] parts
+beyond_none None = refl
+beyond_none (Some p) = refl
 
 -- a character more that stands for itself
-pub more_plain : (text rest rest' bytes bytes' : List ℕ) (c : ℕ) → quoted_in text ≡ behind bytes (quoted_in rest) → rest ≡ c ∷ rest' →
-    nat_eq c 34 ≡ false → nat_eq c 92 ≡ false → bytes' ≡ bytes ++ encode_utf8 c → quoted_in text ≡ behind bytes' (quoted_in rest')
+pub more_plain : (text rest rest' bytes bytes' : List ℕ) (c : ℕ) → quoted_in text ≡ beyond bytes (quoted_in rest) → rest ≡ c ∷ rest' →
+    nat_eq c 34 ≡ false → nat_eq c 92 ≡ false → bytes' ≡ bytes ++ encode_utf8 c → quoted_in text ≡ beyond bytes' (quoted_in rest')
 more_plain text rest rest' bytes bytes' c h e quote backslash b =
-    h ∙ ap (λ (z : List ℕ). behind bytes (quoted_in z)) e ∙ ap (behind bytes) (quoted-plain c rest' quote backslash)
-    ∙ behind_both bytes (encode_utf8 c) (quoted_in rest') ∙ ap (λ (z : List ℕ). behind z (quoted_in rest')) (sym b)
+    h ∙ ap (λ (z : List ℕ). beyond bytes (quoted_in z)) e ∙ ap (beyond bytes) (quoted-plain c rest' quote backslash)
+    ∙ after_both bytes (encode_utf8 c) (quoted_in rest') ∙ ap (λ (z : List ℕ). beyond z (quoted_in rest')) (sym b)
 
 -- a character more after a backslash
-pub more_escaped : (text rest rest' bytes bytes' : List ℕ) (d meant : ℕ) → quoted_in text ≡ behind bytes (quoted_in rest) → rest ≡ 92 ∷ d ∷ rest' →
-    meaning_of d ≡ Some meant → bytes' ≡ bytes ++ encode_utf8 meant → quoted_in text ≡ behind bytes' (quoted_in rest')
+pub more_escaped : (text rest rest' bytes bytes' : List ℕ) (d meant : ℕ) → quoted_in text ≡ beyond bytes (quoted_in rest) → rest ≡ 92 ∷ d ∷ rest' →
+    meaning_of d ≡ Some meant → bytes' ≡ bytes ++ encode_utf8 meant → quoted_in text ≡ beyond bytes' (quoted_in rest')
 more_escaped text rest rest' bytes bytes' d meant h e m b =
-    h ∙ ap (λ (z : List ℕ). behind bytes (quoted_in z)) e
-    ∙ ap (λ (o : Option ℕ). behind bytes (option_and_then (λ meant. behind (encode_utf8 meant) (quoted_in rest')) o)) m
-    ∙ behind_both bytes (encode_utf8 meant) (quoted_in rest') ∙ ap (λ (z : List ℕ). behind z (quoted_in rest')) (sym b)
+    h ∙ ap (λ (z : List ℕ). beyond bytes (quoted_in z)) e
+    ∙ ap (λ (o : Option ℕ). beyond bytes (option_and_then (λ meant. beyond (encode_utf8 meant) (quoted_in rest')) o)) m
+    ∙ after_both bytes (encode_utf8 meant) (quoted_in rest') ∙ ap (λ (z : List ℕ). beyond z (quoted_in rest')) (sym b)

@@ -37,8 +37,8 @@ meaning_of c =
     else None
 
 -- a word and what follows it, with more of the word before
-abbrev pub behind : List ℕ → Option (List ℕ × List ℕ) → Option (List ℕ × List ℕ)
-behind bytes parts = option_map (λ p. (bytes ++ p.0, p.1)) parts
+abbrev pub beyond : List ℕ → Option (List ℕ × List ℕ) → Option (List ℕ × List ℕ)
+beyond bytes parts = option_map (λ p. (bytes ++ p.0, p.1)) parts
 
 -- after an opening quote: what the quoted word stands for, and what follows the closing quote
 abbrev pub quoted_in : List ℕ → Option (List ℕ × List ℕ)
@@ -46,9 +46,9 @@ quoted_in [] = None
 quoted_in (c ∷ []) = if nat_eq c 34 then Some ([], []) else None
 quoted_in (c ∷ d ∷ text) =
     if nat_eq c 34 then Some ([], d ∷ text)
-    else if nat_eq c 92 then option_and_then (λ meant. behind (encode_utf8 meant) (quoted_in text))
+    else if nat_eq c 92 then option_and_then (λ meant. beyond (encode_utf8 meant) (quoted_in text))
     (meaning_of d)
-    else behind (encode_utf8 c) (quoted_in (d ∷ text))
+    else beyond (encode_utf8 c) (quoted_in (d ∷ text))
 
 -- a word ends here
 abbrev pub ends_word : List ℕ → Bool

@@ -100,9 +100,9 @@ fn bytes_of(alloc: Global, word: &[u8]) -> Result<Option<Vec<u8>>, AllocError>
 {
     let mut bytes = Vec::new(alloc);
     let mut rest = word;
-    while let Some((byte, behind)) = first_byte(rest) {
+    while let Some((byte, beyond)) = first_byte(rest) {
         bytes.push(byte)?;
-        rest = behind;
+        rest = beyond;
     }
     if rest.is_empty() {
         Ok(Some(bytes))

@@ -31,11 +31,11 @@ pub fn skip(text: &[char]) -> &[char]
     ensures { result.now ≡ spec.skip text.now }
 {
     let mut rest = text;
-    while let Some((c, behind)) = rest.split_first() {
+    while let Some((c, beyond)) = rest.split_first() {
         if !is_blank(*c) {
             return rest;
         }
-        rest = behind;
+        rest = beyond;
     }
     rest
 }
@@ -99,23 +99,23 @@ fn quoted_word(alloc: Global, text: &[char]) -> Result<Option<(String, &[char])>
 {
     let mut meant = String::new(alloc);
     let mut rest = text;
-    while let Some((c, behind)) = rest.split_first() {
+    while let Some((c, beyond)) = rest.split_first() {
         let c = *c;
         if c == '"' {
-            return Ok(Some((meant, behind)));
+            return Ok(Some((meant, beyond)));
         }
         if c == '\\' {
-            let Some((escaped, behind)) = behind.split_first() else {
+            let Some((escaped, beyond)) = beyond.split_first() else {
                 return Ok(None);
             };
             let Some(c) = meaning_of(*escaped) else {
                 return Ok(None);
             };
             meant.push(c)?;
-            rest = behind;
+            rest = beyond;
         } else {
             meant.push(c)?;
-            rest = behind;
+            rest = beyond;
         }
     }
     Ok(None)
@@ -127,14 +127,14 @@ pub fn first_word(alloc: Global, text: &[char]) -> Result<Option<(String, &[char
         ≡ spec.first_word text.now) }
 {
     let text = skip(text);
-    let Some((first, behind)) = text.split_first() else {
+    let Some((first, beyond)) = text.split_first() else {
         return Ok(None);
     };
     if *first != '"' {
         let (word, rest) = split_word(text);
         return Ok(Some((text_of(alloc, word)?, rest)));
     }
-    match quoted_word(alloc, behind)? {
+    match quoted_word(alloc, beyond)? {
         Some((word, rest)) if ends_word(rest) => Ok(Some((word, rest))),
         _ => Ok(None),
     }

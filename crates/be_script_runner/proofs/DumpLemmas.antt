@@ -67,15 +67,15 @@ all_queued store ops [] more out last can few next = subst (λ (z : List Op). Ou
 all_queued store ops (op ∷ todo) more out last can few next =
     let op_can = All-head CanBeOp op todo can in
     let after = batched store (ops ++ op ∷ []) None in
-    let behind : Outputs after (lines_of (flat_map op_line todo ++ more)) last (flat_map queued_text todo ++ out) =
+    let beyond : Outputs after (lines_of (flat_map op_line todo ++ more)) last (flat_map queued_text todo ++ out) =
     all_queued store (ops ++ op ∷ []) todo more out last (All-tail CanBeOp op todo can) (omega (arith, length_push ops op, few))
     (subst (λ (z : List Op). Outputs (batched store z None) (lines_of more) last out) (sym (append_assoc ops (op ∷ []) todo)) next) in
     subst (λ (text : List ℕ). Outputs (batched store ops None) (lines_of text) last (flat_map queued_text (op ∷ todo) ++ out)) (sym (op_first op todo more))
     (subst (λ (text : List ℕ). Outputs (batched store ops None) (lines_of (op_text op ++ 10 ∷ (flat_map op_line todo ++ more))) last text) (sym (queued_first op todo out))
     (one_more (batched store ops None) after last (op_text op) (flat_map op_line todo ++ more) (flat_map queued_text todo ++ out) (write (Ok op)) queued (op_inside op op_can) (op_asked op op_can)
-    (queues store ops op (omega (arith, few))) behind))
+    (queues store ops op (omega (arith, few))) beyond))
 
--- One write, which makes a new store of the old one; the lines behind it are answered from the new one.
+-- One write, which makes a new store of the old one; the lines after it are answered from the new one.
 module _ (old new : Store) (last : Session) (dones : List Done) (more out : List ℕ) (next : Outputs (opening new) (lines_of more) last out) where
   abbrev number : ℕ
   number = length new.journal
@@ -173,14 +173,14 @@ entries_made limit front (entry ∷ rest) are legal short =
     let numbered : length front + 1 ≡ length new.journal = sym (length-map (front ++ entry ∷ []) by_only_pass ∙ long) in
     let agrees : Agrees (replay front) entry = legal_last front entry (legal_front (front ++ entry ∷ []) rest joined) in
     let accepted : written old entry.ops ≡ Ok (new, entry.dones) = entry_written limit front entry agrees (omega (arith, length-append (front ++ entry ∷ []) rest, long, fits)) in
-    let behind : Outputs (opening new) (lines_of (dump rest)) last (dump_output (length front + 1 + 1) rest) =
+    let beyond : Outputs (opening new) (lines_of (dump rest)) last (dump_output (length front + 1 + 1) rest) =
     subst (λ (n : ℕ). Outputs (opening new) (lines_of (dump rest)) last (dump_output (n + 1) rest)) long
     (subst (λ (es : List Entry). Outputs (opening new) (lines_of (dump rest)) (opening (made limit es)) (dump_output (length (front ++ entry ∷ []) + 1) rest)) parted
     (entries_made limit (front ++ entry ∷ []) rest (All-tail HasWrite entry rest are) joined fits)) in
     subst (λ (text : List ℕ). Outputs (opening old) (lines_of text) last (dump_output (length front + 1) (entry ∷ rest)))
     (sym (flat_map-cons (λ (e : Entry). write_lines e.ops) entry rest))
     (subst (λ (n : ℕ). Outputs (opening old) (lines_of (write_lines entry.ops ++ dump rest)) last (write_output n entry ++ dump_output (length front + 1 + 1) rest)) (sym numbered)
-    (one_write old new last entry.dones (dump rest) (dump_output (length front + 1 + 1) rest) behind entry.ops w.0.0 w.0.1 w.1 accepted))
+    (one_write old new last entry.dones (dump rest) (dump_output (length front + 1 + 1) rest) beyond entry.ops w.0.0 w.0.1 w.1 accepted))
 
 -- the lines of writes make their journal
 pub writes_made : (limit : ℕ) (entries : List Entry) → All HasWrite entries → IsLegal entries → length entries ≤ limit →

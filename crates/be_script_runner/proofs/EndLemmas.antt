@@ -1,4 +1,4 @@
--- The end of a script, behind its last LF.
+-- The end of a script, after its last LF.
 use Rattle.std.proofs.Common.{◌≡◌, ℕ, List, [], ◌∷◌, length, refl, sym, subst, arith}
 use Rattle.std.specs.declared.option.Option.{Option}
 use Rattle.std.specs.Str.{is_utf8, chars}
@@ -15,7 +15,7 @@ pub nothing_asked : asked [] ≡ silent
 unfolding is_utf8 chars
 nothing_asked = refl
 
--- nothing is left behind the last LF
+-- nothing is left after the last LF
 pub finish_empty : (store : Store) (script left : List ℕ) (s : Session) (old new : Option (List ℕ)) → length left ≡ 0 → Wrote old new (HasReplied store script s left) →
     Wrote old new (IsOutputTo store script s.store)
 finish_empty store script [] s old new empty w =

@@ -10,7 +10,7 @@ count_more : (line : List ℕ) (lines : List (List ℕ)) → 1 ≤ length lines 
 count_more line [] some = absurd (omega (arith, some))
 count_more line (next ∷ lines) some = refl
 
--- a line that ends with an LF is one more than those behind it
+-- a line that ends with an LF is one more than those after it
 pub line_counted : (script line rest : List ℕ) → lines_of script ≡ line ∷ lines_of rest → line_count script ≡ line_count rest + 1
 line_counted script line rest is = ap count_lines is ∙ count_more line (lines_of rest) (omega (arith, length-slice_split is_line_end rest))
 

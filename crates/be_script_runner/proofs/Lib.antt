@@ -1,3 +1,4 @@
+pub mod CallLemmas
 pub mod DumpLemmas
 pub mod EndLemmas
 pub mod FileLemmas
@@ -5,6 +6,7 @@ pub mod GateLemmas
 pub mod JoinLemmas
 pub mod LimitLemmas
 pub mod LineLemmas
+pub mod OrderLemmas
 pub mod OwnLemmas
 pub mod PartLemmas
 pub mod PassLemmas

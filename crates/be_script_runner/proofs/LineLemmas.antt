@@ -15,7 +15,7 @@ no_end c h = by (nat_eq c 10) h
     by true g = cc
     by false g = refl
 
--- a line without an LF, and what follows the LF behind it
+-- a line without an LF, and what follows the LF after it
 pub line_before : (line more : List ℕ) → list_all in_line line ≡ true → lines_of (line ++ 10 ∷ more) ≡ line ∷ lines_of more
 line_before [] more h = refl
 line_before (c ∷ line) more h =

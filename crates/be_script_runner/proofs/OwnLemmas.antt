@@ -21,6 +21,8 @@ use Rattle.be_volume.specs.Volume.{State, steps}
 use Rattle.be_volume.specs.declared.ops.Done.{Done}
 use Rattle.be_volume.specs.declared.ops.Op.{Op}
 use Rattle.be_script_runner.specs.Output.{Session, Replies, Serves, Outputs, IsOutputTo, Gives, MayReply, MayReplyTo, opening, unwritten, write_reply, taken, commit_reply, committing, beginning, aborting, pinning, unpinning, watching, updating, refreshing, with_store, with_batch}
+use Rattle.be_script_runner.specs.Lines.{IsServedBy}
+use Rattle.be_script_runner.proofs.CallLemmas.{served_output}
 use Rattle.be_script_runner.specs.Own.{IsPartOf, operations, write_op, write_ops}
 use Rattle.be_script_language.specs.Reply.{Reply, queued as queued_word, full_batch}
 use Rattle.be_script_language.specs.Request.{Request, silent, malformed, write, query, explain, get, attrs, indices, pin, unpin, live, refresh, begin, commit, abort, asked, lines_of}
@@ -276,16 +278,14 @@ own_writes store new script out h =
 
 -- what a pass wrote that had seen nothing
 pub pass_writes : (a c : Knowledge) (script out : List ℕ) → a.seen ≡ [] → IsPass c → IsOutputTo (known a) script (known c) out → IsPartOf (operations c.mine) (write_ops script)
-pass_writes a c script out fresh behind h =
+pass_writes a c script out fresh beyond h =
     let part : IsPartOf (own_ops (known c)) (own_ops (known a) ++ write_ops script) = (own_writes (known a) (known c) script out h).1 in
-    subst (λ l. IsPartOf (operations l) (write_ops script)) behind.mine
+    subst (λ l. IsPartOf (operations l) (write_ops script)) beyond.mine
     (subst (λ (seen : List Commit). IsPartOf (own_ops (known c)) (operations (by_pass a.number (entries seen)) ++ write_ops script)) fresh part)
 
 -- what a script was replied that was served from such a pass, and what the pass wrote
-pub pass_served : (a first last c : Knowledge) (script old text : List ℕ) → first ≡ a → c ≡ last → a.seen ≡ [] → IsPass c → old ≡ [] →
-    Wrote (Some old) (Some text) (IsOutputTo (known first) script (known last)) → IsOutputTo (known a) script (known c) text × IsPartOf (operations c.mine) (write_ops script)
-pass_served a first last c script old text begun ended fresh behind empty w =
-    let out : IsOutputTo (known first) script (known last) text = subst (IsOutputTo (known first) script (known last)) (sym (w.appended ∙ ap (λ l. l ++ w.out) empty)) w.is in
-    let from : IsOutputTo (known a) script (known last) text = subst (λ (k : Knowledge). IsOutputTo (known k) script (known last) text) begun out in
-    let to : IsOutputTo (known a) script (known c) text = subst (λ (k : Knowledge). IsOutputTo (known a) script (known k) text) (sym ended) from in
-    (to, pass_writes a c script text fresh behind to)
+pub pass_served : (a c : Knowledge) (script old text : List ℕ) → a.seen ≡ [] → IsPass c → old ≡ [] → Wrote (Some old) (Some text) (IsServedBy a script c) →
+    IsServedBy a script c text × IsPartOf (operations c.mine) (write_ops script)
+pass_served a c script old text fresh beyond empty w =
+    let served : IsServedBy a script c text = subst (IsServedBy a script c) (sym (w.appended ∙ ap (λ l. l ++ w.out) empty)) w.is in
+    (served, pass_writes a c script text fresh beyond (served_output a c script text served))

@@ -54,10 +54,10 @@ seen_count seen = length-map seen (λ (c : Commit). c.entry)
 abbrev seen_by : Knowledge → List Entry → Store
 seen_by a log = record (known a) { journal = log; volume = replay log }
 
-below_behind : (passes : ℕ) (log more : List Entry) → AreOfPasses passes (log ++ more) → AreOfPasses passes more
+below_after : (passes : ℕ) (log more : List Entry) → AreOfPasses passes (log ++ more) → AreOfPasses passes more
 unfolding AreOfPasses
-below_behind passes [] more b = b
-below_behind passes (e ∷ log) more b = below_behind passes log more b.1
+below_after passes [] more b = b
+below_after passes (e ∷ log) more b = below_after passes log more b.1
 
 -- entries of passes of the store, of which none is by the pass k, are by others
 all_theirs : (passes k : ℕ) (es : List Entry) → AreOfPasses passes es → by_pass k es ≡ [] → All (λ (e : Entry). (e.by < passes) × (e.by ≢ k)) es
@@ -77,7 +77,7 @@ all_theirs passes k (e ∷ es) b none = by (eqb e.by k) refl none (all_theirs pa
 joins_more : (a : Knowledge) (more : List Entry) → by_pass a.number more ≡ [] → AreOfPasses a.limits.passes (entries a.seen ++ more) → Joins (known a) (seen_by a (entries a.seen ++ more))
 joins_more a more none below = record {
   others = more;
-  theirs = all_theirs a.limits.passes a.number more (below_behind a.limits.passes (entries a.seen) more below) none;
+  theirs = all_theirs a.limits.passes a.number more (below_after a.limits.passes (entries a.seen) more below) none;
   store = λ i. record (known a) {
     journal = entries a.seen ++ more;
     volume = fold-append (λ v (e : Entry). state_after v e.ops) empty (entries a.seen) more i;
@@ -117,7 +117,7 @@ least_shown passes seen (Announced x) least settled time own = absurd settled
 least_shown passes seen (Pinned x n) least settled time own = (omega (arith, time.0, own.0), λ one. let same = settled one in let found = own.1 one in omega (arith, time.1, same, found))
 
 -- a call of a pass
-module _ (a c : Knowledge) (before : IsPass a) (behind : IsPass c) (limits : c.limits ≡ a.limits) where
+module _ (a c : Knowledge) (before : IsPass a) (beyond : IsPass c) (limits : c.limits ≡ a.limits) where
   in_time : InTime (length (entries a.seen)) a.phase
   in_time = subst (λ m. InTime m a.phase) (sym (seen_count a.seen)) before.pin
 
@@ -127,14 +127,14 @@ module _ (a c : Knowledge) (before : IsPass a) (behind : IsPass c) (limits : c.l
       (ap (λ l. l ++ by_pass a.number (entries more)) (sym before.mine)
       ∙ (sym (by_pass-append a.number (entries a.seen) (entries more))
       ∙ (ap (by_pass a.number) (sym (ap entries seen ∙ entries_append a.seen more))
-      ∙ (ap (λ k. by_pass k (entries c.seen)) (sym number) ∙ (behind.mine ∙ mine)))))
+      ∙ (ap (λ k. by_pass k (entries c.seen)) (sym number) ∙ (beyond.mine ∙ mine)))))
 
   -- others have joined what it sees then, but for its pin
   joins_seen : (more : List Commit) → c.seen ≡ a.seen ++ more → c.mine ≡ a.mine → c.number ≡ a.number → Joins (known a) (seen_by a (entries c.seen))
   joins_seen more seen mine number =
       let log : entries c.seen ≡ entries a.seen ++ entries more = ap entries seen ∙ entries_append a.seen more in
       subst (λ l. Joins (known a) (seen_by a l)) (sym log) (joins_more a (entries more) (none_new more seen mine number)
-      (subst (λ l. AreOfPasses a.limits.passes l) log (subst (λ k. AreOfPasses k (entries c.seen)) (ap (λ l. l.passes) limits) behind.by_passes)))
+      (subst (λ l. AreOfPasses a.limits.passes l) log (subst (λ k. AreOfPasses k (entries c.seen)) (ap (λ l. l.passes) limits) beyond.by_passes)))
 
   -- what the pass shows, by its journal alone, where its phase is the same
   shown : (more : List Entry) → entries c.seen ≡ entries a.seen ++ more → c.number ≡ a.number → c.phase ≡ a.phase → known c ≡ seen_by a (entries c.seen)
@@ -189,9 +189,9 @@ module _ (a c : Knowledge) (before : IsPass a) (behind : IsPass c) (limits : c.l
       let front : log ≡ entries a.seen ++ entries h.others = entries_append a.seen h.others in
       let whole : entries c.seen ≡ log ++ e ∷ [] = ap entries h.seen ∙ (entries_append (a.seen ++ h.others) (h.commit ∷ []) ∙ ap (λ x. log ++ x ∷ []) h.entry) in
       let below : AreOfPasses a.limits.passes log =
-      below-front a.limits.passes (entries c.seen) log (e ∷ [], whole) (subst (λ k. AreOfPasses k (entries c.seen)) (ap (λ l. l.passes) limits) behind.by_passes) in
+      below-front a.limits.passes (entries c.seen) log (e ∷ [], whole) (subst (λ k. AreOfPasses k (entries c.seen)) (ap (λ l. l.passes) limits) beyond.by_passes) in
       let long : length (entries c.seen) ≡ length log + 1 = ap length whole ∙ length-append log (e ∷ []) in
-      let room : length log < a.limits.commits = omega (arith, long, seen_count c.seen, behind.room, ap (λ l. l.commits) limits) in
+      let room : length log < a.limits.commits = omega (arith, long, seen_count c.seen, beyond.room, ap (λ l. l.commits) limits) in
       let volume : h.answered.0 ≡ volume_seen c = sym (ap replay whole ∙ (replay_push log e ∙ ap (reached (replay log)) h.answered.1)) in
       let pin : pin_of (entries c.seen) c.phase ≡ (known a).pin =
       ap (pin_of (entries c.seen)) h.pin ∙ (ap (λ l. pin_of l a.phase) (whole ∙ (ap (λ l. l ++ e ∷ []) front ∙ append_assoc (entries a.seen) (entries h.others) (e ∷ [])))
@@ -223,7 +223,7 @@ module _ (a c : Knowledge) (before : IsPass a) (behind : IsPass c) (limits : c.l
       unroomed (inl spent) = inl (refused_at_limit (known c) ops (steps (volume_seen c) ops) h.0 (seen_count c.seen ∙ spent.1) ∙ ap Err (sym spent.0))
       unroomed (inr want) = inr (inl (inl want.0, accepted_with_room (known c) ops (steps (volume_seen c) ops) h.0 (omega (arith, seen_count c.seen, want.1))))
   refused_as tries ops e settled number (inr (inr (inr h))) =
-      inr (inl (inr (h.2.0, h.2.1, least_shown c.limits.passes c.seen c.phase h.2.0 settled behind.pin h.2.2.2), accepted_with_room (known c) ops (steps (volume_seen c) ops) h.0 (omega (arith, seen_count c.seen, h.1))))
+      inr (inl (inr (h.2.0, h.2.1, least_shown c.limits.passes c.seen c.phase h.2.0 settled beyond.pin h.2.2.2), accepted_with_room (known c) ops (steps (volume_seen c) ops) h.0 (omega (arith, seen_count c.seen, h.1))))
 
   pub writes_meanwhile : {X : Type 0} (tries : ℕ) (dones_of : X → List Done) (ops : List Op) (r : Result (ℕ × X) Refusal) → IsBetweenCalls c.limits.passes c.phase → IfOk r (λ x. Accepts a c ops x.0 (dones_of x.1)) →
       IfErr r (λ e. Learns a c × IsLastReason tries a c ops e) → Meanwhile (known a) (λ s. MayWrite dones_of s ops r (known c))

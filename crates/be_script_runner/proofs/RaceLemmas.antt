@@ -24,6 +24,9 @@ use Rattle.std.specs.Io.KnownBytes.{Appends}
 use Rattle.be_script_runner.specs.Output.{IsOutputTo}
 use Rattle.be_script_runner.specs.Run.{IsFrontOf, Wrote}
 use Rattle.be_script_runner.specs.Served.{known}
+use Rattle.be_script_runner.specs.Lines.{IsServedBy}
+use Rattle.be_script_runner.specs.Order.{AreServedBy}
+use Rattle.be_script_runner.proofs.CallLemmas.{served_output}
 use Rattle.be_script_runner.proofs.RunLemmas.{none_written, written_both}
 use Rattle.be_script_runner.specs.Race.{HaveServed, AreRepliesOf, IsOutcome, IsRace, IsRaceInPart, IsReplied, AreFirstPasses, AreFirstTexts, pass_line, replies_text}
 
@@ -56,19 +59,20 @@ on_both (Ok x) p q f = f x p q
 on_both (Err e) p q f = tt
 
 -- what is so where there is an answer is so of this one
-on_at_ok : {X E : Type 0} {r : Result X E} {x : X} (P : Type 0) → r ≡ Ok x → OnOk r P → P
+pub on_at_ok : {X E : Type 0} {r : Result X E} {x : X} (P : Type 0) → r ≡ Ok x → OnOk r P → P
 on_at_ok P is h = subst (λ r. OnOk r P) is h
 
 -- a new pass sees an empty store
-pub from_new : {X E : Type 0} (text : X → List ℕ) (limits : Limits) (steps k : ℕ) (a c : Knowledge) (script : List ℕ) (r : Result X E) → a ≡ newcomer limits steps k → c.number ≡ k →
-    OnOk r (by_pass c.number (entries c.seen) ≡ c.mine) → OnOk r (IsPartOf (operations c.mine) (write_ops script)) → IfOk r (λ x. IsOutputTo (known a) script (known c) (text x)) →
+pub from_new : {X E : Type 0} (text : X → List ℕ) (limits : Limits) (k : ℕ) (a c : Knowledge) (script : List ℕ) (r : Result X E) → a ≡ newcomer limits (k + 1) k → c.number ≡ k →
+    OnOk r (by_pass c.number (entries c.seen) ≡ c.mine) → OnOk r (IsPartOf (operations c.mine) (write_ops script)) → IfOk r (λ x. IsServedBy a script c (text x)) →
     IfOk r (λ x. IsOutcome limits k script c (text x))
-from_new text limits steps k a c script (Ok x) is number mine own replies = record {
+from_new text limits k a c script (Ok x) is number mine own replies = record {
   mine = subst (λ n. by_pass n (entries c.seen) ≡ c.mine) number mine;
   own = own;
-  output = subst (λ (b : Knowledge). IsOutputTo (known b) script (known c) (text x)) is replies;
+  output = subst (λ (b : Knowledge). IsOutputTo (known b) script (known c) (text x)) is (served_output a c script (text x) replies);
+  served = subst (λ (b : Knowledge). IsServedBy b script c (text x)) is replies;
 }
-from_new text limits steps k a c script (Err e) is number mine own replies = tt
+from_new text limits k a c script (Err e) is number mine own replies = tt
 
 -- a journal that keeps what a pass has seen and written is that of its script's replies
 replied_by : (limits : Limits) (journal : List Entry) (k : ℕ) (script text : List ℕ) (a : Knowledge) → a.number ≡ k → IsOutcome limits k script a text → StartsWith journal (entries a.seen) →
@@ -84,9 +88,9 @@ replied_by limits journal k script text a number o seen own = record {
 told_each : (Told : ℕ → List ℕ → Type 0) (k : ℕ) (script : List ℕ) (scripts : List (List ℕ)) → Told k script →
     ((i : ℕ) → i < length scripts → Told ((k + 1) + i) (slice_index_or scripts i [])) →
     (i : ℕ) → i < length (script ∷ scripts) → Told (k + i) (slice_index_or (script ∷ scripts) i [])
-told_each Told k script scripts here behind zero below = subst (λ n. Told n script) (sym (add-zero k)) here
-told_each Told k script scripts here behind (suc i) below =
-    let e : (k + 1) + i ≡ k + suc i = omega arith in subst (λ n. Told n (slice_index_or scripts i [])) e (behind i (omega (arith, below)))
+told_each Told k script scripts here beyond zero below = subst (λ n. Told n script) (sym (add-zero k)) here
+told_each Told k script scripts here beyond (suc i) below =
+    let e : (k + 1) + i ≡ k + suc i = omega arith in subst (λ n. Told n (slice_index_or scripts i [])) e (beyond i (omega (arith, below)))
 
 module _ {V E : Type 0} (store : Opened) (items : V → List ℕ) (Told : ℕ → List ℕ → Type 0) where
   -- what the thread of the pass k has promised
@@ -100,8 +104,9 @@ module _ {V E : Type 0} (store : Opened) (items : V → List ℕ) (Told : ℕ �
       map Ok texts ≡ map (λ (o : SeatFacts × Result V E). o.1) outcomes →
       HaveServed store k (map items scripts) (map (λ (o : SeatFacts × Result V E). o.0) outcomes)
       × AreRepliesOf store.limits k (map items scripts) (map (λ (o : SeatFacts × Result V E). o.0) outcomes) (map items texts)
+      × AreServedBy store.limits k (map items scripts) (map knows_of (map (λ (o : SeatFacts × Result V E). o.0) outcomes)) (map items texts)
       × ((i : ℕ) → i < length (map items scripts) → Told (k + i) (slice_index_or (map items scripts) i []))
-  served_from k [] [] [] count each all = (tt, λ journal keeps. tt, λ i below. absurd (omega (arith, below)))
+  served_from k [] [] [] count each all = (tt, λ journal keeps. tt, tt, λ i below. absurd (omega (arith, below)))
   served_from k [] [] (t ∷ ts) count each all = cc
   served_from k [] (o ∷ os) texts count each all = absurd (omega (arith, count))
   served_from k (s ∷ ss) [] texts count each all = absurd (omega (arith, count))
@@ -111,11 +116,12 @@ module _ {V E : Type 0} (store : Opened) (items : V → List ℕ) (Told : ℕ �
       let first : Ok t ≡ o.1 = cc in
       let rest : map Ok ts ≡ map (λ (o : SeatFacts × Result V E). o.1) os = cc in
       let told : IsOutcome store.limits k (items s) o.0.knows (items t) = IfOk-at_ok (λ text. IsOutcome store.limits k (items s) o.0.knows (items text)) (sym first) here.2 in
-      let behind = served_from (k + 1) ss os ts (omega (arith, count)) (λ i d u below.
+      let beyond = served_from (k + 1) ss os ts (omega (arith, count)) (λ i d u below.
       let e : k + suc i ≡ (k + 1) + i = omega arith in subst (λ n. EndsAs n (get_or ss i u) (get_or os i d)) e (each (suc i) d u (omega arith))) rest in (
-        (record { pass = here.0; number = here.1; own = told.own }, behind.0),
-        (λ journal keeps. (replied_by store.limits journal k (items s) (items t) o.0.knows here.1 told keeps.0 keeps.1, behind.1 journal keeps.2)),
-        told_each Told k (items s) (map items ss) (on_at_ok (Told k (items s)) (sym first) here.3) behind.2,
+        (record { pass = here.0; number = here.1; own = told.own }, beyond.0),
+        (λ journal keeps. (replied_by store.limits journal k (items s) (items t) o.0.knows here.1 told keeps.0 keeps.1, beyond.1 journal keeps.2)),
+        (told.served, beyond.2),
+        told_each Told k (items s) (map items ss) (on_at_ok (Told k (items s)) (sym first) here.3) beyond.3,
       )
 
 -- an end is one by equal promises
@@ -139,7 +145,7 @@ next_in_part a b c first next rest whole is written w = record {
   is = (w.is.0 ++ rest, is ∙ (ap (λ l. first ++ (l ++ rest)) w.is.1 ∙ (ap (λ l. first ++ l) (append_assoc w.out w.is.0 rest) ∙ sym (append_assoc first w.out (w.is.0 ++ rest)))));
 }
 
--- the text of the replies from a place on is that of the replies there, and of those behind it
+-- the text of the replies from a place on is that of the replies there, and of those after it
 next_at : {V : Type 0} (items : V → List ℕ) (n k : ℕ) (texts : List V) (t : V) → k < length texts → t ≡ get_or texts k t →
     replies_text n (drop k (map items texts)) ≡ (pass_line n ++ items t) ++ replies_text (n + 1) (drop (suc k) (map items texts))
 next_at items n k [] t below is = absurd (omega (arith, below))
@@ -152,7 +158,7 @@ done_at items n (suc k) [] past = refl
 done_at items n zero (x ∷ xs) past = absurd (omega (arith, past))
 done_at items n (suc k) (x ∷ xs) past = done_at items n k xs (omega (arith, past))
 
--- the text of the replies is that of the first ones, and of those behind them
+-- the text of the replies is that of the first ones, and of those after them
 replies_split : (n k : ℕ) (texts : List (List ℕ)) → replies_text n texts ≡ replies_text n (take k texts) ++ replies_text (n + k) (drop k texts)
 replies_split n zero [] = refl
 replies_split n zero (t ∷ ts) = ap (λ m. replies_text m (t ∷ ts)) (sym (add-zero n))
@@ -196,16 +202,16 @@ module _ {V : Type 0} (items : V → List ℕ) (texts : List V) (k : ℕ) (old m
   pub replies_whole : Wrote old mid (AreFirstTexts (map items texts))
   replies_whole =
       let all = map items texts in
-      let behind = replies_text k (drop k all) in
-      let split : replies_text 0 all ≡ replies_text 0 (take k all) ++ behind =
+      let beyond = replies_text k (drop k all) in
+      let split : replies_text 0 all ≡ replies_text 0 (take k all) ++ beyond =
       subst (λ m. replies_text 0 all ≡ replies_text 0 (take k all) ++ replies_text m (drop k all)) (zero-add k) (replies_split 0 k all) in
       record {
         out = w.out;
         appended = w.appended;
-        is = (k, append_cancel_right w.out (replies_text 0 (take k all)) behind (sym w.is ∙ split));
+        is = (k, append_cancel_right w.out (replies_text 0 (take k all)) beyond (sym w.is ∙ split));
       }
 
-  -- the next pass's line, its replies, and those behind it
+  -- the next pass's line, its replies, and those after it
   next_parts : (t : V) (line text : List ℕ) → k < length texts → t ≡ get_or texts k t → line ≡ pass_line k → text ≡ items t →
       replies_text 0 (map items texts) ≡ w.out ++ (line ++ (text ++ replies_text (k + 1) (drop (suc k) (map items texts))))
   next_parts t line text below at of_line of_text =
@@ -215,7 +221,7 @@ module _ {V : Type 0} (items : V → List ℕ) (texts : List V) (k : ℕ) (old m
       ∙ (ap (λ z. w.out ++ z) (append_assoc (pass_line k) (items t) rest)
       ∙ (ap (λ l. w.out ++ (l ++ (items t ++ rest))) (sym of_line) ∙ ap (λ u. w.out ++ (line ++ (u ++ rest))) (sym of_text))))
 
-  -- a front of the next pass's line behind them
+  -- a front of the next pass's line after them
   pub line_in_part : (new : Option (List ℕ)) (t : V) (line : List ℕ) → k < length texts → t ≡ get_or texts k t → line ≡ pass_line k → Wrote mid new (IsFrontOf line) →
       Wrote old new (IsFrontOf (replies_text 0 (map items texts)))
   line_in_part new t line below at of_line front =

@@ -108,12 +108,12 @@ some_output s (line ∷ lines) =
     let text = some_text s line in
     (next.0, text ++ next.1, (after, text, next.1, some_answer s line, next.2, refl))
 
--- lines, and then those behind them
-outputs_both : (s mid last : Session) (lines behind : List (List ℕ)) (out more : List ℕ) → Outputs s lines mid out → Outputs mid behind last more → Outputs s (lines ++ behind) last (out ++ more)
-outputs_both s mid last [] behind out more h g =
-    subst (λ (text : List ℕ). Outputs s behind last (text ++ more)) (sym h.1) (subst (λ (z : Session). Outputs z behind last more) h.0 g)
-outputs_both s mid last (line ∷ lines) behind out more h g =
-    (h.0, h.1, h.2 ++ more, h.3, outputs_both h.0 mid last lines behind h.2 more h.4 g, ap (λ text. text ++ more) h.5 ∙ append_assoc h.1 h.2 more)
+-- lines, and then those after them
+outputs_both : (s mid last : Session) (lines beyond : List (List ℕ)) (out more : List ℕ) → Outputs s lines mid out → Outputs mid beyond last more → Outputs s (lines ++ beyond) last (out ++ more)
+outputs_both s mid last [] beyond out more h g =
+    subst (λ (text : List ℕ). Outputs s beyond last (text ++ more)) (sym h.1) (subst (λ (z : Session). Outputs z beyond last more) h.0 g)
+outputs_both s mid last (line ∷ lines) beyond out more h g =
+    (h.0, h.1, h.2 ++ more, h.3, outputs_both h.0 mid last lines beyond h.2 more h.4 g, ap (λ text. text ++ more) h.5 ∙ append_assoc h.1 h.2 more)
 
 -- what was replied, and an output of the lines left, is one of the script
 completed : (store : Store) (script left : List ℕ) (s last : Session) (out more : List ℕ) → HasReplied store script s left out → Outputs s (lines_of left) last more →
@@ -137,7 +137,7 @@ advance store script left line left' s s' old mid new e w r = record {
   appended = written_both old mid new w.out r.out w.appended r.appended;
   is = record {
     lines = w.is.lines ++ line ∷ [];
-    is = w.is.is ∙ (ap (λ behind. w.is.lines ++ behind) e ∙ sym (append_assoc w.is.lines (line ∷ []) (lines_of left')));
+    is = w.is.is ∙ (ap (λ beyond. w.is.lines ++ beyond) e ∙ sym (append_assoc w.is.lines (line ∷ []) (lines_of left')));
     output = outputs_both (opening store) s s' w.is.lines (line ∷ []) w.out r.out w.is.output (s', r.out, [], r.is, (refl, refl), sym (append_nothing r.out));
   };
 }

@@ -100,7 +100,7 @@ in_two t xs ys ok = by (steps t xs) refl
           last = ap (reached t) there ∙ both.1 ∙ sym (ap (λ (u : State). state_after u ys) here);
         }
 
--- Entries that are written behind others, each with a list of operations, and the volume after them.
+-- Entries that are written after others, each with a list of operations, and the volume after them.
 record Built (front : List Entry) (lists : List (List Op)) (last : State) : Type 0 where
   entries : List Entry
   legal : IsLegal (front ++ entries)

@@ -30,19 +30,19 @@ accepts_outputs s last [] out h = h
 accepts_outputs s last (line ∷ lines) out h =
     (h.0, h.1, h.2, judged_answered s h.0 line None h.1 h.3, accepts_outputs h.0 last lines h.2 h.4, h.5)
 
--- lines, and then those behind them
-pub accepts_both : (s mid last : Session) (lines behind : List (List ℕ)) (out more : List ℕ) → Accepts s lines mid out → Accepts mid behind last more → Accepts s (lines ++ behind) last (out ++ more)
-accepts_both s mid last [] behind out more h g =
-    subst (λ (text : List ℕ). Accepts s behind last (text ++ more)) (sym h.1) (subst (λ (z : Session). Accepts z behind last more) h.0 g)
-accepts_both s mid last (line ∷ lines) behind out more h g =
-    (h.0, h.1, h.2 ++ more, h.3, accepts_both h.0 mid last lines behind h.2 more h.4 g, ap (λ text. text ++ more) h.5 ∙ append_assoc h.1 h.2 more)
+-- lines, and then those after them
+pub accepts_both : (s mid last : Session) (lines beyond : List (List ℕ)) (out more : List ℕ) → Accepts s lines mid out → Accepts mid beyond last more → Accepts s (lines ++ beyond) last (out ++ more)
+accepts_both s mid last [] beyond out more h g =
+    subst (λ (text : List ℕ). Accepts s beyond last (text ++ more)) (sym h.1) (subst (λ (z : Session). Accepts z beyond last more) h.0 g)
+accepts_both s mid last (line ∷ lines) beyond out more h g =
+    (h.0, h.1, h.2 ++ more, h.3, accepts_both h.0 mid last lines beyond h.2 more h.4 g, ap (λ text. text ++ more) h.5 ∙ append_assoc h.1 h.2 more)
 
 -- the same of outputs
-outputs_both : (s mid last : Session) (lines behind : List (List ℕ)) (out more : List ℕ) → Outputs s lines mid out → Outputs mid behind last more → Outputs s (lines ++ behind) last (out ++ more)
-outputs_both s mid last [] behind out more h g =
-    subst (λ (text : List ℕ). Outputs s behind last (text ++ more)) (sym h.1) (subst (λ (z : Session). Outputs z behind last more) h.0 g)
-outputs_both s mid last (line ∷ lines) behind out more h g =
-    (h.0, h.1, h.2 ++ more, h.3, outputs_both h.0 mid last lines behind h.2 more h.4 g, ap (λ text. text ++ more) h.5 ∙ append_assoc h.1 h.2 more)
+outputs_both : (s mid last : Session) (lines beyond : List (List ℕ)) (out more : List ℕ) → Outputs s lines mid out → Outputs mid beyond last more → Outputs s (lines ++ beyond) last (out ++ more)
+outputs_both s mid last [] beyond out more h g =
+    subst (λ (text : List ℕ). Outputs s beyond last (text ++ more)) (sym h.1) (subst (λ (z : Session). Outputs z beyond last more) h.0 g)
+outputs_both s mid last (line ∷ lines) beyond out more h g =
+    (h.0, h.1, h.2 ++ more, h.3, outputs_both h.0 mid last lines beyond h.2 more h.4 g, ap (λ text. text ++ more) h.5 ∙ append_assoc h.1 h.2 more)
 
 -- one line that is accepted
 accepts_one : (s after : Session) (line reply : List ℕ) → Judged s line after None reply → Accepts s (line ∷ []) after reply
@@ -86,16 +86,16 @@ accept_more store script left line left' s s' number old mid new e w r = record 
   appended = written_both old mid new w.out r.out w.appended r.appended;
   is = record {
     lines = w.is.lines ++ line ∷ [];
-    is = w.is.is ∙ (ap (λ behind. w.is.lines ++ behind) e ∙ sym (append_assoc w.is.lines (line ∷ []) (lines_of left')));
+    is = w.is.is ∙ (ap (λ beyond. w.is.lines ++ beyond) e ∙ sym (append_assoc w.is.lines (line ∷ []) (lines_of left')));
     number_is = let long = length-append w.is.lines (line ∷ []) in omega (arith, long, w.is.number_is);
     output = accepts_both (opening store) s s' w.is.lines (line ∷ []) w.out r.out w.is.output (accepts_one s s' line r.out r.is);
   };
 }
 
 -- a line is refused
-pub stop_at : (store : Store) (script left line : List ℕ) (behind : List (List ℕ)) (s s' : Session) (number : ℕ) (text : List ℕ) (old mid new : Option (List ℕ)) → lines_of left ≡ line ∷ behind →
+pub stop_at : (store : Store) (script left line : List ℕ) (beyond : List (List ℕ)) (s s' : Session) (number : ℕ) (text : List ℕ) (old mid new : Option (List ℕ)) → lines_of left ≡ line ∷ beyond →
     Wrote old mid (HasAccepted store script s left number) → Wrote mid new (Judged s line s' (Some text)) → Wrote old new (IsStrictOutput store script (Some (number, text)) s'.store)
-stop_at store script left line behind s s' number text old mid new e w r =
+stop_at store script left line beyond s s' number text old mid new e w r =
     let same : text ≡ r.out = refusal_is_reply (is_refusal r.is.0) text r.out r.is.3 in
     record {
       out = w.out ++ r.out;
@@ -103,7 +103,7 @@ stop_at store script left line behind s s' number text old mid new e w r =
       is = record {
         lines = w.is.lines;
         line = line;
-        rest = behind;
+        rest = beyond;
         is = w.is.is ∙ ap (λ ls. w.is.lines ++ ls) e;
         number_is = w.is.number_is;
         before = s;
@@ -136,7 +136,7 @@ accept_last store script left s s' number old mid new e w r =
 empty_judged : (s : Session) → Judged s [] s None []
 empty_judged s = (none, subst (λ (q : Request). Serves s q none s) (sym nothing_asked) (serves_at_once s s silent none refl), refl, refl)
 
--- nothing is left behind the last LF
+-- nothing is left after the last LF
 pub accept_empty : (store : Store) (script left : List ℕ) (s : Session) (number : ℕ) (old new : Option (List ℕ)) → length left ≡ 0 → Wrote old new (HasAccepted store script s left number) →
     Wrote old new (IsStrictOutput store script None s.store)
 accept_empty store script [] s number old new empty w =
@@ -207,7 +207,7 @@ output_front store new script old held w =
 pub strict_front : (store new : Store) (script : List ℕ) (old held : Option (List ℕ)) → Wrote old held (IsStrictOutput store script None new) → Wrote old held (IsFrontOfOutput store script)
 strict_front store new script old held w = output_front store new script old held (record { out = w.out; appended = w.appended; is = strict_whole store new script w.out w.is })
 
--- the store is closed behind a strict run
+-- the store is closed after a strict run
 pub strict_run : (limits : StoreLimits) (script : List ℕ) (found : Option (ℕ × List ℕ)) (first after c : Knowledge) (log : List Entry) (old new : Option (List ℕ)) → known first ≡ start limits.commits →
     c ≡ after → log ≡ entries c.seen → CanSpellEach limits.pages log → Wrote old new (IsStrictOutput (known first) script found (known after)) → Wrote old new (IsStrictRun limits script found log)
 strict_run limits script found first after c log old new begun ended all volumes w = record {

@@ -21,7 +21,7 @@ use Rattle.be_script_runner.specs.declared.faults.RunFault.{RunFault}
 use Rattle.be_script_runner.specs.declared.faults.RunFault.TheVariants.{Limits, Read, TooLong, Write, Memory}
 use Rattle.be_script_runner.proofs.RunLemmas.{all_read, left_by, none_answered, none_answered_if, written_both}
 
--- the replies, and behind them the journal that they leave
+-- the replies, and after them the journal that they leave
 pub told_run : (limits : StoreLimits) (script : List ℕ) (first after c : Knowledge) (log : List Entry) (old mid new : Option (List ℕ)) → known first ≡ start limits.commits → c ≡ after →
     log ≡ entries c.seen → IsLegal log → CanSpellEach limits.pages log → Wrote old mid (IsOutputTo (known first) script (known after)) → Appends mid new (result_text log) →
     Wrote old new (IsToldRun limits script)
@@ -86,7 +86,7 @@ all_lines_told limits script store last old mid new begun w same = first_lines_t
   is = record { lines = lines_of script; rest = []; is = sym (append-nil (lines_of script)); last = w.is.0; output = w.is.1 };
 })
 
--- all the replies were written, and behind them a front of the journal that they leave
+-- all the replies were written, and after them a front of the journal that they leave
 pub told_in_part : (limits : StoreLimits) (script : List ℕ) (first after c : Knowledge) (log : List Entry) (old mid new : Option (List ℕ)) → known first ≡ start limits.commits → c ≡ after →
     log ≡ entries c.seen → IsLegal log → CanSpellEach limits.pages log → Wrote old mid (IsOutputTo (known first) script (known after)) → Wrote mid new (IsFrontOf (result_text log)) →
     Wrote old new (IsToldInPart limits script)

@@ -1,5 +1,7 @@
 pub mod Gates
 pub mod Output
+pub mod Lines
+pub mod Order
 pub mod Own
 pub mod Race
 pub mod Run

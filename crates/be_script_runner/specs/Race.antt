@@ -18,6 +18,8 @@ use Rattle.be_table.specs.declared.limits.Limits.{Limits as StoreLimits}
 use Rattle.be_table.specs.declared.pass.Knowledge.{Knowledge}
 use Rattle.be_store.specs.Passes.{IsPassOf}
 use Rattle.be_script_runner.specs.Output.{IsOutputTo}
+use Rattle.be_script_runner.specs.Lines.{IsServedBy}
+use Rattle.be_script_runner.specs.Order.{AreInOneOrder, AreServedBy}
 use Rattle.be_script_runner.specs.Own.{IsPartOf, operations, write_ops}
 use Rattle.be_script_runner.specs.Run.{Wrote}
 use Rattle.be_script_runner.specs.Served.{known}
@@ -59,12 +61,14 @@ HaveServed store k (script ∷ scripts) (pass ∷ passes) = HasServed store k sc
 
 -- What the pass k knows whose script was replied this text: its own writes are its entries of what
 -- it has seen, and some of those that the script asks for, in their order; and the text is an
--- output of the script that leaves what the pass has seen.
+-- output of the script that leaves what the pass has seen. Line by line, calls of the pass led from
+-- the store that it showed before to the one that the line was replied by.
 pub record IsOutcome (limits : StoreLimits) (k : ℕ) (script : List ℕ) (a : Knowledge)
     (text : List ℕ) : Type 0 where
   pub mine : by_pass k (entries a.seen) ≡ a.mine
   pub own : IsPartOf (operations a.mine) (write_ops script)
   pub output : IsOutputTo (start_of limits k) script (known a) text
+  pub served : IsServedBy (newcomer limits (k + 1) k) script a text
 
 -- What script k was replied, by the store of this journal: an output of the script, from an empty
 -- store on, where the other passes may write. The journal begins with what its pass saw at last,
@@ -94,6 +98,7 @@ AreRepliesOf limits k scripts passes texts = (journal : List Entry)
 abbrev pub AreServed : Opened → List (List ℕ) → List SeatFacts → List (List ℕ) → Type 0
 AreServed store scripts passes texts = HaveServed store 0 scripts passes
     × AreRepliesOf store.limits 0 scripts passes texts
+    × AreServedBy store.limits 0 scripts (map knows_of passes) texts
 
 -- the line of a pass, and its replies
 abbrev pub pass_line : ℕ → List ℕ
@@ -110,6 +115,8 @@ AreFirstTexts replies out = (k : ℕ) × (out ≡ replies_text 0 (take k replies
 -- What a race writes is the replies to its scripts, and a legal journal of the store that replied.
 -- Each entry is by one of the scripts. The operations by a script are some of those that its lines
 -- ask for, in their order. After each entry the volume fits into as many pages as the limits say.
+-- For each script there is what its pass knew after each line, and the calls that led there; and
+-- the calls of all passes are in one order.
 pub record IsRace (limits : StoreLimits) (scripts : List (List ℕ)) (out : List ℕ) : Type 0 where
   pub replies : List (List ℕ)
   pub journal : List Entry
@@ -120,6 +127,9 @@ pub record IsRace (limits : StoreLimits) (scripts : List (List ℕ)) (out : List
   pub own : (k : ℕ) → k < length scripts
       → IsPartOf (operations (by_pass k journal)) (write_ops (slice_index_or scripts k []))
   pub volumes : CanSpellEach limits.pages journal
+  pub passes : List Knowledge
+  pub served : AreServedBy limits 0 scripts passes replies
+  pub order : AreInOneOrder limits journal passes
 
 -- the text is a front of what a race of these scripts writes
 abbrev pub IsRaceInPart : StoreLimits → List (List ℕ) → List ℕ → Type 0

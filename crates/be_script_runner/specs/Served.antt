@@ -12,14 +12,15 @@ use Rattle.be_script_runner.specs.Store.{PinnedVolume, Store}
 use Rattle.be_value.specs.declared.refusals.Refusal.{Refusal}
 use Rattle.be_volume.specs.declared.ops.Op.{Op}
 
--- a store, and what one of its passes knows
+-- a store, what one of its passes knows, and what this pass knew at first
 pub record Seated : Type 0 where
   pub store : Opened
   pub knows : Knowledge
+  pub first : Knowledge
 
--- what stays the same of it: its store, and which pass it is
-abbrev pub seat_of : Seated → Opened × ℕ
-seat_of s = (s.store, s.knows.number)
+-- what stays the same of it: its store, which pass it is, and what it knew at first
+abbrev pub seat_of : Seated → Opened × ℕ × Knowledge
+seat_of s = (s.store, s.knows.number, s.first)
 
 -- the version after the first n writes that the pass has seen
 abbrev pub pin_at : Knowledge → ℕ → PinnedVolume

@@ -5,7 +5,13 @@ ghost use Rattle.be_journal_text.specs.History.{CanBeJournal, CanBeOp};
 ghost use Rattle.be_journal.specs.Journal.{IsLegal, replay};
 ghost use Rattle.be_journal.specs.declared.entries.Entry.{Entry as AnyEntry};
 ghost use Rattle.be_script_runner.specs.Output.{IsOutputTo, Outputs, Session, Replies, Serves};
+ghost use Rattle.be_script_runner.specs.Lines.{IsServedBy, LeadTo};
+ghost use Rattle.be_script_runner.specs.Order.{FollowOneOrder};
 ghost use Rattle.be_script_runner.specs.Output.{opening};
+ghost use Rattle.be_script_runner.specs.Race.{IsRace};
+ghost use Rattle.be_script_runner.specs.Served.{known};
+ghost use Rattle.be_table.specs.declared.limits.Limits.{Limits};
+ghost use Rattle.be_table.specs.declared.pass.Knowledge.{Knowledge};
 ghost use Rattle.be_script_language.specs.Reply.{Reply};
 ghost use Rattle.be_script_language.specs.Request.{Request, lines_of};
 ghost use Rattle.be_script_runner.specs.Store.{Store, Joins, start};
@@ -53,4 +59,22 @@ pub fn strict_output_is_output()
         (lines : List (List ℕ)) × (rest : List (List ℕ)) × (last : Session)
         × (lines_of script ≡ lines ++ rest) × (number ≡ length lines)
         × Outputs (opening store) lines last out × (last.store ≡ new) }
+{}
+
+/// The calls of a race's passes follow one order, which is that of the moves in `IsRace`: so a
+/// query's answer is the scan of the volume after a prefix of the journal, an accepted write is
+/// replied what the volume says at its place, and whoever pins has the writes that come before.
+pub fn race_follows_one_order()
+    ensures { (limits : Limits) (scripts : List (List ℕ)) (out : List ℕ)
+        → (race : IsRace limits scripts out) → FollowOneOrder race.journal race.passes }
+{}
+
+/// What a script was replied line by line is an output of it, from the store that the pass showed
+/// at first to the one that it shows at last. Calls led from what the pass knew at first to what it
+/// knows at last, and what it knew after each line lies between.
+pub fn served_is_output()
+    ensures output { (a z : Knowledge) (script out : List ℕ) → IsServedBy a script z out
+        → IsOutputTo (known a) script (known z) out }
+    ensures calls { (a z : Knowledge) (script out : List ℕ) → IsServedBy a script z out
+        → LeadTo a z }
 {}

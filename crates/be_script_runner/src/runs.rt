@@ -9,11 +9,11 @@ ghost use Rattle.std.specs.Prelude.{IfOk, OnOk, IfErr, IfSome, OnErr, IfNone, Er
 ghost use Rattle.std.specs.Io.KnownBytes.{Appends};
 ghost use Rattle.be_journal.specs.Journal.{by_pass};
 ghost use Rattle.be_script_runner.specs.Gates.{AreTold, line_count};
+ghost use Rattle.be_script_runner.specs.Lines.{IsServedBy};
 ghost use Rattle.be_script_runner.specs.Output as outputs;
 ghost use Rattle.be_script_runner.specs.Own.{IsPartOf, operations, write_ops};
 ghost use Rattle.be_script_language.specs.Request.{lines_of};
 ghost use Rattle.be_script_runner.specs.Run as spec;
-ghost use Rattle.be_script_runner.specs.Served.{known};
 ghost use Rattle.be_script_runner.specs.Store.{start};
 ghost use Rattle.be_script_runner.specs.View.{session, queued_ops};
 ghost use Rattle.be_store.specs.Passes.{IsPassOf};
@@ -22,6 +22,7 @@ ghost use Rattle.be_table.specs.Rule.{AreBad, entries};
 use crate::answers::answer;
 use crate::client::Client;
 use crate::gates::{Gate, OpenGate};
+use crate::passes::serve_lines;
 use crate::script_readers::ScriptReader;
 use crate::stores::{PassServer, Server, open_for_one};
 use crate::{Limits, RunFault};
@@ -55,7 +56,7 @@ pub fn put<W: Write>(writer: &mut W, bytes: &[u8]) -> Result<(), RunFault>
 }
 
 /// Runs a line, and then writes its reply. Nothing of it was written if memory is missing.
-fn run_line<S: Server, W: Write>(
+pub(crate) fn run_line<S: Server, W: Write>(
     alloc: Global,
     server: &mut S,
     client: &mut Client,
@@ -128,12 +129,12 @@ pub(crate) fn run_lines<S: Server, G: Gate, W: Write>(
     let mut client = Client::new();
     let mut rest = script;
     let mut number = 1;
-    while let Some((line, behind)) = split_line(rest) {
+    while let Some((line, beyond)) = split_line(rest) {
         gate.before(pass, number);
         let ran = run_line(alloc, server, &mut client, line, writer);
         gate.after(pass, number);
         ran?;
-        rest = behind;
+        rest = beyond;
         number += 1;
     }
     if rest.is_empty() {
@@ -163,17 +164,14 @@ pub fn serve_pass<G: Gate>(
     ensures mine { OnOk result.1 (by_pass result.0.knows.number (entries result.0.knows.seen)
         ≡ result.0.knows.mine) }
     ensures own { OnOk result.1 (IsPartOf (operations result.0.knows.mine) (write_ops script.now)) }
-    ensures replies { IfOk result.1 (λ replies. outputs.IsOutputTo (known pass.knows) script.now
-        (known result.0.knows) replies.items) }
+    ensures replies { IfOk result.1 (λ replies. IsServedBy pass.knows script.now result.0.knows
+        replies.items) }
     ensures told { OnOk result.1 (AreTold (G.begun gate.now pass.knows.number)
         (G.ended gate.now pass.knows.number) (line_count script.now)) }
     ensures fault { IfErr result.1 (λ e. e ≡ RunFault.Memory) }
 {
-    let number = pass.number();
-    let mut server = PassServer::new(alloc, store, pass);
     let mut replies = Vec::new(alloc);
-    let ran = run_lines(alloc, &mut server, number, gate, script, &mut replies);
-    let pass = server.into_pass();
+    let (pass, ran) = serve_lines(alloc, store, pass, gate, script, &mut replies);
     pass.is_pass();
     match ran {
         Ok(()) => (pass, Ok(replies)),

@@ -12,6 +12,7 @@ ghost use Rattle.be_journal_text.specs.Dump.{state_dump};
 ghost use Rattle.be_journal_text.specs.History.{CanBeOp};
 ghost use Rattle.be_plan.specs.Cover.{chosen};
 ghost use Rattle.be_plan.specs.Explain.{are_places};
+ghost use Rattle.be_store.specs.Calls.{Call};
 ghost use Rattle.be_store.specs.History.{IsLastReason};
 ghost use Rattle.be_store.specs.Passes.{IsPassOf};
 ghost use Rattle.be_value.specs.Refusal.{Answers};
@@ -22,6 +23,7 @@ ghost use Rattle.be_volume.specs.Query.{scan, has_index};
 ghost use Rattle.be_volume.specs.Reading.{attribute, attributes_at, index_kinds};
 ghost use Rattle.be_table.specs.Rule.{IsWithin};
 ghost use Rattle.be_volume_state.specs.Rebuilding.{state_ops};
+ghost use Rattle.be_script_runner.specs.Lines.{LeadTo};
 ghost use Rattle.be_script_runner.specs.Served.{known, seat_of};
 ghost use Rattle.be_script_runner.specs.Store.{Store, Joins, Meanwhile, start, viewed, pinned};
 ghost use Rattle.be_script_runner.specs.Store.{unpinned, MayWrite};
@@ -36,6 +38,7 @@ use be_value::{Kind, Name, Refusal, Value};
 use be_volume::{Done, Op};
 use std::alloc::{AllocError, Global};
 use std::marker::Model;
+use std::snapshot::Snapshot;
 
 /// How often a write is tried while another pass is writing.
 const MAX_TRIES: u64 = 10_000_000;
@@ -158,6 +161,7 @@ fn apply_at_last(
     requires count { (1 ≤ length ops.now) × (length ops.now ≤ 64) }
     ensures pass { IsPassOf store.now pass.new }
     ensures number { pass.new.knows.number ≡ pass.old.knows.number }
+    ensures call { Call pass.old.knows pass.new.knows }
     ensures writes { Meanwhile (known pass.old.knows)
         (λ store. MayWrite (λ dones. dones.items) store ops.now result (known pass.new.knows)) }
     ensures tries { IfErr result (λ e. IsLastReason MAX_TRIES pass.old.knows pass.new.knows ops.now
@@ -170,12 +174,14 @@ fn apply_at_last(
 }
 
 /// A shared store, served from one of its passes. The others may write at any time; what this pass
-/// has seen is what a script is shown.
+/// has seen is what a script is shown. What the pass knows was reached from what it knew at first
+/// by calls of the store alone.
 #[derive(Drop)]
 pub struct PassServer<'a> {
     alloc: Global,
     store: &'a be_store::Store,
     pass: Pass,
+    first: Snapshot<Pass>,
 }
 
 impl<'a> Model for PassServer<'a> {
@@ -183,11 +189,15 @@ impl<'a> Model for PassServer<'a> {
 
     ghost Value = { Seated };
 
-    ghost use Rattle.be_store.specs.Passes.{IsPassOf};
+    ghost use Rattle.be_script_runner.specs.Lines.{IsLedFrom};
 
-    ghost view = { λ s. record { store = s.store.now; knows = s.pass.knows } };
+    ghost view = { λ s. record {
+      store = s.store.now;
+      knows = s.pass.knows;
+      first = s.first.value.knows;
+    } };
 
-    ghost invariant = { λ s. IsPassOf s.store.now s.pass };
+    ghost invariant = { λ s. IsLedFrom s.first.value s.store.now s.pass };
 }
 
 impl<'a> PassServer<'a> {
@@ -196,12 +206,38 @@ impl<'a> PassServer<'a> {
         requires { IsPassOf store.now pass }
         ensures { (result.store ≡ store.now) × (result.knows ≡ pass.knows) }
     {
-        PassServer { alloc, store, pass }
+        PassServer::at_first(alloc, store, pass)
+    }
+
+    /// The same, and says that this is what the pass knew at first.
+    pub(crate) fn at_first(alloc: Global, store: &'a be_store::Store, pass: Pass) -> PassServer<'a>
+        requires { IsPassOf store.now pass }
+        ensures store { result.store ≡ store.now }
+        ensures knows { result.knows ≡ pass.knows }
+        ensures first { result.first ≡ pass.knows }
+    {
+        let first = Snapshot::of(&pass);
+        PassServer {
+            alloc,
+            store,
+            pass,
+            first,
+        }
     }
 
     /// Gives the pass back.
     pub fn into_pass(self) -> Pass
         ensures { IsPassOf self.entry.store result × (result.knows ≡ self.entry.knows) }
+    {
+        let PassServer { pass, .. } = self;
+        pass
+    }
+
+    /// Gives the pass back, and says that calls of the store led to what it knows.
+    pub(crate) fn at_last(self) -> Pass
+        ensures pass { IsPassOf self.entry.store result }
+        ensures knows { result.knows ≡ self.entry.knows }
+        ensures calls { LeadTo self.entry.first result.knows }
     {
         let PassServer { pass, .. } = self;
         pass
@@ -240,8 +276,9 @@ impl<'a> Server for PassServer<'a> {
     ghost use Rattle.std.specs.Prelude.{ℕ};
     ghost use Rattle.be_script_runner.specs.Served.{IsRefusedBy, seat_of};
     ghost use Rattle.be_table.specs.Place.{Opened};
+    ghost use Rattle.be_table.specs.declared.pass.Knowledge.{Knowledge};
 
-    ghost Kept = { Opened × ℕ };
+    ghost Kept = { Opened × ℕ × Knowledge };
 
     ghost kept = { seat_of };
 

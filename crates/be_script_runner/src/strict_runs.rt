@@ -1,6 +1,6 @@
 //! Runs that end at the first line that is refused.
 //!
-//! Each line is run and its reply written, as in any run. Behind a reply that says that its line
+//! Each line is run and its reply written, as in any run. After a reply that says that its line
 //! was not done nothing more is run: that reply is the last that is written. The store is closed
 //! then, and its journal is returned.
 ghost use Rattle.std.specs.Option.{option_map};
@@ -125,12 +125,12 @@ fn run_lines<S: Server, W: Write>(
     let mut client = Client::new();
     let mut rest = script;
     let mut number = 1;
-    while let Some((line, behind)) = split_line(rest) {
+    while let Some((line, beyond)) = split_line(rest) {
         let refused = run_line(alloc, server, &mut client, line, writer)?;
         if let Some(reply) = refused {
             return Ok(Some(RefusedLine { number, reply }));
         }
-        rest = behind;
+        rest = beyond;
         number += 1;
     }
     if rest.is_empty() {

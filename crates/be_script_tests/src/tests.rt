@@ -207,7 +207,7 @@ fn check_bytes(alloc: Global, script: &[u8], replies: &str, commits: u64) -> Res
 }
 
 /// Fails unless each line of an example's rows and of the rows after it has its reply.
-fn check_behind(alloc: Global, example: &str, rows: &str) -> Result<(), Fail> {
+fn check_after(alloc: Global, example: &str, rows: &str) -> Result<(), Fail> {
     let (script, replies) = match script_of(alloc, example, rows) {
         Ok(parts) => parts,
         Err(_) => script_of(alloc, example, rows)?,
@@ -217,5 +217,5 @@ fn check_behind(alloc: Global, example: &str, rows: &str) -> Result<(), Fail> {
 
 /// Fails unless each line of these rows has its reply.
 fn check(alloc: Global, rows: &str) -> Result<(), Fail> {
-    check_behind(alloc, "", rows)
+    check_after(alloc, "", rows)
 }

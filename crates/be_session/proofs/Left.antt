@@ -3,8 +3,8 @@ use Rattle.std.proofs.Common.{◌≡◌, List, [], ◌++◌, ap, sym, ◌∙◌}
 use Rattle.be_volume.specs.declared.ops.Op.{Op}
 
 -- nothing was ready: the list that was read is now, and the rest is unread
-pub left_behind : (ready list before after : List Op) → ready ≡ [] → before ≡ list ++ after → list ++ after ≡ ready ++ before
-left_behind ready list before after none is = sym is ∙ ap (λ (xs : List Op). xs ++ before) (sym none)
+pub left_after : (ready list before after : List Op) → ready ≡ [] → before ≡ list ++ after → list ++ after ≡ ready ++ before
+left_after ready list before after none is = sym is ∙ ap (λ (xs : List Op). xs ++ before) (sym none)
 
 -- nothing was read
 pub left_as_it_was : (ready before after : List Op) → before ≡ after → ready ++ after ≡ ready ++ before

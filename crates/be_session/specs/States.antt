@@ -30,7 +30,7 @@ LackRoom operations_room bytes_room os bytes = (operations_room < length os)
 
 -- What is still ready after these operations were encoded: nothing, if there was room for the
 -- encoding; otherwise the same operations.
-abbrev pub WaitBehind : List Op → ℕ → ℕ → List Operation → List ℕ → List Op → Type 0
-WaitBehind ops operations_room bytes_room os bytes still =
+abbrev pub WaitAfter : List Op → ℕ → ℕ → List Operation → List ℕ → List Op → Type 0
+WaitAfter ops operations_room bytes_room os bytes still =
     (HaveRoom operations_room bytes_room os bytes × (still ≡ []))
     ⊎ (LackRoom operations_room bytes_room os bytes × (still ≡ ops))

@@ -23,7 +23,7 @@ impl StatePlace {
     ghost use Rattle.be_volume.specs.Volume.{State};
     ghost use Rattle.be_volume_state.specs.Rebuilding.{state_ops};
     ghost use Rattle.be_session.specs.Operations.{AreSpelled};
-    ghost use Rattle.be_session.specs.States.{WaitBehind, unread, untold, waiting};
+    ghost use Rattle.be_session.specs.States.{WaitAfter, unread, untold, waiting};
     ghost use Rattle.be_session.specs.declared.faults.Fault.TheVariants.{Refused};
 
     /// Before the first operation. It takes no memory.
@@ -47,7 +47,7 @@ impl StatePlace {
         ensures unread { (volume : State) → unread volume self.new ≡ unread volume self.old }
         ensures ok { IfOk result (λ s. AreSpelled s.operations.items s.bytes.items
             (waiting self.old)) }
-        ensures behind { IfOk result (λ s. WaitBehind (waiting self.old) operations_room bytes_room
+        ensures beyond { IfOk result (λ s. WaitAfter (waiting self.old) operations_room bytes_room
             s.operations.items s.bytes.items (waiting self.new)) }
         ensures err { IfErr result (λ e. (e ≡ Refused OutOfMemory)
             × (waiting self.new ≡ waiting self.old)) }

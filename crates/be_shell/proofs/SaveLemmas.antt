@@ -11,7 +11,7 @@ use Rattle.be_script_runner.specs.View.{session}
 use Rattle.be_script_runner.specs.declared.client.Client.{Client}
 use Rattle.be_script_runner.specs.declared.faults.RunFault.{RunFault}
 use Rattle.be_script_runner.specs.declared.faults.RunFault.TheVariants.{Limits, Read, TooLong, Write, Memory}
-use Rattle.be_shell.specs.Conversation.{Event, Heard, hears, IsBroken, RepliedTo, BrokeBehind}
+use Rattle.be_shell.specs.Conversation.{Event, Heard, hears, IsBroken, RepliedTo, BrokeAfter}
 
 same_store : (a : Store) (j j' : List Entry) (v v' : State) → j ≡ j' → v ≡ v' → (record a { journal = j; volume = v }) ≡ (record a { journal = j'; volume = v' })
 same_store a j j' v v' p q = ap (λ (z : List Entry). record a { journal = z; volume = v }) p ∙ ap (λ (z : State). record a { journal = j'; volume = z }) q
@@ -43,5 +43,5 @@ broken_from Memory a b client line events j h = h
 
 -- a fault after a read
 pub broke_from : {P : Type 0} (does : P → Event → P → Type 0) (e : RunFault) (a b : Store) (client : Client) (line : Heard) (p q : P) → Joins a b →
-    BrokeBehind does e (session b client) line p q → BrokeBehind does e (session a client) line p q
+    BrokeAfter does e (session b client) line p q → BrokeAfter does e (session a client) line p q
 broke_from does e a b client line p q j h = (h.0, broken_from e a b client line h.0 j h.1, h.2)

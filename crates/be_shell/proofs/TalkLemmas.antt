@@ -11,7 +11,7 @@ use Rattle.be_script_runner.specs.declared.faults.RunFault.{RunFault}
 use Rattle.be_script_runner.specs.declared.faults.RunFault.TheVariants.{Limits, Read, TooLong, Write, Memory}
 use Rattle.be_script_runner.proofs.EndLemmas.{nothing_asked}
 use Rattle.be_script_runner.proofs.ReplyLemmas.{serves_at_once}
-use Rattle.be_shell.specs.Conversation.{Heard, Event, hears, ends, says, flushes, fails, RepliedTo, exchange, IsTalk, Happens, SoFar, TalkedTo, Went, IsCut, IsDeaf, IsBroken, Broke, BrokeBehind, BrokeOff, all_short, said}
+use Rattle.be_shell.specs.Conversation.{Heard, Event, hears, ends, says, flushes, fails, RepliedTo, exchange, IsTalk, Happens, SoFar, TalkedTo, Went, IsCut, IsDeaf, IsBroken, Broke, BrokeAfter, BrokeOff, all_short, said}
 
 -- a fault that is passed on
 pub passed_up : {T E : Type 0} (r : Result T E) (e : E) (P : E → Type 0) → IsErrAnd r (λ y. y ≡ e) → P e → IfErr r P
@@ -81,18 +81,18 @@ module _ {P : Type 0} (does : P → Event → P → Type 0) where
   went_out s p q event d same = (refl, (q, subst (λ (e : Event). does p e q) same d, refl))
 
   -- a line was heard, and then the exchange was broken off
-  pub broke_behind : (e : RunFault) (s : Session) (event : Event) (line : Heard) (p mid q : P) → does p event mid → event ≡ hears line → BrokeBehind does e s line mid q → Broke does e s p q
-  broke_behind e s event line p mid q d same b = (hears line ∷ b.0, b.1, (mid, subst (λ (z : Event). does p z mid) same d, b.2))
+  pub broke_after : (e : RunFault) (s : Session) (event : Event) (line : Heard) (p mid q : P) → does p event mid → event ≡ hears line → BrokeAfter does e s line mid q → Broke does e s p q
+  broke_after e s event line p mid q d same b = (hears line ∷ b.0, b.1, (mid, subst (λ (z : Event). does p z mid) same d, b.2))
 
   -- no memory for a reply
-  pub unanswered : (e : RunFault) (s : Session) (line : Heard) (p : P) → e ≡ Memory → BrokeBehind does e s line p p
-  unanswered e s line p h = subst (λ (z : RunFault). BrokeBehind does z s line p p) (sym h) ([], inr (line, refl), refl)
+  pub unanswered : (e : RunFault) (s : Session) (line : Heard) (p : P) → e ≡ Memory → BrokeAfter does e s line p p
+  unanswered e s line p h = subst (λ (z : RunFault). BrokeAfter does z s line p p) (sym h) ([], inr (line, refl), refl)
 
   -- a reply was cut off
   pub cut_off : (e : RunFault) (s after : Session) (line : Heard) (reply said' : List ℕ) (p q : P) → said' ≡ reply → RepliedTo s line after reply →
-      (e ≡ Write) × (cut : List Event) × IsCut said' cut × Happens does p cut q → BrokeBehind does e s line p q
+      (e ≡ Write) × (cut : List Event) × IsCut said' cut × Happens does p cut q → BrokeAfter does e s line p q
   cut_off e s after line reply said' p q same r h =
-      subst (λ (z : RunFault). BrokeBehind does z s line p q) (sym h.0)
+      subst (λ (z : RunFault). BrokeAfter does z s line p q) (sym h.0)
       (h.1, (line, after, said', h.1, subst (λ (z : List ℕ). RepliedTo s line after z) (sym same) r, h.2, refl), h.3)
 
 pub broken_is_other : (e : RunFault) (s : Session) (events : List Event) → IsBroken e s events → IsNotLimits e

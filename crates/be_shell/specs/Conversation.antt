@@ -110,9 +110,9 @@ IsBroken Memory s events = (events ≡ fails ∷ []) ⊎ ((line : Heard) × (eve
 abbrev pub Broke : {P : Type 0} → (P → Event → P → Type 0) → RunFault → Session → P → P → Type 0
 Broke does e s p q = (broken : List Event) × IsBroken e s broken × Happens does p broken q
 
-abbrev pub BrokeBehind : {P : Type 0} → (P → Event → P → Type 0) → RunFault → Session → Heard → P
+abbrev pub BrokeAfter : {P : Type 0} → (P → Event → P → Type 0) → RunFault → Session → Heard → P
     → P → Type 0
-BrokeBehind does e s line p q = (broken : List Event) × IsBroken e s (hears line ∷ broken)
+BrokeAfter does e s line p q = (broken : List Event) × IsBroken e s (hears line ∷ broken)
     × Happens does p broken q
 
 -- What ends a conversation after these lines: an exchange that a fault broke off; or Read after

@@ -33,11 +33,11 @@ pub(crate) fn skip(line: &[u8]) -> &[u8]
     ensures { result.now ≡ spec.skip line.now }
 {
     let mut rest = line;
-    while let Some((c, behind)) = rest.split_first() {
+    while let Some((c, beyond)) = rest.split_first() {
         if !is_blank(*c) {
             return rest;
         }
-        rest = behind;
+        rest = beyond;
     }
     rest
 }

@@ -56,8 +56,8 @@ fn under(alloc: Global, text: &str, at: usize) -> Result<(String, String), Alloc
 
 /// Shows a query with a caret below the place of its error.
 pub(crate) fn point_at<R: Eprint>(rt: &R, alloc: Global, line: &[u8], at: usize) {
-    let (_, behind) = split_word(skip(line));
-    let Ok(text) = str::from_utf8(skip(behind)) else {
+    let (_, beyond) = split_word(skip(line));
+    let Ok(text) = str::from_utf8(skip(beyond)) else {
         return;
     };
     if let Ok((shown, spaces)) = under(alloc, text, at) {

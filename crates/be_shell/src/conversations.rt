@@ -78,7 +78,7 @@ fn serve_line<S: Server, P: Peer>(
         (session (S.shows server.new) client.new) reply
         × spec.Happens P.does peer.old (spec.says reply ∷ spec.flushes ∷ []) peer.new) }
     ensures broke { IfErr result (λ e.
-        spec.BrokeBehind P.does e (session (S.shows server.old) client.old)
+        spec.BrokeAfter P.does e (session (S.shows server.old) client.old)
         (spec.line_heard line.now) peer.old peer.new) }
     ensures stays { S.kept server.new ≡ S.kept server.old }
     ensures few { length (queued_ops client.new) ≤ 64 }

@@ -29,11 +29,11 @@ pub(crate) fn control_at(bytes: &[u8]) -> Option<(u8, &[u8])>
     ensures shorter { IfSome result (λ found. length found.1.now < length bytes.now) }
     ensures none { IfNone result (spec.KeepsFirst bytes.now) }
 {
-    let (first, behind) = bytes.split_first()?;
+    let (first, beyond) = bytes.split_first()?;
     if is_control(*first) {
-        return Some((*first, behind));
+        return Some((*first, beyond));
     }
-    let (second, rest) = behind.split_first()?;
+    let (second, rest) = beyond.split_first()?;
     if *first == 0xc2 && *second >= 128 && *second < 160 {
         return Some((*second, rest));
     }

@@ -46,8 +46,8 @@ fn passed_on(alloc: Global, line: Line, aside: Aside) -> Option<Line>
 
 /// The name after the command of a line.
 fn name_in(line: &[u8]) -> &[u8] {
-    let (_, behind) = split_word(skip(line));
-    skip(behind).trim_ascii_end()
+    let (_, beyond) = split_word(skip(line));
+    skip(beyond).trim_ascii_end()
 }
 
 /// Opens the file that a line `read` names.

@@ -52,8 +52,8 @@ pub(crate) fn print_usage<R: Eprint>(rt: &R, command: &[u8]) {
 
 /// Answers the line `help`, with a command after it or without.
 pub(crate) fn print_help<R: Eprint>(rt: &R, line: &[u8]) {
-    let (_, behind) = split_word(skip(line));
-    let (command, _) = split_word(skip(behind));
+    let (_, beyond) = split_word(skip(line));
+    let (command, _) = split_word(skip(beyond));
     if command.is_empty() {
         let _ = eprint!(rt; "{HELP}");
     } else {

@@ -156,6 +156,6 @@ abbrev text_or : List ℕ → Result (List ℕ) Refusal → List ℕ
 text_or d (Ok x) = x
 text_or d (Err e) = d
 
--- the text that was made while the lock was held is that of what the pass has seen behind it
+-- the text that was made while the lock was held is that of what the pass has seen after it
 pub told : (w c : Knowledge) (text : List ℕ) (made : Result (List ℕ) Refusal) → c ≡ without_lock (with_history w c.history) → made ≡ Ok (text_seen w) → made ≡ Ok text → text ≡ text_seen c
 told w c text made is all one = ap (text_or text) (sym one ∙ all) ∙ ap text_seen (sym is)

@@ -52,7 +52,7 @@ calls_seen a (c ∷ cs) z h = starts_trans a.seen c.seen z.seen (calls_seen c cs
 entries_start : (log seen : List Commit) → StartsWith log seen → StartsWith (entries log) (entries seen)
 entries_start log seen h = (entries h.0, ap entries h.1 ∙ entries_append seen h.0)
 
--- the journal begins with what the pass had seen behind any of its calls
+-- the journal begins with what the pass had seen after any of its calls
 reaches : (log : List Entry) (a : Knowledge) (cs : List Knowledge) (z : Knowledge) → StartsWith log (entries z.seen) → Calls a cs z → StartsWith log (entries a.seen)
 reaches log a cs z more h = starts_trans (entries a.seen) (entries z.seen) log more (entries_start z.seen a.seen (calls_seen a cs z h))
 

@@ -16,7 +16,7 @@ mod writers;
 
 pub use counted::Counted;
 pub use examples::{COVERAGE, EQUAL_VALUES, EXAMPLES, LISTS, TEXTS, TWO_INDICES};
-pub use lines::{Answers, behind, check_lines};
+pub use lines::{Answers, beyond, check_lines};
 pub use long_lists::longest_list;
 pub use replies::{answer_lines, done_lines, list_of, reply_lines};
 pub use stores::{OUTSIDE_LIMITS, both_of, has_hundred_by_each, is_legal, numbered, pair_of};

@@ -12,7 +12,7 @@ pub trait Answers {
 }
 
 /// What is expected after the lines of a reply. None if these aren't expected.
-pub fn behind<'a>(expected: &'a str, reply: &str) -> Option<&'a str> {
+pub fn beyond<'a>(expected: &'a str, reply: &str) -> Option<&'a str> {
     let mut expected = expected;
     for line in reply.lines() {
         let (part, rest) = expected.split_once(" / ").unwrap_or((expected, ""));
@@ -42,7 +42,7 @@ fn replies<A: Answers>(
     let mut expected = expected;
     for request in requests.split(" / ") {
         let reply = reply_to(alloc, answers, request)?;
-        match behind(expected, reply.as_str()) {
+        match beyond(expected, reply.as_str()) {
             Some(rest) => expected = rest,
             None => return Ok(false),
         }

@@ -201,15 +201,6 @@ module _ {S K : Type 0} (kept_of : S → K) (standing_of : S → ℕ → Standin
   pub swaps_fresh : (b a : List ℕ) (old new : S) → Swaps kept_of standing_of words_of b a old new → (q : ℕ) → times q b ≡ 0 → 0 < times q a → standing_of old q ≡ Free
   swaps_fresh b a old new swaps q none some = step_fresh none some (swaps.each q)
 
-  -- lists of pages with the same pages
-  pub swaps_times : (b a b' a' : List ℕ) (old new : S) → Swaps kept_of standing_of words_of b a old new → ((q : ℕ) → times q b' ≡ times q b) → ((q : ℕ) → times q a' ≡ times q a)
-      → Swaps kept_of standing_of words_of b' a' old new
-  swaps_times b a b' a' old new swaps eb ea = record {
-    kept = swaps.kept;
-    each = λ q. subst (λ n. PageStep (words_of new q ≡ words_of old q) n (times q a') (standing_of old q) (standing_of new q)) (sym (eb q))
-        (subst (λ n. PageStep (words_of new q ≡ words_of old q) (times q b) n (standing_of old q) (standing_of new q)) (sym (ea q)) (swaps.each q));
-  }
-
   -- a change beside a page in use
   pub swaps_with : (page : ℕ) (b a : List ℕ) (old new : S) → Swaps kept_of standing_of words_of b a old new → times page b ≡ 0 → ((q : ℕ) → times q b ≤ 1) → IsTrue (is_kept (standing_of old page))
       → Swaps kept_of standing_of words_of (page ∷ b) (page ∷ a) old new
@@ -278,7 +269,7 @@ written_swaps kept_of standing_of words_of page old new kept free filled stands 
     step q P n m s t once free filled =
         subst (λ n. PageStep P zero n s t) (sym once) (subst (λ u. PageStep P zero 1 u t) (sym free) (subst (λ u. PageStep P zero 1 Free u) (sym filled) fresh))
 
-filled_is : (s : Standing) → IsTrue (is_kept s) → IsTrue (is_taken s) → s ≡ Filled
+pub filled_is : (s : Standing) → IsTrue (is_kept s) → IsTrue (is_taken s) → s ≡ Filled
 filled_is Free used taken = absurd (false≢true used)
 filled_is Old used taken = absurd (false≢true taken)
 filled_is GivenUp used taken = absurd (false≢true used)

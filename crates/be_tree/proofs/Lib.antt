@@ -4,7 +4,14 @@ pub mod Order
 pub mod Ranges
 pub mod Frame
 pub mod TreeFacts
+pub mod Splices
 pub mod Trees
+pub mod Ways
+pub mod Rises
+pub mod Raises
+pub mod Leaves
+pub mod Settles
+pub mod Balances
 pub mod Bytes
 pub mod Nodes
 pub mod Shape

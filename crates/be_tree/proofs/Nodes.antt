@@ -1,10 +1,8 @@
 -- The items of nodes in hand: as slots, alone, and of two neighbours under one parent.
 pub mod Slots
-pub mod Moves
+pub mod Stands
 pub mod SlotLists
 pub mod Neighbours
 pub mod Children
 pub mod Joins
-pub mod Alone
 pub mod Writes
-pub mod Sides

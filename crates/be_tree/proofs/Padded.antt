@@ -1,4 +1,4 @@
--- Bytes compared by words that hold zeros behind them: the first word that differs decides, and else the lengths.
+-- Bytes compared by words that hold zeros after them: the first word that differs decides, and else the lengths.
 use Rattle.std.proofs.Common.{◌≡◌, ℕ, zero, suc, ◌+◌, ◌-◌, ◌*◌, ◌/◌, ◌^◌, ◌<◌, ◌≤◌, ◌⊎◌, List, [], ◌∷◌, ◌++◌, length, map, take, drop, get_or, ap, sym, subst, ◌∙◌, refl, inl, inr, arith}
 use Rattle.std.specs.declared.cmp.Ordering.{Ordering}
 use Rattle.std.specs.declared.cmp.Ordering.TheVariants.{Less, Equal, Greater}
@@ -56,7 +56,7 @@ zeros_first (suc n) ys = by (cases_lt 0 (get_or ys 0 0)) (zeros_first n (drop 1 
     by (inl lt) low = ap (λ (o : Ordering). ordering_then (ordering_then o (slice_cmp nat_cmp (pad n []) (pad n (drop 1 ys)))) Less) (less_cmp 0 (get_or ys 0 0) lt)
     by (inr le) low = ap (λ (o : Ordering). ordering_then (ordering_then o (slice_cmp nat_cmp (pad n []) (pad n (drop 1 ys)))) Less) (same_cmp 0 (get_or ys 0 0) (omega (arith, le))) ∙ low
 
--- the order of lists, by their bytes with zeros behind and then by their lengths
+-- the order of lists, by their bytes with zeros after and then by their lengths
 pad_cmp : (n : ℕ) (xs ys : List ℕ) → length ys ≤ n → slice_cmp nat_cmp xs ys ≡ ordering_then (slice_cmp nat_cmp (pad n xs) (pad n ys)) (nat_cmp (length xs) (length ys))
 pad_cmp zero [] [] le = sym (same_cmp 0 0 refl)
 pad_cmp (suc n) [] [] le =
@@ -152,7 +152,7 @@ not_below (x ∷ xs) e = by (cases_lt 0 x) (not_below xs)
     by (inl lt) low = never (sym (ap (λ (o : Ordering). ordering_then o zeros) (more_cmp x 0 lt)) ∙ e)
     by (inr le) low = low (sym (ap (λ (o : Ordering). ordering_then o zeros) (same_cmp x 0 (omega (arith, le)))) ∙ e)
 
--- a list is below another one where it is below it with bytes behind, and zeros behind the other one
+-- a list is below another one where it is below it with bytes after, and zeros after the other one
 below_pad : (xs more ys : List ℕ) → slice_cmp nat_cmp (xs ++ more) (pad (length (xs ++ more)) ys) ≡ Less → slice_cmp nat_cmp xs ys ≡ Less
 below_pad [] more [] e = absurd (not_below more e)
 below_pad [] more (y ∷ ys) e = refl

@@ -1,4 +1,2 @@
 -- A pair is put into a tree.
 pub mod Puts
-pub mod PutAt
-pub mod Stays

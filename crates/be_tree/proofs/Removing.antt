@@ -1,6 +1,4 @@
 -- A key is taken out of a tree, and a tree is given up.
 pub mod Removes
-pub mod Keeps
 pub mod Rests
-pub mod Stops
 pub mod Clears

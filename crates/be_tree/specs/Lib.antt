@@ -3,11 +3,12 @@ pub mod Key
 pub mod Page
 pub mod Tree
 pub mod Slot
-pub mod Sides
 pub mod Writing
-pub mod Stop
 pub mod Range
 pub mod Cursor
 pub mod Forest
 pub mod Words
+pub mod Splicing
+pub mod Path
+pub mod Settling
 pub mod Places

@@ -1,15 +1,17 @@
 -- What a node in hand takes to be written, and what is made of it.
-use Rattle.std.specs.Prelude.{◌≡◌, ◌≢◌, ℕ, suc, ◌≤◌, List, ◌∷◌, ◌++◌, length, All, IsTrue}
+use Rattle.std.specs.Prelude.{◌≡◌, ◌≢◌, ℕ, suc, ◌≤◌, List, ◌∷◌, ◌++◌, length, All, IsTrue, Result}
+use Rattle.std.specs.Prelude.{OnErr, IfErr}
 use Rattle.be_pages.specs.declared.room.Standing.{Standing}
-use Rattle.be_pages.specs.Pages.{is_kept, times}
+use Rattle.be_pages.specs.Pages.{is_kept, times, KeepsStart}
+use Rattle.be_pages.specs.Refusal.{IsFullOf}
+use Rattle.be_value.specs.declared.refusals.Refusal.{Refusal}
 use Rattle.be_tree.specs.declared.slot.Slot.{Slot}
-use Rattle.be_tree.specs.Page.{items_of}
 use Rattle.be_tree.specs.Pair.{Pair}
 use Rattle.be_tree.specs.Slot.{IsReady, pairs_of}
-use Rattle.be_tree.specs.Tree.{Becomes, BecomesTree, IsBelow, pages_below, pairs_at, pairs_below}
+use Rattle.be_tree.specs.Tree.{Becomes, BecomesTree, IsBelow, pages_below, pairs_below}
 
--- what is below the node's items is well formed, and each item can be read, also the pair that is
--- put among them
+-- what is below the node's items is well formed, and each item can be read, also the pair that
+-- is put among them
 abbrev pub CanBeWritten : (level : ℕ) (standing : ℕ → Standing) (words : ℕ → ℕ → ℕ) (given : Pair)
     → List Slot → Type 0
 CanBeWritten level standing words given slots =
@@ -49,12 +51,9 @@ ReplacesTree kept_of standing_of words_of level given slots page root old new =
     (page ∷ pages_below level (words_of old) (pairs_of (words_of old) given slots))
     (pairs_below level (words_of old) (pairs_of (words_of old) given slots)) root old new
 
--- What is below a page has become what is below the items of these slots, and the pairs have
--- changed so. The page itself is unchanged.
-abbrev pub Changes : {S K : Type 0} → (S → K) → (S → ℕ → Standing) → (S → ℕ → ℕ → ℕ)
-    → (level page : ℕ) → (List Pair → List Pair) → (given : Pair) → List Slot → S → S → Type 0
-Changes kept_of standing_of words_of level page change given slots old new =
-    Becomes kept_of standing_of words_of
-    (pages_below level (words_of old) (items_of (words_of old page)))
-    (change (pairs_at level (words_of old) page)) level (pairs_of (words_of new) given slots) old
-    new
+-- If a write is refused, what was there when it began is there again once it is undone, and no page
+-- was left.
+abbrev pub Refuses : {S K A : Type 0} → (S → K) → (S → ℕ → Standing) → (S → ℕ → ℕ → ℕ)
+    → (full : S → ℕ → Type 0) → Result A Refusal → S → S → Type 0
+Refuses kept_of standing_of words_of full result old new = OnErr result
+    (KeepsStart kept_of standing_of words_of old new) × IfErr result (IsFullOf (full new))

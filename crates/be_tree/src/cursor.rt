@@ -9,18 +9,18 @@
 //!
 //! No page may have more than 12 items, and each but the root has at least 6. So a tree of fewer
 //! than 2^32 pages has no level above 13, and the way down has at most 14 places.
-ghost use Rattle.std.specs.Prelude.{◌≡◌, ◌≢◌, ℕ, [], ◌+◌, ◌-◌, ◌/◌, ◌<◌, ◌≤◌, ◌++◌, IsTrue, length};
+ghost use Rattle.std.specs.Prelude.{◌≡◌, ℕ, [], ◌+◌, ◌<◌, ◌≤◌, ◌++◌, IsTrue, length};
 ghost use Rattle.std.specs.Prelude.{option_map, drop, IfNone, IfSome, Some, slice_get};
 ghost use Rattle.be_pages.specs.declared.room.Standing.{Standing as Stands};
 ghost use Rattle.be_pages.specs.Pages.{IsUnchanged, is_readable};
-ghost use Rattle.be_tree.specs.Cursor.{IsCursor, IsPath, IsPlace, pairs_along, pairs_past};
+ghost use Rattle.be_tree.specs.Cursor.{IsCursor, IsPlace, pairs_past};
 ghost use Rattle.be_tree.specs.Cursor.{remaining};
-ghost use Rattle.be_tree.specs.Page.{IsItem, IsPage, item_at, items_of};
+ghost use Rattle.be_tree.specs.Page.{IsItem, item_at, items_of};
 ghost use Rattle.be_tree.specs.Range.{pair_in, pairs_from};
-ghost use Rattle.be_tree.specs.Tree.{IsTree, IsTreeAt, pairs, pairs_at};
+ghost use Rattle.be_tree.specs.Tree.{IsTree, IsTreeAt, pairs};
 ghost use Rattle.be_tree.specs.Words.{IsFirst};
 
-use crate::lookup::{branch_for, end_of, search};
+use crate::lookup::{branch_for, end_of, item_number, search};
 use crate::page::{HEADER_WORDS, ITEM_WORDS, child_at, first_word};
 use crate::payload::fill_payload;
 use crate::walk::{TreeItem, fill_key, key_at};
@@ -248,7 +248,7 @@ impl Cursor {
 
     /// The leaf of the pair that comes next, with the number of the pair's item in it, and a step
     /// past all of the leaf's pairs.
-    pub(crate) fn step_leaf<L: Look>(&mut self, look: &mut L) -> Option<(u64, usize)>
+    pub fn step_leaf<L: Look>(&mut self, look: &mut L) -> Option<(u64, usize)>
         requires cursor { IsCursor (L.standing look.old) (L.words look.old) self.old }
         ensures none { IfNone result (remaining (L.words look.old) self.old ≡ []) }
         ensures leaf { IfSome result (λ at. IsTreeAt 0 1 (L.standing look.old) (L.words look.old)
@@ -263,14 +263,6 @@ impl Cursor {
         let place = self.take_place(look)?;
         Some((place.page as u64, place.next as usize))
     }
-}
-
-/// The number of the item at a place of a page.
-fn item_number(at: usize) -> usize
-    requires { 2 ≤ at }
-    ensures { result ≡ (at - 2) / 42 }
-{
-    (at - HEADER_WORDS) / ITEM_WORDS
 }
 
 /// How many of a leaf's items come before the pairs at or after a key.

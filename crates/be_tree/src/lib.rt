@@ -30,16 +30,21 @@
 mod clearing;
 mod cursor;
 mod edit;
+mod inserting;
 mod item;
 mod laws;
 mod lookup;
 mod numbers;
 mod page;
+mod path;
 mod payload;
 mod removal;
+mod rising;
+mod settling;
 mod siblings;
 mod slot;
-mod stop;
+mod splicing;
+mod taking;
 mod walk;
 mod writing;
 
@@ -48,8 +53,8 @@ pub use cursor::Cursor;
 pub use edit::insert;
 pub use laws::{tree_beside, tree_kept, tree_replaced, tree_undone};
 pub use lookup::{find, find_into, find_place, has_key, is_key_at};
-pub use numbers::numbers_within;
-pub use page::{LENGTH_BITS, word_from};
+pub use numbers::{first_of, is_past_at, number_at, numbers_within};
+pub use page::{HEADER_WORDS, ITEM_WORDS, LENGTH_BITS, word_from};
 pub use payload::{
     fill_payload, payload_byte_at, payload_len_at, payload_number_at, payload_number32_at,
 };

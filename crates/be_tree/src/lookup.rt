@@ -9,10 +9,9 @@
 //! length is read too.
 ghost use Rattle.std.specs.Prelude.{◌≡◌, [], ◌+◌, ◌-◌, ◌<◌, ◌≤◌, true, false, length, option_map};
 ghost use Rattle.std.specs.Prelude.{is_some, IfNone, IfSome, IfOk, IfErr, None, Some};
-ghost use Rattle.std.specs.Prelude.{IsTrue};
+ghost use Rattle.std.specs.Prelude.{◌/◌, IsTrue};
 ghost use Rattle.std.specs.Ordering.{is_eq, is_gt};
 ghost use Rattle.be_pages.specs.Pages.{IsUnchanged, is_readable};
-ghost use Rattle.std.specs.declared.cmp.Ordering.TheVariants.{Equal};
 ghost use Rattle.be_tree.specs.Page.{IsItem, IsPage, item_at, item_place, items_of};
 ghost use Rattle.be_tree.specs.Key.{IsRank, key_cmp, payload_at};
 ghost use Rattle.be_tree.specs.Places.{IsBranchAt, IsFoundAt, IsGapAt};
@@ -141,6 +140,14 @@ pub(crate) fn end_of<L: Look>(look: &mut L, page: u64) -> usize
     ensures unchanged { IsUnchanged L.kept L.standing L.words look.old look.new }
 {
     HEADER_WORDS + ITEM_WORDS * look.word(page, 1) as usize
+}
+
+/// The number of the item at a place of a page.
+pub(crate) fn item_number(at: usize) -> usize
+    requires { 2 ≤ at }
+    ensures { result ≡ (at - 2) / 42 }
+{
+    (at - HEADER_WORDS) / ITEM_WORDS
 }
 
 /// The place of the branch below which a key belongs: the last one whose key is not greater, or the

@@ -20,7 +20,7 @@ ghost use Rattle.be_tree.specs.Words.{IsFirst, IsFirstOf};
 
 use crate::cursor::Cursor;
 use crate::lookup::{branch_for, end_of, is_above, search};
-use crate::page::{HEADER_WORDS, ITEM_WORDS, LENGTH_BITS, child_at, first_word, number_behind};
+use crate::page::{HEADER_WORDS, ITEM_WORDS, LENGTH_BITS, child_at, first_word, number_beyond};
 use crate::walk::key_at;
 use be_pages::Look;
 use std::alloc::AllocError;
@@ -303,7 +303,7 @@ fn push_to<L: Look>(
 }
 
 /// The first word of the bound, or 0 if there is none.
-fn first_of(high: Option<&[u8]>) -> u64
+pub fn first_of(high: Option<&[u8]>) -> u64
     ensures { IsFirstOf (option_copied high.entry) result }
 {
     match high {
@@ -314,7 +314,13 @@ fn first_of(high: Option<&[u8]>) -> u64
 
 /// Whether the key of the item at a place is above the bound, whose first word is at hand.
 #[inline(always)]
-fn is_past_at<L: Look>(look: &mut L, page: u64, at: usize, high: Option<&[u8]>, first: u64) -> bool
+pub fn is_past_at<L: Look>(
+    look: &mut L,
+    page: u64,
+    at: usize,
+    high: Option<&[u8]>,
+    first: u64,
+) -> bool
     requires readable { IsTrue (is_readable (L.standing look.old page)) }
     requires in_page { at + 42 ≤ 512 }
     requires item { IsItem (L.words look.old page) at }
@@ -331,7 +337,7 @@ fn is_past_at<L: Look>(look: &mut L, page: u64, at: usize, high: Option<&[u8]>, 
 
 /// The number in the last eight bytes of the key of the item at a place.
 #[inline(always)]
-fn number_at<L: Look>(look: &mut L, page: u64, at: usize) -> u64
+pub fn number_at<L: Look>(look: &mut L, page: u64, at: usize) -> u64
     requires readable { IsTrue (is_readable (L.standing look.old page)) }
     requires in_page { at + 42 ≤ 512 }
     requires item { IsItem (L.words look.old page) at }
@@ -340,5 +346,5 @@ fn number_at<L: Look>(look: &mut L, page: u64, at: usize) -> u64
     ensures unchanged { IsUnchanged L.kept L.standing L.words look.old look.new }
 {
     let key_len = (look.word(page, at) >> LENGTH_BITS) as usize;
-    number_behind(look, page, at + key_len / 8, key_len % 8)
+    number_beyond(look, page, at + key_len / 8, key_len % 8)
 }

@@ -1,18 +1,16 @@
 //! Items read from a page and written to it.
-ghost use Rattle.std.specs.Prelude.{◌≡◌, ◌≢◌, ℕ, [], ◌+◌, ◌-◌, ◌*◌, ◌/◌, ◌%◌, ◌<◌, ◌≤◌, ◌++◌, All};
-ghost use Rattle.std.specs.Prelude.{IsTrue, length, take, drop, map, slice_index};
+ghost use Rattle.std.specs.Prelude.{◌≡◌, ◌≢◌, [], ◌+◌, ◌-◌, ◌*◌, ◌/◌, ◌%◌, ◌<◌, ◌≤◌, ◌++◌};
+ghost use Rattle.std.specs.Prelude.{IsTrue, length, drop, map, slice_index};
 ghost use Rattle.std.specs.List.{range_with_len};
 ghost use Rattle.std.specs.Int.{from_be_bytes, to_be_bytes, w64};
-ghost use Rattle.be_pages.specs.Pages.{is_readable, is_taken, IsUnchanged, OnlyWrites, StandsAt};
+ghost use Rattle.be_pages.specs.Pages.{is_readable, IsUnchanged, OnlyWrites};
 ghost use Rattle.be_pages.specs.declared.room.Standing.TheVariants.{Filled};
 ghost use Rattle.be_tree.specs.Page.{IsItem, IsPadded, IsPage, item_at, bytes_at, key_len};
-ghost use Rattle.be_tree.specs.Page.{level_of, items_of, words_for};
+ghost use Rattle.be_tree.specs.Page.{words_for};
 ghost use Rattle.be_tree.specs.Page.{item_place};
-ghost use Rattle.std.specs.Prelude.{◌^◌, ◌⊎◌, true};
+ghost use Rattle.std.specs.Prelude.{◌^◌, ◌⊎◌};
 ghost use Rattle.be_tree.specs.declared.slot.Slot.TheVariants.{At};
-ghost use Rattle.be_tree.specs.Pair.{Pair};
-ghost use Rattle.be_tree.specs.Slot.{IsReady, MayMove, MoveDown, MoveUp, StandsFrom, StandsTo};
-ghost use Rattle.be_tree.specs.Slot.{StandsWhole, branch_to, pair_of, pairs_of};
+ghost use Rattle.be_tree.specs.Slot.{IsOff, IsReady, branch_to, pair_of};
 ghost use Rattle.be_tree.specs.Key.{key_cmp};
 ghost use Rattle.be_tree.specs.Words.{IsFirst};
 ghost use Rattle.be_tree.specs.Tree.{child};
@@ -24,10 +22,10 @@ use be_pages::{Look, Room};
 use std::cmp::Ordering;
 
 /// How many words come before a page's items: its level, and how many items it has.
-pub(crate) const HEADER_WORDS: usize = 2;
+pub const HEADER_WORDS: usize = 2;
 
 /// How many words an item has: one for its lengths, and 41 for at most 328 bytes.
-pub(crate) const ITEM_WORDS: usize = 42;
+pub const ITEM_WORDS: usize = 42;
 
 /// An item's first word has the length of its key in the bits from this one on, and the length of
 /// its payload in those below.
@@ -49,12 +47,12 @@ pub(crate) fn child_at<L: Look>(look: &mut L, page: u64, at: usize) -> u64
     ensures unchanged { IsUnchanged L.kept L.standing L.words look.old look.new }
 {
     let key_len = (look.word(page, at) >> LENGTH_BITS) as usize;
-    number_behind(look, page, at + 1 + key_len / 8, key_len % 8)
+    number_beyond(look, page, at + 1 + key_len / 8, key_len % 8)
 }
 
 /// The number in the eight bytes that begin `skip` bytes after the start of a word: in that word
 /// alone, or in it and the next.
-pub(crate) fn number_behind<L: Look>(look: &mut L, page: u64, at: usize, skip: usize) -> u64
+pub(crate) fn number_beyond<L: Look>(look: &mut L, page: u64, at: usize, skip: usize) -> u64
     requires readable { IsTrue (is_readable (L.standing look.old page)) }
     requires skips { skip < 8 }
     requires in_page { at + words_for (skip + 8) ≤ 512 }
@@ -311,7 +309,7 @@ pub(crate) fn store_item<R: Room>(room: &mut R, page: u64, at: usize, item: &Ite
 
 /// Copies the words of an item to a place of a page that has a word filled. An item that lies there
 /// already is left alone.
-fn copy_item<R: Room>(room: &mut R, page: u64, at: usize, from: u64, place: usize)
+pub(crate) fn copy_item<R: Room>(room: &mut R, page: u64, at: usize, from: u64, place: usize)
     requires filled { R.standing room.old page ≡ Filled }
     requires in_page { at + 42 ≤ 512 }
     requires readable { IsTrue (is_readable (R.standing room.old from)) }
@@ -362,11 +360,11 @@ fn store_branch<R: Room>(room: &mut R, page: u64, at: usize, child: u64)
 }
 
 /// Writes the item of a slot at a place of a page that has a word filled.
-fn store_slot<R: Room>(room: &mut R, page: u64, at: usize, slot: Slot, pair: &Item)
+pub(crate) fn store_slot<R: Room>(room: &mut R, page: u64, at: usize, slot: Slot, pair: &Item)
     requires filled { R.standing room.old page ≡ Filled }
     requires in_page { at + 42 ≤ 512 }
     requires ready { IsReady (R.standing room.old) (R.words room.old) slot }
-    requires may_move { MayMove page at slot }
+    requires off { IsOff page slot }
     requires key_fits { length pair.now.key ≤ 264 }
     requires open { IsTrue (R.is_open (R.kept room.old)) }
     ensures item { item_at (R.words room.new page) at ≡ pair_of (R.words room.old) pair.now slot }
@@ -395,159 +393,4 @@ pub(crate) fn fill_slots<L: Look>(look: &mut L, page: u64, slots: &mut ArrayVec<
     for j in 0..count {
         slots.push(Slot::At((HEADER_WORDS + ITEM_WORDS * j) as u16, page as u32));
     }
-}
-
-/// Writes a node to a page that was taken, from its first item on. Those of its items that are on
-/// the page move down or stay.
-pub(crate) fn store_node<R: Room>(room: &mut R, page: u64, level: u64, slots: &[Slot], pair: &Item)
-    requires taken { IsTrue (is_taken (R.standing room.old page)) }
-    requires few { length slots.now ≤ 12 }
-    requires ready { All (IsReady (R.standing room.old) (R.words room.old)) slots.now }
-    requires down { MoveDown page slots.now }
-    requires key_fits { length pair.now.key ≤ 264 }
-    requires open { IsTrue (R.is_open (R.kept room.old)) }
-    ensures level { level_of (R.words room.new page) ≡ level }
-    ensures items { items_of (R.words room.new page)
-        ≡ pairs_of (R.words room.old) pair.now slots.now }
-    ensures page { IsPage (R.words room.new page) }
-    ensures behind { (i : ℕ) → item_place (length slots.now) ≤ i → R.words room.new page i
-        ≡ R.words room.old page i }
-    ensures standing { StandsAt (R.standing room.old) (R.standing room.new) page Filled }
-    ensures others { (q : ℕ) → q ≢ page → R.words room.new q ≡ R.words room.old q }
-    ensures kept { R.kept room.new ≡ R.kept room.old }
-{
-    room.fill(page, 0, level);
-    room.fill(page, 1, slots.len() as u64);
-    for j in 0..slots.len() {
-        store_slot(room, page, HEADER_WORDS + ITEM_WORDS * j, slots[j], pair);
-    }
-}
-
-/// The same from its last item on. Those of its items that are on the page move up or stay.
-pub(crate) fn store_from_last<R: Room>(
-    room: &mut R,
-    page: u64,
-    level: u64,
-    slots: &[Slot],
-    pair: &Item,
-)
-    requires taken { IsTrue (is_taken (R.standing room.old page)) }
-    requires few { length slots.now ≤ 12 }
-    requires ready { All (IsReady (R.standing room.old) (R.words room.old)) slots.now }
-    requires up { MoveUp page slots.now }
-    requires key_fits { length pair.now.key ≤ 264 }
-    requires open { IsTrue (R.is_open (R.kept room.old)) }
-    ensures level { level_of (R.words room.new page) ≡ level }
-    ensures items { items_of (R.words room.new page)
-        ≡ pairs_of (R.words room.old) pair.now slots.now }
-    ensures page { IsPage (R.words room.new page) }
-    ensures behind { (i : ℕ) → item_place (length slots.now) ≤ i → R.words room.new page i
-        ≡ R.words room.old page i }
-    ensures standing { StandsAt (R.standing room.old) (R.standing room.new) page Filled }
-    ensures others { (q : ℕ) → q ≢ page → R.words room.new q ≡ R.words room.old q }
-    ensures kept { R.kept room.new ≡ R.kept room.old }
-{
-    room.fill(page, 0, level);
-    room.fill(page, 1, slots.len() as u64);
-    for i in 0..slots.len() {
-        let j = slots.len() - 1 - i;
-        store_slot(room, page, HEADER_WORDS + ITEM_WORDS * j, slots[j], pair);
-    }
-}
-
-/// Whether nothing before a place of a page is a slot's item.
-pub(crate) fn stands_from(page: u64, place: usize, slot: Slot) -> bool
-    ensures { result ≡ true → StandsFrom page place slot }
-{
-    match slot {
-        Slot::At(at, from) => from as u64 != page || place <= at as usize,
-        Slot::Branch(child) => child as u64 != page,
-        Slot::New => true,
-    }
-}
-
-/// Whether the slot's item, if it is on this page, lies at the place or wholly before it.
-fn stands_to(page: u64, place: usize, slot: Slot) -> bool
-    ensures { result ≡ true → StandsTo page place slot }
-{
-    match slot {
-        Slot::At(at, from) => {
-            let at = at as usize;
-            from as u64 != page || at >= HEADER_WORDS && (at == place || at + ITEM_WORDS <= place)
-        }
-        Slot::Branch(child) => child as u64 != page,
-        Slot::New => true,
-    }
-}
-
-/// Whether a slot's item is the one at this place of this page.
-fn stands_at(page: u64, place: usize, slot: Slot) -> bool
-    ensures { result ≡ true → slot ≡ At place page }
-{
-    match slot {
-        Slot::At(at, from) => from as u64 == page && at as usize == place,
-        Slot::Branch(_) | Slot::New => false,
-    }
-}
-
-/// Whether a node's items are the first ones of this page, each at its place.
-fn all_stand_at(page: u64, slots: &[Slot]) -> bool
-    requires { length slots.now ≤ 12 }
-    ensures { result ≡ true → StandsWhole page slots.now }
-{
-    for j in 0..slots.len() {
-        if !stands_at(page, HEADER_WORDS + ITEM_WORDS * j, slots[j]) {
-            return false;
-        }
-    }
-    true
-}
-
-/// Whether this page has the node already.
-pub(crate) fn is_whole<L: Look>(look: &mut L, level: u64, page: u64, slots: &[Slot]) -> bool
-    requires readable { IsTrue (is_readable (L.standing look.old page)) }
-    requires few { length slots.now ≤ 12 }
-    requires ready { All (IsReady (L.standing look.old) (L.words look.old)) slots.now }
-    ensures page { result ≡ true → IsPage (L.words look.old page) }
-    ensures level { result ≡ true → level_of (L.words look.old page) ≡ level }
-    ensures items { result ≡ true → (given : Pair) → items_of (L.words look.old page)
-        ≡ pairs_of (L.words look.old) given slots.now }
-    ensures unchanged { IsUnchanged L.kept L.standing L.words look.old look.new }
-{
-    let count = look.word(page, 1) as usize;
-    let len = slots.len();
-    if count != len {
-        return false;
-    }
-    let found = look.word(page, 0);
-    if found != level {
-        return false;
-    }
-    all_stand_at(page, slots)
-}
-
-/// Whether those of a node's items that are on a page move down there, or stay.
-pub(crate) fn move_down(page: u64, slots: &[Slot]) -> bool
-    requires { length slots.now ≤ 12 }
-    ensures { result ≡ true → MoveDown page slots.now }
-{
-    for j in 0..slots.len() {
-        if !stands_from(page, HEADER_WORDS + ITEM_WORDS * j, slots[j]) {
-            return false;
-        }
-    }
-    true
-}
-
-/// Whether they move up, or stay.
-pub(crate) fn move_up(page: u64, slots: &[Slot]) -> bool
-    requires { length slots.now ≤ 12 }
-    ensures { result ≡ true → MoveUp page slots.now }
-{
-    for j in 0..slots.len() {
-        if !stands_to(page, HEADER_WORDS + ITEM_WORDS * j, slots[j]) {
-            return false;
-        }
-    }
-    true
 }

@@ -8,7 +8,7 @@ ghost use Rattle.std.specs.Int.{from_be_bytes, w32, w64};
 ghost use Rattle.be_pages.specs.Pages.{IsUnchanged, is_readable};
 ghost use Rattle.be_tree.specs.Page.{IsItem, bytes_at, item_at, words_for};
 
-use crate::page::{LENGTH_BITS, fill_bytes, number_behind, straddled};
+use crate::page::{LENGTH_BITS, fill_bytes, number_beyond, straddled};
 use arrayvec::ArrayVec;
 use be_pages::Look;
 
@@ -51,7 +51,7 @@ pub fn payload_number_at<L: Look>(look: &mut L, page: u64, at: usize, from: usiz
 {
     let key_len = (look.word(page, at) >> LENGTH_BITS) as usize;
     let place = key_len + from;
-    number_behind(look, page, at + 1 + place / 8, place % 8)
+    number_beyond(look, page, at + 1 + place / 8, place % 8)
 }
 
 /// The number in four bytes of a payload, the first of them the highest.
@@ -66,12 +66,12 @@ pub fn payload_number32_at<L: Look>(look: &mut L, page: u64, at: usize, from: us
 {
     let key_len = (look.word(page, at) >> LENGTH_BITS) as usize;
     let place = key_len + from;
-    number32_behind(look, page, at + 1 + place / 8, place % 8)
+    number32_after(look, page, at + 1 + place / 8, place % 8)
 }
 
 /// The number in the four bytes that begin `skip` bytes after the start of a word: in that word
 /// alone, or in it and the next.
-fn number32_behind<L: Look>(look: &mut L, page: u64, at: usize, skip: usize) -> u32
+fn number32_after<L: Look>(look: &mut L, page: u64, at: usize, skip: usize) -> u32
     requires readable { IsTrue (is_readable (L.standing look.old page)) }
     requires skips { skip < 8 }
     requires in_page { at + words_for (skip + 4) ≤ 512 }

@@ -75,7 +75,7 @@ neither : (b c : Bool) → (b || c) ≡ false → c ≡ false
 neither true c h = cc
 neither false c h = h
 
--- a text without zero bytes, and a zero byte behind it
+-- a text without zero bytes, and a zero byte after it
 text_order : (s t xs ys : List ℕ) → has_nul s ≡ false → has_nul t ≡ false →
     slice_cmp nat_cmp (s ++ 0 ∷ xs) (t ++ 0 ∷ ys) ≡ ordering_then (slice_cmp nat_cmp s t) (slice_cmp nat_cmp xs ys)
 text_order [] [] xs ys h g = refl

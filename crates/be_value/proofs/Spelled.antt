@@ -22,7 +22,7 @@ module _ (text : List ℕ) (i : ℕ) (h : i < length text) where
   abbrev with_next : ℕ
   with_next = 10 * decimal_value (take i text) + (get_or text i 0 - 48)
 
-  -- the number goes on behind its first digits
+  -- the number goes on after its first digits
   goes_on : decimal_value text ≡ fold (λ n digit. 10 * n + (digit - 48)) with_next (drop (suc i) text)
   goes_on =
       sym (ap decimal_value (take-append-drop i text)) ∙ fold-append (λ n digit. 10 * n + (digit - 48)) 0 (take i text) (drop i text)
@@ -64,7 +64,7 @@ positive_word digits = by (digits_in digits)
     by None = refl
     by (Some n) = each n (nat_lt n (2 ^ 64))
 
--- one behind a sign is a word of up to 2^63
+-- one after a sign is a word of up to 2^63
 pub negative_word : (digits : List ℕ) → negative digits ≡ option_and_then (λ n. cond (nat_le n (2 ^ 63)) (Some (neg_ℤ (pos n))) None) (word_in digits)
 negative_word digits = by (digits_in digits)
   where

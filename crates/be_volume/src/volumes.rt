@@ -133,9 +133,9 @@ impl Volume {
         }
         let mut ahead = twin_of(&self.contents, self.twin.take())?;
         let dones = perform_all(&mut ahead, ops)?;
-        let mut behind = mem::replace(&mut self.contents, ahead);
-        if perform_all(&mut behind, ops).is_ok() {
-            self.twin = Some(behind);
+        let mut earlier = mem::replace(&mut self.contents, ahead);
+        if perform_all(&mut earlier, ops).is_ok() {
+            self.twin = Some(earlier);
         }
         Ok(dones)
     }

@@ -25,16 +25,16 @@ module _ (s : State) (node : ℕ) where
   held_step piece h e = ap (flat_map (held_ops s)) (numbers_step h) ∙ ap (λ p. p ++ left_from s (Held (node + 1))) (sym e)
 
 -- what is cut off in front
-pub cut : (ready given rest behind : List Op) (k : ℕ) → given ≡ take k ready → rest ≡ drop k ready → ready ++ behind ≡ given ++ (rest ++ behind)
-cut ready given rest behind k e f =
-    ap (λ l. l ++ behind) (sym (take-append-drop k ready)) ∙ append_assoc (take k ready) (drop k ready) behind
-    ∙ ap (λ l. l ++ (drop k ready ++ behind)) (sym e) ∙ ap (λ l. given ++ (l ++ behind)) (sym f)
+pub cut : (ready given rest beyond : List Op) (k : ℕ) → given ≡ take k ready → rest ≡ drop k ready → ready ++ beyond ≡ given ++ (rest ++ beyond)
+cut ready given rest beyond k e f =
+    ap (λ l. l ++ beyond) (sym (take-append-drop k ready)) ∙ append_assoc (take k ready) (drop k ready) beyond
+    ∙ ap (λ l. l ++ (drop k ready ++ beyond)) (sym e) ∙ ap (λ l. given ++ (l ++ beyond)) (sym f)
 
 empty_list : {A : Type 0} (xs : List A) → length xs ≡ 0 → xs ≡ []
 empty_list [] e = refl
 empty_list (x ∷ xs) e = absurd (omega arith)
 
--- nothing is left behind a list that isn't full
+-- nothing is left after a list that isn't full
 pub last_cut : (ready given rest : List Op) (k : ℕ) → k ≡ min (length ready) 64 → given ≡ take k ready → rest ≡ drop k ready → length given < 64 →
     (rest ≡ []) × (length ready < 64)
 last_cut ready given rest k m e f short =

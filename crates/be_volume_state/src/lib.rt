@@ -1,6 +1,6 @@
 //! The operations that make a volume again from the empty one.
 //!
-//! A process that runs for long may leave its history behind: it reads the operations that make the
+//! A process that runs for long may leave its history after: it reads the operations that make the
 //! present volume, applies them to a new store, and goes on with a short journal.
 #![tactic(auto)]
 

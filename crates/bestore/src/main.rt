@@ -380,7 +380,7 @@ fn talk_for_journal<R: Runtime + AllocGlobal, F: Peer>(
 }
 
 /// Talks with standard input, after a first peer, and writes the journal if a file for it is named.
-fn talk_behind<R: Runtime + AllocGlobal, F: Peer>(
+fn talk_after<R: Runtime + AllocGlobal, F: Peer>(
     rt: &R,
     first: &mut F,
     journal: Option<&str>,
@@ -403,7 +403,7 @@ fn open_shell<R: Runtime + AllocGlobal>(
 ) -> io::Result<Outcome> {
     let Some(file) = file else {
         let mut nothing = Ends::new(b"".as_slice(), io::writer(rt));
-        return talk_behind(rt, &mut nothing, journal, limits, sides);
+        return talk_after(rt, &mut nothing, journal, limits, sides);
     };
     let Ok(opened) = fs::open(rt, file.as_str()) else {
         return fail_to_read(rt, file.as_str());
@@ -413,9 +413,9 @@ fn open_shell<R: Runtime + AllocGlobal>(
     };
     let mut lines = Ends::new(reader, io::writer(rt));
     if sides.is_typed && sides.is_shown {
-        return talk_behind(rt, &mut Screen::new(lines), journal, limits, sides);
+        return talk_after(rt, &mut Screen::new(lines), journal, limits, sides);
     }
-    talk_behind(rt, &mut lines, journal, limits, sides)
+    talk_after(rt, &mut lines, journal, limits, sides)
 }
 
 /// Reads all of a file.

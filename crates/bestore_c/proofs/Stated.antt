@@ -5,7 +5,7 @@ use Rattle.std.specs.Prelude.{is_some}
 use Rattle.be_session.specs.Fault.{fault_code}
 use Rattle.be_session.specs.Operations.{AreSpelled}
 use Rattle.be_session.specs.Sitting.{AtPin}
-use Rattle.be_session.specs.States.{LackRoom, WaitBehind, unread, untold, waiting}
+use Rattle.be_session.specs.States.{LackRoom, WaitAfter, unread, untold, waiting}
 use Rattle.be_session.specs.declared.faults.Fault.{Fault}
 use Rattle.be_session.specs.declared.faults.Fault.TheVariants.{Refused}
 use Rattle.be_session.specs.declared.lists.Operation.{Operation}
@@ -39,10 +39,10 @@ short places byte_places counts os bs many size lacks =
     ]
 
 stays : (ops rest still : List Op) (counts : Counts) (places : List Operation) (byte_places : List ℕ) (os : List Operation) (bs : List ℕ)
-    → counts.operations ≡ length os → counts.bytes ≡ length bs → WaitBehind ops (length places) (length byte_places) os bs still
+    → counts.operations ≡ length os → counts.bytes ≡ length bs → WaitAfter ops (length places) (length byte_places) os bs still
     → StaysToTell ops rest counts places byte_places (still ++ rest)
-stays ops rest still counts places byte_places os bs many size behind =
-    elim behind [
+stays ops rest still counts places byte_places os bs many size beyond =
+    elim beyond [
       | inl fits ↦ inl (
         subst (λ n. n ≤ length places) (sym many) fits.0.0,
         subst (λ n. n ≤ length byte_places) (sym size) fits.0.1,
@@ -55,10 +55,10 @@ stays ops rest still counts places byte_places os bs many size behind =
 pub told_ready : (volume : State) (p q : StatePlace) (counts : Counts) (places filled : List Operation) (byte_places bytes : List ℕ) (code : ℕ)
     (os : List Operation) (bs : List ℕ)
     → length (waiting p) ≤ 64 → (waiting p ≡ [] → untold volume p ≡ []) → unread volume q ≡ unread volume p → AreSpelled os bs (waiting p)
-    → WaitBehind (waiting p) (length places) (length byte_places) os bs (waiting q)
+    → WaitAfter (waiting p) (length places) (length byte_places) os bs (waiting q)
     → code ≡ 0 → counts.operations ≡ length os → filled ≡ over os places → counts.bytes ≡ length bs → bytes ≡ over bs byte_places
     → TellsNext (untold volume p) (untold volume q) counts places filled byte_places bytes code
-told_ready volume p q counts places filled byte_places bytes code os bs few ends same are behind done many put size texts =
+told_ready volume p q counts places filled byte_places bytes code os bs few ends same are beyond done many put size texts =
     let ops = waiting p in
     let rest = unread volume p in
     inr (
@@ -69,7 +69,7 @@ told_ready volume p q counts places filled byte_places bytes code os bs few ends
       done,
       put_out ops counts places filled byte_places bytes code os bs are done many put size texts,
       subst (λ later. StaysToTell ops rest counts places byte_places (waiting q ++ later)) (sym same)
-          (stays ops rest (waiting q) counts places byte_places os bs many size behind),
+          (stays ops rest (waiting q) counts places byte_places os bs many size beyond),
     )
 
 -- nothing was put out, for want of memory

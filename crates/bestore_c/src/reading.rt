@@ -17,7 +17,7 @@ use be_store::{Cell, HeldName};
 const NO_ATTRIBUTE: u32 = 3;
 
 /// What C gets of a value, from its cell.
-fn told_of(cell: Cell) -> Attribute
+fn attribute_of(cell: Cell) -> Attribute
     ensures { result ≡ record { code = cell.code; length = cell.length; number = cell.number } }
 {
     Attribute {
@@ -48,7 +48,7 @@ pub(crate) fn read(
     }
     match session.get_into(node, name, bytes) {
         Ok(Some(cell)) => {
-            *told = told_of(cell);
+            *told = attribute_of(cell);
             0
         }
         Ok(None) => NO_ATTRIBUTE,

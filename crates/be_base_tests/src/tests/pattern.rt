@@ -35,11 +35,11 @@ pub(crate) fn around(alloc: Global, text: &str) -> Result<String, Refusal> {
         Some(text) => (true, text),
         None => (false, text),
     };
-    let (behind, text) = match text.strip_suffix(".") {
+    let (beyond, text) = match text.strip_suffix(".") {
         Some(text) => (true, text),
         None => (false, text),
     };
-    Pattern::around(alloc, before, text, behind)?.canonical(alloc)
+    Pattern::around(alloc, before, text, beyond)?.canonical(alloc)
 }
 
 /// Example `patterns`, and the readings of sets. An empty pattern and an empty text are no letters.

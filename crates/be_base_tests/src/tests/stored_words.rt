@@ -120,11 +120,11 @@ pub(crate) fn stored_by(alloc: Global, line: &str) -> Result<String, Refusal> {
 /// 64 are, beside one another and far apart.
 #[test]
 fn stored_words(rt: HostRuntime) -> Result<(), Fail> {
-    let lines = "stored put 1 1 => 19
-stored set 1 1 => 18
-stored put 64 1 => 506
-stored put 64 4000 => 1417
-stored take 64 1000 => 1340
-stored take 64 4000 => 1151";
+    let lines = "stored put 1 1 => 65
+stored set 1 1 => 51
+stored put 64 1 => 1177
+stored put 64 4000 => 1912
+stored take 64 1000 => 1370
+stored take 64 4000 => 1287";
     replies(rt.alloc(), lines)
 }

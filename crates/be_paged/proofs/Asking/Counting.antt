@@ -21,7 +21,7 @@ use Rattle.be_value.specs.declared.values.Value.{Value}
 use Rattle.be_paged.specs.Catalog.{IsCatalog, IsCatalogKey}
 use Rattle.be_paged.specs.Facts.{count_of}
 use Rattle.be_paged.specs.Reading.{AreValid, front_of_node}
-use Rattle.be_paged.proofs.Asking.SourceKeys.{behind_next}
+use Rattle.be_paged.proofs.Asking.SourceKeys.{beyond_next}
 use Rattle.be_paged.proofs.Asking.Walks.{counted}
 use Rattle.be_paged.proofs.CatalogPairs.FactValues.{node_there}
 use Rattle.be_paged.proofs.CatalogPairs.Segments.{all_from, payload_from, rising_from}
@@ -117,13 +117,13 @@ module _ (ps : List Pair) (nodes : Nodes) (node : ℕ) (mark : List ℕ) (fits :
           by Equal t = never (sym untied ∙ ap is_eq t)
           by Greater t = refl
 
-  -- behind the mark stand the node's attributes
-  pub counted_behind : AreValid nodes → (now rest : List Pair) (x : Pair) (same : Bool) (count : ℕ) → now ≡ pairs_from ps mark false → slice_get now 0 ≡ Some x → rest ≡ drop 1 now
+  -- after the mark stand the node's attributes
+  pub counted_after : AreValid nodes → (now rest : List Pair) (x : Pair) (same : Bool) (count : ℕ) → now ≡ pairs_from ps mark false → slice_get now 0 ≡ Some x → rest ≡ drop 1 now
       → same ≡ is_eq (key_cmp x.key mark) → same ≡ true → fin.len (attributes_of nodes node) ≤ 64 → (length (front_of_node node rest) ≤ 64 → count ≡ length (front_of_node node rest)) → Some count ≡ count_of nodes node
-  counted_behind valid now rest x same count stands first left is here few counts =
+  counted_after valid now rest x same count stands first left is here few counts =
       let key = key_exact x.key mark (tied (key_cmp x.key mark) (sym is ∙ here)) in
-      let behind = left ∙ behind_next ps rising mark false now mark stands (sym (ap (option_map (λ (z : Pair). z.key)) first ∙ ap Some key)) in
-      let all = ap (λ (xs : List Pair). length (front_of_node node xs)) behind ∙ ap (λ (k : List ℕ). length (front_of_node node (pairs_from ps k true))) is_mark
+      let beyond = left ∙ beyond_next ps rising mark false now mark stands (sym (ap (option_map (λ (z : Pair). z.key)) first ∙ ap Some key)) in
+      let all = ap (λ (xs : List Pair). length (front_of_node node xs)) beyond ∙ ap (λ (k : List ℕ). length (front_of_node node (pairs_from ps k true))) is_mark
       ∙ counted ps nodes node fits rising catalog valid ∙ sym (fin.len-entries (attributes_of nodes node)) in
       present nodes node count (sym (marked now stands) ∙ has now x first key) (counts (omega (arith, all, few)) ∙ all)
     where

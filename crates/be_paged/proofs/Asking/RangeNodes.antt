@@ -32,7 +32,7 @@ use Rattle.be_paged.proofs.CatalogPairs.Segments.{all_from, payload_from, rising
 use Rattle.be_paged.proofs.Asking.SourceKeys.{key_finds, same_from}
 
 -- the number that a key ends with is its node
-node_of_key : (v : Value) (n : ℕ) → n < 2 ^ 64 → number_of (key v n) ≡ n
+pub node_of_key : (v : Value) (n : ℕ) → n < 2 ^ 64 → number_of (key v n) ≡ n
 unfolding number_of
 node_of_key v n fits =
     let len : length (key v n) - 8 ≡ length (value_key v) = omega (arith, length-append (value_key v) (to_be_bytes w64 n)) in
@@ -41,13 +41,13 @@ node_of_key v n fits =
     ∙ from_be_bytes-to_be_bytes_8 n fits
 
 -- both crates mean the same bound
-past_above : (high : Option (List ℕ)) (k : List ℕ) → is_past high k ≡ is_above high k
+pub past_above : (high : Option (List ℕ)) (k : List ℕ) → is_past high k ≡ is_above high k
 unfolding key_cmp
 past_above None k = refl
 past_above (Some h) k = refl
 
 -- what is below a key within the bound is within it
-below_past : (high : Option (List ℕ)) (a k : List ℕ) → key_cmp a k ≡ Less → is_past high k ≡ false → is_past high a ≡ false
+pub below_past : (high : Option (List ℕ)) (a k : List ℕ) → key_cmp a k ≡ Less → is_past high k ≡ false → is_past high a ≡ false
 below_past None a k t h = refl
 below_past (Some b) a k t h = by (key_cmp a b) refl
   where
@@ -99,7 +99,7 @@ has_number (x ∷ xs) high k rising some h = by (key_cmp x.key k) refl some (λ 
         (Contains-append_left (number_of k ∷ []) (numbers_to xs high) (number_of k) (Contains-push [] (number_of k))))
     by Greater t s rest = let no : false ≡ true = sym (ap is_some (payload_at_above k xs (AllAbove_trans x.key k xs t rising.0))) ∙ s in absurd (cc no)
 
-not_true : (b : Bool) → not b ≡ true → b ≡ false
+pub not_true : (b : Bool) → not b ≡ true → b ≡ false
 not_true true h = cc
 not_true false h = refl
 

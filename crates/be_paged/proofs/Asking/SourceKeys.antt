@@ -136,13 +136,13 @@ is_next_key w c volume name i d spells at rising from after now r stands read =
     subst (IsNextKey volume name from after) (sym read)
     (next_is_first (IsKey volume name) (pairs w (get_or c.entries i d).root) rising (key_found w c volume name i spells d at) (key_finds w c volume name i spells d at) from after now (sym stands))
 
--- behind the key that was read stand the pairs after it
-pub behind_next : (all : List Pair) → IsRising all → (from : List ℕ) (after : Bool) (now : List Pair) (k : List ℕ) → now ≡ pairs_from all from after → Some k ≡ option_map (λ (x : Pair). x.key) (slice_get now 0) → drop 1 now ≡ pairs_from all k true
-behind_next all rising from after [] k stands read = absurd (clash read)
+-- after the key that was read stand the pairs after it
+pub beyond_next : (all : List Pair) → IsRising all → (from : List ℕ) (after : Bool) (now : List Pair) (k : List ℕ) → now ≡ pairs_from all from after → Some k ≡ option_map (λ (x : Pair). x.key) (slice_get now 0) → drop 1 now ≡ pairs_from all k true
+beyond_next all rising from after [] k stands read = absurd (clash read)
   where
     clash : Some k ≡ None → ⊥
     clash e = cc
-behind_next all rising from after (x ∷ xs) k stands read = sym (ap (λ q. pairs_from all q true) (same k x.key read) ∙ next_from all from after x xs rising (sym stands))
+beyond_next all rising from after (x ∷ xs) k stands read = sym (ap (λ q. pairs_from all q true) (same k x.key read) ∙ next_from all from after x xs rising (sym stands))
   where
     same : (a b : List ℕ) → Some a ≡ Some b → a ≡ b
     same a b e = cc

@@ -1,4 +1,4 @@
--- The values that payloads tell, by their kind and the data behind its byte.
+-- The values that payloads tell, by their kind and the data after its byte.
 use Rattle.std.proofs.Common.{◌≡◌, ℕ, suc, ◌+◌, ◌<◌, ◌≤◌, ◌^◌, Bool, false, List, ◌∷◌, length, take, drop, get_or, Some, None, Ok, unwrap_or, ap, sym, ◌∙◌, refl, arith}
 use Rattle.std.specs.Prelude.{IsUtf8}
 use Rattle.std.specs.Int.{cast_signed, cast_unsigned, from_be_bytes, to_be_bytes, w32, w64}
@@ -21,7 +21,7 @@ use Rattle.be_volume.specs.Maps.{Nodes}
 use Rattle.be_paged.specs.Catalog.{catalog_key, payload_of, value_at, IsCatalog}
 use Rattle.be_paged.specs.Reading.{AreValid}
 
--- numbers read behind the first byte
+-- numbers read after the first byte
 pub number32 : (payload : List ℕ) (k n r : ℕ) → n < 2 ^ 32 → payload ≡ k ∷ to_be_bytes w32 n → r ≡ from_be_bytes w32 (take 4 (drop 1 payload)) → r ≡ n
 number32 payload k n r lt is e = e ∙ ap (λ p. from_be_bytes w32 (take 4 (drop 1 p))) is ∙ from_be_bytes-to_be_bytes_4 n lt
 

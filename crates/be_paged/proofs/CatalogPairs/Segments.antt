@@ -279,7 +279,7 @@ no_nameless nodes node valid = by (value_at nodes node []) refl
         never : name_from [] ≡ Ok [] → ⊥
         never e = cc
 
--- a walk from behind a node's mark meets the node's attributes, and then no more of the node
+-- a walk from after a node's mark meets the node's attributes, and then no more of the node
 pub segment : (xs : List Pair) (nodes : Nodes) (node : ℕ) → node < 2 ^ 64 → IsRising xs → IsCatalog xs nodes → AreValid nodes
     → front_of_node node (pairs_from xs (to_be_bytes w64 node) true) ≡ attribute_pairs node (attributes_of nodes node)
 segment xs nodes node fits rising catalog valid =

@@ -77,7 +77,7 @@ pub source_since : (s t : ℕ → Standing) (v w : ℕ → ℕ → ℕ) (page : 
     IsKnown (contents_of (w page)).entries known → SourceOf s v page was cursor place last_page last_at volume → SourceOf t w page known cursor place last_page last_at volume
 source_since s t v w page was known cursor place last_page last_at volume standing words is h =
     let now = subst (λ (u : ℕ → Standing). SourceOf u w page was cursor place last_page last_at volume) (sym standing) (subst (λ (x : ℕ → ℕ → ℕ). SourceOf s x page was cursor place last_page last_at volume) (sym words) h) in
-    record { version = now.version; known_is = is; behind = now.behind }
+    record { version = now.version; known_is = is; beyond = now.beyond }
 
 -- what is remembered of an index
 pub of_known : (entries : List Entry) (known : Option FoundIndex) (index : FoundIndex) → known ≡ Some index → IsKnown entries known → IsIndexOf entries index

@@ -57,11 +57,11 @@ fn are_numbers(list: &[u64], words: &str) -> bool {
     }
     let mut rest = words;
     for node in list {
-        let (word, behind) = rest.split_once(" ").unwrap_or((rest, ""));
+        let (word, beyond) = rest.split_once(" ").unwrap_or((rest, ""));
         if number(word) != *node {
             return false;
         }
-        rest = behind;
+        rest = beyond;
     }
     rest.is_empty()
 }

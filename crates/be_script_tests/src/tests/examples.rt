@@ -1,5 +1,5 @@
 //! Worked examples.
-use super::{check, check_behind, check_bytes};
+use super::{check, check_after, check_bytes};
 use be_test_tools::{COVERAGE, EXAMPLES, TEXTS, TWO_INDICES};
 use std::test::Fail;
 
@@ -14,16 +14,16 @@ fn shared_examples(rt: HostRuntime) -> Result<(), Fail> {
 
 /// What only a script asks, after three of these.
 #[test]
-fn behind_examples(rt: HostRuntime) -> Result<(), Fail> {
-    check_behind(
+fn after_examples(rt: HostRuntime) -> Result<(), Fail> {
+    check_after(
         rt.alloc(),
         TEXTS,
         "set 1 t CSTR {256*x} => refused 19 DataLength",
     )?;
     let explained = r#"explain a==1 && b==2 => "a"=="1" score 1"#;
-    check_behind(rt.alloc(), TWO_INDICES, explained)?;
+    check_after(rt.alloc(), TWO_INDICES, explained)?;
     let explained = r#"explain !(a==2||b==3) => "a"!="2" score 5"#;
-    check_behind(rt.alloc(), COVERAGE, explained)
+    check_after(rt.alloc(), COVERAGE, explained)
 }
 
 #[test]

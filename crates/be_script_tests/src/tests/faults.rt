@@ -106,7 +106,7 @@ pub fn dripped(alloc: Global, bytes: &[u8], fails: bool) -> Outcome {
 
 /// Whether a run of a script whose reader fails after these bytes ends with `Read`, and writes
 /// nothing.
-fn fails_behind(alloc: Global, bytes: &[u8]) -> bool {
+fn fails_after(alloc: Global, bytes: &[u8]) -> bool {
     let outcome = dripped(alloc, bytes, true);
     outcome.end == "read" && outcome.written == 0
 }
@@ -116,7 +116,7 @@ fn fails_behind(alloc: Global, bytes: &[u8]) -> bool {
 fn failing_reader(rt: HostRuntime) -> Result<(), Fail> {
     let script = SCRIPT.as_bytes();
     for len in 0..script.len() + 1 {
-        if !fails_behind(rt.alloc(), &script[..len]) {
+        if !fails_after(rt.alloc(), &script[..len]) {
             return Err(Fail::new(len));
         }
     }

@@ -15,10 +15,10 @@ fn numbered(
     row: (&str, &str),
     last: &str,
 ) -> Result<String, AllocError> {
-    let (before, behind) = row;
+    let (before, beyond) = row;
     let mut rows = String::from_str(alloc, first)?;
     for n in 1..=count {
-        rows.push_str(format!(in alloc; "{before}{n}{behind}\n")?.as_str())?;
+        rows.push_str(format!(in alloc; "{before}{n}{beyond}\n")?.as_str())?;
     }
     rows.push_str(last)?;
     Ok(rows)

@@ -230,7 +230,7 @@ fn order_of_faults(rt: HostRuntime) -> Result<(), Fail> {
         mkindex "" RAWT => refused 18 NameLength
         rmindex "" => refused 18 NameLength
         get 99 "" => refused 18 NameLength
-        # A NUL is refused behind a length.
+        # A NUL is refused beyond a length.
         set 1 a␀b CSTR x => refused 20 HasNul
         set 1 {63*x}␀ CSTR x => refused 18 NameLength
         set 1 k CSTR a␀b => refused 20 HasNul
@@ -403,7 +403,7 @@ fn pins(rt: HostRuntime) -> Result<(), Fail> {
         unset 2 n => refused 3 NoAttr
         mkindex n LONG => refused 5 IndexExists
         drop 3 => refused 2 NoNode
-        # Without a pin a line reads what is there, and leaves no pin behind.
+        # Without a pin a line reads what is there, and leaves no pin beyond.
         unpin => ok
         get 2 k => LONG 7
         indices => indices 1 / \"n\" LONG
@@ -416,7 +416,7 @@ fn pins(rt: HostRuntime) -> Result<(), Fail> {
         # A refused write doesn't count.
         drop 9 => refused 2 NoNode
         pin => pin 8
-        # A pin of the version after all writes is left behind by the next write, by each in its \
+        # A pin of the version after all writes is left beyond by the next write, by each in its \
          turn.
         drop 1 => ok
         attrs 1 => attrs 1 / \"k\" LONG 6

@@ -96,7 +96,7 @@ fn hold(
     ensures { IsResting table.now holder.new × IsResting table.now second.new
         × IsResting table.now third.new }
 {
-    let (before, behind) = requests.split_once(" | ").unwrap_or((requests, ""));
+    let (before, beyond) = requests.split_once(" | ").unwrap_or((requests, ""));
     let writing = match table.lock(holder.move_out()) {
         Ok(writing) => writing,
         Err((kept, refusal)) => {
@@ -105,7 +105,7 @@ fn hold(
         }
     };
     let first = answers(table, alloc, second, before);
-    let last = answers(table, alloc, third, behind);
+    let last = answers(table, alloc, third, beyond);
     *holder = writing.unlock();
     both_texts(alloc, first, last)
 }
@@ -121,7 +121,7 @@ fn write_between(
     requires { IsResting table.now holder.old × IsResting table.now second.old }
     ensures { IsResting table.now holder.new × IsResting table.now second.new }
 {
-    let (before, behind) = requests.split_once(" | ").unwrap_or((requests, ""));
+    let (before, beyond) = requests.split_once(" | ").unwrap_or((requests, ""));
     let mut writing = match table.lock(holder.move_out()) {
         Ok(writing) => writing,
         Err((kept, refusal)) => {
@@ -131,7 +131,7 @@ fn write_between(
     };
     let first = answers(table, alloc, second, before);
     let entered = act(&mut writing, &[Op::New], "");
-    let last = answers(table, alloc, second, behind);
+    let last = answers(table, alloc, second, beyond);
     *holder = writing.unlock();
     both_texts(
         alloc,

@@ -7,7 +7,7 @@ use Rattle.be_tree.specs.Pair.{Pair}
 use Rattle.be_tree.specs.Page.{bytes_at, item_at, key_len, words_for, IsItem, IsPadded}
 use Rattle.be_tree.proofs.Codec.{bytes_at_copied, bytes_at_split, flat_map_length, item_at_stored, key_at}
 use Rattle.be_tree.proofs.Bytes.Words.{item_key_length}
-use Rattle.be_tree.proofs.Bytes.Zeros.{IsItem_stored, behind_later}
+use Rattle.be_tree.proofs.Bytes.Zeros.{IsItem_stored, after_later}
 
 bytes_at_length : (words : ℕ → ℕ) (at n : ℕ) → length (bytes_at words at n) ≡ n
 bytes_at_length words at n =
@@ -53,4 +53,4 @@ module _ (v w : ℕ → ℕ) (page at : ℕ) (tail : List ℕ) (header : w at �
       let back = bytes_at v (3 + k / 8) (k % 8) in
       let len : length tail ≡ k % 8 + 8 = omega (arith, eight, ap length tail_is, length-append back number, bytes_at_length v (3 + k / 8) (k % 8)) in
       let all : 8 * (k / 8) + length tail ≡ k + 8 = omega (arith, len) in
-      IsItem_stored w at k 8 header (omega arith) fits (omega (arith, fits)) (subst (λ (n : ℕ). IsPadded w (at + 1) n) all (behind_later w (at + 1) (k / 8) (length tail) zeros))
+      IsItem_stored w at k 8 header (omega arith) fits (omega (arith, fits)) (subst (λ (n : ℕ). IsPadded w (at + 1) n) all (after_later w (at + 1) (k / 8) (length tail) zeros))

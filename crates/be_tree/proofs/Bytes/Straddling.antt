@@ -211,7 +211,7 @@ drop_map_range f a s n =
 past_zeros : (bs : List ℕ) (a n : ℕ) → length bs ≤ a → map (λ (k : ℕ). get_or bs k 0) (range_with_len a n) ≡ map (λ (k : ℕ). 0) (range_with_len a n)
 past_zeros bs a n le = map_same (λ (k : ℕ). get_or bs k 0) (λ (k : ℕ). 0) a n (λ k ge lt. get_or_past bs k 0 (omega (arith, le, ge)))
 
--- the last eight bytes, moved up with zeros behind them
+-- the last eight bytes, moved up with zeros after them
 pub moved_up : (bs : List ℕ) (x from s last : ℕ) → last + 8 ≡ length bs → last + s ≡ from → 0 < s → s < 8 → to_be_bytes w64 x ≡ map (λ (k : ℕ). get_or bs k 0) (range_with_len last 8)
     → to_be_bytes w64 (x * 2 ^ (8 * s) % 2 ^ 64) ≡ map (λ (k : ℕ). get_or bs k 0) (range_with_len from 8)
 moved_up bs x from s last end place some lt bytes =

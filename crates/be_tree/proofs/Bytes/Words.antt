@@ -222,10 +222,10 @@ module _ (w : ℕ → ℕ) (at : ℕ) (k : List ℕ) where
       either (inl e) = inl (e ∙ sym (item_key_length w at))
       either (inr e) = inr e
 
-  -- where both begin with the same word, what stands behind those of its bytes that both have decides
-  pub behind_first : (r first : ℕ) → first ≡ w (at + 1) → first < 2 ^ 64 → to_be_bytes w64 first ≡ map (λ j. get_or k j 0) (range_with_len 0 8) → r ≤ 8 → r ≤ key_len w at → r ≤ length k
+  -- where both begin with the same word, what stands after those of its bytes that both have decides
+  pub beyond_first : (r first : ℕ) → first ≡ w (at + 1) → first < 2 ^ 64 → to_be_bytes w64 first ≡ map (λ j. get_or k j 0) (range_with_len 0 8) → r ≤ 8 → r ≤ key_len w at → r ≤ length k
       → key_cmp (item_at w at).key k ≡ key_cmp (drop r (item_at w at).key) (drop r k)
-  behind_first r first same small bytes le lm lo =
+  beyond_first r first same small bytes le lm lo =
       let e : at + 1 ≡ at + 1 + 0 = omega arith in
       let z : 8 * 0 + r ≡ r = omega arith in
       let after = λ (n : ℕ). key_cmp (drop n (item_at w at).key) (drop n k) in

@@ -1,4 +1,4 @@
--- The zeros behind an item in its last word, and items that stand with them.
+-- The zeros after an item in its last word, and items that stand with them.
 use Rattle.std.proofs.Common.{◌≡◌, ℕ, ◌+◌, ◌*◌, ◌/◌, ◌%◌, ◌^◌, ◌<◌, ◌≤◌, List, All, ◌++◌, length, map, drop, get_or, ap, sym, subst, ◌∙◌, arith}
 use Rattle.std.specs.Int.{to_be_bytes, w64}
 use Rattle.std.specs.List.{flat_map, range_with_len}
@@ -7,7 +7,7 @@ use Rattle.std.proofs.lemmas.List.Elements.{All-from_get_or}
 use Rattle.std.proofs.lemmas.List.FromFn.{get_or-map-range_with_len, length-map-range_with_len}
 use Rattle.std.proofs.lemmas.Nat.{div-mul-add, mod-mul-add}
 use Rattle.std.proofs.Math.Seq.{drop-append_seam}
-use Rattle.be_tree.specs.Page.{bytes_behind, words_for, key_len, payload_len, IsItem, IsPadded}
+use Rattle.be_tree.specs.Page.{bytes_after, words_for, key_len, payload_len, IsItem, IsPadded}
 use Rattle.be_tree.proofs.Codec.{flat_map_length, flat_map_range_append, flat_map_stored, map_same, maps_along}
 
 -- past its end a list reads as zeros
@@ -21,17 +21,17 @@ zeros_past bs m =
     ∙ get_or_past bs (length bs + i) 0 (omega arith))
 
 -- what was stored by words that read past the end
-pub behind_stored : (words : ℕ → ℕ) (at : ℕ) (bs : List ℕ)
+pub after_stored : (words : ℕ → ℕ) (at : ℕ) (bs : List ℕ)
     → ((i : ℕ) → i < words_for (length bs) → to_be_bytes w64 (words (at + i)) ≡ map (λ k. get_or bs k 0) (range_with_len (8 * i) 8))
     → IsPadded words at (length bs)
-behind_stored words at bs h =
+after_stored words at bs h =
     subst (λ (xs : List ℕ). All (λ byte. byte ≡ 0) (drop (length bs) xs)) (sym (flat_map_stored words at bs (words_for (length bs)) h)) (zeros_past bs (8 * words_for (length bs)))
 
 -- the same from a later word on
-pub behind_later : (words : ℕ → ℕ) (at i m : ℕ) → IsPadded words (at + i) m → IsPadded words at (8 * i + m)
-behind_later words at i m zeros = subst (λ (xs : List ℕ). All (λ byte. byte ≡ 0) xs) (sym later) zeros
+pub after_later : (words : ℕ → ℕ) (at i m : ℕ) → IsPadded words (at + i) m → IsPadded words at (8 * i + m)
+after_later words at i m zeros = subst (λ (xs : List ℕ). All (λ byte. byte ≡ 0) xs) (sym later) zeros
   where
-    later : bytes_behind words at (8 * i + m) ≡ bytes_behind words (at + i) m
+    later : bytes_after words at (8 * i + m) ≡ bytes_after words (at + i) m
     later =
         let f = λ (j : ℕ). words (at + j) in
         let front = flat_map (to_be_bytes w64) (map f (range_with_len 0 i)) in
@@ -62,9 +62,9 @@ IsItem_stored words at k p header small key_fits fits zeros =
 pub IsItem_copied : (v w : ℕ → ℕ) (from at : ℕ) → IsItem v from → w at ≡ v from → ((j : ℕ) → j < words_for (key_len v from + payload_len v from) → w (at + 1 + j) ≡ v (from + 1 + j)) → IsItem w at
 IsItem_copied v w from at item header same =
     let n = key_len v from + payload_len v from in
-    let behind : bytes_behind w (at + 1) n ≡ bytes_behind v (from + 1) n =
+    let beyond : bytes_after w (at + 1) n ≡ bytes_after v (from + 1) n =
     ap (λ ws. drop n (flat_map (to_be_bytes w64) ws)) (map_same (λ i. w (at + 1 + i)) (λ i. v (from + 1 + i)) 0 (words_for n) (λ k ge lt. same k (omega (arith, lt)))) in
-    let zeros : IsPadded w (at + 1) n = subst (λ (xs : List ℕ). All (λ byte. byte ≡ 0) xs) (sym behind) item.padded in
+    let zeros : IsPadded w (at + 1) n = subst (λ (xs : List ℕ). All (λ byte. byte ≡ 0) xs) (sym beyond) item.padded in
     record {
       key_fits = subst (λ (h : ℕ). h / 2 ^ 32 ≤ 264) (sym header) item.key_fits;
       fits = subst (λ (h : ℕ). h / 2 ^ 32 + h % 2 ^ 32 ≤ 328) (sym header) item.fits;

@@ -1,19 +1,18 @@
 -- Nodes in hand that are written, in the place of the pages where their items stood.
-use Rattle.std.proofs.Common.{◌≡◌, ◌≢◌, ℕ, suc, ◌+◌, ◌<◌, ◌≤◌, ◌^◌, List, [], ◌∷◌, ◌++◌, length, All, IsTrue, ap, sym, subst, ◌∙◌, refl, arith}
+use Rattle.std.proofs.Common.{◌≡◌, ◌≢◌, ℕ, suc, ◌+◌, ◌<◌, ◌≤◌, ◌^◌, List, [], ◌∷◌, ◌++◌, length, All, IsTrue, ap, sym, subst, ◌∙◌, arith}
 use Rattle.std.proofs.lemmas.List.{length-map, map-append}
 use mathlib.Core.Bool.{false≢true}
 use Rattle.be_pages.specs.declared.room.Standing.{Standing}
 use Rattle.be_pages.specs.declared.room.Standing.TheVariants.{Free}
-use Rattle.be_pages.specs.Pages.{after_give_up, is_kept, times, StandsAt, Swaps}
+use Rattle.be_pages.specs.Pages.{is_kept, times, Swaps}
 use Rattle.be_tree.specs.declared.slot.Slot.{Slot}
 use Rattle.be_tree.specs.Pair.{Pair}
 use Rattle.be_tree.specs.Page.{items_of, level_of, IsPage}
 use Rattle.be_tree.specs.Slot.{branch_to, pair_of, pairs_of, IsReady}
 use Rattle.be_tree.specs.Tree.{child, pairs_below, pages_below, IsBelow, IsWritten, Becomes}
-use Rattle.be_tree.proofs.Frame.{times_append, times_itself, times_other, one_page, alone, one_beside, two_beside, swaps_after, swaps_both, swaps_fresh, swaps_same, readable_kept}
+use Rattle.be_tree.proofs.Frame.{times_append, times_itself, times_other, one_page, alone, one_beside, swaps_after, swaps_both, swaps_fresh, swaps_same, readable_kept}
 use Rattle.be_tree.proofs.Shape.Parts.{becomes_branch, becomes_two}
-use Rattle.be_tree.proofs.Putting.Puts.{given_up_page, swaps_given_up}
-use Rattle.be_tree.proofs.Nodes.Moves.{stands_at, stands_else}
+use Rattle.be_tree.proofs.Putting.Puts.{given_up_page}
 use Rattle.be_tree.proofs.Nodes.Slots.{all_apart_nil, child_branch, pairs_swaps, written_at}
 
 -- a page with its items, while others are written
@@ -28,7 +27,7 @@ written_same level v w items page small same some written =
     some
 
 -- a page that was free is none that is in use
-free_other : (s : ℕ → Standing) (free used : ℕ) → s free ≡ Free → IsTrue (is_kept (s used)) → free ≢ used
+pub free_other : (s : ℕ → Standing) (free used : ℕ) → s free ≡ Free → IsTrue (is_kept (s used)) → free ≢ used
 free_other s free used is kept e = false≢true (ap is_kept (sym is) ∙ ap (λ q. is_kept (s q)) e ∙ kept)
 
 some_page : (p : ℕ) → 0 < times p (p ∷ [])
@@ -97,64 +96,3 @@ module _ {S K : Type 0} (kept_of : S → K) (standing_of : S → ℕ → Standin
       (written_same level (words_of mid) (words_of new) (pairs_of (words_of old) given back) right last_small right_same (omega (arith, last_enough, length-map back (pair_of (words_of old) given))) last) last_small
       swaps (one_beside page (pages_below level (words_of old) (pairs_of (words_of old) given slots)) apart below.once)
       (times_other left right (λ e. absurd (omega (arith, not_left, ap (λ p. times p (left ∷ [])) e, times_itself left))))
-
-  -- two neighbours were written, the first over itself
-  pub over_written : (front back : List Slot) (left right page : ℕ) (old mid new : S)
-      → IsBelow level (standing_of old) (words_of old) (pairs_of (words_of old) given (front ++ back)) → 6 ≤ length front → 6 ≤ length back
-      → IsTrue (is_kept (standing_of old left)) → IsTrue (is_kept (standing_of old right)) → left ≢ right
-      → times left (pages_below level (words_of old) (pairs_of (words_of old) given (front ++ back))) ≡ 0 → times right (pages_below level (words_of old) (pairs_of (words_of old) given (front ++ back))) ≡ 0
-      → IsWritten level (words_of mid) (pairs_of (words_of old) given front) (branch_to (words_of mid) left) → left < 2 ^ 32 → Swaps kept_of standing_of words_of (left ∷ []) (left ∷ []) old mid
-      → pairs_of (words_of mid) given back ≡ pairs_of (words_of old) given back
-      → IsWritten level (words_of new) (pairs_of (words_of mid) given back) (branch_to (words_of new) page) → page < 2 ^ 32 → Swaps kept_of standing_of words_of (right ∷ []) (page ∷ []) mid new
-      → Becomes kept_of standing_of words_of (left ∷ right ∷ pages_below level (words_of old) (pairs_of (words_of old) given (front ++ back))) (pairs_below level (words_of old) (pairs_of (words_of old) given (front ++ back))) (suc level)
-      (branch_to (words_of new) left ∷ branch_to (words_of new) page ∷ []) old new
-  over_written front back left right page old mid new below first_enough last_enough left_used right_used different left_apart right_apart first small over same last last_small wrote =
-      let none : times left (right ∷ []) ≡ 0 = times_other left right different in
-      let left_mid = swaps_after kept_of standing_of words_of (left ∷ []) (left ∷ []) old mid over left (some_page left) in
-      let left_same = swaps_same kept_of standing_of words_of (right ∷ []) (page ∷ []) mid new wrote left none (readable_kept (standing_of mid left) left_mid) in
-      let not_page : times left (page ∷ []) ≡ 0 = given_up_page kept_of standing_of words_of (right ∷ []) (page ∷ []) left mid new wrote none left_mid in
-      let swaps =
-      swaps_both kept_of standing_of words_of (left ∷ []) (left ∷ []) (right ∷ []) (page ∷ []) (left ∷ right ∷ []) (left ∷ page ∷ []) old mid new over wrote
-      (λ q. times_append q (left ∷ []) (right ∷ [])) (λ q. times_append q (left ∷ []) (page ∷ []))
-      (λ q. omega (arith, times_append q (left ∷ []) (right ∷ []), one_beside left (right ∷ []) none (λ p. one_page p right) q))
-      (λ q. one_page q left) (alone (λ q. IsTrue (is_kept (standing_of old q))) right right_used) in
-      two_written front back (front ++ back) (left ∷ right ∷ []) left page old new refl below first_enough last_enough
-      (written_same level (words_of mid) (words_of new) (pairs_of (words_of old) given front) left small left_same (omega (arith, first_enough, length-map front (pair_of (words_of old) given))) first) small
-      (subst (λ xs. IsWritten level (words_of new) xs (branch_to (words_of new) page)) same last) last_small
-      swaps (two_beside left right (pages_below level (words_of old) (pairs_of (words_of old) given (front ++ back))) different left_apart right_apart below.once) not_page
-
-  -- two neighbours, the first of which was written to a page of its own
-  module _ (left right first page : ℕ) (old mid last : S) (left_used : IsTrue (is_kept (standing_of old left))) (right_used : IsTrue (is_kept (standing_of old right))) (different : left ≢ right)
-      (took : Swaps kept_of standing_of words_of [] (first ∷ []) old mid) (wrote : Swaps kept_of standing_of words_of (right ∷ []) (page ∷ []) mid last) where
-    first_other : times first (right ∷ []) ≡ 0
-    first_other = times_other first right (free_other (standing_of old) first right (swaps_fresh kept_of standing_of words_of [] (first ∷ []) old mid took first (omega arith) (some_page first)) right_used)
-
-    first_used : IsTrue (is_kept (standing_of mid first))
-    first_used = swaps_after kept_of standing_of words_of [] (first ∷ []) old mid took first (some_page first)
-
-    pub anew_swaps : Swaps kept_of standing_of words_of (right ∷ []) (first ∷ page ∷ []) old last
-    anew_swaps =
-        swaps_both kept_of standing_of words_of [] (first ∷ []) (right ∷ []) (page ∷ []) (right ∷ []) (first ∷ page ∷ []) old mid last took wrote
-        (λ q. omega arith) (λ q. times_append q (first ∷ []) (page ∷ [])) (λ q. one_page q right) (λ q. one_page q first) (alone (λ q. IsTrue (is_kept (standing_of old q))) right right_used)
-
-    pub anew_written : (front back : List Slot) (new : S)
-        → IsBelow level (standing_of old) (words_of old) (pairs_of (words_of old) given (front ++ back)) → 6 ≤ length front → 6 ≤ length back
-        → All (IsReady (standing_of old) (words_of old)) back
-        → times left (pages_below level (words_of old) (pairs_of (words_of old) given (front ++ back))) ≡ 0 → times right (pages_below level (words_of old) (pairs_of (words_of old) given (front ++ back))) ≡ 0
-        → IsWritten level (words_of mid) (pairs_of (words_of old) given front) (branch_to (words_of mid) first) → first < 2 ^ 32
-        → IsWritten level (words_of last) (pairs_of (words_of mid) given back) (branch_to (words_of last) page) → page < 2 ^ 32
-        → kept_of new ≡ kept_of last → words_of new ≡ words_of last → StandsAt (standing_of last) (standing_of new) left (after_give_up (standing_of last left))
-        → Becomes kept_of standing_of words_of (left ∷ right ∷ pages_below level (words_of old) (pairs_of (words_of old) given (front ++ back))) (pairs_below level (words_of old) (pairs_of (words_of old) given (front ++ back))) (suc level)
-        (branch_to (words_of new) first ∷ branch_to (words_of new) page ∷ []) old new
-    anew_written front back new below first_enough last_enough ready left_apart right_apart first_written small page_written page_small kept words stands =
-        let first_same = swaps_same kept_of standing_of words_of (right ∷ []) (page ∷ []) mid last wrote first first_other (readable_kept (standing_of mid first) first_used) in
-        let not_page : times first (page ∷ []) ≡ 0 = given_up_page kept_of standing_of words_of (right ∷ []) (page ∷ []) first mid last wrote first_other first_used in
-        let same = pairs_swaps kept_of standing_of words_of [] (first ∷ []) old mid took given back (all_apart_nil back) ready in
-        let swaps =
-        swaps_given_up kept_of standing_of words_of (right ∷ []) (first ∷ page ∷ []) left old last new anew_swaps (times_other left right different) left_used kept words
-        (stands_at (standing_of last) (standing_of new) left (after_give_up (standing_of last left)) stands) (stands_else (standing_of last) (standing_of new) left (after_give_up (standing_of last left)) stands) in
-        two_written front back (front ++ back) (left ∷ right ∷ []) first page old new refl below first_enough last_enough
-        (written_same level (words_of mid) (words_of new) (pairs_of (words_of old) given front) first small (ap (λ w. w first) words ∙ first_same) (omega (arith, first_enough, length-map front (pair_of (words_of old) given))) first_written) small
-        (written_same level (words_of last) (words_of new) (pairs_of (words_of old) given back) page page_small (ap (λ w. w page) words) (omega (arith, last_enough, length-map back (pair_of (words_of old) given)))
-        (subst (λ xs. IsWritten level (words_of last) xs (branch_to (words_of last) page)) same page_written)) page_small
-        swaps (two_beside left right (pages_below level (words_of old) (pairs_of (words_of old) given (front ++ back))) different left_apart right_apart below.once) not_page

@@ -1,24 +1,20 @@
 -- A pair put below a page.
-use Rattle.std.proofs.Common.{◌≡◌, ℕ, zero, suc, ◌-◌, ◌<◌, ◌≤◌, List, [], ◌∷◌, ◌++◌, length, get_or, take, drop, All, IsTrue, ap, sym, subst, ◌∙◌, refl, inl, inr, arith}
+use Rattle.std.proofs.Common.{◌≡◌, ℕ, zero, suc, ◌-◌, ◌<◌, ◌≤◌, List, [], ◌∷◌, ◌++◌, length, get_or, take, drop, IsTrue, ap, sym, subst, ◌∙◌, refl, inl, inr, arith}
 use mathlib.Core.Bool.{false≢true}
 use Rattle.std.specs.List.{flat_map, remove}
 use Rattle.std.specs.declared.cmp.Ordering.TheVariants.{Less, Equal, Greater}
 use Rattle.std.proofs.lemmas.Bool.{cases_eq}
-use Rattle.std.proofs.lemmas.List.{append-nil, length-take-le}
-use Rattle.std.proofs.Math.Seq.{take-append_seam, drop-append_seam}
-use Rattle.std.proofs.lemmas.List.Elements.{All-cons}
+use Rattle.std.proofs.lemmas.List.{append-nil}
 use Rattle.be_pages.specs.declared.room.Standing.{Standing}
 use Rattle.be_pages.specs.declared.room.Standing.TheVariants.{Free, Old, GivenUp, Taken, Filled}
 use Rattle.be_pages.specs.Pages.{is_kept, is_held, times, after_give_up, PageStep, untouched, unused, fresh, given_old, given_new, stays_old, stays_new, Swaps, IsUnchanged}
 use Rattle.be_tree.specs.Pair.{Pair}
 use Rattle.be_tree.specs.Key.{key_cmp, AllAbove, IsRising, IsRank, put, put_before}
 use Rattle.be_tree.specs.Page.{items_of}
-use Rattle.be_tree.specs.Tree.{child, pairs_at, pairs_below, pages_at, pages_below, AreShaped, IsBelow, IsTreeAt, Becomes}
+use Rattle.be_tree.specs.Tree.{child, pairs_at, pairs_below, pages_below, AreShaped, IsBelow, IsTreeAt, Becomes}
 use Rattle.be_tree.proofs.Order.{key_exact, key_cmp_flip_less, AllAbove_trans}
 use Rattle.be_tree.proofs.Frame.{times_append, times-cons, times_other, same_page, swaps_fresh, swaps_trans, swaps_stands, swaps_with, readable_kept}
 use Rattle.be_tree.proofs.TreeFacts.{in_three, IsSplit, put_split, inner_split, leaf_split, as_branches, branch_tree}
-use Rattle.be_tree.proofs.Shape.Below.{times_pages, below_left, below_right}
-use Rattle.be_tree.proofs.Shape.Parts.{becomes_part, all_one}
 
 -- a put keeps the order
 above_put : (k : List ℕ) (pair : Pair) (xs : List Pair) → key_cmp pair.key k ≡ Greater → AllAbove k xs → AllAbove k (put pair xs)
@@ -167,15 +163,6 @@ module _ {S K : Type 0} (kept_of : S → K) (standing_of : S → ℕ → Standin
   pub kept_after : (before after : List ℕ) (page : ℕ) (old new : S) → Swaps kept_of standing_of words_of before after old new → times page before ≡ 0 → IsTrue (is_kept (standing_of old page)) → IsTrue (is_kept (standing_of new page))
   kept_after before after page old new swaps none used = subst (λ s. IsTrue (is_kept s)) (sym (swaps_stands kept_of standing_of words_of before after old new swaps page none (readable_kept _ used))) used
 
-  -- one change after another
-  pub becomes_trans : (before : List ℕ) (all : List Pair) (level next : ℕ) (xs us : List Pair) (old mid new : S) → Becomes kept_of standing_of words_of before all level xs old mid
-      → Becomes kept_of standing_of words_of (pages_below level (words_of mid) xs) (pairs_below level (words_of mid) xs) next us mid new → Becomes kept_of standing_of words_of before all next us old new
-  becomes_trans before all level next xs us old mid new first last = record {
-    below = last.below;
-    has_pairs = last.has_pairs ∙ first.has_pairs;
-    swaps = swaps_trans kept_of standing_of words_of before (pages_below level (words_of mid) xs) (pages_below next (words_of new) us) old mid new first.swaps last.swaps;
-  }
-
   -- a change of what was only read since
   pub becomes_since : (before : List ℕ) (all : List Pair) (level : ℕ) (items : List Pair) (old read new : S) → IsUnchanged kept_of standing_of words_of old read
       → Becomes kept_of standing_of words_of before all level items read new → Becomes kept_of standing_of words_of before all level items old new
@@ -188,28 +175,6 @@ module _ {S K : Type 0} (kept_of : S → K) (standing_of : S → ℕ → Standin
           (subst (λ w. PageStep (words_of new q ≡ w q) (times q before) (times q (pages_below level (words_of new) items)) (standing_of read q) (standing_of new q)) same.words (becomes.swaps.each q));
     };
   }
-
-  -- in a leaf a pair stands beside an item, or in its place
-  pub becomes_beside : (item pair : Pair) (room : S) → IsBelow 0 (standing_of room) (words_of room) (item ∷ []) → length pair.key ≤ 264
-      → Becomes kept_of standing_of words_of [] (put pair (item ∷ [])) 0 (put pair (item ∷ [])) room room
-  becomes_beside item pair room below fits = record {
-    below = record {
-      keys_fit = keys (below.keys_fit 0 item (omega arith));
-      shaped = tt;
-      rising = rising_put pair (item ∷ []) below.rising;
-      once = λ q. omega arith;
-      in_use = λ q some. absurd (omega (arith, some));
-    };
-    has_pairs = refl;
-    swaps = record { kept = refl; each = λ q. untouched refl };
-  }
-    where
-      keys : length item.key ≤ 264 → All (λ x. length x.key ≤ 264) (put pair (item ∷ []))
-      keys fit = elim (key_cmp item.key pair.key) as (λ r. All (λ x. length x.key ≤ 264) (put_before r pair item [] (put pair []))) [
-        | Less ↦ All-cons (λ x. length x.key ≤ 264) item (pair ∷ []) fit (all_one (λ x. length x.key ≤ 264) pair fits)
-        | Equal ↦ all_one (λ x. length x.key ≤ 264) pair fits
-        | Greater ↦ All-cons (λ x. length x.key ≤ 264) pair (item ∷ []) fits (all_one (λ x. length x.key ≤ 264) item fit)
-      ]
 
   -- what a page's items become, one of which became others, when the page is given up
   module _ (level : ℕ) (page : ℕ) (pair item : Pair) (items rest : List Pair) (r at : ℕ) (old read : S)
@@ -233,47 +198,6 @@ module _ {S K : Type 0} (kept_of : S → K) (standing_of : S → ℕ → Standin
 
     three : items ≡ take at items ++ item ∷ drop (suc at) items
     three = in_three items at item parts.in_range ∙ ap (λ x. take at items ++ x ∷ drop (suc at) items) (sym is)
-
-    below_three : IsBelow level (standing_of read) (words_of read) (take at items ++ item ∷ drop (suc at) items)
-    below_three = subst (IsBelow level (standing_of read) (words_of read)) three below
-
-    pub item_below : IsBelow level (standing_of read) (words_of read) (item ∷ [])
-    item_below = below_left level (standing_of read) (words_of read) (item ∷ []) (drop (suc at) items) (below_right level (standing_of read) (words_of read) (take at items) (item ∷ drop (suc at) items) below_three)
-
-    page_apart : times page (pages_below level (words_of read) items) ≡ 0
-    page_apart = ap (λ xs. times page (pages_below level (words_of read) xs)) loaded ∙ tree_read.page_once
-
-    pub item_apart : times page (pages_below level (words_of read) (item ∷ [])) ≡ 0
-    item_apart = omega (
-      arith,
-      page_apart,
-      ap (λ xs. times page (pages_below level (words_of read) xs)) three,
-      times_pages level (words_of read) (take at items) (item ∷ drop (suc at) items) page,
-      times_pages level (words_of read) (item ∷ []) (drop (suc at) items) page,
-    )
-
-    pub becomes_put : (us out : List Pair) (mid : S) → Becomes kept_of standing_of words_of (pages_below level (words_of read) (item ∷ [])) (put pair (pairs_below level (words_of read) (item ∷ []))) level us read mid
-        → out ≡ take at rest ++ (us ++ drop at rest)
-        → Becomes kept_of standing_of words_of (pages_below level (words_of old) (items_of (words_of old page))) (put pair (pairs_at level (words_of old) page)) level out old mid
-    becomes_put us out mid becomes inserted =
-        let spliced = becomes_part kept_of standing_of words_of level (take at items) (item ∷ []) (drop (suc at) items) us (put pair (pairs_below level (words_of read) (item ∷ []))) read mid below_three becomes (subst IsRising parts.all (rising_put pair (pairs_below level (words_of read) items) below.rising)) in
-        let seam : take at rest ++ (us ++ drop at rest) ≡ take at items ++ (us ++ drop (suc at) items) = seams in
-        let all = subst (λ ps. Becomes kept_of standing_of words_of (pages_below level (words_of read) (take at items ++ item ∷ drop (suc at) items)) ps level (take at items ++ (us ++ drop (suc at) items)) read mid) (sym parts.all) spliced in
-        let before = subst (λ xs. Becomes kept_of standing_of words_of (pages_below level (words_of read) xs) (put pair (pairs_below level (words_of read) items)) level (take at items ++ (us ++ drop (suc at) items)) read mid) (sym three) all in
-        let here = subst (λ xs. Becomes kept_of standing_of words_of (pages_below level (words_of read) items) (put pair (pairs_below level (words_of read) items)) level xs read mid) (sym (inserted ∙ seam)) before in
-        let since = becomes_since (pages_below level (words_of read) items) (put pair (pairs_below level (words_of read) items)) level out old read mid same here in
-        subst (λ w. Becomes kept_of standing_of words_of (pages_below level w (items_of (w page))) (put pair (pairs_below level w (items_of (w page)))) level out old mid) same.words
-        (subst (λ xs. Becomes kept_of standing_of words_of (pages_below level (words_of read) xs) (put pair (pairs_below level (words_of read) xs)) level out old mid) loaded since)
-      where
-        len : length (take at items) ≡ at
-        len = length-take-le at items (omega (arith, parts.in_range))
-
-        seams : take at rest ++ (us ++ drop at rest) ≡ take at items ++ (us ++ drop (suc at) items)
-        seams =
-            ap (λ xs. take at xs ++ (us ++ drop at xs)) removed
-            ∙ ap (λ (n : ℕ). take n (take at items ++ drop (suc at) items) ++ (us ++ drop n (take at items ++ drop (suc at) items))) (sym len)
-            ∙ ap (λ ys. ys ++ (us ++ drop (length (take at items)) (take at items ++ drop (suc at) items))) (take-append_seam (take at items) (drop (suc at) items))
-            ∙ ap (λ ys. take at items ++ (us ++ ys)) (drop-append_seam (take at items) (drop (suc at) items))
 
 -- a branch alone, and its child
 pub branch_child : (level below : ℕ) (standing : ℕ → Standing) (words : ℕ → ℕ → ℕ) (item : Pair) → level ≡ suc below → IsBelow level standing words (item ∷ []) → IsTreeAt below 6 standing words (child item)
@@ -320,17 +244,3 @@ module _ {S K : Type 0} (kept_of : S → K) (standing_of : S → ℕ → Standin
     swaps = swaps_trans kept_of standing_of words_of (page ∷ before) (page ∷ pages_below level (words_of mid) xs) (pages_below next (words_of new) us) old mid new
         (swaps_with kept_of standing_of words_of page before (pages_below level (words_of mid) xs) old mid first.swaps none once used) last.swaps;
   }
-
-  -- a branch, whose child's items changed and were then written in the child's place
-  pub becomes_below : (level below page : ℕ) (item pair : Pair) (xs ys us : List Pair) (old mid new : S) → level ≡ suc below → page ≡ child item → ys ≡ xs
-      → IsTreeAt below 6 (standing_of old) (words_of old) page
-      → Becomes kept_of standing_of words_of (pages_below below (words_of old) (items_of (words_of old page))) (put pair (pairs_at below (words_of old) page)) below xs old mid
-      → Becomes kept_of standing_of words_of (page ∷ pages_below below (words_of mid) ys) (pairs_below below (words_of mid) ys) (suc below) us mid new
-      → Becomes kept_of standing_of words_of (pages_below level (words_of old) (item ∷ [])) (put pair (pairs_below level (words_of old) (item ∷ []))) level us old new
-  becomes_below level below page item pair xs ys us old mid new e is same tree first last =
-      let over = becomes_over (pages_below below (words_of old) (items_of (words_of old page))) (put pair (pairs_at below (words_of old) page)) below (suc below) page xs us old mid new first tree.page_once tree.below.once tree.page_in_use
-      (subst (λ zs. Becomes kept_of standing_of words_of (page ∷ pages_below below (words_of mid) zs) (pairs_below below (words_of mid) zs) (suc below) us mid new) same last) in
-      let at = subst (λ p. Becomes kept_of standing_of words_of (pages_at below (words_of old) p) (put pair (pairs_at below (words_of old) p)) (suc below) us old new) is over in
-      let alone = subst (λ ps. Becomes kept_of standing_of words_of ps (put pair (pairs_at below (words_of old) (child item))) (suc below) us old new) (sym (append-nil (pages_at below (words_of old) (child item)))) at in
-      let pairs = subst (λ ps. Becomes kept_of standing_of words_of (pages_at below (words_of old) (child item) ++ []) (put pair ps) (suc below) us old new) (sym (append-nil (pairs_at below (words_of old) (child item)))) alone in
-      subst (λ n. Becomes kept_of standing_of words_of (pages_below n (words_of old) (item ∷ [])) (put pair (pairs_below n (words_of old) (item ∷ []))) n us old new) (sym e) pairs

@@ -1,5 +1,5 @@
 -- What is after a leaf, and the branch that has the first key of it.
-use Rattle.std.proofs.Common.{◌≡◌, ℕ, zero, suc, ◌+◌, ◌-◌, ◌*◌, ◌/◌, ◌<◌, ◌≤◌, true, false, Bool, List, [], ◌∷◌, ◌++◌, length, get_or, take, drop, map, ap, sym, subst, ◌∙◌, refl, arith, append_assoc, if◌then◌else◌}
+use Rattle.std.proofs.Common.{◌≡◌, ℕ, zero, suc, ◌+◌, ◌-◌, ◌<◌, ◌≤◌, true, false, Bool, List, [], ◌∷◌, ◌++◌, length, take, drop, map, ap, sym, subst, ◌∙◌, arith, if◌then◌else◌}
 use Rattle.std.specs.declared.option.Option.{Option}
 use Rattle.std.proofs.lemmas.List.{append-nil, drop-drop, take-append-drop}
 use Rattle.be_pages.specs.declared.room.Standing.{Standing}
@@ -19,7 +19,7 @@ use Rattle.be_tree.proofs.Reading.Leaves.{any_past, first_of_two, got_first, las
 pub number_back : (place n : ℕ) → place ≡ item_place n → number_at_place place ≡ n
 number_back place n e = omega (arith, e)
 
--- more behind a list leaves its first key
+-- more after a list leaves its first key
 starts_append : (k : List ℕ) (xs ys : List Pair) → StartsAt k xs → StartsAt k (xs ++ ys)
 starts_append k [] ys none = absurd none
 starts_append k (x ∷ xs) ys is = is

@@ -1,20 +1,15 @@
 -- A key taken out below a page: what a removal stands on.
-use Rattle.std.proofs.Common.{◌≡◌, ℕ, zero, suc, ◌-◌, ◌<◌, ◌≤◌, List, [], ◌∷◌, ◌++◌, length, get_or, take, drop, All, IsTrue, if◌then◌else◌, ap, sym, subst, ◌∙◌, refl, arith, Some, None}
+use Rattle.std.proofs.Common.{◌≡◌, ℕ, zero, suc, ◌≤◌, List, [], ◌∷◌, ◌++◌, length, get_or, take, drop, All, if◌then◌else◌, ap, ◌∙◌, refl, arith}
 use Rattle.std.specs.List.{flat_map}
 use Rattle.std.specs.Ordering.{is_eq}
 use Rattle.std.specs.declared.cmp.Ordering.TheVariants.{Less, Equal, Greater}
 use Rattle.std.proofs.lemmas.List.Elements.{All-cons}
 use Rattle.be_pages.specs.declared.room.Standing.{Standing}
-use Rattle.be_pages.specs.Pages.{is_readable, untouched}
 use Rattle.be_tree.specs.Pair.{Pair}
-use Rattle.be_tree.specs.Key.{key_cmp, AllAbove, AllBelow, IsRising, IsRank, payload_at, without}
-use Rattle.be_tree.specs.Page.{item_at, items_of, item_place}
-use Rattle.be_tree.specs.Tree.{child, pairs_at, pairs_below, pages_below, least_of_root, IsBelow, IsTreeAt, Becomes}
+use Rattle.be_tree.specs.Key.{key_cmp, AllAbove, AllBelow, IsRising, without}
+use Rattle.be_tree.specs.Tree.{least_of_root, IsTreeAt}
 use Rattle.be_tree.proofs.Order.{AllAbove_left, AllAbove_right}
-use Rattle.be_tree.proofs.TreeFacts.{flat_map_in_three, found_in_leaf, IsSplit, inner_split, leaf_split, as_branches, steps_down}
-use Rattle.be_tree.proofs.Frame.{readable_kept}
-use Rattle.be_tree.proofs.Shape.Roots.{root_some}
-use Rattle.be_tree.proofs.Nodes.Slots.{item_get, items_count}
+use Rattle.be_tree.proofs.TreeFacts.{flat_map_in_three, IsSplit}
 
 -- a key out of a list in three parts
 without_above : (k : List ℕ) (xs : List Pair) → AllAbove k xs → without k xs ≡ xs
@@ -106,84 +101,3 @@ tree_least level standing words page tree = record {
   page_once = tree.page_once;
   page_in_use = tree.page_in_use;
 }
-
-module _ {S K : Type 0} (kept_of : S → K) (standing_of : S → ℕ → Standing) (words_of : S → ℕ → ℕ → ℕ) (level page : ℕ) (k : List ℕ) (r at : ℕ) (old : S)
-    (tree : IsTreeAt level (least_of_root level) (standing_of old) (words_of old) page) (rank : IsRank k (items_of (words_of old page)) r) (place : at ≡ r - 1) where
-  some : 0 < length (items_of (words_of old page))
-  some = omega (arith, root_some level, tree.node.enough)
-
-  pub at_in : at < words_of old page 1
-  at_in = omega (arith, place, rank.in_range, some, items_count (words_of old page))
-
-  pub readable : IsTrue (is_readable (standing_of old page))
-  readable = readable_kept _ tree.page_in_use
-
-  -- a leaf without the key
-  leaf_pairs : IsRising (items_of (words_of old page)) → without k (items_of (words_of old page))
-      ≡ take at (items_of (words_of old page)) ++ (without k (item_at (words_of old page) (item_place at) ∷ []) ++ drop (suc at) (items_of (words_of old page)))
-  leaf_pairs rising =
-      let items = items_of (words_of old page) in
-      let f = λ (x : Pair). x ∷ [] in
-      let item = item_at (words_of old page) (item_place at) in
-      let split = subst (λ (n : ℕ). IsSplit f k items n) (sym place) (leaf_split items rising k r rank some) in
-      ap (without k) (sym (as_branches items)) ∙ without_split f k items at split item
-      ∙ ap (λ xs. xs ++ (without k (f (get_or items at item)) ++ flat_map f (drop (suc at) items))) (as_branches (take at items))
-      ∙ ap (λ xs. take at items ++ (without k (f (get_or items at item)) ++ xs)) (as_branches (drop (suc at) items))
-      ∙ ap (λ x. take at items ++ (without k (x ∷ []) ++ drop (suc at) items)) (item_get (words_of old page) at item at_in)
-
-  leaf_becomes : IsBelow 0 (standing_of old) (words_of old) (items_of (words_of old page))
-      → Becomes kept_of standing_of words_of [] (without k (items_of (words_of old page))) 0 (without k (items_of (words_of old page))) old old
-  leaf_becomes below = record {
-    below = record {
-      keys_fit = keys_without k (items_of (words_of old page)) below.keys_fit;
-      shaped = tt;
-      rising = rising_without k (items_of (words_of old page)) below.rising;
-      once = λ q. omega arith;
-      in_use = λ q more. absurd (omega (arith, more));
-    };
-    has_pairs = refl;
-    swaps = record { kept = refl; each = λ q. untouched refl };
-  }
-
-  pub leaf_removed : level ≡ 0 → (out : List Pair) → out ≡ take at (items_of (words_of old page)) ++ (without k (item_at (words_of old page) (item_place at) ∷ []) ++ drop (suc at) (items_of (words_of old page)))
-      → Becomes kept_of standing_of words_of (pages_below level (words_of old) (items_of (words_of old page))) (without k (pairs_at level (words_of old) page)) level out old old
-  leaf_removed e out is =
-      let items = items_of (words_of old page) in
-      let below = subst (λ (n : ℕ). IsBelow n (standing_of old) (words_of old) items) e tree.below in
-      subst (λ (n : ℕ). Becomes kept_of standing_of words_of (pages_below n (words_of old) items) (without k (pairs_below n (words_of old) items)) n out old old) (sym e)
-      (subst (λ xs. Becomes kept_of standing_of words_of [] (without k items) 0 xs old old) (sym (is ∙ sym (leaf_pairs below.rising))) (leaf_becomes below))
-
-  pub payload_leaf : level ≡ 0 → payload_at (pairs_at level (words_of old) page) k
-      ≡ (if is_eq (key_cmp (item_at (words_of old page) (item_place at)).key k) then Some (item_at (words_of old page) (item_place at)).payload else None)
-  payload_leaf e =
-      let d = item_at (words_of old page) (item_place at) in
-      found_in_leaf level (least_of_root level) (standing_of old) (words_of old) page k (items_of (words_of old page)) r at d e tree (root_some level) refl rank place (sym (item_get (words_of old page) at d at_in))
-
-  -- where the key goes
-  module _ (below : ℕ) (e : level ≡ suc below) where
-    inner : IsBelow (suc below) (standing_of old) (words_of old) (items_of (words_of old page))
-    inner = subst (λ (n : ℕ). IsBelow n (standing_of old) (words_of old) (items_of (words_of old page))) e tree.below
-
-    pub least_two : 2 ≤ words_of old page 1
-    least_two = omega (arith, items_count (words_of old page), tree.node.enough, ap least_of_root e)
-
-    split : IsSplit (λ b. pairs_at below (words_of old) (child b)) k (items_of (words_of old page)) at
-    split = subst (λ (n : ℕ). IsSplit (λ b. pairs_at below (words_of old) (child b)) k (items_of (words_of old page)) n) (sym place) (inner_split below (standing_of old) (words_of old) (items_of (words_of old page)) inner k r rank some)
-
-    key_split : without k (pairs_below (suc below) (words_of old) (items_of (words_of old page)))
-        ≡ pairs_below (suc below) (words_of old) (take at (items_of (words_of old page))) ++ (without k (pairs_at below (words_of old) (child (item_at (words_of old page) (item_place at)))) ++ pairs_below (suc below) (words_of old) (drop (suc at) (items_of (words_of old page))))
-    key_split =
-        let items = items_of (words_of old page) in
-        let f = λ (b : Pair). pairs_at below (words_of old) (child b) in
-        let d = item_at (words_of old page) (item_place at) in
-        without_split f k items at split d ∙ ap (λ x. flat_map f (take at items) ++ (without k (f x) ++ flat_map f (drop (suc at) items))) (item_get (words_of old page) at d at_in)
-
-    -- a look-up goes the same way
-    pub payload_down : payload_at (pairs_at level (words_of old) page) k ≡ payload_at (pairs_at below (words_of old) (child (item_at (words_of old page) (item_place at)))) k
-    payload_down =
-        let d = item_at (words_of old page) (item_place at) in
-        (steps_down level below (least_of_root level) (standing_of old) (words_of old) page k (items_of (words_of old page)) r at d e tree (root_some level) refl rank place (sym (item_get (words_of old page) at d at_in))).same
-
-    pub key_out : without k (pairs_at level (words_of old) page)
-        ≡ pairs_below (suc below) (words_of old) (take at (items_of (words_of old page))) ++ (without k (pairs_at below (words_of old) (child (item_at (words_of old page) (item_place at)))) ++ pairs_below (suc below) (words_of old) (drop (suc at) (items_of (words_of old page))))
-    key_out = ap (λ (n : ℕ). without k (pairs_below n (words_of old) (items_of (words_of old page)))) e ∙ key_split

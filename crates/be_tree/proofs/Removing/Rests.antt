@@ -8,13 +8,11 @@ use Rattle.be_pages.specs.declared.room.Standing.{Standing}
 use Rattle.be_pages.specs.Pages.{is_kept, times, PageStep, untouched, Swaps, IsUnchanged}
 use Rattle.be_tree.specs.Pair.{Pair}
 use Rattle.be_tree.specs.Key.{key_cmp, payload_at, without}
-use Rattle.be_tree.specs.Page.{items_of, level_of}
-use Rattle.be_tree.specs.Tree.{child, pairs, pages, pairs_at, pairs_below, pages_at, pages_below, IsBelow, IsTree, IsTreeAt, Becomes, BecomesTree, least_of_root}
-use Rattle.be_tree.proofs.Frame.{swaps_frame, swaps_since}
+use Rattle.be_tree.specs.Tree.{child, pairs, pages, pairs_at, pairs_below, pages_at, pages_below, IsBelow, IsTree, IsTreeAt, BecomesTree, least_of_root}
+use Rattle.be_tree.proofs.Frame.{swaps_frame}
 use Rattle.be_tree.proofs.TreeFacts.{branch_tree}
 use Rattle.be_tree.proofs.Shape.Parts.{becomes_same}
 use Rattle.be_tree.proofs.Removing.Removes.{tree_least}
-use Rattle.be_tree.proofs.Shape.Roots.{tree_over}
 use Rattle.be_tree.proofs.Trees.{root_in_use, root_once}
 
 some_none : {A : Type 0} (x : A) → Some x ≡ None → ⊥
@@ -83,24 +81,6 @@ module _ {S K : Type 0} (kept_of : S → K) (standing_of : S → ℕ → Standin
       subst (λ xs. BecomesTree kept_of standing_of words_of (pages_below level (words_of room) xs) (pairs_below level (words_of room) xs) (suc (child branch)) room room) (sym one)
       (subst (λ (n : ℕ). BecomesTree kept_of standing_of words_of (pages_below n (words_of room) (branch ∷ [])) (pairs_below n (words_of room) (branch ∷ [])) (suc (child branch)) room room) (sym e)
       (one_left (level - 1) branch room (subst (λ (n : ℕ). IsBelow n (standing_of room) (words_of room) (branch ∷ [])) e (subst (IsBelow level (standing_of room) (words_of room)) one below))))
-
-  -- a change below a tree's root, which is then written in the place of its page
-  pub tree_changed : (f : List Pair → List Pair) (root page level least new_root : ℕ) (xs : List Pair) (old read mid new : S)
-      → root ≡ suc page → level ≡ level_of (words_of old page) → IsUnchanged kept_of standing_of words_of old read
-      → IsTreeAt level least (standing_of read) (words_of read) page
-      → Becomes kept_of standing_of words_of (pages_below level (words_of read) (items_of (words_of read page))) (f (pairs_at level (words_of read) page)) level xs read mid
-      → BecomesTree kept_of standing_of words_of (page ∷ pages_below level (words_of mid) xs) (pairs_below level (words_of mid) xs) new_root mid new
-      → BecomesTree kept_of standing_of words_of (pages (words_of old) root) (f (pairs (words_of old) root)) new_root old new
-  tree_changed f root page level least new_root xs old read mid new e at same tree first written =
-      let all = tree_over kept_of standing_of words_of (pages_below level (words_of read) (items_of (words_of read page))) (f (pairs_at level (words_of read) page)) level page xs new_root read mid new first tree.page_once tree.below.once tree.page_in_use written in
-      let before = subst (λ w. BecomesTree kept_of standing_of words_of (pages_at level w page) (f (pairs_at level w page)) new_root read new) same.words all in
-      let here = subst (λ n. BecomesTree kept_of standing_of words_of (pages_at n (words_of old) page) (f (pairs_at n (words_of old) page)) new_root read new) at before in
-      let rooted = subst (λ r. BecomesTree kept_of standing_of words_of (pages (words_of old) r) (f (pairs (words_of old) r)) new_root read new) (sym e) here in
-      record {
-        tree = rooted.tree;
-        has_pairs = rooted.has_pairs;
-        swaps = swaps_since kept_of standing_of words_of (pages (words_of old) root) (pages (words_of new) new_root) old read new same rooted.swaps;
-      }
 
 -- a list of one
 pub one_mapped : {A B : Type 0} (f : A → B) (xs : List A) (d : A) → length xs ≡ 1 → map f xs ≡ f (get_or xs 0 d) ∷ []

@@ -17,7 +17,7 @@ starts_append k [] ys h = absurd h
 starts_append k (x ∷ xs) ys h = h
 
 -- the pairs below items start at the first item's key
-starts_first : (level : ℕ) (words : ℕ → ℕ → ℕ) (items : List Pair) (d : Pair) → AreShaped level words items → 0 < length items → StartsAt (get_or items 0 d).key (pairs_below level words items)
+pub starts_first : (level : ℕ) (words : ℕ → ℕ → ℕ) (items : List Pair) (d : Pair) → AreShaped level words items → 0 < length items → StartsAt (get_or items 0 d).key (pairs_below level words items)
 starts_first level words [] d shaped some = absurd (omega (arith, some))
 starts_first zero words (x ∷ xs) d shaped some = refl
 starts_first (suc level) words (x ∷ xs) d shaped some = starts_append x.key (pairs_at level words (child x)) (pairs_below (suc level) words xs) (shaped 0 x (omega arith)).1.starts

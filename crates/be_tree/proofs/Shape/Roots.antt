@@ -3,13 +3,12 @@ use Rattle.std.proofs.Common.{◌≡◌, ℕ, zero, suc, ◌+◌, ◌≤◌, Lis
 use Rattle.be_pages.specs.declared.room.Standing.{Standing}
 use Rattle.std.proofs.lemmas.Bool.{cases_eq}
 use Rattle.std.proofs.lemmas.Bool.Decides.{nat_tests}
-use Rattle.be_pages.specs.Pages.{is_kept, times, after_give_up, StandsAt, Swaps, IsUnchanged}
+use Rattle.be_pages.specs.Pages.{is_kept, times, after_give_up, StandsAt, Swaps}
 use Rattle.be_tree.proofs.Putting.Puts.{swaps_given_up, given_up_page}
 use Rattle.be_tree.specs.Pair.{Pair}
-use Rattle.be_tree.specs.Key.{put}
 use Rattle.be_tree.specs.Page.{items_of, level_of}
 use Rattle.be_tree.specs.Tree.{child, pairs, pages, pairs_at, pairs_below, pages_at, pages_below, IsNode, IsBelow, IsTreeAt, IsTree, IsWritten, Becomes, BecomesTree, least_of_root}
-use Rattle.be_tree.proofs.Frame.{times_append, times-cons, times_itself, same_page, swaps_trans, swaps_frame, swaps_with, swaps_after, swaps_since}
+use Rattle.be_tree.proofs.Frame.{times_append, times-cons, times_itself, same_page, swaps_trans, swaps_frame, swaps_with, swaps_after}
 use Rattle.be_tree.proofs.Shape.Below.{beside_pairs, beside_pages, beside_below, beside_apart}
 
 module _ {S K : Type 0} (kept_of : S → K) (standing_of : S → ℕ → Standing) (words_of : S → ℕ → ℕ → ℕ) where
@@ -129,25 +128,6 @@ module _ {S K : Type 0} (kept_of : S → K) (standing_of : S → ℕ → Standin
 
       here : (t u : Standing) → (if page == page then t else u) ≡ t
       here t u = grind (arith, nat_tests)
-
-  -- a pair put into a tree, which is then written in the place of its old root
-  pub tree_put : (root page level least new_root : ℕ) (pair given : Pair) (xs : List Pair) (old read mid new : S)
-      → root ≡ suc page → level ≡ level_of (words_of old page) → IsUnchanged kept_of standing_of words_of old read → pair ≡ given
-      → IsTreeAt level least (standing_of read) (words_of read) page
-      → Becomes kept_of standing_of words_of (pages_below level (words_of read) (items_of (words_of read page))) (put pair (pairs_at level (words_of read) page)) level xs read mid
-      → BecomesTree kept_of standing_of words_of (page ∷ pages_below level (words_of mid) xs) (pairs_below level (words_of mid) xs) new_root mid new
-      → BecomesTree kept_of standing_of words_of (pages (words_of old) root) (put given (pairs (words_of old) root)) new_root old new
-  tree_put root page level least new_root pair given xs old read mid new e at same is tree first written =
-      let all = tree_over kept_of standing_of words_of (pages_below level (words_of read) (items_of (words_of read page))) (put pair (pairs_at level (words_of read) page)) level page xs new_root read mid new first tree.page_once tree.below.once tree.page_in_use written in
-      let before = subst (λ w. BecomesTree kept_of standing_of words_of (pages_at level w page) (put pair (pairs_at level w page)) new_root read new) same.words all in
-      let put_given = subst (λ p. BecomesTree kept_of standing_of words_of (pages_at level (words_of old) page) (put p (pairs_at level (words_of old) page)) new_root read new) is before in
-      let here = subst (λ n. BecomesTree kept_of standing_of words_of (pages_at n (words_of old) page) (put given (pairs_at n (words_of old) page)) new_root read new) at put_given in
-      let rooted = subst (λ r. BecomesTree kept_of standing_of words_of (pages (words_of old) r) (put given (pairs (words_of old) r)) new_root read new) (sym e) here in
-      record {
-        tree = rooted.tree;
-        has_pairs = rooted.has_pairs;
-        swaps = swaps_since kept_of standing_of words_of (pages (words_of old) root) (pages (words_of new) new_root) old read new same rooted.swaps;
-      }
 
 pub same_pair : (pair : Pair) (k p : List ℕ) → pair.key ≡ k → pair.payload ≡ p → pair ≡ record { key = k; payload = p }
 same_pair pair k p ek ep =

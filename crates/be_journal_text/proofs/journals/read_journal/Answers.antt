@@ -13,11 +13,11 @@ loop-rest-preserved c =
     let text = c.args.text.now in
     let rest = c.loop-rest.rest.now in
     let first = c.first_line.result.0.now in
-    let behind = c.first_line.result.1.now in
+    let beyond = c.first_line.result.1.now in
     let read = c.loop-rest.entries.items in
     let entry = c.in-Some.entry in
     let some : 1 ≤ length rest = grind (arith, nat_tests, c.loop-rest-test.true, c.is_empty.ensures) in
-    let shorter : length behind < length rest = c.first_line.ensures.shorter some in
+    let shorter : length beyond < length rest = c.first_line.ensures.shorter some in
     let pushed = c.in_ok-push.ensures.items in
     let long = ap length pushed ∙ length-append read (entry ∷ []) in
     let is = rw c.in-Some.is at c.in_ok-entry.ensures.reads in
@@ -26,9 +26,9 @@ loop-rest-preserved c =
       number = omega (arith, i.number, long);
       short = omega (arith, i.short, shorter, long);
       written = subst (λ (es : List Entry). All CanBeEntry es) (sym pushed) (All-push CanBeEntry read entry i.written is.0);
-      reads = lines_read text rest first behind read c.push.new.self.items entry i.reads c.first_line.ensures.whole line pushed;
-      left = less_lines_left text rest first behind read c.push.new.self.items entry some i.left
-          (line_cut (1 + length read) rest first behind (omega (arith, i.number, c.loop-rest.auto.number-fits)) c.first_line.ensures.first)
+      reads = lines_read text rest first beyond read c.push.new.self.items entry i.reads c.first_line.ensures.whole line pushed;
+      left = less_lines_left text rest first beyond read c.push.new.self.items entry some i.left
+          (line_cut (1 + length read) rest first beyond (omega (arith, i.number, c.loop-rest.auto.number-fits)) c.first_line.ensures.first)
           (λ e w same. inside entry e (sym c.in-Some.is ∙ c.in_ok-entry.ensures.whole e w (same ∙ ap (λ n. entry_line n e) (sym i.number))))
           pushed;
     }

@@ -1,6 +1,6 @@
 use Rattle.std.proofs.Common.{◌≡◌, ◌+◌, length, true, false, sym, ap, ◌∙◌, arith, zero-add}
-use Rattle.be_journal_text.proofs.Cuts.{behind, is_end, length_to}
-use Rattle.be_journal_text.proofs.PartLemmas.{behind_is, counted_all, counted_alone, counted_ends, counted_here, counted_on, is_end_is, none_of_length}
+use Rattle.be_journal_text.proofs.Cuts.{beyond, is_end, length_to}
+use Rattle.be_journal_text.proofs.PartLemmas.{beyond_is, counted_all, counted_alone, counted_ends, counted_here, counted_on, is_end_is, none_of_length}
 use Rattle.be_journal_text.proofs.parts.length_to.Goals as goal
 
 pub loop-byte-init : goal.loop-byte-init
@@ -28,10 +28,10 @@ loop-byte-preserved c =
     let first = c.in-Some.ensures.cases.0 in
     let here : is_end c.args.end c.loop-byte.quoting c.in-Some.byte.now ≡ false =
     sym (is_end_is c.args.end c.loop-byte.quoting c.in-Some.byte.now c.is_end.result c.is_end.ensures) ∙ c.if-is_end.false in
-    let next : c.behind-quoting.result ≡ behind c.loop-byte.quoting c.in-Some.byte.now =
-    behind_is c.loop-byte.quoting c.behind-quoting.result c.in-Some.byte.now c.behind-quoting.ensures.outside c.behind-quoting.ensures.inside
-    c.behind-quoting.ensures.escaped in
-    let more : length_to c.args.end c.loop-byte.quoting c.loop-byte.rest.now ≡ 1 + length_to c.args.end c.behind-quoting.result c.in-Some.more.now =
+    let next : c.beyond-quoting.result ≡ beyond c.loop-byte.quoting c.in-Some.byte.now =
+    beyond_is c.loop-byte.quoting c.beyond-quoting.result c.in-Some.byte.now c.beyond-quoting.ensures.outside c.beyond-quoting.ensures.inside
+    c.beyond-quoting.ensures.escaped in
+    let more : length_to c.args.end c.loop-byte.quoting c.loop-byte.rest.now ≡ 1 + length_to c.args.end c.beyond-quoting.result c.in-Some.more.now =
     counted_on c.args.end c.loop-byte.quoting c.loop-byte.rest.now c.in-Some.more.now c.in-Some.byte.now first here
     ∙ ap (λ q. 1 + length_to c.args.end q c.in-Some.more.now) (sym next) in
     record {

@@ -5,7 +5,7 @@ use Rattle.be_tree.specs.Page.{item_at}
 use Rattle.be_tree.specs.Key.{key_cmp}
 use Rattle.be_tree.specs.Tree.{pairs}
 use Rattle.be_tree.proofs.Trees.{tree_rising}
-use Rattle.be_paged.proofs.Asking.Counting.{counted_behind, none_at_end, none_elsewhere}
+use Rattle.be_paged.proofs.Asking.Counting.{counted_after, none_at_end, none_elsewhere}
 use Rattle.be_paged.proofs.Asking.Walks.{cursor_since}
 use Rattle.be_paged.proofs.attributes.attribute_count.Goals as goal
 
@@ -48,5 +48,5 @@ returns-clause-count g c = λ nodes catalog valid few.
     let same = c.is_key_at.ensures.same ∙ ap (λ (w : ℕ → ℕ → ℕ). is_eq (key_cmp (item_at (w c.in_ok-page.page) c.in_ok-page.at).key c.to_be_bytes-mark.result)) c.in_ok-page.ensures.unchanged.words in
     let rest = remaining (g.L.Look.words c.is_key_at.new.look) c.step.new.self in
     let left = ap (λ (w : ℕ → ℕ → ℕ). remaining w c.step.new.self) (c.is_key_at.ensures.unchanged.words ∙ c.in_ok-page.ensures.unchanged.words) ∙ c.in_ok-page.ensures.remaining in
-    counted_behind (pairs v c.args.catalog) nodes c.args.node c.to_be_bytes-mark.result c.ranges.node.fits c.to_be_bytes-mark.ensures rising catalog valid (remaining seen c.seek.new.self) rest item c.is_key_at.result c.count_rest.result
+    counted_after (pairs v c.args.catalog) nodes c.args.node c.to_be_bytes-mark.result c.ranges.node.fits c.to_be_bytes-mark.ensures rising catalog valid (remaining seen c.seek.new.self) rest item c.is_key_at.result c.count_rest.result
     start c.in_ok-page.ensures.item left same c.if-not-is_key_at.false few c.count_rest.ensures.count

@@ -36,5 +36,5 @@ returns-clause-name g c = λ name value named e.
 pub returns-clause-none : goal.returns-clause-none
 returns-clause-none g c = λ e. none_some (item_at (g.L.Look.words c.args.look.now c.in_ok-page.page) c.in_ok-page.at) (sym e ∙ c.in_ok-page.ensures.item)
 
-pub returns-clause-behind : goal.returns-clause-behind
-returns-clause-behind g c = c.in_ok-name.ensures.behind ∙ ap (λ (w : ℕ → ℕ → ℕ). drop 8 (item_at (w c.in_ok-page.page) c.in_ok-page.at).key) c.in_ok-page.ensures.unchanged.words
+pub returns-clause-beyond : goal.returns-clause-beyond
+returns-clause-beyond g c = c.in_ok-name.ensures.beyond ∙ ap (λ (w : ℕ → ℕ → ℕ). drop 8 (item_at (w c.in_ok-page.page) c.in_ok-page.at).key) c.in_ok-page.ensures.unchanged.words

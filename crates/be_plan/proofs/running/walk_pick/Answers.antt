@@ -39,5 +39,5 @@ returns-clause-has g c =
 pub unreachable-requires-in_default-narrow_all : goal.unreachable-requires-in_default-narrow_all
 unreachable-requires-in_default-narrow_all g c =
     let below : c.args.pick < c.args.from + comparisons (formula c.args.part.now) = c.requires.1.1.1.1.1.last in
-    let behind = c.in_default-narrow_all.ensures.behind in
-    omega (arith, below, behind.0, behind.1)
+    let beyond = c.in_default-narrow_all.ensures.beyond in
+    omega (arith, below, beyond.0, beyond.1)

@@ -48,7 +48,7 @@ returns-in-Some-clause-only g c = λ n h.
     let test = c.in_ok-test.test in
     let asked : rest ≡ Leaf name test.0 test.1 = c.in-Some.ensures.leaf ∙ ap (λ (t : Cmp × Literal). Leaf name t.0 t.1) (sym c.in_ok-test.ensures.ok) in
     let P : ℕ → Type 0 = λ m. sat g.volume f m ≡ sat g.volume rest m in
-    elim (c.visit_texts.ensures.only n h) [
+    elim (c.test_texts.ensures.only n h) [
       | inl there ↦ inl there
       | inr w ↦ inr (subst P w.0.node_is (left_key g.volume sound name w.0.key w.0.is_key c.args.kind c.requires.1.1.0 f low high (Some rest) leaves w.0.within)
           ∙ ap (λ (r : Formula). sat g.volume r n) asked ∙ w.1)
@@ -65,6 +65,6 @@ returns-in-Some-clause-has g c =
     let leaves : LeavesRest f name c.args.kind low high (Some rest) = c.requires.1.1.1 in
     let test = c.in_ok-test.test in
     let asked : rest ≡ Leaf name test.0 test.1 = c.in-Some.ensures.leaf ∙ ap (λ (t : Cmp × Literal). Leaf name t.0 t.1) (sym c.in_ok-test.ensures.ok) in
-    on_ok c.visit_texts.result (λ has k h w holds. has k h w (ap (λ (r : Formula). sat g.volume r h.node) (sym asked)
+    on_ok c.test_texts.result (λ has k h w holds. has k h w (ap (λ (r : Formula). sat g.volume r h.node) (sym asked)
     ∙ sym (left_key g.volume sound name k h c.args.kind c.requires.1.1.0 f low high (Some rest) leaves w) ∙ holds))
-    c.visit_texts.ensures.has
+    c.test_texts.ensures.has

@@ -6,5 +6,5 @@ ghost-visit_all g a = g.volume
 abbrev pub ghost-ask_each : goal.ghost-ask_each
 ghost-ask_each g a = g.volume
 
-abbrev pub ghost-visit_texts : goal.ghost-visit_texts
-ghost-visit_texts g a = g.volume
+abbrev pub ghost-test_texts : goal.ghost-test_texts
+ghost-test_texts g a = g.volume

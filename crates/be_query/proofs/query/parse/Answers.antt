@@ -11,10 +11,10 @@ use Rattle.be_query.proofs.query.parse.Goals as goal
 pub lexemes-preserved-in-Separator : goal.lexemes-preserved-in-Separator
 lexemes-preserved-in-Separator c =
     let i = c.lexemes.invariant in
-    let e = separated c.lexemes.rest.now c.in-Separator.behind.now (length c.args.text.now) c.in-Separator.ensures.front i.within in
+    let e = separated c.lexemes.rest.now c.in-Separator.beyond.now (length c.args.text.now) c.in-Separator.ensures.front i.within in
     record {
       utf8 = search rules;
-      within = (let h = separated_shorter c.lexemes.rest.now c.in-Separator.behind.now c.in-Separator.ensures.front in omega arith);
+      within = (let h = separated_shorter c.lexemes.rest.now c.in-Separator.beyond.now c.in-Separator.ensures.front in omega arith);
       counted = i.counted;
       faults = ap (fault_in (stage_of c.lexemes.stage) c.lexemes.context (length c.args.text.now)) (sym e) ∙ i.faults;
       built = ap (λ l. build_from (Some (state_of (stage_of c.lexemes.stage) c.lexemes.context)) (whole l)) (sym e) ∙ i.built;
@@ -26,13 +26,13 @@ lexemes-preserved c =
     let i = c.lexemes.invariant in
     let f = c.in-Token.ensures.front in
     let p = c.in_ok-stage-in-Token.ensures.ok in
-    let e = taken c.lexemes.rest.now c.in-Token.behind.now (length c.args.text.now) f.0 c.in-Token.shift (Whole (token_of c.in-Token.token)) f.1 f.2 f.3 f.4 i.within in
+    let e = taken c.lexemes.rest.now c.in-Token.beyond.now (length c.args.text.now) f.0 c.in-Token.shift (Whole (token_of c.in-Token.token)) f.1 f.2 f.3 f.4 i.within in
     record {
       utf8 = search rules;
-      within = (let h = taken_shorter c.lexemes.rest.now c.in-Token.behind.now f.0 f.2 f.3 f.4 in omega arith);
+      within = (let h = taken_shorter c.lexemes.rest.now c.in-Token.beyond.now f.0 f.2 f.3 f.4 in omega arith);
       counted = p.counted;
       faults = sym (p.faults (length c.args.text.now) _) ∙ ap (fault_in (stage_of c.lexemes.stage) c.lexemes.context (length c.args.text.now)) (sym e) ∙ i.faults;
-      built = ap (λ s. build_from s (whole (lexemes 0 (length c.args.text.now - length c.in-Token.behind.now) c.in-Token.behind.now))) (sym p.built) ∙ ap (λ l. build_from (Some (state_of (stage_of c.lexemes.stage) c.lexemes.context)) (whole l)) (sym e) ∙ i.built;
+      built = ap (λ s. build_from s (whole (lexemes 0 (length c.args.text.now - length c.in-Token.beyond.now) c.in-Token.beyond.now))) (sym p.built) ∙ ap (λ l. build_from (Some (state_of (stage_of c.lexemes.stage) c.lexemes.context)) (whole l)) (sym e) ∙ i.built;
       kept = step_kept (state_of (stage_of c.lexemes.stage) c.lexemes.context) _ (token_of c.in-Token.token) i.kept c.in-Token.ensures.clean p.built;
     }
 

@@ -1,6 +1,9 @@
 use Rattle.std.proofs.Common.{◌≡◌, ℕ, ◌+◌, List, [], Vec, Global, length, map, get_or, slice_index_or, IfOk, ap, sym, ◌∙◌, subst, arith, zero-add}
 use Rattle.be_script_runner.specs.Gates.{AreAllTold, AreTold, line_count}
+use Rattle.be_script_runner.specs.Order.{AreServedBy}
 use Rattle.be_script_runner.specs.Race.{HaveServed, AreRepliesOf}
+use Rattle.be_table.specs.Place.{SeatFacts}
+use Rattle.be_table.specs.Works.{knows_of}
 use Rattle.be_script_runner.proofs.RaceLemmas.{same_end, served_from, on_both}
 use Rattle.be_script_runner.proofs.races.serve_in.Goals as goal
 
@@ -18,7 +21,7 @@ returns-in-Ok g c =
     let ended = g.G.Gate.ended c.args.gate.now in
     let Told : ℕ → List ℕ → Type 0 = λ n script. AreTold (begun n) (ended n) (line_count script) in
     let both : IfOk c.part.result (λ r. HaveServed store 0 (map items_of scripts) r.0.items × AreRepliesOf store.limits 0 (map items_of scripts) r.0.items (map items_of r.1.items)
-    × AreAllTold begun ended (map items_of scripts)) =
+    × AreServedBy store.limits 0 (map items_of scripts) (map knows_of r.0.items) (map items_of r.1.items) × AreAllTold begun ended (map items_of scripts)) =
     on_both c.part.result c.part.ensures.passes c.part.ensures.replies (λ r passes replies.
     let all = served_from store items_of Told 0 scripts outcomes.items r.1.items count
     (λ i o s below.
@@ -34,10 +37,11 @@ returns-in-Ok g c =
     replies in (
       subst (HaveServed store 0 (map items_of scripts)) (sym passes) all.0,
       subst (λ ps. AreRepliesOf store.limits 0 (map items_of scripts) ps (map items_of r.1.items)) (sym passes) all.1,
-      λ k below. subst (λ n. Told n (slice_index_or (map items_of scripts) k [])) (zero-add k) (all.2 k below),
+      subst (λ (ps : List SeatFacts). AreServedBy store.limits 0 (map items_of scripts) (map knows_of ps) (map items_of r.1.items)) (sym passes) all.2,
+      λ k below. subst (λ n. Told n (slice_index_or (map items_of scripts) k [])) (zero-add k) (all.3 k below),
     )) in
     record {
-      served = on_both c.part.result both both (λ r h _. (h.0, h.1));
-      told = on_both c.part.result both both (λ r h _. h.2);
+      served = on_both c.part.result both both (λ r h _. (h.0, h.1, h.2));
+      told = on_both c.part.result both both (λ r h _. h.3);
       fault = c.part.ensures.fault;
     }

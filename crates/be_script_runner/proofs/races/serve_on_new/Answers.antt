@@ -7,7 +7,9 @@ use Rattle.be_table.specs.Versions.{CanSpellEach}
 use Rattle.be_table.specs.Works.{knows_of}
 use Rattle.be_table.specs.declared.limits.Limits.{Limits}
 use Rattle.be_script_runner.specs.Own.{IsPartOf, operations, write_ops}
+use Rattle.be_script_runner.specs.Order.{AreServedBy}
 use Rattle.be_script_runner.specs.Race.{HaveReplied}
+use Rattle.be_store.specs.Calls.{AreInOneTrace}
 use Rattle.be_script_runner.proofs.RaceLemmas.{all_at, has_each, own_of}
 use Rattle.be_script_runner.proofs.races.serve_on_new.Goals as goal
 
@@ -40,6 +42,13 @@ returns-clause-raced g c =
         own = λ k below. subst (λ n. IsPartOf (operations (by_pass n journal)) (write_ops (slice_index_or scripts k []))) (zero-add k)
             (own_of c.in-Ok.store 0 scripts c.in_ok-passes.passes.items journal c.in_ok-passes.ensures.served.0 c.close.ensures.passes k below);
         volumes = subst (λ (l : Limits). CanSpellEach l.pages journal) c.in-Ok.ensures.0 c.close.ensures.volumes;
+        passes = map knows_of c.in_ok-passes.passes.items;
+        served = subst (λ (l : Limits). AreServedBy l 0 scripts (map knows_of c.in_ok-passes.passes.items) replies) c.in-Ok.ensures.0 c.in_ok-passes.ensures.served.2;
+        order = record {
+          kept = c.close.ensures.passes;
+          writes = c.close.ensures.writes;
+          moves = subst (λ (l : Limits). AreInOneTrace l (map knows_of c.in_ok-passes.passes.items)) c.in-Ok.ensures.0 c.close.ensures.moves;
+        };
       },
       refl,
     )

@@ -22,7 +22,7 @@ loop-line-init g c = record {
 
 pub returns-in_err-ran-clause-err : goal.returns-in_err-ran-clause-err
 returns-in_err-ran-clause-err g c = always_err c.from_residual.result
-    (stop (g.S.Server.shows c.args.server.now) c.args.script.now c.loop-line.rest.now c.in-Some.line.now (lines_of c.in-Some.behind.now)
+    (stop (g.S.Server.shows c.args.server.now) c.args.script.now c.loop-line.rest.now c.in-Some.line.now (lines_of c.in-Some.beyond.now)
     (session (g.S.Server.shows c.loop-line.server) c.loop-line.client)
     (g.W.Write.contents c.args.writer.now) (g.W.Write.contents c.loop-line.writer) (g.W.Write.contents c.run_line-ran.new.writer)
     c.in-Some.ensures.first c.loop-line.invariant.so_far c.in_err-ran.ensures.err)
@@ -30,13 +30,13 @@ returns-in_err-ran-clause-err g c = always_err c.from_residual.result
 pub loop-line-preserved : goal.loop-line-preserved
 loop-line-preserved g c = record {
   counted = omega (arith, c.in-Some.ensures.shorter, c.loop-line.invariant.counted);
-  numbered = omega (arith, line_counted c.loop-line.rest.now c.in-Some.line.now c.in-Some.behind.now c.in-Some.ensures.first, c.loop-line.invariant.numbered);
+  numbered = omega (arith, line_counted c.loop-line.rest.now c.in-Some.line.now c.in-Some.beyond.now c.in-Some.ensures.first, c.loop-line.invariant.numbered);
   next = inr (c.loop-line.number, refl, c.after.ensures);
   told = told_more (g.G.Gate.begun c.args.gate.now c.args.pass) (g.G.Gate.ended c.args.gate.now c.args.pass) c.loop-line.number c.loop-line.invariant.told
       c.before-in-Some.ensures c.after.ensures;
   few = c.run_line-ran.ensures.few;
   stays = c.run_line-ran.ensures.stays ∙ c.loop-line.invariant.stays;
-  so_far = advance (g.S.Server.shows c.args.server.now) c.args.script.now c.loop-line.rest.now c.in-Some.line.now c.in-Some.behind.now
+  so_far = advance (g.S.Server.shows c.args.server.now) c.args.script.now c.loop-line.rest.now c.in-Some.line.now c.in-Some.beyond.now
       (session (g.S.Server.shows c.loop-line.server) c.loop-line.client) (session (g.S.Server.shows c.run_line-ran.new.server) c.run_line-ran.new.client)
       (g.W.Write.contents c.args.writer.now) (g.W.Write.contents c.loop-line.writer) (g.W.Write.contents c.run_line-ran.new.writer)
       c.in-Some.ensures.first c.loop-line.invariant.so_far c.in_ok-ran.ensures.ok;

@@ -27,13 +27,13 @@ returns-clause-text c =
     lines_step ops rest sizes.1 full (left w c.args.place.now) (string_bytes c.args.text.now) (string_bytes c.push_write.new.text) is sizes.0 pushed
 
 pub returns-clause-can : goal.returns-clause-can
-returns-clause-can c = λ behind.
+returns-clause-can c = λ beyond.
     let w = volume_pinned c.args.pass.now.knows in
     let ops = c.in-Some.ops.items in
     let rest = left w c.state.new.place in
     let is : left w c.args.place.now ≡ ops ++ rest = rw c.in-Some.is at c.in-Ok.ensures.list in
     let can : All CanBeOp ops = subst (All CanBeOp) c.as_slice.ensures.value c.in_ok-push_write.ensures.can in
-    can_step (left w c.args.place.now) ops rest is can behind
+    can_step (left w c.args.place.now) ops rest is can beyond
 
 pub returns-clause-fewer : goal.returns-clause-fewer
 returns-clause-fewer c = λ more.

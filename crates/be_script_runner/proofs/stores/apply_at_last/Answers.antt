@@ -1,6 +1,7 @@
 use Rattle.std.proofs.Common.{◌∙◌, subst, sym}
 use Rattle.be_store.specs.Passes.{IsBetweenCalls}
 use Rattle.be_table.specs.declared.limits.Limits.{Limits}
+use Rattle.be_script_runner.proofs.CallLemmas.{writes_call}
 use Rattle.be_script_runner.proofs.PassLemmas.{last_reason, same_number, writes_meanwhile}
 use Rattle.be_script_runner.proofs.stores.apply_at_last.Goals as goal
 
@@ -19,3 +20,8 @@ returns-clause-number c =
 pub returns-clause-tries : goal.returns-clause-tries
 returns-clause-tries c =
     last_reason c.args.pass.now.knows c.apply_or_retry-answer.new.pass.knows 10000000 c.args.ops.now c.apply_or_retry-answer.result c.apply_or_retry-answer.ensures.refused
+
+pub returns-clause-call : goal.returns-clause-call
+returns-clause-call c =
+    writes_call c.args.pass.now.knows c.apply_or_retry-answer.new.pass.knows 10000000 (λ dones. dones.items) c.args.ops.now
+    c.apply_or_retry-answer.result c.apply_or_retry-answer.ensures.accepted c.apply_or_retry-answer.ensures.refused

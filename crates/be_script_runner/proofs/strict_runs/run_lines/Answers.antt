@@ -25,7 +25,7 @@ returns-in_err-refused-clause-front g c =
     let s = session (g.S.Server.shows c.loop-line.server) c.loop-line.client in
     let old = g.W.Write.contents c.args.writer.now in
     let mid = g.W.Write.contents c.loop-line.writer in
-    stop store c.args.script.now c.loop-line.rest.now c.in-Some.line.now (lines_of c.in-Some.behind.now) s old mid (g.W.Write.contents c.run_line.new.writer)
+    stop store c.args.script.now c.loop-line.rest.now c.in-Some.line.now (lines_of c.in-Some.beyond.now) s old mid (g.W.Write.contents c.run_line.new.writer)
     c.in-Some.ensures.first (accepted_replied store c.args.script.now c.loop-line.rest.now s c.loop-line.number old mid c.loop-line.invariant.so_far) c.in_err-refused.ensures.err
 
 pub returns-in_err-refused-clause-whole : goal.returns-in_err-refused-clause-whole
@@ -46,7 +46,7 @@ returns-in-Some-refused-clause-ok g c =
     let mid = g.W.Write.contents c.loop-line.writer in
     let new = g.W.Write.contents c.run_line.new.writer in
     let judged : Wrote mid new (Judged s c.in-Some.line.now after (Some (string_bytes c.in-Some-refused.reply))) = rw c.in-Some-refused.is at c.in_ok-refused.ensures.ok in
-    stop_at (g.S.Server.shows c.args.server.now) c.args.script.now c.loop-line.rest.now c.in-Some.line.now (lines_of c.in-Some.behind.now) s after c.loop-line.number
+    stop_at (g.S.Server.shows c.args.server.now) c.args.script.now c.loop-line.rest.now c.in-Some.line.now (lines_of c.in-Some.beyond.now) s after c.loop-line.number
     (string_bytes c.in-Some-refused.reply) old mid new c.in-Some.ensures.first c.loop-line.invariant.so_far judged
 
 pub returns-in-Some-refused-clause-front : goal.returns-in-Some-refused-clause-front
@@ -57,7 +57,7 @@ returns-in-Some-refused-clause-front g c =
     let old = g.W.Write.contents c.args.writer.now in
     let mid = g.W.Write.contents c.loop-line.writer in
     let new = g.W.Write.contents c.run_line.new.writer in
-    stop store c.args.script.now c.loop-line.rest.now c.in-Some.line.now (lines_of c.in-Some.behind.now) s old mid new
+    stop store c.args.script.now c.loop-line.rest.now c.in-Some.line.now (lines_of c.in-Some.beyond.now) s old mid new
     c.in-Some.ensures.first (accepted_replied store c.args.script.now c.loop-line.rest.now s c.loop-line.number old mid c.loop-line.invariant.so_far)
     (whole_answer s after c.in-Some.line.now (option_map string_bytes c.in_ok-refused.refused) mid new c.in_ok-refused.ensures.ok)
 
@@ -73,7 +73,7 @@ loop-line-preserved g c =
       counted = omega (arith, c.in-Some.ensures.shorter, c.loop-line.invariant.counted);
       few = c.run_line.ensures.few;
       stays = c.run_line.ensures.stays ∙ c.loop-line.invariant.stays;
-      so_far = accept_more (g.S.Server.shows c.args.server.now) c.args.script.now c.loop-line.rest.now c.in-Some.line.now c.in-Some.behind.now s after c.loop-line.number
+      so_far = accept_more (g.S.Server.shows c.args.server.now) c.args.script.now c.loop-line.rest.now c.in-Some.line.now c.in-Some.beyond.now s after c.loop-line.number
           old mid new c.in-Some.ensures.first c.loop-line.invariant.so_far judged;
     }
 

@@ -2,7 +2,7 @@ use Rattle.std.proofs.Common.{ap}
 use Rattle.be_script_runner.specs.View.{session}
 use Rattle.be_shell.specs.Conversation.{hearing, line_heard}
 use Rattle.be_shell.proofs.SaveLemmas.{broke_from, replied_from}
-use Rattle.be_shell.proofs.TalkLemmas.{broke_behind, deaf, passed_up, went_on, went_out}
+use Rattle.be_shell.proofs.TalkLemmas.{broke_after, deaf, passed_up, went_on, went_out}
 use Rattle.be_shell.proofs.conversations.exchange.Goals as goal
 
 pub returns-in_err-line-clause-broke : goal.returns-in_err-line-clause-broke
@@ -36,6 +36,6 @@ returns-in_err-serve_line-clause-broke g c =
     let event = hearing c.in_ok-line.field-0 in
     let fault = c.in_err-serve_line.field-0.0 in
     passed_up c.from_residual-in_err-serve_line.result fault _ c.from_residual-in_err-serve_line.ensures.1
-    (broke_behind g.P.Peer.does fault (session old c.args.client.now) event line c.args.peer.now c.hand_state.new.peer c.serve_line.new.peer
+    (broke_after g.P.Peer.does fault (session old c.args.client.now) event line c.args.peer.now c.hand_state.new.peer c.serve_line.new.peer
     (c.hand_state.ensures.same event c.args.peer.now c.in_ok-line.ensures.heard) (ap hearing c.in-Some.is)
     (broke_from g.P.Peer.does fault old read c.args.client.now line c.hand_state.new.peer c.serve_line.new.peer c.hand_state.ensures.joins c.in_err-serve_line.ensures.broke))

@@ -1,4 +1,4 @@
-use Rattle.std.proofs.Common.{◌≡◌, ℕ, ◌+◌, ◌-◌, ◌*◌, ◌/◌, ◌∙◌, drop, sym, ap, arith}
+use Rattle.std.proofs.Common.{◌≡◌, ℕ, ◌+◌, ◌∙◌, drop, sym, ap, arith}
 use Rattle.be_tree.specs.Page.{item_at, items_of}
 use Rattle.be_tree.specs.Range.{pairs_from}
 use Rattle.be_tree.proofs.Nodes.Slots.{item_get, items_count}

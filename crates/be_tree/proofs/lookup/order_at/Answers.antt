@@ -1,7 +1,7 @@
-use Rattle.std.proofs.Common.{◌≡◌, ◌≤◌, ℕ, ◌+◌, ◌/◌, ◌^◌, drop, ap, sym, subst, ◌∙◌, arith}
+use Rattle.std.proofs.Common.{◌≡◌, ◌≤◌, ℕ, ◌/◌, ◌^◌, drop, ap, sym, subst, ◌∙◌, arith}
 use Rattle.be_tree.specs.Key.{key_cmp}
 use Rattle.be_tree.specs.Page.{item_at, key_len}
-use Rattle.be_tree.proofs.Bytes.Words.{behind_first, more_cmp}
+use Rattle.be_tree.proofs.Bytes.Words.{beyond_first, more_cmp}
 use Rattle.be_tree.proofs.Padded.{key_below, key_differs}
 use Rattle.be_tree.proofs.lookup.order_at.Given.{Over}
 use Rattle.be_tree.proofs.lookup.order_at.Goals as goal
@@ -26,7 +26,7 @@ returns-then-len-ge8-clause-order g c =
     sym (key_differs words c.args.at c.args.key.now mine c.args.first long c.word-mine.ensures.value (omega arith) (omega arith) c.requires.first (λ e. absurd (omega (arith, e, c.if-mine-first-2.true)))
     ∙ more_cmp mine c.args.first c.if-mine-first-2.true)
 
--- the same first words: the keys behind them decide
+-- the same first words: the keys after them decide
 pub cmp_from-requires-clause-so_far : goal.cmp_from-requires-clause-so_far
 cmp_from-requires-clause-so_far g c =
     let words = g.L.Look.words c.args.look.now in
@@ -35,4 +35,4 @@ cmp_from-requires-clause-so_far g c =
     let long : 8 ≤ key_len (words c.args.page) at = omega (arith, c.if-len-ge8-2.true, read g (goal.at.cmp_from-requires-clause-so_far g c).After-word) in
     subst (λ (w : ℕ → ℕ → ℕ). key_cmp (drop 8 (item_at (w c.args.page) at).key) (drop 8 key) ≡ key_cmp (item_at (w c.args.page) at).key key)
     (sym (c.word.ensures.words ∙ c.word-mine.ensures.words))
-    (sym (behind_first (words c.args.page) at key 8 c.args.first (sym c.if-mine-first-3.true ∙ c.word-mine.ensures.value) (omega arith) c.requires.first (omega arith) long c.if-key-ge8.true))
+    (sym (beyond_first (words c.args.page) at key 8 c.args.first (sym c.if-mine-first-3.true ∙ c.word-mine.ensures.value) (omega arith) c.requires.first (omega arith) long c.if-key-ge8.true))

@@ -1,4 +1,4 @@
-use Rattle.std.proofs.Common.{◌≡◌, ◌∙◌, ◌<◌, ap, sym, true, arith}
+use Rattle.std.proofs.Common.{◌∙◌, ap, sym, arith}
 use Rattle.std.specs.Option.{option_copied}
 use Rattle.be_tree.specs.Range.{numbers_to}
 use Rattle.be_tree.proofs.Reading.Starts.{none_within}

@@ -1,4 +1,4 @@
-use Rattle.std.proofs.Common.{◌≡◌, ◌∙◌, sym, ap, arith, false, drop}
+use Rattle.std.proofs.Common.{◌∙◌, sym, ap, arith, false, drop}
 use Rattle.std.proofs.lemmas.List.{append-nil}
 use Rattle.be_tree.specs.Page.{item_at, items_of}
 use Rattle.be_tree.proofs.Nodes.Slots.{item_get, items_count}

@@ -7,7 +7,7 @@ use Rattle.be_tree.specs.Pair.{Pair}
 use Rattle.be_tree.specs.Page.{items_of, item_at, item_place, IsItem}
 use Rattle.be_tree.specs.Places.{AreFrom, IsBranchAt, IsNext}
 use Rattle.be_tree.specs.Range.{pairs_from}
-use Rattle.be_tree.specs.Tree.{IsTreeAt, child, pairs, pairs_at, pairs_below, least_of_root}
+use Rattle.be_tree.specs.Tree.{IsTreeAt, child, pairs_at, pairs_below, least_of_root}
 use Rattle.be_tree.proofs.Reading.Cursors.{from_branch, leads_down, LeadsDown, root_pairs}
 use Rattle.be_tree.proofs.Reading.Starts.{next_above, next_here}
 use Rattle.be_tree.proofs.Frame.{unchanged_trans}

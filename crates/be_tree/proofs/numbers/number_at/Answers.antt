@@ -14,7 +14,7 @@ returns-clause-number g c =
     let read = c.word.result / 2 ^ 32 in
     let long : 8 ≤ key_len words at = subst (λ n. 8 ≤ n) (item_key_length words at) c.requires.long in
     let k : read ≡ key_len words at = ap (λ (h : ℕ). h / 2 ^ 32) c.word.ensures.value in
-    c.number_behind.ensures.number
+    c.number_beyond.ensures.number
     ∙ ap (λ (w : ℕ → ℕ → ℕ). from_be_bytes w64 (drop (read % 8) (bytes_at (w c.args.page) (at + read / 8) (read % 8 + 8)))) c.word.ensures.words
     ∙ ap (λ (n : ℕ). from_be_bytes w64 (drop (n % 8) (bytes_at words (at + n / 8) (n % 8 + 8)))) k
     ∙ ap (from_be_bytes w64) (sym (last_bytes words at long))

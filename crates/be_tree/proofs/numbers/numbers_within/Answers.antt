@@ -7,7 +7,7 @@ use Rattle.be_pages.specs.declared.room.Standing.{Standing}
 use Rattle.be_tree.specs.Pair.{Pair}
 use Rattle.be_tree.specs.Page.{items_of}
 use Rattle.be_tree.specs.Places.{AreFrom, IsNext, number_at_place}
-use Rattle.be_tree.specs.Range.{AreLong, HasFirst, HasGot, is_from, numbers_to, pairs_from}
+use Rattle.be_tree.specs.Range.{AreLong, HasFirst, is_from, numbers_to, pairs_from}
 use Rattle.be_tree.specs.Tree.{IsTree, pairs}
 use Rattle.be_tree.proofs.Reading.Leaves.{any_past, got_first, got_rest, leaf_same, long_left}
 use Rattle.be_tree.proofs.Reading.Starts.{leaf_first, leaf_last, leaf_whole, number_back}

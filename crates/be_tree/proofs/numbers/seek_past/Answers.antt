@@ -1,6 +1,5 @@
-use Rattle.std.proofs.Common.{◌≡◌, ◌∙◌, ℕ, suc, List, [], ◌∷◌, ◌++◌, ◌+◌, ◌-◌, ◌*◌, ◌<◌, ◌≤◌, false, true, take, drop, ap, sym, subst, arith, append_assoc}
+use Rattle.std.proofs.Common.{◌≡◌, ◌∙◌, ℕ, List, [], ◌∷◌, ◌++◌, ◌+◌, ◌-◌, ◌*◌, ◌<◌, false, true, take, drop, ap, subst, arith, append_assoc}
 use Rattle.be_tree.specs.Cursor.{remaining}
-use Rattle.be_tree.specs.Pair.{Pair}
 use Rattle.be_tree.specs.Page.{item_at, items_of}
 use Rattle.be_tree.specs.Range.{pairs_from}
 use Rattle.be_tree.specs.Tree.{pairs}

@@ -14,7 +14,7 @@ returns-clause-child g c =
     let r = key_len words at % 8 in
     let eight : payload_len words at ≡ 8 = sym (item_payload_length words at) ∙ c.requires.names_page in
     let k : read ≡ key_len words at = ap (λ (h : ℕ). h / 2 ^ 32) c.word.ensures.value in
-    c.number_behind.ensures.number
+    c.number_beyond.ensures.number
     ∙ ap (λ (w : ℕ → ℕ → ℕ). from_be_bytes w64 (drop (read % 8) (bytes_at (w c.args.page) (at + 1 + read / 8) (read % 8 + 8)))) c.word.ensures.words
     ∙ ap (λ (n : ℕ). from_be_bytes w64 (drop (n % 8) (bytes_at words (at + 1 + n / 8) (n % 8 + 8)))) k
     ∙ ap (λ (n : ℕ). from_be_bytes w64 (drop r (bytes_at words (at + 1 + key_len words at / 8) (r + n)))) (sym eight)

@@ -1,7 +1,7 @@
 use Rattle.std.proofs.Common.{◌≡◌, ℕ, ◌+◌, ◌-◌, ◌*◌, ◌/◌, ◌%◌, ◌^◌, ap, sym, subst, ◌∙◌, ◌⊎◌, refl, inl, inr, drop, length, arith}
 use Rattle.std.specs.Ordering.{nat_cmp, ordering_then}
 use Rattle.be_tree.specs.Key.{key_cmp}
-use Rattle.be_tree.specs.Page.{item_at, key_len}
+use Rattle.be_tree.specs.Page.{item_at}
 use Rattle.be_tree.proofs.Bytes.Words.{next_word, last_word, at_end, then_same, then_other}
 use Rattle.be_tree.proofs.page.cmp_from.Given.{Over}
 use Rattle.be_tree.proofs.page.cmp_from.Goals as goal

@@ -1,38 +1,47 @@
-use Rattle.std.proofs.Common.{suc, [], ◌∷◌, ◌++◌, ◌≡◌, List, All, ap, sym, subst, ◌∙◌}
-use Rattle.std.proofs.lemmas.List.Elements.{All-cons}
-use Rattle.be_tree.specs.declared.slot.Slot.{Slot}
-use Rattle.be_tree.specs.declared.slot.Slot.TheVariants.{Branch}
-use Rattle.be_tree.specs.Slot.{pairs_of, IsBranchSlot, IsReady}
-use Rattle.be_tree.specs.Tree.{pairs_below, pages_below, Becomes}
-use Rattle.be_tree.proofs.Shape.Parts.{all_one}
-use Rattle.be_tree.proofs.Nodes.Slots.{branches_ready}
+use Rattle.std.proofs.Common.{ℕ, suc, [], ◌∷◌, ◌≡◌, List, sym, subst, arith}
+use Rattle.be_pages.specs.Pages.{after_give_up, times}
+use Rattle.be_tree.specs.Slot.{pairs_of}
+use Rattle.be_tree.specs.Tree.{Becomes, pages_below, pairs_below}
+use Rattle.be_tree.proofs.Frame.{times_append, times_other}
+use Rattle.be_tree.proofs.Nodes.Neighbours.{becomes_times}
+use Rattle.be_tree.proofs.Nodes.Stands.{stands_at, stands_else}
+use Rattle.be_tree.proofs.Putting.Puts.{becomes_given_up, held_after}
 use Rattle.be_tree.proofs.writing.pack_two.Goals as goal
+
+-- the second page is none of those that were replaced
+other : (l r : ℕ) (ps : List ℕ) → (l ≡ r → ⊥) → times r ps ≡ 0 → times r (l ∷ ps) ≡ 0
+other l r ps ne none = omega (arith, times_append r (l ∷ []) ps, times_other r l (λ e. ne (sym e)), none)
+
+swapped : (q l r : ℕ) (ps : List ℕ) → times q (r ∷ l ∷ ps) ≡ times q (l ∷ r ∷ ps)
+swapped q l r ps = omega (arith, times_append q (r ∷ []) (l ∷ ps), times_append q (l ∷ []) ps, times_append q (l ∷ []) (r ∷ ps), times_append q (r ∷ []) ps)
+
+pub give_up-requires-clause-held : goal.give_up-requires-clause-held
+give_up-requires-clause-held g c =
+    let level = c.args.node.level in
+    let given = c.args.node.pair.now in
+    let words = g.R.Look.words c.args.room.now in
+    let before = pages_below level words (pairs_of words given c.args.node.slots.now) in
+    let mid = g.R.Look.words c.pack.new.room in
+    held_after g.R.Look.kept g.R.Look.standing g.R.Look.words (c.args.left ∷ before) (pages_below (suc level) mid (pairs_of mid given c.in_ok-branches.branches.items)) c.args.right
+    c.args.room.now c.pack.new.room c.in_ok-branches.ensures.ok.swaps (other c.args.left c.args.right before c.requires.two.1.1 c.requires.two.1.0.1) c.requires.two.1.0.0
 
 pub returns-clause-ok : goal.returns-clause-ok
 returns-clause-ok g c =
+    let l = c.args.left in
+    let r = c.args.right in
+    let level = c.args.node.level in
+    let given = c.args.node.pair.now in
     let words = g.R.Look.words c.args.room.now in
-    let items = pairs_of words c.args.node.pair.now c.args.node.slots.now in
-    let both : c.push-3.new.self.items ≡ Branch c.in_ok-first.first ∷ Branch c.in_ok-first.second ∷ [] =
-    c.push-3.ensures.items ∙ ap (λ (xs : List Slot). xs ++ Branch c.in_ok-first.second ∷ []) (c.push-2.ensures.items ∙ ap (λ (xs : List Slot). xs ++ Branch c.in_ok-first.first ∷ []) c.new-branches.ensures) in
-    subst (λ (xs : List Slot). Becomes g.R.Look.kept g.R.Look.standing g.R.Look.words (c.args.left ∷ c.args.right ∷ pages_below c.args.node.level words items) (pairs_below c.args.node.level words items) (suc c.args.node.level) (pairs_of (g.R.Look.words c.write_two.new.room) c.args.node.pair.now xs) c.args.room.now c.write_two.new.room)
-    (sym both) c.in_ok-first.ensures.ok
-
-pub returns-then-node-le-MOST_ITEMS-clause-ready : goal.returns-then-node-le-MOST_ITEMS-clause-ready
-returns-then-node-le-MOST_ITEMS-clause-ready g c =
-    let s = g.R.Look.standing c.write_joined.new.room in
-    let w = g.R.Look.words c.write_joined.new.room in
-    let page = c.in_ok-page.page in
-    let one : c.push.new.self.items ≡ Branch page ∷ [] = c.push.ensures.items ∙ ap (λ (xs : List Slot). xs ++ Branch page ∷ []) c.new-branches.ensures in
-    subst (All (IsReady s w)) (sym one) (branches_ready c.args.node.level s w c.args.node.pair.now (Branch page ∷ []) (all_one IsBranchSlot (Branch page) c.in_ok-page.ensures.small) c.in_ok-page.ensures.ok.below)
-
-pub returns-clause-ready : goal.returns-clause-ready
-returns-clause-ready g c =
-    let s = g.R.Look.standing c.write_two.new.room in
-    let w = g.R.Look.words c.write_two.new.room in
-    let first = c.in_ok-first.first in
-    let second = c.in_ok-first.second in
-    let both : c.push-3.new.self.items ≡ Branch first ∷ Branch second ∷ [] =
-    c.push-3.ensures.items ∙ ap (λ (xs : List Slot). xs ++ Branch second ∷ []) (c.push-2.ensures.items ∙ ap (λ (xs : List Slot). xs ++ Branch first ∷ []) c.new-branches.ensures) in
-    subst (All (IsReady s w)) (sym both)
-    (branches_ready c.args.node.level s w c.args.node.pair.now (Branch first ∷ Branch second ∷ [])
-    (All-cons IsBranchSlot (Branch first) (Branch second ∷ []) c.in_ok-first.ensures.small.0 (all_one IsBranchSlot (Branch second) c.in_ok-first.ensures.small.1)) c.in_ok-first.ensures.ok.below)
+    let items = pairs_of words given c.args.node.slots.now in
+    let before = pages_below level words items in
+    let all = pairs_below level words items in
+    let mid = g.R.Look.words c.pack.new.room in
+    let branches = c.in_ok-branches.branches.items in
+    let s = g.R.Look.standing c.pack.new.room in
+    let t = g.R.Look.standing c.give_up.new.self in
+    let gone = becomes_given_up g.R.Look.kept g.R.Look.standing g.R.Look.words (l ∷ before) all (suc level) (pairs_of mid given branches) r c.args.room.now c.pack.new.room c.give_up.new.self
+    c.in_ok-branches.ensures.ok (other l r before c.requires.two.1.1 c.requires.two.1.0.1) c.requires.two.1.0.0 c.give_up.ensures.kept c.give_up.ensures.words
+    (stands_at s t r (after_give_up (s r)) c.give_up.ensures.standing) (stands_else s t r (after_give_up (s r)) c.give_up.ensures.standing) in
+    subst (λ (w : ℕ → ℕ → ℕ). Becomes g.R.Look.kept g.R.Look.standing g.R.Look.words (l ∷ r ∷ before) all (suc level) (pairs_of w given branches) c.args.room.now c.give_up.new.self) (sym c.give_up.ensures.words)
+    (becomes_times g.R.Look.kept g.R.Look.standing g.R.Look.words (r ∷ l ∷ before) (l ∷ r ∷ before) all (suc level) (pairs_of mid given branches) c.args.room.now c.give_up.new.self
+    (λ q. swapped q l r before) gone)

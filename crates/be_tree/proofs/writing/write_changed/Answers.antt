@@ -2,13 +2,9 @@ use Rattle.std.proofs.Common.{ℕ, [], ◌∷◌, sym, subst, arith}
 use Rattle.be_pages.specs.Pages.{after_give_up}
 use Rattle.be_tree.specs.Slot.{branch_to, pairs_of}
 use Rattle.be_tree.specs.Tree.{IsWritten}
-use Rattle.be_tree.proofs.Frame.{readable_kept}
-use Rattle.be_tree.proofs.Nodes.Moves.{stands_at, stands_else}
+use Rattle.be_tree.proofs.Nodes.Stands.{stands_at, stands_else}
 use Rattle.be_tree.proofs.Putting.Puts.{held_after, swaps_given_up}
 use Rattle.be_tree.proofs.writing.write_changed.Goals as goal
-
-pub way_over-requires-clause-readable : goal.way_over-requires-clause-readable
-way_over-requires-clause-readable g c = readable_kept (g.R.Look.standing c.args.room.now c.args.old) c.requires.kept
 
 pub give_up-requires-clause-held : goal.give_up-requires-clause-held
 give_up-requires-clause-held g c = held_after g.R.Look.kept g.R.Look.standing g.R.Look.words [] (c.in_ok-page.page ∷ []) c.args.old c.args.room.now c.write_node.new.room c.in_ok-page.ensures.swaps (omega arith) c.requires.kept

@@ -1,47 +1,90 @@
-use Rattle.std.proofs.Common.{ℕ, IsTrue, get_or, ap, sym, subst, refl, ◌∙◌, arith}
+use Rattle.std.proofs.Common.{◌≡◌, ◌≢◌, ℕ, ◌<◌, IsTrue, get_or, length, ap, sym, subst, ◌∙◌, arith, zero-add}
 use Rattle.std.proofs.lemmas.List.{length-map}
-use Rattle.be_pages.specs.Pages.{is_readable}
 use Rattle.be_pages.specs.declared.room.Standing.TheVariants.{Filled, Taken}
-use Rattle.be_tree.specs.Page.{item_place}
+use Rattle.be_tree.specs.declared.slot.Slot.{Slot}
+use Rattle.be_tree.specs.declared.slot.Slot.TheVariants.{New}
+use Rattle.be_tree.specs.Page.{IsPage, item_at, item_place}
 use Rattle.be_tree.specs.Slot.{pair_of, pairs_of}
+use Rattle.be_tree.specs.Splicing.{IsStored}
 use Rattle.be_tree.proofs.Frame.{written_swaps}
-use Rattle.be_tree.proofs.Nodes.Moves.{stands_at, stands_else, stands_free, untouched_from, untouched_ready}
-use Rattle.be_tree.proofs.Nodes.Slots.{written_at}
+use Rattle.be_tree.proofs.Nodes.Slots.{stored_map, written_at}
+use Rattle.be_tree.proofs.Nodes.Stands.{stands_at, stands_else}
+use Rattle.be_tree.proofs.Splices.{filled_word, off_free, off_pair, off_ready, other_word}
+use Rattle.be_tree.proofs.writing.write_node.Given.{Over}
 use Rattle.be_tree.proofs.writing.write_node.Goals as goal
+use Rattle.be_tree.proofs.writing.write_node.Goals.{After-fill-2}
 
-pub store_node-requires-clause-ready : goal.store_node-requires-clause-ready
-store_node-requires-clause-ready g c = λ i d lt.
+-- the page with its header: it was free, and no other page has changed
+module _ (g : Over) (c : After-fill-2 g) where
+  stands : (q : ℕ) → q ≢ c.in_ok-page.page → g.R.Look.standing c.fill-2.new.self q ≡ g.R.Look.standing c.args.room.now q
+  stands q ne =
+      stands_else (g.R.Look.standing c.fill.new.self) (g.R.Look.standing c.fill-2.new.self) c.in_ok-page.page Filled c.fill-2.ensures.standing q ne
+      ∙ stands_else (g.R.Look.standing c.take.new.self) (g.R.Look.standing c.fill.new.self) c.in_ok-page.page Filled c.fill.ensures.standing q ne
+      ∙ stands_else (g.R.Look.standing c.args.room.now) (g.R.Look.standing c.take.new.self) c.in_ok-page.page Taken c.in_ok-page.ensures.ok q ne
+
+  others : (q : ℕ) → q ≢ c.in_ok-page.page → g.R.Look.words c.fill-2.new.self q ≡ g.R.Look.words c.args.room.now q
+  others q ne = c.fill-2.ensures.others q ne ∙ c.fill.ensures.others q ne ∙ ap (λ w. w q) c.in_ok-page.ensures.words
+
+  level : g.R.Look.words c.fill-2.new.self c.in_ok-page.page 0 ≡ c.args.node.level
+  level =
+      c.fill-2.ensures.place 0 ∙ other_word 0 1 (λ e. absurd (omega (arith, e))) (length c.args.node.slots.now) (g.R.Look.words c.fill.new.self c.in_ok-page.page 0)
+      ∙ c.fill.ensures.place 0 ∙ filled_word 0 c.args.node.level (g.R.Look.words c.take.new.self c.in_ok-page.page 0)
+
+  count : g.R.Look.words c.fill-2.new.self c.in_ok-page.page 1 ≡ length c.args.node.slots.now
+  count = c.fill-2.ensures.place 1 ∙ filled_word 1 (length c.args.node.slots.now) (g.R.Look.words c.fill.new.self c.in_ok-page.page 1)
+
+pub store_slots-requires-clause-filled : goal.store_slots-requires-clause-filled
+store_slots-requires-clause-filled g c = stands_at (g.R.Look.standing c.fill.new.self) (g.R.Look.standing c.fill-2.new.self) c.in_ok-page.page Filled c.fill-2.ensures.standing
+
+pub store_slots-requires-clause-ready : goal.store_slots-requires-clause-ready
+store_slots-requires-clause-ready g c = λ i d lt.
+    let at = (goal.at.store_slots-requires-clause-ready g c).After-fill-2 in
     let page = c.in_ok-page.page in
     let s = g.R.Look.standing c.args.room.now in
-    let t = g.R.Look.standing c.take.new.self in
     let v = g.R.Look.words c.args.room.now in
-    let w = g.R.Look.words c.take.new.self in
     let slot = get_or c.args.node.slots.now i d in
-    let same = c.in_ok-page.ensures.words in
-    untouched_ready page s t v w (stands_else s t page Taken c.in_ok-page.ensures.ok) (λ q ne. ap (λ (u : ℕ → ℕ → ℕ). u q) same)
-    (subst (λ u. IsTrue (is_readable u)) (sym (stands_at s t page Taken c.in_ok-page.ensures.ok)) refl) slot
-    (untouched_from page 0 (v page) (w page) slot (λ k ge. ap (λ (u : ℕ → ℕ → ℕ). u page k) same) (stands_free page 0 s v slot c.in_ok-page.ensures.page.1 (c.requires.ready i d lt)))
-    (c.requires.ready i d lt)
+    let ready = c.requires.ready i d lt in
+    off_ready page s (g.R.Look.standing c.fill-2.new.self) v (g.R.Look.words c.fill-2.new.self) (stands g at) (others g at) slot (off_free page s v slot c.in_ok-page.ensures.page.1 ready) ready
 
-pub store_node-requires-clause-down : goal.store_node-requires-clause-down
-store_node-requires-clause-down g c = λ j d lt.
-    stands_free c.in_ok-page.page (item_place j) (g.R.Look.standing c.args.room.now) (g.R.Look.words c.args.room.now) (get_or c.args.node.slots.now j d) c.in_ok-page.ensures.page.1 (c.requires.ready j d lt)
+pub store_slots-requires-clause-off : goal.store_slots-requires-clause-off
+store_slots-requires-clause-off g c = λ i d lt.
+    off_free c.in_ok-page.page (g.R.Look.standing c.args.room.now) (g.R.Look.words c.args.room.now) (get_or c.args.node.slots.now i d) c.in_ok-page.ensures.page.1 (c.requires.ready i d lt)
+
+pub store_slots-requires-clause-open : goal.store_slots-requires-clause-open
+store_slots-requires-clause-open g c =
+    subst (λ k. IsTrue (g.R.Look.is_open k)) (sym (c.fill-2.ensures.kept ∙ c.fill.ensures.kept ∙ c.in_ok-page.ensures.kept)) c.requires.open
 
 pub returns-clause-ok : goal.returns-clause-ok
 returns-clause-ok g c =
-    written_at c.args.node.level (g.R.Look.words c.store_node.new.room) (pairs_of (g.R.Look.words c.args.room.now) c.args.node.pair.now c.args.node.slots.now) c.in_ok-page.page c.in_ok-page.ensures.page.0
-    c.store_node.ensures.page c.store_node.ensures.level (c.store_node.ensures.items ∙ ap (λ (w : ℕ → ℕ → ℕ). pairs_of w c.args.node.pair.now c.args.node.slots.now) c.in_ok-page.ensures.words)
-    (omega (arith, length-map c.args.node.slots.now (pair_of (g.R.Look.words c.args.room.now) c.args.node.pair.now), c.requires.some))
+    let at = (goal.at.returns-clause-ok g c).After-fill-2 in
+    let page = c.in_ok-page.page in
+    let slots = c.args.node.slots.now in
+    let given = c.args.node.pair.now in
+    let s = g.R.Look.standing c.args.room.now in
+    let v = g.R.Look.words c.args.room.now in
+    let w = g.R.Look.words c.store_slots.new.room page in
+    let only = c.store_slots.ensures.only in
+    let f = pair_of v given in
+    let counted : w 1 ≡ length slots = only.before 1 (omega arith) ∙ count g at in
+    let stored : (k : ℕ) (d : Slot) → k < w 1 → IsStored w k (f (get_or slots k d)) = λ k d lt.
+    let less : k < length slots = omega (arith, lt, counted) in
+    let this = subst (λ (n : ℕ). IsStored w n (pair_of (g.R.Look.words c.fill-2.new.self) given (get_or slots k d))) (zero-add k) (c.store_slots.ensures.items k d less) in (
+      this.0 ∙ off_pair page s (g.R.Look.standing c.fill-2.new.self) v (g.R.Look.words c.fill-2.new.self) (stands g at) (others g at) given (get_or slots k d)
+          (off_free page s v (get_or slots k d) c.in_ok-page.ensures.page.1 (c.requires.ready k d less)),
+      this.1,
+    ) in
+    let is_page : IsPage w = record { few = omega (arith, counted, c.requires.few); each = λ j lt. (stored j New lt).1 } in
+    written_at c.args.node.level (g.R.Look.words c.store_slots.new.room) (pairs_of v given slots) page c.in_ok-page.ensures.page.0 is_page (only.before 0 (omega arith) ∙ level g at)
+    (stored_map f (λ (k : ℕ). item_at w (item_place k)) slots (w 1) counted (λ k d lt. (stored k d lt).0)) (omega (arith, length-map slots f, c.requires.some))
 
 pub returns-clause-swaps : goal.returns-clause-swaps
 returns-clause-swaps g c =
+    let at = (goal.at.returns-clause-swaps g c).After-fill-2 in
     let page = c.in_ok-page.page in
-    let s = g.R.Look.standing c.args.room.now in
-    let t = g.R.Look.standing c.take.new.self in
-    let u = g.R.Look.standing c.store_node.new.room in
-    written_swaps g.R.Look.kept g.R.Look.standing g.R.Look.words page c.args.room.now c.store_node.new.room
-    (c.store_node.ensures.kept ∙ c.in_ok-page.ensures.kept)
+    let only = c.store_slots.ensures.only in
+    written_swaps g.R.Look.kept g.R.Look.standing g.R.Look.words page c.args.room.now c.store_slots.new.room
+    (only.kept ∙ c.fill-2.ensures.kept ∙ c.fill.ensures.kept ∙ c.in_ok-page.ensures.kept)
     c.in_ok-page.ensures.page.1
-    (stands_at t u page Filled c.store_node.ensures.standing)
-    (λ q ne. stands_else t u page Filled c.store_node.ensures.standing q ne ∙ stands_else s t page Taken c.in_ok-page.ensures.ok q ne)
-    (λ q ne. c.store_node.ensures.others q ne ∙ ap (λ (w : ℕ → ℕ → ℕ). w q) c.in_ok-page.ensures.words)
+    (only.standing page ∙ stands_at (g.R.Look.standing c.fill.new.self) (g.R.Look.standing c.fill-2.new.self) page Filled c.fill-2.ensures.standing)
+    (λ q ne. only.standing q ∙ stands g at q ne)
+    (λ q ne. only.others q ne ∙ others g at q ne)

@@ -22,30 +22,30 @@ write_node-requires-clause-ready g c =
     all_right (IsReady (g.R.Look.standing c.args.room.now) (g.R.Look.words c.args.room.now)) c.split_at.result.0.now c.split_at.result.1.now
     (ready g (goal.at.write_node-requires-clause-ready g c).After-split_at)
 
-pub rewrite-requires-clause-ready : goal.rewrite-requires-clause-ready
-rewrite-requires-clause-ready g c =
+pub write_changed-requires-clause-ready : goal.write_changed-requires-clause-ready
+write_changed-requires-clause-ready g c =
     all_ready_swaps g.R.Look.kept g.R.Look.standing g.R.Look.words [] (c.in_ok-right.right ∷ []) c.args.room.now c.write_node.new.room c.in_ok-right.ensures.swaps c.split_at.result.0.now (all_apart_nil c.split_at.result.0.now)
-    (front_ready g (goal.at.rewrite-requires-clause-ready g c).After-split_at)
+    (front_ready g (goal.at.write_changed-requires-clause-ready g c).After-split_at)
 
-pub rewrite-requires-clause-kept : goal.rewrite-requires-clause-kept
-rewrite-requires-clause-kept g c =
+pub write_changed-requires-clause-kept : goal.write_changed-requires-clause-kept
+write_changed-requires-clause-kept g c =
     subst (λ s. IsTrue (is_kept s))
     (sym (swaps_stands g.R.Look.kept g.R.Look.standing g.R.Look.words [] (c.in_ok-right.right ∷ []) c.args.room.now c.write_node.new.room c.in_ok-right.ensures.swaps c.args.old (omega arith) (readable_kept (g.R.Look.standing c.args.room.now c.args.old) c.requires.old.0)))
     c.requires.old.0
 
-pub rewrite-requires-clause-open : goal.rewrite-requires-clause-open
-rewrite-requires-clause-open g c = subst (λ k. IsTrue (g.R.Look.is_open k)) (sym c.in_ok-right.ensures.swaps.kept) c.requires.open
+pub write_changed-requires-clause-open : goal.write_changed-requires-clause-open
+write_changed-requires-clause-open g c = subst (λ k. IsTrue (g.R.Look.is_open k)) (sym c.in_ok-right.ensures.swaps.kept) c.requires.open
 
 pub returns-in_err-left-clause-err : goal.returns-in_err-left-clause-err
 returns-in_err-left-clause-err g c =
-    on_err _ (start_trans g.R.Look.kept g.R.Look.standing g.R.Look.words c.args.room.now c.write_node.new.room c.rewrite.new.room
+    on_err _ (start_trans g.R.Look.kept g.R.Look.standing g.R.Look.words c.args.room.now c.write_node.new.room c.write_changed.new.room
     (swaps_start g.R.Look.kept g.R.Look.standing g.R.Look.words [] (c.in_ok-right.right ∷ []) c.args.room.now c.write_node.new.room c.in_ok-right.ensures.swaps)
     c.in_err-left.ensures.err)
 
 pub returns-clause-ok : goal.returns-clause-ok
 returns-clause-ok g c =
     parts_written g.R.Look.kept g.R.Look.standing g.R.Look.words c.args.node.level c.args.node.pair.now c.split_at.result.0.now c.split_at.result.1.now c.args.node.slots.now c.args.old c.in_ok-left.left c.in_ok-right.right
-    c.args.room.now c.write_node.new.room c.rewrite.new.room c.split_at.ensures.by_index.0 c.requires.node.0
+    c.args.room.now c.write_node.new.room c.write_changed.new.room c.split_at.ensures.by_index.0 c.requires.node.0
     (omega (arith, c.split_at.ensures.front_len, c.requires.first)) (omega (arith, c.split_at.ensures.back_len, c.requires.second))
     (front_ready g (goal.at.returns-clause-ok g c).After-split_at) c.requires.old.0 c.requires.old.1
     c.in_ok-right.ensures.ok c.in_ok-right.ensures.small c.in_ok-right.ensures.swaps c.in_ok-left.ensures.ok c.in_ok-left.ensures.small c.in_ok-left.ensures.swaps

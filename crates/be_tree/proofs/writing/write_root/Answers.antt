@@ -14,14 +14,14 @@ use Rattle.be_tree.proofs.writing.write_root.Goals as goal
 pub returns-then-node-le-MOST_ITEMS-clause-ok : goal.returns-then-node-le-MOST_ITEMS-clause-ok
 returns-then-node-le-MOST_ITEMS-clause-ok g c =
     let words = g.R.Look.words c.args.room.now in
-    let new = g.R.Look.words c.rewrite.new.room in
+    let new = g.R.Look.words c.write_changed.new.room in
     let items = pairs_of words c.args.node.pair.now c.args.node.slots.now in
     let is = child_branch new c.in_ok-top.top c.in_ok-top.ensures.small in
-    subst (λ (r : ℕ). BecomesTree g.R.Look.kept g.R.Look.standing g.R.Look.words (c.args.old ∷ pages_below c.args.node.level words items) (pairs_below c.args.node.level words items) r c.args.room.now c.rewrite.new.room)
+    subst (λ (r : ℕ). BecomesTree g.R.Look.kept g.R.Look.standing g.R.Look.words (c.args.old ∷ pages_below c.args.node.level words items) (pairs_below c.args.node.level words items) r c.args.room.now c.write_changed.new.room)
     (omega (arith, is))
-    (root_written g.R.Look.kept g.R.Look.standing g.R.Look.words c.args.node.level items (branch_to new c.in_ok-top.top) (c.args.old ∷ []) c.args.room.now c.rewrite.new.room c.requires.node.0
+    (root_written g.R.Look.kept g.R.Look.standing g.R.Look.words c.args.node.level items (branch_to new c.in_ok-top.top) (c.args.old ∷ []) c.args.room.now c.write_changed.new.room c.requires.node.0
     (omega (arith, c.requires.enough, length-map c.args.node.slots.now (pair_of words c.args.node.pair.now))) c.in_ok-top.ensures.ok
-    (subst (λ (p : ℕ). Swaps g.R.Look.kept g.R.Look.standing g.R.Look.words (c.args.old ∷ []) (p ∷ []) c.args.room.now c.rewrite.new.room) (sym is) c.in_ok-top.ensures.swaps)
+    (subst (λ (p : ℕ). Swaps g.R.Look.kept g.R.Look.standing g.R.Look.words (c.args.old ∷ []) (p ∷ []) c.args.room.now c.write_changed.new.room) (sym is) c.in_ok-top.ensures.swaps)
     (one_beside c.args.old (pages_below c.args.node.level words items) c.requires.old.1 c.requires.node.0.once))
 
 pub write_node-requires-clause-ready : goal.write_node-requires-clause-ready

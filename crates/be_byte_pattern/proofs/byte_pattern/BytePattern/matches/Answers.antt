@@ -13,6 +13,6 @@ at_some ps o runs e h = subst (λ (x : Option Runs). IfSome x (λ r. IsOfRuns ps
 pub returns-in-Some : goal.returns-in-Some
 returns-in-Some c = λ utf8.
     let inside = c.self.inside in
-    c.stand_in.ensures
+    c.are_in.ensures
     ∙ runs_match inside.pattern.now c.in-Some.runs c.args.text.now (at_some inside.pattern.now inside.runs c.in-Some.runs c.in-Some.is c.self.invariant) utf8
     ∙ ap (λ ps. matches ps (chars c.args.text.now)) c.self.view_is

@@ -14,7 +14,7 @@ use Rattle.be_paged.specs.Entry.{Entry}
 use Rattle.be_paged.specs.Page.{IsNamedAt, contents_of}
 use Rattle.be_paged.specs.Source.{IsKnown}
 use Rattle.be_paged.proofs.Stored.PageIndices.{source_since}
-use Rattle.be_paged.proofs.Asking.SourceKeys.{entry_tree, no_key, is_next_key, behind_next}
+use Rattle.be_paged.proofs.Asking.SourceKeys.{entry_tree, no_key, is_next_key, beyond_next}
 use Rattle.be_paged.proofs.Versions.{version_since}
 use Rattle.be_paged.proofs.paged_source.PagedSourceSource.next_key.Goals as goal
 
@@ -53,12 +53,12 @@ walk_to-requires-clause-tree g c =
     let version = version_since (g.L.Look.standing self.look) s (g.L.Look.words self.look) w self.page c.requires.0 since.standing since.words c.requires.1.version in
     subst (IsTree s w) (sym (c.in-Some.ensures.found.root nowhere)) (entry_tree s w (contents_of (w self.page)) c.in-Some.index.place nowhere version.in_hand c.in-Some.ensures.found.named.in_range)
 
-pub walk_to-requires-clause-behind : goal.walk_to-requires-clause-behind
-walk_to-requires-clause-behind g c =
+pub walk_to-requires-clause-beyond : goal.walk_to-requires-clause-beyond
+walk_to-requires-clause-beyond g c =
     let self = c.args.self.now in
     let since = c.in-Some.ensures.unchanged in
     let now = source_since (g.L.Look.standing self.look) (g.L.Look.standing c.known_index.new.look) (g.L.Look.words self.look) (g.L.Look.words c.known_index.new.look) self.page self.known c.known_index.new.known self.cursor self.place self.last.0 self.last.1 c.requires.0 since.standing since.words c.in-Some.ensures.known c.requires.1 in
-    now.behind
+    now.beyond
 
 pub returns-in_err-page-clause-answer : goal.returns-in_err-page-clause-answer
 returns-in_err-page-clause-answer g c = λ volume of.
@@ -131,7 +131,7 @@ returns-in_err-page-clause-answers g c = λ volume of.
     rw (c.walk_to.ensures.page, c.walk_to.ensures.known) (record {
       version = now;
       known_is = subst (λ (u : ℕ → ℕ → ℕ). IsKnown (contents_of (u page)).entries c.known_index.new.known) (sym (last.words ∙ step.words)) c.in-Some.ensures.known;
-      behind = record { can_go_on = λ lt. absurd (omega (arith, lt, now.in_hand.few)); last = λ lt. absurd (omega (arith, lt, now.in_hand.few)); rest = λ d lt. absurd (omega (arith, lt, now.in_hand.few)) };
+      beyond = record { can_go_on = λ lt. absurd (omega (arith, lt, now.in_hand.few)); last = λ lt. absurd (omega (arith, lt, now.in_hand.few)); rest = λ d lt. absurd (omega (arith, lt, now.in_hand.few)) };
     })
 
 pub returns-clause-answers : goal.returns-clause-answers
@@ -161,7 +161,7 @@ returns-clause-answers g c = λ volume of.
     rw (c.walk_to.ensures.page, c.walk_to.ensures.known) (record {
       version = version_since s2 s3 w2 w3 page volume standing words version;
       known_is = subst (λ (u : ℕ → ℕ → ℕ). IsKnown (contents_of (u page)).entries c.known_index.new.known) (sym (words ∙ step.words)) c.in-Some.ensures.known;
-      behind = record {
+      beyond = record {
         can_go_on = λ lt. subst (λ (u : ℕ → Standing). IsCursor u w3 c.step.new.self) (sym standing) (subst (λ (u : ℕ → ℕ → ℕ). IsCursor s2 u c.step.new.self) (sym words) c.in_ok-page.ensures.cursor);
         last = λ lt. record {
           readable = subst (λ (u : ℕ → Standing). IsTrue (is_readable (u p))) (sym standing) c.in_ok-page.ensures.readable;
@@ -172,7 +172,7 @@ returns-clause-answers g c = λ volume of.
             let root : c.in-Some.index.root ≡ (get_or contents.entries place d).root = c.in-Some.ensures.found.root d ∙ ap (λ (u : ℕ → ℕ → ℕ). (get_or (contents_of (u page)).entries place d).root) (sym step.words) in
             let rising = tree_rising s2 w2 (get_or contents.entries place d).root (entry_tree s2 w2 contents place d version.in_hand named.in_range) in
             ap (λ (u : ℕ → ℕ → ℕ). remaining u c.step.new.self) words ∙ c.in_ok-page.ensures.remaining
-            ∙ behind_next (pairs w2 (get_or contents.entries place d).root) rising c.args.from.now c.args.after (remaining w2 self2.cursor) (item_at (w2 p) at).key
+            ∙ beyond_next (pairs w2 (get_or contents.entries place d).root) rising c.args.from.now c.args.after (remaining w2 self2.cursor) (item_at (w2 p) at).key
             (c.walk_to.ensures.rest ∙ ap (λ (r : ℕ). pairs_from (pairs w2 r) c.args.from.now c.args.after) root) (sym (ap (option_map (λ (x : Pair). x.key)) c.in_ok-page.ensures.item))
             ∙ ap (λ (u : ℕ → ℕ → ℕ). pairs_from (pairs u (get_or (contents_of (u page)).entries place d).root) (item_at (u p) at).key true) (sym words);
       };

@@ -4,4 +4,4 @@ use Rattle.be_pattern.proofs.Fronts.{front_matches}
 use Rattle.be_pattern.proofs.pattern.Pattern.is_prefix.Goals as goal
 
 pub returns-clause-decides : goal.returns-clause-decides
-returns-clause-decides c = λ h behind whole. front_matches c.args.self.now behind (ap is_prefix (sym c.self.view_is) ∙ sym c.self.invariant.2 ∙ h) whole
+returns-clause-decides c = λ h beyond whole. front_matches c.args.self.now beyond (ap is_prefix (sym c.self.view_is) ∙ sym c.self.invariant.2 ∙ h) whole

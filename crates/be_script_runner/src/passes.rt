@@ -1,0 +1,86 @@
+//! Scripts served from a pass of a shared store, line by line.
+//!
+//! Between two lines there is the pass alone, so what it knows after each line is a fact of its
+//! own: calls of the store led there from what it knew before the line, and the reply is one of the
+//! store that it then shows.
+ghost use Rattle.std.specs.Prelude.{◌≡◌, ◌≤◌, OnOk, Some, length};
+ghost use Rattle.be_script_runner.specs.Gates.{AreTold, line_count};
+ghost use Rattle.be_script_runner.specs.Lines.{IsAnsweredBy, IsServedBy};
+ghost use Rattle.be_script_runner.specs.Run.{Wrote};
+ghost use Rattle.be_script_runner.specs.Served.{known};
+ghost use Rattle.be_script_runner.specs.View.{session, queued_ops};
+ghost use Rattle.be_store.specs.Passes.{IsPassOf};
+
+use crate::RunFault;
+use crate::client::Client;
+use crate::gates::Gate;
+use crate::runs::{run_line, split_line};
+use crate::stores::PassServer;
+use be_store::{Pass, Store};
+use std::alloc::Global;
+
+/// Runs a line from the pass, and appends its reply. The pass comes back in either case.
+fn serve_line(
+    alloc: Global,
+    store: &Store,
+    pass: Pass,
+    client: &mut Client,
+    line: &[u8],
+    replies: &mut Vec<u8>,
+) -> (Pass, Result<(), RunFault>)
+    requires pass { IsPassOf store.now pass }
+    requires few { length (queued_ops client.old) ≤ 64 }
+    ensures pass { IsPassOf store.now result.0 }
+    ensures number { result.0.knows.number ≡ pass.knows.number }
+    ensures ok { OnOk result.1 (Wrote (Some replies.old.items) (Some replies.new.items)
+        (IsAnsweredBy pass.knows (session (known pass.knows) client.old) line.now result.0.knows
+        (session (known result.0.knows) client.new))) }
+    ensures few { length (queued_ops client.new) ≤ 64 }
+{
+    let mut server = PassServer::at_first(alloc, store, pass);
+    let ran = run_line(alloc, &mut server, client, line, replies);
+    (server.at_last(), ran)
+}
+
+/// Runs the lines of a script from the pass as `run_lines` does, each between two calls of the
+/// gate, and appends the replies. The pass comes back in either case.
+pub(crate) fn serve_lines<G: Gate>(
+    alloc: Global,
+    store: &Store,
+    pass: Pass,
+    gate: &G,
+    script: &[u8],
+    replies: &mut Vec<u8>,
+) -> (Pass, Result<(), RunFault>)
+    requires { IsPassOf store.now pass }
+    ensures pass { IsPassOf store.now result.0 }
+    ensures number { result.0.knows.number ≡ pass.knows.number }
+    ensures served { OnOk result.1 (Wrote (Some replies.old.items) (Some replies.new.items)
+        (IsServedBy pass.knows script.now result.0.knows)) }
+    ensures told { OnOk result.1 (AreTold (G.begun gate.now pass.knows.number)
+        (G.ended gate.now pass.knows.number) (line_count script.now)) }
+{
+    let place = pass.number();
+    let mut client = Client::new();
+    let mut current = pass;
+    let mut rest = script;
+    let mut number = 1;
+    while let Some((line, beyond)) = split_line(rest) {
+        gate.before(place, number);
+        let (next, ran) = serve_line(alloc, store, current, &mut client, line, replies);
+        gate.after(place, number);
+        current = next;
+        match ran {
+            Ok(()) => rest = beyond,
+            Err(fault) => return (current, Err(fault)),
+        }
+        number += 1;
+    }
+    if rest.is_empty() {
+        return (current, Ok(()));
+    }
+    gate.before(place, number);
+    let (last, ran) = serve_line(alloc, store, current, &mut client, rest, replies);
+    gate.after(place, number);
+    (last, ran)
+}

@@ -1,0 +1,18 @@
+use Rattle.std.proofs.Common.{◌≡◌, ◌-◌, length, take}
+use Rattle.be_pages.specs.Pages.{KeepsStart}
+use Rattle.be_tree.specs.Page.{level_of}
+use Rattle.be_tree.specs.Path.{IsChanged, whole}
+use Rattle.be_tree.specs.Tree.{pairs_at}
+use Rattle.be_tree.proofs.rising.rise.Given as goal
+
+-- the change has come up so far, of whatever tree it is
+abbrev pub invariant-loop-i : goal.invariant-loop-i
+invariant-loop-i g l = record {
+  kept : g.R.Look.kept l.room ≡ g.R.Look.kept l.fn.room;
+  starts : KeepsStart g.R.Look.kept g.R.Look.standing g.R.Look.words l.fn.room l.room;
+  changed : (start : g.row.R.Denot) → IsChanged g.R.Look.kept g.R.Look.standing g.R.Look.words l.root l.above l.fn.changed (level_of (g.R.Look.words start l.fn.changed.was)) start l.fn.room
+      → IsChanged g.R.Look.kept g.R.Look.standing g.R.Look.words l.root (take (length l.above - l.i) l.above) l.below (level_of (g.R.Look.words start l.below.was)) start l.room;
+  same : (start : g.row.R.Denot) → IsChanged g.R.Look.kept g.R.Look.standing g.R.Look.words l.root l.above l.fn.changed (level_of (g.R.Look.words start l.fn.changed.was)) start l.fn.room
+      → whole (g.R.Look.words start) (take (length l.above - l.i) l.above) (pairs_at (level_of (g.R.Look.words start l.below.was)) (g.R.Look.words l.room) l.below.page)
+      ≡ whole (g.R.Look.words start) l.above (pairs_at (level_of (g.R.Look.words start l.fn.changed.was)) (g.R.Look.words l.fn.room) l.fn.changed.page);
+}

@@ -1,0 +1,33 @@
+use Rattle.std.proofs.Common.{◌≡◌, ◌+◌, ◌∙◌, subst, inl, inr, arith}
+use Rattle.std.proofs.lemmas.Bool.{cases_lt}
+use Rattle.be_tree.specs.Page.{item_place}
+use Rattle.be_tree.specs.Splicing.{IsCopy}
+use Rattle.be_tree.proofs.Splices.{only_then, there}
+use Rattle.be_tree.proofs.splicing.copy_down.Goals as goal
+
+pub copy_item-requires-clause-item : goal.copy_item-requires-clause-item
+copy_item-requires-clause-item g c =
+    (there g.R.Look.kept g.R.Look.standing g.R.Look.words c.args.page (item_place c.args.at) (item_place (c.args.at + c.loop-i.i)) c.args.room.now c.loop-i.room c.loop-i.invariant.only
+    c.args.from (item_place (c.args.first + c.loop-i.i)) (λ e. inl (omega (arith, c.requires.down e))) (c.requires.items c.loop-i.i (omega (arith, c.loop-i-test.true)))).1
+
+pub loop-i-preserved : goal.loop-i-preserved
+loop-i-preserved g c =
+    let i = c.loop-i.i in
+    let here = item_place (c.args.at + i) in
+    let source = there g.R.Look.kept g.R.Look.standing g.R.Look.words c.args.page (item_place c.args.at) here c.args.room.now c.loop-i.room c.loop-i.invariant.only
+    c.args.from (item_place (c.args.first + i)) (λ e. inl (omega (arith, c.requires.down e))) (c.requires.items i (omega (arith, c.loop-i-test.true))) in
+    record {
+      copied = λ k lt. elim (cases_lt k i) [
+        | inl below ↦
+            let was = c.loop-i.invariant.copied k below in
+            let still = there g.R.Look.kept g.R.Look.standing g.R.Look.words c.args.page here (here + 42) c.loop-i.room c.copy_item.new.room c.copy_item.ensures.only
+            c.args.page (item_place (c.args.at + k)) (λ e. inr (omega (arith, below))) was.1 in
+            (still.0 ∙ was.0, still.1)
+        | inr past ↦
+            let e : i ≡ k = omega (arith, past, lt) in
+            subst (λ n. IsCopy (g.R.Look.words c.args.room.now c.args.from) (g.R.Look.words c.copy_item.new.room c.args.page) (c.args.first + n) (c.args.at + n)) e
+            (c.copy_item.ensures.item ∙ source.0, c.copy_item.ensures.fits)
+      ];
+      only = only_then g.R.Look.kept g.R.Look.standing g.R.Look.words c.args.page (item_place c.args.at) here c.args.room.now c.loop-i.room c.loop-i.invariant.only
+          here (here + 42) (item_place c.args.at) (item_place (c.args.at + (i + 1))) c.copy_item.new.room c.copy_item.ensures.only (omega arith) (omega arith) (omega arith) (omega arith);
+    }

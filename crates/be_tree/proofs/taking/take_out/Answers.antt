@@ -1,0 +1,96 @@
+use Rattle.std.proofs.Common.{◌≡◌, ℕ, true, ltb, ◌+◌, ◌<◌, [], IfOk, length, drop, ap, sym, subst, arith}
+use Rattle.std.proofs.lemmas.Bool.Decides.{nat_tests}
+use Rattle.std.proofs.lemmas.Result.{IfOk-weaker}
+use Rattle.be_tree.specs.Key.{without}
+use Rattle.be_tree.specs.Page.{items_of}
+use Rattle.be_tree.specs.Path.{IsPathTo, least_at}
+use Rattle.be_tree.specs.Tree.{BecomesTree, pages, pairs}
+use Rattle.be_tree.proofs.Frame.{readable_kept, unchanged_start}
+use Rattle.be_tree.proofs.Leaves.{TakesAt, all_is, all_rise, keeps_front, length_spliced, path_read, refuses_since, takes_at, tree_since}
+use Rattle.be_tree.proofs.Nodes.Slots.{items_count}
+use Rattle.be_tree.proofs.Removing.Removes.{rising_without}
+use Rattle.be_tree.proofs.taking.take_out.Given.{Over}
+use Rattle.be_tree.proofs.taking.take_out.Goals as goal
+use Rattle.be_tree.proofs.taking.take_out.Goals.{After-count_of, Start}
+
+above_zero : (n : ℕ) → ltb 0 n ≡ true → 0 < n
+above_zero n e = grind (arith, nat_tests)
+
+-- the state before the count was read
+takes : (g : Over) (c : Start g) → TakesAt (g.R.Look.standing c.args.room.now) (g.R.Look.words c.args.room.now) c.args.root c.args.path.now c.args.key.now c.args.at
+takes g c = takes_at (g.R.Look.standing c.args.room.now) (g.R.Look.words c.args.room.now) c.args.root c.args.path.now c.args.key.now c.args.at c.requires.path c.requires.found
+
+pub count_of-requires-clause-readable : goal.count_of-requires-clause-readable
+count_of-requires-clause-readable g c =
+    readable_kept (g.R.Look.standing c.args.room.now c.args.path.now.leaf) (takes g (goal.at.count_of-requires-clause-readable g c).Start).leafy.tree.page_in_use
+
+pub count_of-requires-clause-page : goal.count_of-requires-clause-page
+count_of-requires-clause-page g c = (takes g (goal.at.count_of-requires-clause-page g c).Start).leafy.tree.node.is_page
+
+-- and once it was
+path : (g : Over) (c : After-count_of g) → IsPathTo (g.R.Look.standing c.count_of.new.look) (g.R.Look.words c.count_of.new.look) c.args.root c.args.key.now c.args.path.now
+path g c = path_read g.R.Look.kept g.R.Look.standing g.R.Look.words c.args.room.now c.count_of.new.look c.count_of.ensures.unchanged c.args.root c.args.key.now c.args.path.now c.requires.path
+
+after : (g : Over) (c : After-count_of g) → TakesAt (g.R.Look.standing c.count_of.new.look) (g.R.Look.words c.count_of.new.look) c.args.root c.args.path.now c.args.key.now c.args.at
+after g c = takes_at (g.R.Look.standing c.count_of.new.look) (g.R.Look.words c.count_of.new.look) c.args.root c.args.path.now c.args.key.now c.args.at (path g c) c.requires.found
+
+pub underflow-requires-clause-path : goal.underflow-requires-clause-path
+underflow-requires-clause-path g c = path g (goal.at.underflow-requires-clause-path g c).After-count_of
+
+pub change_leaf-requires-clause-way : goal.change_leaf-requires-clause-way
+change_leaf-requires-clause-way g c = (path g (goal.at.change_leaf-requires-clause-way g c).After-count_of).way
+
+pub change_leaf-requires-clause-cut : goal.change_leaf-requires-clause-cut
+change_leaf-requires-clause-cut g c =
+    let at = (goal.at.change_leaf-requires-clause-cut g c).After-count_of in
+    let leafy = (after g at).leafy in
+    record {
+      is_page = leafy.tree.node.is_page;
+      in_use = leafy.tree.page_in_use;
+      in_range = omega (arith, (after g at).in_range, items_count (g.R.Look.words c.count_of.new.look c.args.path.now.leaf));
+      few = omega (arith, leafy.tree.node.is_page.few);
+      ready = λ i d lt. absurd (omega (arith, lt));
+      off = λ i d lt. absurd (omega (arith, lt));
+      key_fits = omega (arith, ap length c.new-none.ensures.key);
+    }
+
+pub change_leaf-requires-clause-edit : goal.change_leaf-requires-clause-edit
+change_leaf-requires-clause-edit g c =
+    let at = (goal.at.change_leaf-requires-clause-edit g c).After-count_of in
+    let key = c.args.key.now in
+    let words = g.R.Look.words c.count_of.new.look in
+    let items = items_of (words c.args.path.now.leaf) in
+    let take_at = after g at in
+    record {
+      is_leaf = (path g at).is_leaf;
+      enough = omega (
+        arith,
+        c.if-count_of-least_of_leaf.false,
+        c.least_of_leaf.ensures,
+        ap (λ xs. least_at xs 0) c.deref.ensures.0,
+        length_spliced (record { at = c.args.at; gone = 1 }) items [] (omega (arith, take_at.in_range)),
+        items_count (words c.args.path.now.leaf),
+        c.count_of.ensures.count,
+        ap (λ (w : ℕ → ℕ → ℕ). w c.args.path.now.leaf 1) c.count_of.ensures.unchanged.words,
+      );
+      least = λ e. keeps_front c.args.at items (drop (c.args.at + 1) items) (above_zero c.args.at e);
+      rising = all_rise (without key) (rising_without key) (g.R.Look.standing c.count_of.new.look) words c.args.root c.args.path.now.above.items c.args.path.now.leaf (record { at = c.args.at; gone = 1 }) [] take_at.leafy take_at.is;
+    }
+
+pub returns-clause-ok : goal.returns-clause-ok
+returns-clause-ok g c =
+    let at = (goal.at.returns-clause-ok g c).After-count_of in
+    let key = c.args.key.now in
+    let read = c.count_of.new.look in
+    let words = g.R.Look.words read in
+    let take_at = after g at in
+    let all = all_is (without key) (rising_without key) (g.R.Look.standing read) words c.args.root c.args.path.now.above.items c.args.path.now.leaf (record { at = c.args.at; gone = 1 }) [] take_at.leafy take_at.is in
+    let becomes = λ (new : ℕ). BecomesTree g.R.Look.kept g.R.Look.standing g.R.Look.words (pages words c.args.root) (without key (pairs words c.args.root)) new read c.change_leaf.new.room in
+    IfOk-weaker c.change_leaf.result becomes (λ new. BecomesTree g.R.Look.kept g.R.Look.standing g.R.Look.words (pages (g.R.Look.words c.args.room.now) c.args.root) (without key (pairs (g.R.Look.words c.args.room.now) c.args.root)) new c.args.room.now c.change_leaf.new.room)
+    (λ new h. tree_since g.R.Look.kept g.R.Look.standing g.R.Look.words c.args.room.now read c.count_of.ensures.unchanged (without key) c.args.root new c.change_leaf.new.room h)
+    (subst (λ ps. IfOk c.change_leaf.result (λ new. BecomesTree g.R.Look.kept g.R.Look.standing g.R.Look.words (pages words c.args.root) ps new read c.change_leaf.new.room)) (sym all) c.change_leaf.ensures.ok)
+
+pub returns-clause-refused : goal.returns-clause-refused
+returns-clause-refused g c =
+    refuses_since g.R.Look.kept g.R.Look.standing g.R.Look.words g.R.Room.full c.change_leaf.result c.args.room.now c.count_of.new.look c.change_leaf.new.room
+    (unchanged_start g.R.Look.kept g.R.Look.standing g.R.Look.words c.args.room.now c.count_of.new.look c.count_of.ensures.unchanged) c.change_leaf.ensures.refused

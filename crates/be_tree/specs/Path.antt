@@ -1,0 +1,116 @@
+-- The way down to a key, and what becomes of a tree below it and up to its root.
+use Rattle.std.specs.Prelude.{◌≡◌, ℕ, suc, ◌-◌, ◌<◌, ◌≤◌, List, [], ◌∷◌, ◌++◌, length, take}
+use Rattle.std.specs.Prelude.{drop, All, true, IfOk, IfErr}
+use Rattle.std.specs.declared.cmp.Ordering.TheVariants.{Equal}
+use Rattle.be_pages.specs.declared.room.Standing.{Standing}
+use Rattle.be_pages.specs.Pages.{Swaps}
+use Rattle.be_tree.specs.declared.path.Step.{Step}
+use Rattle.be_tree.specs.declared.path.Path.{Path}
+use Rattle.be_tree.specs.declared.rising.Changed.{Changed}
+use Rattle.be_tree.specs.declared.rising.Edit.{Edit}
+use Rattle.be_tree.specs.declared.slot.Slot.{Slot}
+use Rattle.be_tree.specs.Pair.{Pair}
+use Rattle.be_tree.specs.Key.{IsBranchFor, IsGap, IsRising, StartsAt, key_cmp}
+use Rattle.be_tree.specs.Page.{item_at, item_place, items_of, level_of}
+use Rattle.be_tree.specs.Slot.{IsReady, pairs_of}
+use Rattle.be_tree.specs.Splicing.{spliced}
+use Rattle.be_tree.specs.Tree.{Becomes, IsTree, IsTreeAt, child, least_of_root, pages_at}
+use Rattle.be_tree.specs.Tree.{pages_below, pairs_at, pairs_below}
+
+-- a step of a way: one of an inner page's branches
+pub record IsStep (words : ℕ → ℕ → ℕ) (page : ℕ) (step : Step) : Type 0 where
+  pub is_page : step.page ≡ page
+  pub inner : 0 < level_of (words page)
+  pub in_range : step.at < words page 1
+
+-- from a page each step's branch leads to the next one's page, and that of the last step to `last`
+abbrev pub IsWay : (words : ℕ → ℕ → ℕ) (page : ℕ) → List Step → (last : ℕ) → Type 0
+IsWay words page [] last = page ≡ last
+IsWay words page (step ∷ below) last = IsStep words page step
+    × IsWay words (child (item_at (words page) (item_place step.at))) below last
+
+-- such a way from the root of a tree
+pub record IsWayIn (standing : ℕ → Standing) (words : ℕ → ℕ → ℕ) (root : ℕ) (above : List Step)
+    (last : ℕ) : Type 0 where
+  pub tree : IsTree standing words root
+  pub some : 0 < root
+  pub way : IsWay words (root - 1) above last
+
+-- the way down to a key
+pub record IsPathTo (standing : ℕ → Standing) (words : ℕ → ℕ → ℕ) (root : ℕ) (key : List ℕ)
+    (path : Path) : Type 0 where
+  pub way : IsWayIn standing words root path.above.items path.leaf
+  pub branches : All (λ step. IsBranchFor key (items_of (words step.page)) step.at) path.above.items
+  pub is_leaf : level_of (words path.leaf) ≡ 0
+  pub found : IfOk path.place (λ at. (at < words path.leaf 1)
+      × (key_cmp (item_at (words path.leaf) (item_place at)).key key ≡ Equal))
+  pub absent : IfErr path.place (IsGap key (items_of (words path.leaf)))
+
+-- the pairs of a page, with these in the place of those below a step
+abbrev pub around : (words : ℕ → ℕ → ℕ) → Step → List Pair → List Pair
+around words step ps =
+    pairs_below (level_of (words step.page)) words (take step.at (items_of (words step.page)))
+    ++ (ps ++ pairs_below (level_of (words step.page)) words
+    (drop (suc step.at) (items_of (words step.page))))
+
+-- the pairs of a tree, with these in the place of those below a way
+abbrev pub whole : (words : ℕ → ℕ → ℕ) → List Step → List Pair → List Pair
+whole words [] ps = ps
+whole words (step ∷ below) ps = around words step (whole words below ps)
+
+-- how many items the page at the end of a way keeps at least
+abbrev pub least_at : List Step → (level : ℕ) → ℕ
+least_at [] level = least_of_root level
+least_at (step ∷ below) level = 6
+
+-- the first key is the same
+abbrev pub KeepsLeast : List Pair → List Pair → Type 0
+KeepsLeast before after = (k : List ℕ) → StartsAt k before → StartsAt k after
+
+-- the pages in use before have become those of a well-formed tree from this page of a level down
+pub record BecomesNode {S K : Type 0} (kept_of : S → K) (standing_of : S → ℕ → Standing)
+    (words_of : S → ℕ → ℕ → ℕ)
+    (before : List ℕ) (level least : ℕ) (page : ℕ) (old new : S) : Type 0 where
+  pub tree : IsTreeAt level least (standing_of new) (words_of new) page
+  pub swaps : Swaps kept_of standing_of words_of before (pages_at level (words_of new) page) old new
+
+-- of a tree the page at the end of a way, with what is below it, has become another
+pub record IsChanged {S K : Type 0} (kept_of : S → K) (standing_of : S → ℕ → Standing)
+    (words_of : S → ℕ → ℕ → ℕ)
+    (root : ℕ) (above : List Step) (changed : Changed) (level : ℕ) (start now : S) : Type 0 where
+  pub way : IsWayIn (standing_of start) (words_of start) root above changed.was
+  pub at_level : level_of (words_of start changed.was) ≡ level
+  pub node : BecomesNode kept_of standing_of words_of (pages_at level (words_of start) changed.was)
+      level (least_at above level) changed.page start now
+  pub least : changed.same_least ≡ true
+      → KeepsLeast (pairs_at level (words_of start) changed.was)
+      (pairs_at level (words_of now) changed.page)
+  pub rising : IsRising (whole (words_of start) above (pairs_at level (words_of now) changed.page))
+
+-- slots in the place of a cut of a leaf leave it enough items, and the tree's keys rise; if it says
+-- so, the first key is the same
+pub record IsEdit (words : ℕ → ℕ → ℕ) (above : List Step) (leaf : ℕ) (edit : Edit) (given : Pair)
+    (slots : List Slot) : Type 0 where
+  pub is_leaf : level_of (words leaf) ≡ 0
+  pub enough : least_at above 0 ≤ length
+      (spliced edit.cut (items_of (words leaf)) (pairs_of words given slots))
+  pub least : edit.same_least ≡ true → KeepsLeast (items_of (words leaf))
+      (spliced edit.cut (items_of (words leaf)) (pairs_of words given slots))
+  pub rising : IsRising (whole words above
+      (spliced edit.cut (items_of (words leaf)) (pairs_of words given slots)))
+
+-- what was below that page has become what is below these slots' items
+pub record IsInHand {S K : Type 0} (kept_of : S → K) (standing_of : S → ℕ → Standing)
+    (words_of : S → ℕ → ℕ → ℕ)
+    (root : ℕ) (above : List Step) (was : ℕ) (given : Pair) (slots : List Slot) (level : ℕ)
+    (start now : S) : Type 0 where
+  pub way : IsWayIn (standing_of start) (words_of start) root above was
+  pub at_level : level_of (words_of start was) ≡ level
+  pub node : Becomes kept_of standing_of words_of
+      (pages_below level (words_of start) (items_of (words_of start was)))
+      (pairs_below level (words_of now) (pairs_of (words_of now) given slots)) level
+      (pairs_of (words_of now) given slots) start now
+  pub ready : All (IsReady (standing_of now) (words_of now)) slots
+  pub key_fits : length given.key ≤ 264
+  pub rising : IsRising (whole (words_of start) above
+      (pairs_below level (words_of now) (pairs_of (words_of now) given slots)))

@@ -1,0 +1,78 @@
+-- A node that is settled among the children of a page.
+use Rattle.std.specs.Prelude.{◌≡◌, ℕ, suc, ◌+◌, ◌-◌, ◌<◌, ◌≤◌, List, ◌++◌, length, take, drop, All}
+use Rattle.be_pages.specs.declared.room.Standing.{Standing}
+use Rattle.be_tree.specs.declared.path.Step.{Step}
+use Rattle.be_tree.specs.declared.settling.Settled.{Settled}
+use Rattle.be_tree.specs.declared.settling.Turn.{Turn}
+use Rattle.be_tree.specs.declared.settling.Turn.TheVariants.{Above, Whole}
+use Rattle.be_tree.specs.declared.slot.Slot.{Slot}
+use Rattle.be_tree.specs.Key.{IsRising}
+use Rattle.be_tree.specs.Page.{item_at, item_place, items_of, level_of}
+use Rattle.be_tree.specs.Pair.{Pair}
+use Rattle.be_tree.specs.Path.{IsInHand, whole}
+use Rattle.be_tree.specs.Slot.{IsBranchSlot, IsReady, pairs_of}
+use Rattle.be_tree.specs.Splicing.{spliced}
+use Rattle.be_tree.specs.Tree.{Becomes, BecomesTree, IsTreeAt, child, pages, pages_below}
+use Rattle.be_tree.specs.Tree.{pairs_below}
+
+-- the pairs of an inner page, with these in the place of those below one of its items
+abbrev pub beside : (level : ℕ) (words : ℕ → ℕ → ℕ) → Step → List Pair → List Pair
+beside level words step ps =
+    pairs_below level words (take step.at (items_of (words step.page)))
+    ++ (ps ++ pairs_below level words (drop (suc step.at) (items_of (words step.page))))
+
+-- what was below a step's child has become what is below the items of these slots
+pub record IsChildInHand {S K : Type 0} (kept_of : S → K) (standing_of : S → ℕ → Standing)
+    (words_of : S → ℕ → ℕ → ℕ)
+    (step : Step) (was level : ℕ) (given : Pair) (slots : List Slot) (start now : S) : Type 0 where
+  pub tree : IsTreeAt (suc level) 2 (standing_of start) (words_of start) step.page
+  pub in_range : step.at < words_of start step.page 1
+  pub is_child : child (item_at (words_of start step.page) (item_place step.at)) ≡ was
+  pub node : Becomes kept_of standing_of words_of
+      (pages_below level (words_of start) (items_of (words_of start was)))
+      (pairs_below level (words_of now) (pairs_of (words_of now) given slots)) level
+      (pairs_of (words_of now) given slots) start now
+  pub ready : All (IsReady (standing_of now) (words_of now)) slots
+  pub key_fits : length given.key ≤ 264
+  pub size : (5 ≤ length slots) × (length slots ≤ 13)
+  pub rising : IsRising (beside (suc level) (words_of start) step
+      (pairs_below level (words_of now) (pairs_of (words_of now) given slots)))
+
+-- what was below the step's page has become what is below its items with other branches among them,
+-- which have these pairs
+pub record IsSettled {S K : Type 0} (kept_of : S → K) (standing_of : S → ℕ → Standing)
+    (words_of : S → ℕ → ℕ → ℕ)
+    (step : Step) (level : ℕ) (given : Pair) (all : List Pair) (settled : Settled) (start now : S) :
+    Type 0 where
+  pub in_range : settled.cut.at + settled.cut.gone ≤ words_of start step.page 1
+  pub gone : (0 < settled.cut.gone) × (settled.cut.gone ≤ 2)
+  pub some : (0 < length settled.branches.items) × (length settled.branches.items ≤ 2)
+  pub before : settled.cut.at ≤ step.at
+  pub branches : All IsBranchSlot settled.branches.items
+  pub becomes : Becomes kept_of standing_of words_of
+      (pages_below (suc level) (words_of start) (items_of (words_of start step.page))) all
+      (suc level)
+      (spliced settled.cut (items_of (words_of start step.page))
+      (pairs_of (words_of now) given settled.branches.items)) start now
+
+-- the page at the end of a way is in hand with these slots, which make a tree of these pairs
+pub record IsAbove {S K : Type 0} (kept_of : S → K) (standing_of : S → ℕ → Standing)
+    (words_of : S → ℕ → ℕ → ℕ)
+    (root : ℕ) (above : List Step) (page : ℕ) (given : Pair) (slots : List Slot) (all : List Pair)
+    (start now : S) : Type 0 where
+  pub in_hand : IsInHand kept_of standing_of words_of root above page given slots
+      (level_of (words_of start page)) start now
+  pub same : whole (words_of start) above (pairs_below (level_of (words_of start page))
+      (words_of now) (pairs_of (words_of now) given slots)) ≡ all
+  pub few : length slots ≤ 13
+  pub some : 0 < length above → 5 ≤ length slots
+
+-- a tree is whole and has these pairs, or the page above a node is in hand in turn and makes a tree
+-- of them
+abbrev pub IsTurned : {S K : Type 0} → (S → K) → (S → ℕ → Standing) → (S → ℕ → ℕ → ℕ) → (root : ℕ)
+    (above : List Step) (given : Pair) (all : List Pair) → Turn → (start now : S) → Type 0
+IsTurned kept_of standing_of words_of root above given all (Whole new) start now =
+    BecomesTree kept_of standing_of words_of (pages (words_of start) root) all new start now
+IsTurned kept_of standing_of words_of root above given all (Above page slots) start now =
+    IsAbove kept_of standing_of words_of root (take (length above - 1) above) page given slots.items
+    all start now

@@ -1,0 +1,96 @@
+//! The way down to a key.
+//!
+//! A change goes down a tree once. It keeps which page it met on each level and which branch it
+//! took there, so it goes up again with no other search.
+ghost use Rattle.std.specs.Prelude.{◌≡◌, ◌<◌, [], IfOk, IfErr, IsTrue};
+ghost use Rattle.std.specs.declared.cmp.Ordering.TheVariants.{Equal};
+ghost use Rattle.be_pages.specs.Pages.{IsUnchanged, is_readable};
+ghost use Rattle.be_tree.specs.Key.{IsGap, key_cmp};
+ghost use Rattle.be_tree.specs.Page.{IsPage, item_at, item_place, items_of};
+ghost use Rattle.be_tree.specs.Path.{IsPathTo};
+ghost use Rattle.be_tree.specs.Tree.{IsTree};
+ghost use Rattle.be_tree.specs.Words.{IsFirst};
+
+use crate::lookup::{branch_for, end_of, item_number, search};
+use crate::page::{child_at, first_word};
+use arrayvec::ArrayVec;
+use be_pages::Look;
+
+/// An inner page on the way down, and the number of the branch that the way takes.
+#[derive(Clone, Copy)]
+pub(crate) struct Step {
+    pub(crate) page: u64,
+    pub(crate) at: usize,
+}
+
+impl Default for Step {
+    fn default() -> Step {
+        Step { page: 0, at: 0 }
+    }
+}
+
+/// The way from a tree's root down to a key. It serves as long as the tree's pages keep their
+/// words.
+#[derive(Drop)]
+pub(crate) struct Path {
+    /// The inner pages, the root first.
+    pub(crate) above: ArrayVec<Step, 13>,
+    /// The leaf's page.
+    pub(crate) leaf: u64,
+    /// The number of the leaf's item that has the key, or how many have lesser keys.
+    pub(crate) place: Result<usize, usize>,
+}
+
+impl Path {
+    /// A path to be filled.
+    pub(crate) fn new() -> Path
+        ensures { result.above.items ≡ [] }
+    {
+        Path {
+            above: ArrayVec::new(),
+            leaf: 0,
+            place: Err(0),
+        }
+    }
+}
+
+/// The place of a key among a page's items: which one has it, or how many have lesser keys.
+fn search_number<L: Look>(look: &mut L, page: u64, key: &[u8], first: u64) -> Result<usize, usize>
+    requires readable { IsTrue (is_readable (L.standing look.old page)) }
+    requires page { IsPage (L.words look.old page) }
+    requires first { IsFirst key.now first }
+    ensures in_range { IfOk result (λ at. at < L.words look.old page 1) }
+    ensures same { IfOk result (λ at. key_cmp (item_at (L.words look.old page) (item_place at)).key
+        key.now ≡ Equal) }
+    ensures absent { IfErr result (IsGap key.now (items_of (L.words look.old page))) }
+    ensures unchanged { IsUnchanged L.kept L.standing L.words look.old look.new }
+{
+    match search(look, page, key, first) {
+        Ok(place) => Ok(item_number(place)),
+        Err(place) => Err(item_number(place)),
+    }
+}
+
+/// Goes down a tree that isn't empty to a key, and keeps the way in an empty path. It costs one
+/// descent.
+pub(crate) fn find_path<L: Look>(look: &mut L, root: u64, key: &[u8], path: &mut Path)
+    requires tree { IsTree (L.standing look.old) (L.words look.old) root }
+    requires some { 0 < root }
+    requires empty { path.old.above.items ≡ [] }
+    ensures path { IsPathTo (L.standing look.old) (L.words look.old) root key.now path.new }
+    ensures unchanged { IsUnchanged L.kept L.standing L.words look.old look.new }
+{
+    let first = first_word(key);
+    let mut page = root - 1;
+    let mut level = look.word(page, 0);
+    while level > 0 {
+        let end = end_of(look, page);
+        let place = branch_for(look, page, end, key, first);
+        let at = item_number(place);
+        path.above.push(Step { page, at });
+        page = child_at(look, page, place);
+        level -= 1;
+    }
+    path.leaf = page;
+    path.place = search_number(look, page, key, first);
+}

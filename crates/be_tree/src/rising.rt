@@ -1,0 +1,125 @@
+//! The pages above a page that was changed are changed, as far as they have to be.
+//!
+//! A page that is copied has another number, so the branch to it is changed. A page of which the
+//! least key is another one is named by it above. If neither is so, the pages above stay as they
+//! are.
+ghost use Rattle.std.specs.Prelude.{◌≡◌, ◌+◌, ◌<◌, ◌⊎◌, IfOk, IsTrue, true};
+ghost use Rattle.be_tree.specs.Page.{items_of, level_of};
+ghost use Rattle.be_tree.specs.Path.{IsChanged, IsEdit, IsWayIn, whole};
+ghost use Rattle.be_tree.specs.Slot.{pairs_of};
+ghost use Rattle.be_tree.specs.Splicing.{CanBeSpliced, spliced};
+ghost use Rattle.be_tree.specs.Tree.{BecomesTree, pages, pairs_at};
+ghost use Rattle.be_tree.specs.Writing.{Refuses};
+
+use crate::item::Item;
+use crate::path::{Path, Step};
+use crate::slot::Slot;
+use crate::splicing::{Cut, splice};
+use be_pages::Room;
+use be_value::Refusal;
+
+/// A page of a tree that was changed.
+#[derive(Clone, Copy)]
+pub(crate) struct Changed {
+    /// The page as the tree has it.
+    pub(crate) was: u64,
+    /// The page that has the items now: the same one, or its copy.
+    pub(crate) page: u64,
+    /// Whether the least key below it is known to be the same.
+    pub(crate) same_least: bool,
+}
+
+/// Whether the least key below a page is known to be the same, where the child of its branch of
+/// this number was changed.
+fn keeps_least(child: Changed, at: usize) -> bool
+    ensures { result ≡ true → (0 < at) ⊎ (child.same_least ≡ true) }
+{
+    child.same_least || at > 0
+}
+
+/// Writes the branches to a changed page and to those above it that change with it, the lowest
+/// first, and gives the new root. Above a page that was changed where it is, with its least key,
+/// nothing changes.
+pub(crate) fn rise<R: Room>(
+    room: &mut R,
+    root: u64,
+    above: &[Step],
+    changed: Changed,
+) -> Result<u64, Refusal>
+    requires changed { (start : R) × IsChanged R.kept R.standing R.words root above.now changed
+        (level_of (R.words start changed.was)) start room.old }
+    requires open { IsTrue (R.is_open (R.kept room.old)) }
+    ensures ok { IfOk result (λ new. (start : R)
+        → IsChanged R.kept R.standing R.words root above.now changed
+        (level_of (R.words start changed.was)) start room.old
+        → BecomesTree R.kept R.standing R.words (pages (R.words start) root)
+        (whole (R.words start) above.now (pairs_at (level_of (R.words start changed.was))
+        (R.words room.old) changed.page)) new start room.new) }
+    ensures refused { Refuses R.kept R.standing R.words R.full result room.old room.new }
+{
+    let none = Item::new(&[], &[]);
+    let mut below = changed;
+    for i in 0..above.len() {
+        if below.page == below.was && below.same_least {
+            return Ok(root);
+        }
+        let step = above[above.len() - 1 - i];
+        let cut = Cut {
+            at: step.at,
+            gone: 1,
+        };
+        let page = splice(
+            room,
+            step.page,
+            cut,
+            &[Slot::Branch(below.page as u32)],
+            &none,
+        )?;
+        below = Changed {
+            was: step.page,
+            page,
+            same_least: keeps_least(below, step.at),
+        };
+    }
+    Ok(below.page + 1)
+}
+
+/// Which items of a leaf are left out, and whether its first key is known to be the same once
+/// others are put there.
+#[derive(Clone, Copy)]
+pub(crate) struct Edit {
+    pub(crate) cut: Cut,
+    pub(crate) same_least: bool,
+}
+
+/// Puts slots in the place of a cut of the leaf that a path leads to, and gives the new root.
+pub(crate) fn change_leaf<R: Room>(
+    room: &mut R,
+    root: u64,
+    path: &Path,
+    edit: Edit,
+    slots: &[Slot],
+    pair: &Item,
+) -> Result<u64, Refusal>
+    requires way { IsWayIn (R.standing room.old) (R.words room.old) root path.now.above.items
+        path.now.leaf }
+    requires cut { CanBeSpliced (R.standing room.old) (R.words room.old) path.now.leaf edit.cut
+        pair.now slots.now }
+    requires edit { IsEdit (R.words room.old) path.now.above.items path.now.leaf edit pair.now
+        slots.now }
+    requires open { IsTrue (R.is_open (R.kept room.old)) }
+    ensures ok { IfOk result (λ new. BecomesTree R.kept R.standing R.words
+        (pages (R.words room.old) root)
+        (whole (R.words room.old) path.now.above.items
+        (spliced edit.cut (items_of (R.words room.old path.now.leaf))
+        (pairs_of (R.words room.old) pair.now slots.now))) new room.old room.new) }
+    ensures refused { Refuses R.kept R.standing R.words R.full result room.old room.new }
+{
+    let page = splice(room, path.leaf, edit.cut, slots, pair)?;
+    let changed = Changed {
+        was: path.leaf,
+        page,
+        same_least: edit.same_least,
+    };
+    rise(room, root, &path.above, changed)
+}

@@ -1,0 +1,364 @@
+//! A node that has too many items or too few is settled: it is split, or shares items with a
+//! neighbour, or joins one.
+//!
+//! A node of thirteen items is written with those of its left neighbour, if that one has room:
+//! it takes all that it can hold. Otherwise it is split. A node of five is written with those of a
+//! neighbour, the next one if there is one: to one page if they fit, otherwise to two. So the page
+//! above has one branch more or less, or as many as before, and may be too large or too small in
+//! turn.
+ghost use Rattle.std.specs.Prelude.{◌≡◌, ◌≤◌, ◌+◌, ◌-◌, ◌<◌, ◌⊎◌, ◌++◌, suc, take, drop};
+ghost use Rattle.std.specs.Prelude.{length, true, IfOk, IsTrue};
+ghost use Rattle.be_pages.specs.Pages.{IsUnchanged, is_readable};
+ghost use Rattle.be_tree.specs.Page.{IsPage, item_at, item_place, level_of};
+ghost use Rattle.be_tree.specs.Path.{IsInHand, whole};
+ghost use Rattle.be_tree.specs.Settling.{IsChildInHand, IsSettled, IsTurned, beside};
+ghost use Rattle.be_tree.specs.Slot.{loaded, pairs_of};
+ghost use Rattle.be_tree.specs.Splicing.{spliced};
+ghost use Rattle.be_tree.specs.Tree.{BecomesTree, child, pages, pairs_below};
+ghost use Rattle.be_tree.specs.Writing.{Refuses};
+
+use crate::item::Item;
+use crate::page::{HEADER_WORDS, ITEM_WORDS, LEAST_ITEMS, MOST_ITEMS, child_at, fill_slots};
+use crate::path::Step;
+use crate::rising::{Changed, rise};
+use crate::siblings::{append, count_of};
+use crate::slot::{Node, Slot};
+use crate::splicing::{Cut, splice};
+use crate::writing::{pack, pack_two, write_rest};
+use arrayvec::ArrayVec;
+use be_pages::{Look, Room};
+use be_value::Refusal;
+
+/// What is in the place of some of a node's branches: the branches to the pages that were written.
+#[derive(Drop)]
+pub(crate) struct Settled {
+    pub(crate) cut: Cut,
+    pub(crate) branches: ArrayVec<Slot, 2>,
+}
+
+/// Writes a node in hand that is too large, whose page is the child of a step, in two pages.
+fn settle_split<R: Room>(
+    room: &mut R,
+    step: Step,
+    was: u64,
+    node: Node<'_>,
+) -> Result<Settled, Refusal>
+    requires child { (start : R) × IsChildInHand R.kept R.standing R.words step was node.level
+        node.pair.now node.slots.now start room.old }
+    requires crowded { 12 < length node.slots.now }
+    requires open { IsTrue (R.is_open (R.kept room.old)) }
+    ensures ok { IfOk result (λ settled. (start : R)
+        → IsChildInHand R.kept R.standing R.words step was node.entry.level node.entry.pair.now
+        node.entry.slots.now start room.old
+        → IsSettled R.kept R.standing R.words step node.entry.level node.entry.pair.now
+        (beside (suc node.entry.level) (R.words start) step
+        (pairs_below node.entry.level (R.words room.old)
+        (pairs_of (R.words room.old) node.entry.pair.now node.entry.slots.now))) settled start
+        room.new) }
+    ensures refused { Refuses R.kept R.standing R.words R.full result room.old room.new }
+{
+    let branches = pack(room, was, node)?;
+    let cut = Cut {
+        at: step.at,
+        gone: 1,
+    };
+    Ok(Settled { cut, branches })
+}
+
+/// Writes it together with the items of the child before it.
+fn settle_left<R: Room>(
+    room: &mut R,
+    step: Step,
+    was: u64,
+    node: Node<'_>,
+) -> Result<Settled, Refusal>
+    requires child { (start : R) × IsChildInHand R.kept R.standing R.words step was node.level
+        node.pair.now node.slots.now start room.old }
+    requires beyond { 0 < step.at }
+    requires room { R.words room.old (child
+        (item_at (R.words room.old step.page) (item_place (step.at - 1)))) 1 + length node.slots.now
+        ≤ 24 }
+    requires open { IsTrue (R.is_open (R.kept room.old)) }
+    ensures ok { IfOk result (λ settled. (start : R)
+        → IsChildInHand R.kept R.standing R.words step was node.entry.level node.entry.pair.now
+        node.entry.slots.now start room.old
+        → IsSettled R.kept R.standing R.words step node.entry.level node.entry.pair.now
+        (beside (suc node.entry.level) (R.words start) step
+        (pairs_below node.entry.level (R.words room.old)
+        (pairs_of (R.words room.old) node.entry.pair.now node.entry.slots.now))) settled start
+        room.new) }
+    ensures refused { Refuses R.kept R.standing R.words R.full result room.old room.new }
+{
+    let at = step.at - 1;
+    let left = child_at(room, step.page, HEADER_WORDS + ITEM_WORDS * at);
+    let mut slots = ArrayVec::new();
+    fill_slots(room, left, &mut slots);
+    append(&mut slots, node.slots);
+    let both = Node {
+        level: node.level,
+        slots: &slots,
+        pair: node.pair,
+    };
+    let branches = pack_two(room, left, was, both)?;
+    let cut = Cut { at, gone: 2 };
+    Ok(Settled { cut, branches })
+}
+
+/// Writes it together with the items of the child after it.
+fn settle_right<R: Room>(
+    room: &mut R,
+    step: Step,
+    was: u64,
+    node: Node<'_>,
+) -> Result<Settled, Refusal>
+    requires child { (start : R) × IsChildInHand R.kept R.standing R.words step was node.level
+        node.pair.now node.slots.now start room.old }
+    requires before { step.at + 1 < R.words room.old step.page 1 }
+    requires few { length node.slots.now ≤ 12 }
+    requires open { IsTrue (R.is_open (R.kept room.old)) }
+    ensures ok { IfOk result (λ settled. (start : R)
+        → IsChildInHand R.kept R.standing R.words step was node.entry.level node.entry.pair.now
+        node.entry.slots.now start room.old
+        → IsSettled R.kept R.standing R.words step node.entry.level node.entry.pair.now
+        (beside (suc node.entry.level) (R.words start) step
+        (pairs_below node.entry.level (R.words room.old)
+        (pairs_of (R.words room.old) node.entry.pair.now node.entry.slots.now))) settled start
+        room.new) }
+    ensures refused { Refuses R.kept R.standing R.words R.full result room.old room.new }
+{
+    let right = child_at(room, step.page, HEADER_WORDS + ITEM_WORDS * (step.at + 1));
+    let mut others = ArrayVec::new();
+    fill_slots(room, right, &mut others);
+    let mut slots: ArrayVec<Slot, 24> = ArrayVec::new();
+    append(&mut slots, node.slots);
+    append(&mut slots, &others);
+    let both = Node {
+        level: node.level,
+        slots: &slots,
+        pair: node.pair,
+    };
+    let branches = pack_two(room, was, right, both)?;
+    let cut = Cut {
+        at: step.at,
+        gone: 2,
+    };
+    Ok(Settled { cut, branches })
+}
+
+/// Whether the child before a step's is there and has room for an item.
+fn left_has_room<R: Room>(room: &mut R, step: Step, was: u64, node: Node<'_>) -> bool
+    requires child { (start : R) × IsChildInHand R.kept R.standing R.words step was node.level
+        node.pair.now node.slots.now start room.old }
+    ensures beyond { result ≡ true → 0 < step.at }
+    ensures room { result ≡ true → R.words room.old
+        (child (item_at (R.words room.old step.page) (item_place (step.at - 1)))) 1 < 12 }
+    ensures unchanged { IsUnchanged R.kept R.standing R.words room.old room.new }
+{
+    if step.at == 0 {
+        return false;
+    }
+    let left = child_at(room, step.page, HEADER_WORDS + ITEM_WORDS * (step.at - 1));
+    count_of(room, left) < MOST_ITEMS
+}
+
+/// Settles a node in hand, whose page is the child of a step.
+fn settle_child<R: Room>(
+    room: &mut R,
+    step: Step,
+    was: u64,
+    node: Node<'_>,
+) -> Result<Settled, Refusal>
+    requires child { (start : R) × IsChildInHand R.kept R.standing R.words step was node.level
+        node.pair.now node.slots.now start room.old }
+    requires open { IsTrue (R.is_open (R.kept room.old)) }
+    ensures ok { IfOk result (λ settled. (start : R)
+        → IsChildInHand R.kept R.standing R.words step was node.entry.level node.entry.pair.now
+        node.entry.slots.now start room.old
+        → IsSettled R.kept R.standing R.words step node.entry.level node.entry.pair.now
+        (beside (suc node.entry.level) (R.words start) step
+        (pairs_below node.entry.level (R.words room.old)
+        (pairs_of (R.words room.old) node.entry.pair.now node.entry.slots.now))) settled start
+        room.new) }
+    ensures refused { Refuses R.kept R.standing R.words R.full result room.old room.new }
+{
+    if node.slots.len() > MOST_ITEMS {
+        if left_has_room(room, step, was, node) {
+            return settle_left(room, step, was, node);
+        }
+        return settle_split(room, step, was, node);
+    }
+    if step.at + 1 < count_of(room, step.page) {
+        return settle_right(room, step, was, node);
+    }
+    settle_left(room, step, was, node)
+}
+
+/// Leaves out one slot of a cut of two.
+fn leave_one(slots: &mut ArrayVec<Slot, 24>, cut: Cut)
+    requires in_range { cut.at + cut.gone ≤ length slots.old.items }
+    requires gone { (0 < cut.gone) × (cut.gone ≤ 2) }
+    ensures { slots.new.items ≡ take cut.at slots.old.items
+        ++ drop (cut.at + cut.gone - 1) slots.old.items }
+{
+    if cut.gone == 2 {
+        slots.remove(cut.at);
+    }
+}
+
+/// The slots of a page's items, with others in the place of a cut.
+fn slots_with<L: Look>(look: &mut L, page: u64, settled: Settled) -> ArrayVec<Slot, 24>
+    requires readable { IsTrue (is_readable (L.standing look.old page)) }
+    requires page { IsPage (L.words look.old page) }
+    requires in_range { settled.cut.at + settled.cut.gone ≤ L.words look.old page 1 }
+    requires gone { (0 < settled.cut.gone) × (settled.cut.gone ≤ 2) }
+    requires some { (0 < length settled.branches.items) × (length settled.branches.items ≤ 2) }
+    ensures slots { result.items ≡ spliced settled.cut (loaded page (L.words look.old page 1))
+        settled.branches.items }
+    ensures unchanged { IsUnchanged L.kept L.standing L.words look.old look.new }
+{
+    let mut slots = ArrayVec::new();
+    fill_slots(look, page, &mut slots);
+    leave_one(&mut slots, settled.cut);
+    replace_at(&mut slots, settled.cut.at, settled.branches);
+    slots
+}
+
+/// Inserts slots at a place.
+fn insert_all(slots: &mut ArrayVec<Slot, 24>, at: usize, mut more: ArrayVec<Slot, 2>)
+    requires in_range { at ≤ length slots.old.items }
+    requires room { length slots.old.items + length more.items ≤ 24 }
+    ensures { slots.new.items ≡ take at slots.old.items ++ (more.items ++ drop at slots.old.items) }
+{
+    while let Some(slot) = more.pop() {
+        slots.insert(at, slot);
+    }
+}
+
+/// Puts slots in the place of the one at a number. If one replaces one, as mostly, no other is
+/// moved.
+fn replace_at(slots: &mut ArrayVec<Slot, 24>, at: usize, mut more: ArrayVec<Slot, 2>)
+    requires in_range { at < length slots.old.items }
+    requires room { length slots.old.items + length more.items ≤ 25 }
+    ensures { slots.new.items ≡ take at slots.old.items
+        ++ (more.items ++ drop (suc at) slots.old.items) }
+{
+    match more.pop() {
+        Some(last) => {
+            slots[at] = last;
+            insert_all(slots, at, more);
+        }
+        None => {
+            slots.remove(at);
+        }
+    }
+}
+
+/// Whether a page may have so many items: a root needs two branches, and each other page six.
+fn fits(count: usize, is_root: bool) -> bool
+    ensures most { result ≡ true → count ≤ 12 }
+    ensures least { result ≡ true → 2 ≤ count }
+    ensures least_below { result ≡ true → (is_root ≡ true) ⊎ (6 ≤ count) }
+{
+    if count > MOST_ITEMS || count < 2 {
+        return false;
+    }
+    is_root || count >= LEAST_ITEMS
+}
+
+/// What a node in hand has become once it was settled.
+#[derive(Drop)]
+pub(crate) enum Turn {
+    /// The tree is whole, and has this root.
+    Whole(u64),
+    /// The page above has too many items now, or too few, and these slots are to be written for it.
+    Above(u64, ArrayVec<Slot, 24>),
+}
+
+/// Settles a node in hand that isn't the root, and writes what is above where that can be.
+fn settle_once<R: Room>(
+    room: &mut R,
+    root: u64,
+    above: &[Step],
+    was: u64,
+    slots: &[Slot],
+    pair: &Item,
+) -> Result<Turn, Refusal>
+    requires in_hand { (start : R) × IsInHand R.kept R.standing R.words root above.now was pair.now
+        slots.now (level_of (R.words start was)) start room.old }
+    requires below { 0 < length above.now }
+    requires size { (5 ≤ length slots.now) × (length slots.now ≤ 13) }
+    requires open { IsTrue (R.is_open (R.kept room.old)) }
+    ensures ok { IfOk result (λ turn. (start : R)
+        → IsInHand R.kept R.standing R.words root above.now was pair.now slots.now
+        (level_of (R.words start was)) start room.old
+        → IsTurned R.kept R.standing R.words root above.now pair.now (whole (R.words start)
+        above.now (pairs_below (level_of (R.words start was)) (R.words room.old)
+        (pairs_of (R.words room.old) pair.now slots.now))) turn start room.new) }
+    ensures refused { Refuses R.kept R.standing R.words R.full result room.old room.new }
+{
+    let level = room.word(was, 0);
+    let last = above.len() - 1;
+    let step = above[last];
+    let node = Node { level, slots, pair };
+    let settled = settle_child(room, step, was, node)?;
+    let count = count_of(room, step.page) - settled.cut.gone + settled.branches.len();
+    if fits(count, last == 0) {
+        let page = splice(room, step.page, settled.cut, &settled.branches, pair)?;
+        let changed = Changed {
+            was: step.page,
+            page,
+            same_least: settled.cut.at > 0,
+        };
+        let whole = rise(room, root, &above[..last], changed)?;
+        return Ok(Turn::Whole(whole));
+    }
+    let slots = slots_with(room, step.page, settled);
+    Ok(Turn::Above(step.page, slots))
+}
+
+/// Settles a node in hand and the pages above it that have too many items or too few then, and
+/// writes the others above. Gives the new root.
+#[inline(never)]
+pub(crate) fn settle<R: Room>(
+    room: &mut R,
+    root: u64,
+    above: &[Step],
+    was: u64,
+    in_hand: ArrayVec<Slot, 24>,
+    pair: &Item,
+) -> Result<u64, Refusal>
+    requires in_hand { (start : R) × IsInHand R.kept R.standing R.words root above.now was pair.now
+        in_hand.items (level_of (R.words start was)) start room.old }
+    requires few { length in_hand.items ≤ 13 }
+    requires some { 0 < length above.now → 5 ≤ length in_hand.items }
+    requires open { IsTrue (R.is_open (R.kept room.old)) }
+    ensures ok { IfOk result (λ new. (start : R)
+        → IsInHand R.kept R.standing R.words root above.now was pair.now in_hand.items
+        (level_of (R.words start was)) start room.old
+        → BecomesTree R.kept R.standing R.words (pages (R.words start) root)
+        (whole (R.words start) above.now (pairs_below (level_of (R.words start was))
+        (R.words room.old) (pairs_of (R.words room.old) pair.now in_hand.items))) new start
+        room.new) }
+    ensures refused { Refuses R.kept R.standing R.words R.full result room.old room.new }
+{
+    let mut slots = in_hand;
+    let mut was = was;
+    for i in 0..above.len() {
+        let left = &above[..above.len() - i];
+        let turn = settle_once(room, root, left, was, &slots, pair)?;
+        match turn {
+            Turn::Whole(new) => return Ok(new),
+            Turn::Above(page, items) => {
+                was = page;
+                slots = items;
+            }
+        }
+    }
+    let level = room.word(was, 0);
+    let node = Node {
+        level,
+        slots: &slots,
+        pair,
+    };
+    write_rest(room, was, node)
+}

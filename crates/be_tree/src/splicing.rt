@@ -1,0 +1,188 @@
+//! Items are put in the place of a page's items.
+//!
+//! A page that this write has taken is changed where it is: the items after the place are moved up
+//! or down, and the others stay. A page that was there when the write began keeps its words: its
+//! items are copied to a page that is taken for them, each to the place that it has then.
+ghost use Rattle.std.specs.Prelude.{◌≡◌, ℕ, ◌+◌, ◌<◌, ◌≤◌, All, IfOk, IsTrue, length};
+ghost use Rattle.std.specs.Prelude.{slice_index_or};
+ghost use Rattle.be_pages.specs.declared.room.Standing.TheVariants.{Filled};
+ghost use Rattle.be_pages.specs.Pages.{OnlyWrites, is_kept, is_readable};
+ghost use Rattle.be_tree.specs.declared.slot.Slot.{Slot as Slots};
+ghost use Rattle.be_tree.specs.Page.{IsItem, IsPage, item_place};
+ghost use Rattle.be_tree.specs.Slot.{IsOff, IsReady, pair_of};
+ghost use Rattle.be_tree.specs.Splicing.{AreCopies, CanBeSpliced, HasGap, IsSpliced};
+ghost use Rattle.be_tree.specs.Splicing.{IsStored, IsTaken};
+ghost use Rattle.be_tree.specs.Writing.{Refuses};
+
+use crate::item::Item;
+use crate::page::{HEADER_WORDS, ITEM_WORDS, copy_item, store_slot};
+use crate::slot::Slot;
+use be_pages::Room;
+use be_value::Refusal;
+
+/// Copies items to lower places, or to another page, from the first one on.
+fn copy_down<R: Room>(room: &mut R, from: u64, first: usize, page: u64, at: usize, count: usize)
+    requires filled { R.standing room.old page ≡ Filled }
+    requires in_page { (at + count ≤ 12) × (first + count ≤ 12) }
+    requires readable { IsTrue (is_readable (R.standing room.old from)) }
+    requires down { from ≡ page → at ≤ first }
+    requires items { (k : ℕ) → k < count → IsItem (R.words room.old from) (item_place (first + k)) }
+    requires open { IsTrue (R.is_open (R.kept room.old)) }
+    ensures copied { AreCopies (R.words room.old from) (R.words room.new page) first at count }
+    ensures only { OnlyWrites R.kept R.standing R.words page (item_place at)
+        (item_place (at + count)) room.old room.new }
+{
+    for i in 0..count {
+        let place = HEADER_WORDS + ITEM_WORDS * (first + i);
+        copy_item(
+            room,
+            page,
+            HEADER_WORDS + ITEM_WORDS * (at + i),
+            from,
+            place,
+        );
+    }
+}
+
+/// Copies items to higher places, from the last one on.
+fn copy_up<R: Room>(room: &mut R, page: u64, first: usize, at: usize, count: usize)
+    requires filled { R.standing room.old page ≡ Filled }
+    requires in_page { at + count ≤ 12 }
+    requires up { first < at }
+    requires items { (k : ℕ) → k < count → IsItem (R.words room.old page) (item_place (first + k)) }
+    requires open { IsTrue (R.is_open (R.kept room.old)) }
+    ensures copied { AreCopies (R.words room.old page) (R.words room.new page) first at count }
+    ensures only { OnlyWrites R.kept R.standing R.words page (item_place at)
+        (item_place (at + count)) room.old room.new }
+{
+    for i in 0..count {
+        let j = count - 1 - i;
+        let place = HEADER_WORDS + ITEM_WORDS * (first + j);
+        copy_item(
+            room,
+            page,
+            HEADER_WORDS + ITEM_WORDS * (at + j),
+            page,
+            place,
+        );
+    }
+}
+
+/// Copies items of a page to other places of it, so that none is written over before it is copied.
+fn move_items<R: Room>(room: &mut R, page: u64, first: usize, at: usize, count: usize)
+    requires filled { R.standing room.old page ≡ Filled }
+    requires in_page { (at + count ≤ 12) × (first + count ≤ 12) }
+    requires items { (k : ℕ) → k < count → IsItem (R.words room.old page) (item_place (first + k)) }
+    requires open { IsTrue (R.is_open (R.kept room.old)) }
+    ensures copied { AreCopies (R.words room.old page) (R.words room.new page) first at count }
+    ensures only { OnlyWrites R.kept R.standing R.words page (item_place at)
+        (item_place (at + count)) room.old room.new }
+{
+    if first < at {
+        copy_up(room, page, first, at, count);
+        return;
+    }
+    copy_down(room, page, first, page, at, count);
+}
+
+/// Which of a node's items are left out: `gone` of them from number `at` on.
+#[derive(Clone, Copy)]
+pub(crate) struct Cut {
+    pub(crate) at: usize,
+    pub(crate) gone: usize,
+}
+
+/// Moves the items after a cut of a page that this write has taken, so that there is room for
+/// `more` in its place.
+fn open_here<R: Room>(room: &mut R, page: u64, cut: Cut, more: usize)
+    requires filled { R.standing room.old page ≡ Filled }
+    requires page { IsPage (R.words room.old page) }
+    requires in_range { cut.at + cut.gone ≤ R.words room.old page 1 }
+    requires few { R.words room.old page 1 + more ≤ 12 + cut.gone }
+    requires open { IsTrue (R.is_open (R.kept room.old)) }
+    ensures gap { HasGap (R.words room.old page) (R.words room.new page) cut more }
+    ensures only { OnlyWrites R.kept R.standing R.words page 0 512 room.old room.new }
+{
+    let count = room.word(page, 1) as usize;
+    let next = cut.at + cut.gone;
+    let rest = count - next;
+    room.fill(page, 1, (cut.at + more + rest) as u64);
+    move_items(room, page, next, cut.at + more, rest);
+}
+
+/// Copies a page to one that is taken for it, with room for `more` items in the place of a cut, and
+/// gives the copy.
+fn open_copy<R: Room>(room: &mut R, page: u64, cut: Cut, more: usize) -> Result<u64, Refusal>
+    requires in_use { IsTrue (is_kept (R.standing room.old page)) }
+    requires page { IsPage (R.words room.old page) }
+    requires in_range { cut.at + cut.gone ≤ R.words room.old page 1 }
+    requires few { R.words room.old page 1 + more ≤ 12 + cut.gone }
+    requires open { IsTrue (R.is_open (R.kept room.old)) }
+    ensures gap { IfOk result (λ copy. HasGap (R.words room.old page) (R.words room.new copy) cut
+        more) }
+    ensures taken { IfOk result (λ copy. IsTaken R.kept R.standing R.words copy room.old room.new) }
+    ensures refused { Refuses R.kept R.standing R.words R.full result room.old room.new }
+{
+    let copy = room.take()?;
+    let level = room.word(page, 0);
+    let count = room.word(page, 1) as usize;
+    let next = cut.at + cut.gone;
+    let rest = count - next;
+    room.fill(copy, 0, level);
+    room.fill(copy, 1, (cut.at + more + rest) as u64);
+    copy_down(room, page, 0, copy, 0, cut.at);
+    copy_down(room, page, next, copy, cut.at + more, rest);
+    Ok(copy)
+}
+
+/// Writes slots one after the other, the first as a page's item of this number.
+pub(crate) fn store_slots<R: Room>(room: &mut R, page: u64, at: usize, slots: &[Slot], pair: &Item)
+    requires filled { R.standing room.old page ≡ Filled }
+    requires in_page { at + length slots.now ≤ 12 }
+    requires ready { All (IsReady (R.standing room.old) (R.words room.old)) slots.now }
+    requires off { All (IsOff page) slots.now }
+    requires key_fits { length pair.now.key ≤ 264 }
+    requires open { IsTrue (R.is_open (R.kept room.old)) }
+    ensures items { (k : ℕ) (d : Slots) → k < length slots.now
+        → IsStored (R.words room.new page) (at + k)
+        (pair_of (R.words room.old) pair.now (slice_index_or slots.now k d)) }
+    ensures only { OnlyWrites R.kept R.standing R.words page (item_place at)
+        (item_place (at + length slots.now)) room.old room.new }
+{
+    for i in 0..slots.len() {
+        store_slot(
+            room,
+            page,
+            HEADER_WORDS + ITEM_WORDS * (at + i),
+            slots[i],
+            pair,
+        );
+    }
+}
+
+/// Puts slots in the place of a cut: on the page itself, if this write has taken it, otherwise on a
+/// copy, and the page is given up. Gives the page that has the items then.
+pub(crate) fn splice<R: Room>(
+    room: &mut R,
+    page: u64,
+    cut: Cut,
+    slots: &[Slot],
+    pair: &Item,
+) -> Result<u64, Refusal>
+    requires cut { CanBeSpliced (R.standing room.old) (R.words room.old) page cut pair.now
+        slots.now }
+    requires open { IsTrue (R.is_open (R.kept room.old)) }
+    ensures ok { IfOk result (λ to. IsSpliced R.kept R.standing R.words page cut pair.now slots.now
+        to room.old room.new) }
+    ensures refused { Refuses R.kept R.standing R.words R.full result room.old room.new }
+{
+    if room.is_taken(page) {
+        open_here(room, page, cut, slots.len());
+        store_slots(room, page, cut.at, slots, pair);
+        return Ok(page);
+    }
+    let copy = open_copy(room, page, cut, slots.len())?;
+    store_slots(room, copy, cut.at, slots, pair);
+    room.give_up(page);
+    Ok(copy)
+}
