@@ -54,8 +54,7 @@ fn refusal<L: Look>(
 fn write_version<R: Room>(room: &mut R, version: &Version) -> Result<u64, Refusal>
     requires named { All (λ e. IsName e.name) version.now.entries.items }
     requires open { IsTrue (R.is_open (R.kept room.old)) }
-    ensures contents { IfOk result (λ page. contents_of (R.words room.new page)
-        ≡ contents version.now) }
+    ensures contents { IfOk result (λ p. contents_of (R.words room.new p) ≡ contents version.now) }
     ensures page { IfOk result (λ page. IsVersionPage (R.words room.new page)) }
     ensures taken { IfOk result (λ page. R.standing room.new page ≡ Filled) }
     ensures swaps { IfOk result (λ page. Swaps R.kept R.standing R.words [] (page ∷ []) room.old
@@ -73,8 +72,7 @@ fn replace_version<R: Room>(room: &mut R, old_page: u64, version: &Version) -> R
     requires in_use { IsTrue (is_kept (R.standing room.old old_page)) }
     requires named { All (λ e. IsName e.name) version.now.entries.items }
     requires open { IsTrue (R.is_open (R.kept room.old)) }
-    ensures contents { IfOk result (λ page. contents_of (R.words room.new page)
-        ≡ contents version.now) }
+    ensures contents { IfOk result (λ p. contents_of (R.words room.new p) ≡ contents version.now) }
     ensures page { IfOk result (λ page. IsVersionPage (R.words room.new page)) }
     ensures taken { IfOk result (λ page. R.standing room.new page ≡ Filled) }
     ensures swaps { IfOk result (λ page. Swaps R.kept R.standing R.words (old_page ∷ []) (page ∷ [])

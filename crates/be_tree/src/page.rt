@@ -5,8 +5,8 @@ ghost use Rattle.std.specs.List.{range_with_len};
 ghost use Rattle.std.specs.Int.{from_be_bytes, to_be_bytes, w64};
 ghost use Rattle.be_pages.specs.Pages.{is_readable, IsUnchanged, OnlyWrites};
 ghost use Rattle.be_pages.specs.declared.room.Standing.TheVariants.{Filled};
-ghost use Rattle.be_tree.specs.Page.{IsItem, IsPadded, IsPage, item_at, bytes_at, key_len};
-ghost use Rattle.be_tree.specs.Page.{words_for};
+ghost use Rattle.be_tree.specs.Page.{IsItem, IsPadded, IsPage, item_at, bytes_at, bytes_past};
+ghost use Rattle.be_tree.specs.Page.{key_len, words_for};
 ghost use Rattle.be_tree.specs.Page.{item_place};
 ghost use Rattle.std.specs.Prelude.{◌^◌, ◌⊎◌};
 ghost use Rattle.be_tree.specs.declared.slot.Slot.TheVariants.{At};
@@ -56,8 +56,7 @@ pub(crate) fn number_beyond<L: Look>(look: &mut L, page: u64, at: usize, skip: u
     requires readable { IsTrue (is_readable (L.standing look.old page)) }
     requires skips { skip < 8 }
     requires in_page { at + words_for (skip + 8) ≤ 512 }
-    ensures number { result ≡ from_be_bytes w64
-        (drop skip (bytes_at (L.words look.old page) at (skip + 8))) }
+    ensures number { result ≡ from_be_bytes w64 (bytes_past (L.words look.old page) at skip 8) }
     ensures unchanged { IsUnchanged L.kept L.standing L.words look.old look.new }
 {
     let first = look.word(page, at);
