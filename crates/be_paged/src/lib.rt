@@ -50,4 +50,5 @@ pub use prepared::answer_decided;
 pub use reading::{attrs, get, indices, next, nodes};
 pub use rows::{columns, get_into};
 pub use spelling::one_spelling;
+pub use version::Version;
 pub use writes::{apply, apply_into};

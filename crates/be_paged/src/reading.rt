@@ -27,7 +27,6 @@ use crate::indexed::is_indexed_at;
 use crate::marks::list_nodes;
 use crate::on_page::{FoundIndex, known_index};
 use crate::version::{Version, fill_version};
-use arrayvec::ArrayVec;
 use be_pages::Look;
 use be_query::Comparison;
 use be_tree::{find_place, has_key};
@@ -188,11 +187,7 @@ pub fn indices<L: Look>(
         Answers (λ list. list.items) result (Ok (index_kinds volume)) }
     ensures unchanged { IsUnchanged L.kept L.standing L.words look.old look.new }
 {
-    let mut version = Version {
-        next: 0,
-        catalog: 0,
-        entries: ArrayVec::new(),
-    };
+    let mut version = Version::new();
     fill_version(look, version_page, &mut version);
     Ok(kinds(alloc, &version.entries)?)
 }

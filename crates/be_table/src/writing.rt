@@ -33,6 +33,7 @@ use crate::seat::{Base, Seat};
 use crate::status::{Announcement, Found, Status, older};
 use crate::table::{ANNOUNCE, CURRENT, LOCK, PAGES, VersionTable};
 use be_journal::{Entry, replay_push};
+use be_paged::Version;
 use be_pages::{PAGE_WORDS, Place};
 use be_value::Refusal;
 use be_volume::{Done, Op};
@@ -120,6 +121,20 @@ impl<'a> Writing<'a> {
         ensures next { (replay (entries self.now.knows.seen)).next + 64 < 2 ^ 64 }
     {
         (self.ledger.journal.len(), self.ledger.page)
+    }
+
+    /// Takes out the place for a version's contents, which the next write finds if it is put back.
+    pub fn take_space(&mut self) -> Option<Box<Version>>
+        ensures { self.new ≡ self.old }
+    {
+        self.ledger.space.take()
+    }
+
+    /// Puts back what `take_space` took out.
+    pub fn put_space(&mut self, space: Option<Box<Version>>)
+        ensures { self.new ≡ self.old }
+    {
+        self.ledger.space = space;
     }
 
     /// The journal's text. OutOfMemory. No step.

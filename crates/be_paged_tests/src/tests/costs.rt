@@ -15,7 +15,7 @@ use crate::tests::lines::request_of;
 use crate::tests::run_lines;
 use crate::tests::sizes::{accepted, numbered};
 use arrayvec::ArrayVec;
-use be_paged::{answer_decided, apply_into, get, source};
+use be_paged::{Version, answer_decided, apply_into, get, source};
 use be_pages::{Look, Room};
 use be_plan::{PreparedQuery, answer};
 use be_query::Query;
@@ -159,8 +159,9 @@ fn apply_counted<R: Room>(
     requires fits { volume.next + 64 < 2 ^ 64 }
     requires open { IsTrue (R.is_open (R.kept room.old)) }
 {
+    let mut version = Version::new();
     let mut dones = ArrayVec::new();
-    let _page = apply_into(room, page, ops, &mut dones)?;
+    let _page = apply_into(room, &mut version, page, ops, &mut dones)?;
     Ok(())
 }
 
