@@ -192,6 +192,24 @@ impl<'a> Writing<'a> {
         self.ledger.pool.fill(page);
     }
 
+    /// Writes word i of a page that has a word filled in this write, as `fill` does. Where the page
+    /// is needn't be looked up.
+    pub fn refill(&mut self, page: u64, i: usize, word: u64)
+        requires open { self.old.knows.published ≡ false }
+        requires filled { (page < length self.old.knows.places)
+            × (place_of self.old.knows.places page ≡ Place.Filled) }
+        requires place { i < 512 }
+        ensures write { self.new ≡ record self.old {
+          knows = fills_word (with_history self.old.knows self.new.knows.history) page i
+              word;
+        } }
+        ensures moves { Makes self.old.knows.number self.old.knows.history
+            (fill_moves self.old.knows page i word) self.new.knows.history }
+        ensures inside { word_place page i < length self.old.knows.words }
+    {
+        fill_word(self.table, &mut self.base, page, i, word);
+    }
+
     /// Gives a page up. One that was taken in this write is free at once; one of the current
     /// version keeps its words until a scan frees it. One load.
     pub fn give_up(&mut self, page: u64)

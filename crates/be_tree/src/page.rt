@@ -282,7 +282,7 @@ pub(crate) fn store_bytes<R: Room>(room: &mut R, page: u64, at: usize, bytes: &[
         room.old room.new }
 {
     for i in 0..(bytes.len() + 7) / 8 {
-        room.fill(page, at + i, word_from(bytes, 8 * i));
+        room.refill(page, at + i, word_from(bytes, 8 * i));
     }
 }
 
@@ -298,7 +298,7 @@ pub(crate) fn store_item<R: Room>(room: &mut R, page: u64, at: usize, item: &Ite
 {
     let bytes = item.bytes();
     let key_len = item.key_len();
-    room.fill(
+    room.refill(
         page,
         at,
         ((key_len as u64) << LENGTH_BITS) + (bytes.len() - key_len) as u64,
@@ -308,6 +308,7 @@ pub(crate) fn store_item<R: Room>(room: &mut R, page: u64, at: usize, item: &Ite
 
 /// Copies the words of an item to a place of a page that has a word filled. An item that lies there
 /// already is left alone.
+#[inline(always)]
 pub(crate) fn copy_item<R: Room>(room: &mut R, page: u64, at: usize, from: u64, place: usize)
     requires filled { R.standing room.old page ≡ Filled }
     requires in_page { at + 42 ≤ 512 }
@@ -324,11 +325,11 @@ pub(crate) fn copy_item<R: Room>(room: &mut R, page: u64, at: usize, from: u64, 
         return;
     }
     let header = room.word(from, place);
-    room.fill(page, at, header);
+    room.refill(page, at, header);
     let n = ((header >> LENGTH_BITS) + header % (1 << LENGTH_BITS)) as usize;
     for i in 0..(n + 7) / 8 {
         let word = room.word(from, place + 1 + i);
-        room.fill(page, at + 1 + i, word);
+        room.refill(page, at + 1 + i, word);
     }
 }
 
@@ -346,11 +347,11 @@ fn store_branch<R: Room>(room: &mut R, page: u64, at: usize, child: u64)
     ensures only { OnlyWrites R.kept R.standing R.words page at (at + 42) room.old room.new }
 {
     let key_len = (room.word(child, 2) >> LENGTH_BITS) as usize;
-    room.fill(page, at, ((key_len as u64) << LENGTH_BITS) + 8);
+    room.refill(page, at, ((key_len as u64) << LENGTH_BITS) + 8);
     let whole = key_len / 8;
     for i in 0..whole {
         let word = room.word(child, 3 + i);
-        room.fill(page, at + 1 + i, word);
+        room.refill(page, at + 1 + i, word);
     }
     let mut rest: ArrayVec<u8, 16> = ArrayVec::new();
     fill_bytes(room, child, 3 + whole, 0, key_len % 8, &mut rest);
