@@ -106,7 +106,7 @@ watching s (Err e) = (refused e, s)
 abbrev pub updating : Session → LiveQuery → Result (List ℕ) Refusal → Reply × Session
 updating s l (Ok now) = (
   updates (without now l.last) (without l.last now),
-  with_live s (record { query = l.query; last = now }),
+  with_live s (record { query = l.query; last = now; table = None }),
 )
 updating s l (Err e) = (refused e, s)
 

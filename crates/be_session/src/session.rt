@@ -486,7 +486,7 @@ impl Session {
         let Some(_) = self.pass.pinned() else {
             return Err(Fault::NotPinned);
         };
-        Ok(live.refresh(self.shared.store(), &mut self.pass)?)
+        Ok(live.refresh_whole(self.shared.store(), &mut self.pass)?)
     }
 
     /// The index cover from which a query would be answered in the pinned version: the chosen

@@ -9,11 +9,13 @@ mod carrying;
 mod conditional;
 mod handing;
 mod races;
+mod refreshing;
 mod room;
 mod sizes;
 mod states;
 mod writers;
 
+use crate::tests::refreshing::follows_random_writes;
 use crate::tests::room::{Room, for_one, for_two};
 use crate::tests::writers::change_by_four;
 use be_store::{Kind, Limits, Name, Op, Refusal, Store, Value};
@@ -110,6 +112,36 @@ fn live_query(rt: HostRuntime) -> Result<(), Fail> {
 0 unpin / 0 pin / 0 refresh => ok / pin 6 / created 2 / removed 1
 0 unpin / 0 pin / 0 refresh => ok / pin 6 / created / removed";
     check_lines(rt.alloc(), &mut for_one(rt.alloc(), 64, 100)?, lines)
+}
+
+/// A live query is refreshed by another pass, at an older pin, and once an index was removed and
+/// made again.
+#[test]
+fn live_query_of_two_passes(rt: HostRuntime) -> Result<(), Fail> {
+    let lines = "live k>4 / 0 mkindex k LONG / 0 new;set 1 k LONG 5 => ok / commit 1 / ok / \
+         commit 2 / node 1 / ok
+0 pin / 0 refresh / 1 new;set 2 k LONG 9 => pin 2 / created 1 / removed / commit 3 / node 2 / ok
+1 pin / 1 refresh / 0 refresh / 1 refresh => pin 3 / created 2 / removed / created / removed 2 / \
+         created 2 / removed
+1 drop 1;set 2 k LONG 1;new;set 3 k LONG 7 / 1 unpin / 1 pin => commit 4 / ok / ok / node 3 / ok / \
+         ok / pin 4
+1 refresh / 1 rmindex k / 1 unpin / 1 pin => created 3 / removed 1 2 / commit 5 / ok / ok / pin 5
+1 refresh / 1 mkindex k LONG / 1 unpin / 1 pin => refused 17 NotCovered / commit 6 / ok / \
+         ok / pin 6
+1 refresh / 1 set 2 k LONG 8 / 1 unpin / 1 pin / 1 refresh => created / removed 3 / commit 7 / \
+         ok / ok / pin 7 / created 2 / removed";
+    check_lines(rt.alloc(), &mut for_two(rt.alloc(), 64, 100)?, lines)
+}
+
+/// What refreshes return keeps a list equal to what the query finds, beside random writes.
+#[test]
+fn live_query_beside_writes(rt: HostRuntime) -> Result<(), Fail> {
+    let follows = match follows_random_writes(rt.alloc()) {
+        Err(Refusal::OutOfMemory) => follows_random_writes(rt.alloc()),
+        answer => answer,
+    };
+    assert_eq!(rt; follows, Ok(true));
+    Ok(())
 }
 
 /// A prepared query follows the index of its name: to another place, to another kind, and away.

@@ -2,7 +2,8 @@
 //!
 //! Each call's clauses end with the helper that makes it: what is left of them is that the pass is
 //! one of the store, with its number. The helpers ask the pass whether it is pinned.
-ghost use Rattle.std.specs.Prelude.{◌≡◌, ◌≤◌, ℕ, None, length};
+ghost use Rattle.std.specs.Prelude.{◌≡◌, ◌≤◌, ℕ, None, IfSome, length};
+ghost use Rattle.be_store.specs.Live.{IsLiveOf};
 ghost use Rattle.be_store.specs.Passes.{IsPassOf, IsPinnedTo};
 ghost use Rattle.be_store.specs.Seats.{pinned_number};
 ghost use Rattle.be_store_tests.specs.Staying.{StaysPass};
@@ -147,8 +148,10 @@ pub(crate) fn ask_again(store: &Store, alloc: Global, pass: &mut Pass, live: &mu
 /// Which nodes came to a live query and which went since it was refreshed last, at the pin, or at a
 /// pin that goes with the read.
 fn refresh(store: &Store, pass: &mut Pass, live: &mut Live) -> Result<Updates, Refusal>
-    requires { IsPassOf store.now pass.old }
-    ensures { StaysPass store.now pass.old pass.new }
+    requires pass { IsPassOf store.now pass.old }
+    requires own { IsLiveOf store.now live.old }
+    ensures pass { StaysPass store.now pass.old pass.new }
+    ensures own { IsLiveOf store.now live.new }
 {
     match pass.pinned() {
         Some(_) => live.refresh(store, pass),
@@ -159,7 +162,9 @@ fn refresh(store: &Store, pass: &mut Pass, live: &mut Live) -> Result<Updates, R
 fn refresh_once(store: &Store, pass: &mut Pass, live: &mut Live) -> Result<Updates, Refusal>
     requires pass { IsPassOf store.now pass.old }
     requires unpinned { pinned_number pass.old.knows.phase ≡ None }
-    ensures { StaysPass store.now pass.old pass.new }
+    requires own { IsLiveOf store.now live.old }
+    ensures pass { StaysPass store.now pass.old pass.new }
+    ensures own { IsLiveOf store.now live.new }
 {
     let mut version = store.pinned(pass);
     version.refresh(live)
@@ -223,8 +228,10 @@ fn ask(store: &Store, alloc: Global, pass: &mut Pass, request: &Request) -> Text
 
 /// What a refresh finds, or that there is no live query.
 fn updates(store: &Store, alloc: Global, pass: &mut Pass, live: &mut Option<Live>) -> Text
-    requires { IsPassOf store.now pass.old }
-    ensures { StaysPass store.now pass.old pass.new }
+    requires pass { IsPassOf store.now pass.old }
+    requires own { IfSome live.old (λ l. IsLiveOf store.now l) }
+    ensures pass { StaysPass store.now pass.old pass.new }
+    ensures own { IfSome live.new (λ l. IsLiveOf store.now l) }
 {
     match live {
         Some(live) => updates_text(alloc, refresh(store, pass, live)),
@@ -246,8 +253,10 @@ pub(crate) fn answer(
     live: &mut Option<Live>,
     words: &str,
 ) -> Text
-    requires { IsPassOf store.now pass.old }
-    ensures { StaysPass store.now pass.old pass.new }
+    requires pass { IsPassOf store.now pass.old }
+    requires own { IfSome live.old (λ l. IsLiveOf store.now l) }
+    ensures pass { StaysPass store.now pass.old pass.new }
+    ensures own { IfSome live.new (λ l. IsLiveOf store.now l) }
 {
     match list_of(alloc, words) {
         Ok(ops) => return written_text(alloc, write(store, pass, ops.as_slice())),

@@ -27,7 +27,8 @@ pub(crate) struct Room {
 }
 
 impl Model for Room {
-    ghost use Rattle.std.specs.Prelude.{◌≡◌, true};
+    ghost use Rattle.std.specs.Prelude.{◌≡◌, true, IfSome};
+    ghost use Rattle.be_store.specs.Live.{IsLiveOf};
     ghost use Rattle.be_store.specs.Passes.{IsPassOf};
     ghost use Rattle.be_table.specs.Place.{Opened};
 
@@ -37,7 +38,8 @@ impl Model for Room {
 
     ghost invariant = { λ r. IsPassOf r.store r.first × (r.first.knows.number ≡ 0)
         × (r.has_second ≡ true → IsPassOf r.store r.second × (r.second.knows.number ≡ 1))
-        × (r.store.limits.passes ≡ r.passes) };
+        × (r.store.limits.passes ≡ r.passes)
+        × IfSome r.live (λ live. IsLiveOf r.store live) };
 }
 
 /// The store of a room for one pass.
