@@ -129,6 +129,12 @@ class Pass(Owner, ABC):
         its last pass."""
 
     @abstractmethod
+    def finish(self) -> str:
+        """Closes the store by its last pass, which is then closed, and returns the whole journal, as `journal` does. Of each
+        pass it has just the writes that its calls have committed, at their commit numbers. `InUse` if another pass is open, and
+        so always in a file: the store has a pass of its own there. `NoMemory`. The pass is as it was after either."""
+
+    @abstractmethod
     def meet(self) -> int:
         """Meets a pass that was closed: both have then seen what either had. Returns how many entries of the journal
         that is. `NoPass` if none is there, or another thread is at it."""
