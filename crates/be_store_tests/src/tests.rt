@@ -19,7 +19,7 @@ use crate::tests::refreshing::follows_random_writes;
 use crate::tests::room::{Room, for_one, for_two};
 use crate::tests::writers::change_by_four;
 use be_store::{Kind, Limits, Name, Op, Refusal, Store, Value};
-use be_test_tools::{OUTSIDE_LIMITS, check_lines, has_hundred_by_each, numbered};
+use be_test_tools::{OUTSIDE_LIMITS, again, check_lines, has_hundred_by_each, numbered};
 use std::alloc::{AllocError, Global};
 use std::test::Fail;
 use std::thread::Threads;
@@ -31,10 +31,7 @@ fn count_passes(alloc: Global, pages: u64, passes: u64, commits: u64) -> Result<
         passes,
         commits,
     };
-    let (_, dealt) = match Store::open(alloc, limits) {
-        Err(Refusal::OutOfMemory) => Store::open(alloc, limits)?,
-        answer => answer?,
-    };
+    let (_, dealt) = again!(Store::open(alloc, limits))?;
     Ok(dealt.len() as u64)
 }
 
@@ -427,19 +424,16 @@ fn pages_reused(rt: HostRuntime) -> Result<(), Fail> {
 }
 
 /// What is read of k if it is this number.
-fn number_lines(alloc: Global, number: i32) -> Result<String, AllocError> {
+fn number_lines(alloc: Global, number: i32) -> Result<String, Refusal> {
     let pin = number.saturating_add(3);
     let nodes = if number == 0 { " 1" } else { "" };
-    format!(in alloc;
+    Ok(format!(in alloc;
         "0 pin / 0 query k==0 / 0 get 1 k => pin {pin} / pin {pin} / nodes{nodes} / LONG {number}"
-    )
+    )?)
 }
 
 fn check_number(alloc: Global, room: &mut Room, number: i32) -> Result<(), Fail> {
-    let lines = match number_lines(alloc, number) {
-        Err(_) => number_lines(alloc, number)?,
-        Ok(lines) => lines,
-    };
+    let lines = again!(number_lines(alloc, number))?;
     check_lines(alloc, room, lines.as_str())
 }
 
@@ -524,10 +518,7 @@ fn entries_of_the_journal(rt: HostRuntime) -> Result<(), Fail> {
 /// increment.
 #[test]
 fn four_writers(rt: HostRuntime) -> Result<(), Fail> {
-    let answer = match change_by_four(&rt) {
-        Err(Refusal::OutOfMemory) => change_by_four(&rt),
-        answer => answer,
-    };
+    let answer = again!(change_by_four(&rt));
     assert_eq!(rt; answer, Ok((4, 200)));
     Ok(())
 }

@@ -20,7 +20,7 @@ use be_pages::{Look, Room};
 use be_plan::{PreparedQuery, answer};
 use be_query::Query;
 use be_script_language::Request;
-use be_test_tools::{Counted, list_of};
+use be_test_tools::{Counted, again, list_of};
 use be_value::{Name, Refusal, Value, word_of};
 use be_volume::{Op, Volume};
 use std::alloc::{AllocError, Global};
@@ -67,11 +67,7 @@ enum Cost {
 
 /// Whether a node has an attribute, and what the look at it costs.
 fn count_get(both: Both, node: u64, name: &Name) -> Cost {
-    let Both {
-        plain: _plain,
-        room,
-        page,
-    } = both;
+    let Both { room, page, .. } = both;
     let mut look = Counted::new(room);
     let value = get(&mut look, page, node, name);
     Cost::Read {
@@ -119,11 +115,7 @@ fn query_cost(alloc: Global, text: &str) -> Result<Cost, Fail> {
 
 /// What a prepared query costs when it is asked again: the nodes, or none if a plan would be asked.
 fn count_again(alloc: Global, both: Both, query: Query) -> Result<Cost, Refusal> {
-    let Both {
-        plain: _plain,
-        room,
-        page,
-    } = both;
+    let Both { room, page, .. } = both;
     let mut look = Counted::new(room);
     let mut prepared = PreparedQuery::new(query);
     let mut nodes = Vec::new(alloc);
@@ -206,10 +198,7 @@ fn ops_of(alloc: Global, request: &str) -> Result<Vec<Op>, Refusal> {
         return list_of(alloc, request);
     }
     let count = (word_of(count.as_bytes()).unwrap_or(0) % 256) as u8;
-    match sets_of(alloc, kind, count) {
-        Err(Refusal::OutOfMemory) => sets_of(alloc, kind, count),
-        ops => ops,
-    }
+    again!(sets_of(alloc, kind, count))
 }
 
 fn write_cost(alloc: Global, request: &str) -> Result<Cost, Fail> {
