@@ -23,6 +23,7 @@ mod catalog;
 mod cells;
 mod changes;
 mod comparing;
+mod counting;
 mod edits;
 mod entries;
 mod entry;
@@ -43,6 +44,7 @@ mod version;
 mod writes;
 
 pub use cells::{Cell, HeldName};
+pub use counting::version_pages;
 pub use first::first_page;
 pub use paged_source::{PagedSource, source};
 pub use paged_whole::{PagedWhole, whole};
