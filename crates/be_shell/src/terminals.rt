@@ -8,7 +8,7 @@ use crate::asides::{Aside, aside_of, skip, split_word, typed_of};
 use crate::peers::Peer;
 use crate::saves::save;
 use crate::scripts::{Script, next_line, open_script};
-use crate::usages::{hint, print_help, print_usage, wants_hint};
+use crate::help::{hint, print_help, print_usage, wants_hint};
 use be_script_runner::RunFault;
 use std::alloc::Global;
 use std::io::Eprint;
