@@ -31,7 +31,7 @@ from ._connected_errors import (
     BrokenConnection, Disconnected, Expired, LineTooLong, NoServer, NotAllowed, NotKept, NoWatch, ProtocolError, ServerError,
     ServerRefusal, TimedOut, TooManyWatches, Unavailable,
 )
-from .changes import Change, ChangedAttributes
+from .change import Change, ChangedAttributes
 from .connected import connect
 from .errors import (
     BadBytes, BadCount, BadItems, BadLimits, BadPart, BadPattern, Busy, Closed, CommitsSpent, Conflict, DataLength,

@@ -11,7 +11,7 @@ from functools import partial
 from itertools import groupby
 from typing import Callable, Iterator, List, NamedTuple, Optional, Sequence, Tuple, TypeVar, Union
 
-from .changes import Change
+from .change import Change
 from .errors import NotReached, Conflict, Nested, NoIndex, NoVolume, PartialIndex, TooManyAttempts
 from .handles import Owner
 from .nodes import volume_of
