@@ -1,10 +1,10 @@
 -- The pages that a write has in hand, counted.
-use Rattle.std.proofs.Common.{◌≡◌, ℕ, zero, suc, ◌+◌, ◌<◌, ◌≤◌, ◌==◌, List, [], ◌∷◌, length, IsTrue, true, false, Bool, if◌then◌else◌, ap, sym, subst, refl, inl, inr, arith, cond}
+use Rattle.std.proofs.Common.{◌≡◌, ℕ, zero, suc, ◌+◌, ◌<◌, ◌≤◌, ◌==◌, List, [], ◌∷◌, length, IsTrue, true, false, Bool, refl, inl, inr, arith, cond}
 use Rattle.std.proofs.lemmas.Bool.{cases_eq}
 use Rattle.std.proofs.lemmas.Bool.Decides.{nat_tests}
 use mathlib.Core.Bool.{false≢true}
 use Rattle.be_pages.specs.declared.room.Standing.{Standing}
-use Rattle.be_pages.specs.Pages.{is_taken, times, StandsAt, PageStep, untouched, unused, fresh, given_old, given_new, stays_old, stays_new, Swaps}
+use Rattle.be_pages.specs.Pages.{is_taken, times, PageStep, untouched, unused, fresh, given_old, given_new, stays_old, stays_new, Swaps}
 use Rattle.be_tree.specs.Counting.{one_of, in_hand, TakesAtMost, TakesFewer, HasInHand}
 use Rattle.be_tree.proofs.Frame.{times-cons}
 

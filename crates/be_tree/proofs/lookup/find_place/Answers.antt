@@ -1,4 +1,4 @@
-use Rattle.std.proofs.Common.{◌≡◌, ◌∙◌, ◌-◌, ◌<◌, ◌+◌, ◌*◌, length, refl, ap, sym, subst, ℕ, Some, arith}
+use Rattle.std.proofs.Common.{◌≡◌, ◌∙◌, ◌-◌, ◌<◌, length, refl, ap, sym, subst, ℕ, Some, arith}
 use Rattle.be_tree.specs.Key.{key_cmp, payload_at}
 use Rattle.be_tree.specs.Places.{IsBranchAt, IsFoundAt, IsGapAt}
 use Rattle.be_tree.specs.Page.{items_of, item_at, IsItem}

@@ -1,4 +1,4 @@
-use Rattle.std.proofs.Common.{◌≡◌, ◌∙◌, suc, ◌-◌, ◌<◌, ◌+◌, ◌*◌, [], ◌∷◌, ◌++◌, length, All, Result, Ok, Err, IfOk, IfErr, refl, ap, sym, subst, ℕ, arith}
+use Rattle.std.proofs.Common.{◌≡◌, ◌∙◌, suc, ◌-◌, ◌<◌, [], ◌∷◌, ◌++◌, length, All, Result, Ok, Err, IfOk, IfErr, refl, ap, sym, subst, ℕ, arith}
 use Rattle.std.proofs.lemmas.List.{length-append}
 use Rattle.std.proofs.lemmas.List.Elements.{All-append}
 use Rattle.std.specs.declared.cmp.Ordering.TheVariants.{Equal}

@@ -1,7 +1,7 @@
 use Rattle.std.proofs.Common.{◌≡◌, ◌<◌, length, IsTrue, refl, sym, ap, ◌∙◌, subst, arith, length-set, slice_set}
 use Rattle.std.proofs.lemmas.List.{set-get_or}
 use Rattle.be_table.specs.declared.pass.Knowledge.{Knowledge}
-use Rattle.be_pages.specs.declared.page_pool.Place.TheVariants.{Filled, Free}
+use Rattle.be_pages.specs.declared.page_pool.Place.TheVariants.{Current, Filled}
 use Rattle.be_pages.specs.Place.{is_in_hand, place_of}
 use Rattle.be_table.specs.Rule.{alone, ledger_places, pass_of, word_place}
 use Rattle.be_table.specs.Steps.{fills_word, fill_moves, with_history}
@@ -30,7 +30,7 @@ invariant_of-self c =
     let k = ap (λ (w : Rattle.be_table.specs.Place.Work). w.knows) c.self.view_is in
     let b = fills_word (with_history a (pass_of c.fill_word.new.base.me.0).history) c.args.page c.args.i c.args.word in
     reopened w _ b i refl refl refl refl refl c.fill_word.ensures.seat.0 (c.fill_word.ensures.me ∙ ap (λ l. (alone b, l)) (ap (λ m. m.1) i.me_is)) refl i.turn
-    (length-set a.words (word_place c.args.page c.args.i) c.args.word) (length-set a.places c.args.page Filled) (i.places ∙ sym (subst (λ x. slice_set a.places c.args.page x ≡ a.places) (ap (λ (n : Knowledge). place_of n.places c.args.page) k ∙ c.requires.filled.1) (set-get_or a.places c.args.page Free)))
+    (length-set a.words (word_place c.args.page c.args.i) c.args.word) (length-set a.places c.args.page Filled) (i.places ∙ sym (subst (λ x. slice_set a.places c.args.page x ≡ a.places) (ap (λ (n : Knowledge). place_of n.places c.args.page) k ∙ c.requires.filled.1) (set-get_or a.places c.args.page Current)))
     i.left
     (λ unpublished. worked_more a.limits a.number a.history (fill_moves a c.args.page c.args.i c.args.word) (pass_of c.fill_word.new.base.me.0).history (fill_work a c.args.page c.args.i c.args.word)
     (reasons_none a.limits a.number a.history (fill_moves a c.args.page c.args.i c.args.word) (pass_of c.fill_word.new.base.me.0).history (fill_needs a.limits a c.args.page c.args.i c.args.word) c.fill_word.ensures.moves) (i.worked unpublished))
