@@ -1,8 +1,10 @@
 -- Passes that a session collects to close its store.
 use Rattle.std.proofs.Common.{◌≡◌, ◌<◌, ◌+◌, ◌∙◌, ℕ, List, [], ◌∷◌, ◌++◌, length, map, arith, ap, sym, subst, false, inl, inr, ⊎_elim}
-use Rattle.std.proofs.lemmas.List.{append_assoc, append-nil}
+use Rattle.std.proofs.lemmas.Bool.{cases_lt}
+use Rattle.std.proofs.lemmas.List.{append_assoc, append-nil, map-append}
 use Rattle.std.specs.Prelude.{zero, suc}
 use Rattle.atomic_table.specs.Seated.{TableId}
+use Rattle.be_store.specs.Passes.{IsPassOf}
 use Rattle.be_table.specs.History.{StartsWith}
 use Rattle.be_table.specs.Place.{Opened, SeatFacts}
 use Rattle.be_table.specs.Steps.{Has}
@@ -46,3 +48,29 @@ starts_same xs ys is = ([], is ∙ sym (append-nil xs))
 
 pub starts_more : {A : Type 0} (xs ys zs : List A) → StartsWith ys xs → StartsWith zs ys → StartsWith zs xs
 starts_more xs ys zs first more = (first.0 ++ more.0, more.1 ∙ (ap (λ l. l ++ more.0) first.1 ∙ append_assoc xs first.0 more.0))
+
+-- what the beginning has is there
+pub starts_have : (ss ts : List SeatFacts) (k : ℕ) → StartsWith ts ss → Has (map knows_of ss) k → Has (map knows_of ts) k
+starts_have ss ts k more h = subst (λ l. Has (map knows_of l) k) (sym more.1) (has_more ss more.0 k h)
+
+-- each number below one more is there
+pub have_next : (ss ts : List SeatFacts) (k : ℕ) → StartsWith ts ss → ((n : ℕ) → n < k → Has (map knows_of ss) n) → Has (map knows_of ts) k
+    → (n : ℕ) → n < k + 1 → Has (map knows_of ts) n
+have_next ss ts k more have last n low =
+    elim (cases_lt n k) [
+      | inl less ↦ starts_have ss ts n more (have n less)
+      | inr above ↦
+          let same : k ≡ n = omega (arith, above, low) in
+          subst (λ m. Has (map knows_of ts) m) same last
+    ]
+
+-- with one pass that was used they are passes of the store
+pub all_here : (t u : Opened) (ss : List SeatFacts) (s : SeatFacts) → u ≡ t → AreNew t 0 ss → IsPassOf t s → AllAt u.id (ss ++ s ∷ [])
+all_here t u ss s same new pass =
+    subst (λ (o : Opened). AllAt o.id (ss ++ s ∷ [])) (sym same) (at_more t.id ss s (new_are_at t 0 ss new) pass.0.0 pass.0.1)
+
+-- what they know with those that were collected
+pub known_with : (ss : List SeatFacts) (s : SeatFacts) (some rest all : List SeatFacts) → some ≡ ss ++ s ∷ [] → all ≡ some ++ rest
+    → map knows_of all ≡ map knows_of ss ++ s.knows ∷ map knows_of rest
+known_with ss s some rest all first more =
+    ap (map knows_of) (more ∙ (ap (λ l. l ++ rest) first ∙ append_assoc ss (s ∷ []) rest)) ∙ map-append knows_of ss (s ∷ rest)

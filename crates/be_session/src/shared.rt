@@ -1,5 +1,5 @@
 //! What the sessions of a store share: the store, and the passes that were given back.
-ghost use Rattle.std.specs.Prelude.{◌≡◌, ◌≤◌, ◌<◌, ◌+◌, ℕ, IfOk, IfSome, length, map, true};
+ghost use Rattle.std.specs.Prelude.{◌≡◌, ◌≤◌, ◌<◌, ◌+◌, ◌^◌, ℕ, IfOk, IfSome, length, map, true};
 ghost use Rattle.std.specs.Prelude.{vec_capacity, vec_len};
 ghost use Rattle.be_table.specs.History.{StartsWith};
 ghost use Rattle.be_table.specs.Steps.{Has};
@@ -173,7 +173,8 @@ impl Shared {
 
     /// How many passes the store has.
     pub(crate) fn passes(&self) -> usize
-        ensures { result ≡ self.now.limits.passes }
+        ensures count { result ≡ self.now.limits.passes }
+        ensures few { result < 2 ^ 63 }
     {
         self.slots.len()
     }
