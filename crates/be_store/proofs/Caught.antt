@@ -8,7 +8,7 @@ use Rattle.std.proofs.lemmas.List.Kept.{IsStrictlyIncreasing-filter}
 use Rattle.std.specs.FinMap as fin
 use Rattle.std.specs.List.{Contains}
 use Rattle.std.specs.List.Sorted.{IsStrictlyIncreasing}
-use Rattle.std.specs.Prelude.{OnOk, Result}
+use Rattle.std.specs.Prelude.{◌⊎◌, IfErr, IfOk, OnOk, Result}
 use Rattle.be_core.specs.declared.event.Phase.TheVariants.{Pinned}
 use Rattle.be_core.specs.Machine.{InTime}
 use Rattle.be_journal.specs.Journal.{IsLegal, replay}
@@ -25,7 +25,7 @@ use Rattle.be_table.specs.Steps.{IsPass, met}
 use Rattle.be_table.specs.declared.pass.Commit.{Commit}
 use Rattle.be_table.specs.declared.pass.Knowledge.{Knowledge}
 use Rattle.be_value.specs.declared.refusals.Refusal.{Refusal}
-use Rattle.be_value.specs.declared.refusals.Refusal.TheVariants.{NotCovered}
+use Rattle.be_value.specs.declared.refusals.Refusal.TheVariants.{NotCovered, OutOfMemory}
 use Rattle.be_value.specs.declared.values.Value.{Value}
 use Rattle.be_volume.specs.Maps.{Attributes}
 use Rattle.be_volume.specs.Query.{covered, has_index, holds, sat, scan, seen_in, sees}
@@ -34,10 +34,10 @@ use Rattle.be_volume.specs.declared.maps.Index.{Index}
 use Rattle.be_volume.specs.Sound.{IsPaired, IsSound}
 use Rattle.be_volume.specs.Volume.{State}
 use Rattle.be_store.specs.History.{Learns, LocksOnly}
-use Rattle.be_store.specs.Live.{IsAnswer, IsAnswerBut, is_among, without}
+use Rattle.be_store.specs.Live.{IsAnswer, IsAnswerBut, IsLiveOf, LiveQuery, Refreshes, is_among, without}
 use Rattle.be_store.specs.Marks.{IsMarkOf}
-use Rattle.be_table.specs.Place.{WitnessFacts}
-use Rattle.be_store.specs.Named.{IsNamedAmong, NamesAmong, node_named}
+use Rattle.be_table.specs.Place.{Opened, WitnessFacts}
+use Rattle.be_store.specs.Named.{AreNamedAmong, IsNamedAmong, NamesAmong, node_named}
 use Rattle.be_volume.specs.declared.ops.Done.{Done}
 use Rattle.be_volume.specs.declared.ops.Op.{Op}
 use Rattle.be_store.specs.Passes.{HasRead, IsPinnedTo, volume_pinned}
@@ -314,3 +314,45 @@ changed_so v w f g nodes last list new came went gone put mid grown sound up_nod
 
 pub on_ok : {T E : Type 0} (r : Result T E) (x : T) (P : Type 0) → r ≡ Ok x → OnOk r P → P
 on_ok r x P e h = subst (λ q. OnOk q P) e h
+
+-- ## A refresh in two steps: the pass learns, and then reads at its pin
+
+pub pin_kept : (a b : Knowledge) (n : ℕ) → Learns a b → IsPinnedTo a n → IsPinnedTo b n
+pin_kept a b n h pin = ap pinned_number h.pin ∙ pin
+
+pub volume_read : (a b c : Knowledge) → volume_pinned b ≡ volume_pinned a → HasRead b c → volume_pinned c ≡ volume_pinned a
+volume_read a b c same read = ap volume_pinned read ∙ same
+
+-- what was found of the live query and the volume as they stand then, is so of those before
+pub refreshed_so : (v w : State) (old mid new : LiveQuery) (came went : List ℕ) → w ≡ v → mid ≡ old → Refreshes w mid new came went → Refreshes v old new came went
+refreshed_so v w old mid new came went volume same h =
+    subst (λ l. Refreshes v l new came went) same (subst (λ s. Refreshes s mid new came went) volume h)
+
+pub if_err : {T E : Type 0} (r : Result T E) (P Q : E → Type 0) → ((e : E) → P e → Q e) → IfErr r P → IfErr r Q
+if_err (Ok x) P Q f p = tt
+if_err (Err e) P Q f p = f e p
+
+-- and so is a refusal
+pub refused_so : (v w : State) (old mid new : LiveQuery) (e : Refusal) → w ≡ v → mid ≡ old → (new ≡ mid) × ((e ≡ OutOfMemory) ⊎ (scan w mid.query ≡ Err e)) → (new ≡ old) × ((e ≡ OutOfMemory) ⊎ (scan v old.query ≡ Err e))
+refused_so v w old mid new e volume same h =
+    subst (λ l. (new ≡ l) × ((e ≡ OutOfMemory) ⊎ (scan v l.query ≡ Err e))) same
+    (subst (λ s. (new ≡ mid) × ((e ≡ OutOfMemory) ⊎ (scan s mid.query ≡ Err e))) volume h)
+
+-- where the answer may differ is known of the query and the volume as they stand now
+pub but_now : (ns ms : List ℕ) (v w : State) (old new : LiveQuery) → ms ≡ ns → w ≡ v → new ≡ old → IsAnswerBut ns v old.query old.last → IsAnswerBut ms w new.query new.last
+but_now ns ms v w old new list volume same h =
+    subst (λ l. IsAnswerBut l w new.query new.last) (sym list)
+    (subst (λ s. IsAnswerBut ns s new.query new.last) (sym volume)
+    (subst (λ l. IsAnswerBut ns v l.query l.last) (sym same) h))
+
+-- the query is of the store, whether it was refreshed or stays as it was
+pub own_after : {T E : Type 0} (r : Result T E) (store : Opened) (old mid new : LiveQuery) (Q : E → Type 0) → IfOk r (λ _. IsLiveOf store new) → IfErr r (λ e. (new ≡ mid) × Q e) → mid ≡ old → IsLiveOf store old → IsLiveOf store new
+own_after (Ok x) store old mid new Q ok err same own = ok
+own_after (Err e) store old mid new Q ok err same own = subst (IsLiveOf store) (sym (err.0 ∙ same)) own
+
+-- an entry's operations and outcomes, as slices
+pub named_entry : (new : List ℕ) (ops : List Op) (dones : List Done) (entry : Entry) (log : List Entry) (i : ℕ) → ops ≡ entry.ops → dones ≡ entry.dones → entry ≡ get_or log i entry → i < length log →
+    AreNamedAmong new ops dones → (d : Entry) → NamesAmong new (get_or log i d)
+named_entry new ops dones entry log i ops_is dones_is its inside named d =
+    subst (NamesAmong new) (its ∙ get_or_default log i entry d inside)
+    (subst (λ l. AreNamedAmong new l entry.dones) ops_is (subst (λ l. AreNamedAmong new ops l) dones_is named))

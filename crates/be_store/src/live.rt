@@ -242,11 +242,10 @@ impl Live {
             unreachable!()
         };
         let mut nodes = ArrayVec::new();
-        if self.find_changes(store, pass, pin, &mut nodes) {
-            self.ask_changed(store, pass, pin, nodes.as_slice())
-        } else {
-            self.refresh_whole(store, pass)
+        if !self.find_changes(store, pass, pin, &mut nodes) {
+            return self.refresh_whole(store, pass);
         }
+        self.ask_changed(store, pass, pin, nodes.as_slice())
     }
 }
 
@@ -258,6 +257,7 @@ fn most_asked(nodes: usize) -> usize {
 
 /// Adds the nodes that the entries from one number of a version to a later one name. Returns false
 /// if there are more than `most` entries, or if they make or remove an index.
+#[tactic(auto, using(crate::proofs::Caught::learns_nothing))]
 fn add_changes(
     store: &Store,
     pass: &mut Pass,
