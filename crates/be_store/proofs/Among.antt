@@ -68,26 +68,26 @@ rising_insert xs i y up short below above k lt =
           let b = get_or-insert_below xs i y 0 (k + 1) early short in
           let c : get_or xs k 0 < get_or xs (k + 1) 0 = up k (omega (arith, early, short)) in omega (arith, a, b, c))
       | inr late ↦ elim (cases_lt k i) [
-          | inl edge ↦
-              (let at : k + 1 ≡ i = omega (arith, late, edge) in
-              let a = get_or-insert_below xs i y 0 k edge short in
-              let b : get_or (insert xs i y) (k + 1) 0 ≡ y = ap (λ j. get_or (insert xs i y) j 0) at ∙ get_or-insert_at xs i y 0 short in
-              let c = below k edge in omega (arith, a, b, c))
-          | inr past ↦ elim (cases_lt i k) [
-              | inl beyond ↦
-                  (let j : ℕ = k - 1 in
-                  let e : j + 1 ≡ k = omega (arith, beyond) in
-                  let a : get_or (insert xs i y) k 0 ≡ get_or xs j 0 = ap (λ m. get_or (insert xs i y) m 0) (sym e) ∙ get_or-insert_above xs i y 0 j (omega (arith, beyond)) short in
-                  let b = get_or-insert_above xs i y 0 k past short in
-                  let c : get_or xs j 0 < get_or xs (j + 1) 0 = up j (omega (arith, lt, long, e)) in
-                  let d : get_or xs (j + 1) 0 ≡ get_or xs k 0 = ap (λ m. get_or xs m 0) e in omega (arith, a, b, c, d))
-              | inr here ↦
-                  (let e : k ≡ i = omega (arith, past, here) in
-                  let a : get_or (insert xs i y) k 0 ≡ y = ap (λ m. get_or (insert xs i y) m 0) e ∙ get_or-insert_at xs i y 0 short in
-                  let b = get_or-insert_above xs i y 0 k past short in
-                  let c = above k past (omega (arith, lt, long)) in omega (arith, a, b, c))
-            ]
+        | inl edge ↦
+            (let at : k + 1 ≡ i = omega (arith, late, edge) in
+            let a = get_or-insert_below xs i y 0 k edge short in
+            let b : get_or (insert xs i y) (k + 1) 0 ≡ y = ap (λ j. get_or (insert xs i y) j 0) at ∙ get_or-insert_at xs i y 0 short in
+            let c = below k edge in omega (arith, a, b, c))
+        | inr past ↦ elim (cases_lt i k) [
+          | inl beyond ↦
+              (let j : ℕ = k - 1 in
+              let e : j + 1 ≡ k = omega (arith, beyond) in
+              let a : get_or (insert xs i y) k 0 ≡ get_or xs j 0 = ap (λ m. get_or (insert xs i y) m 0) (sym e) ∙ get_or-insert_above xs i y 0 j (omega (arith, beyond)) short in
+              let b = get_or-insert_above xs i y 0 k past short in
+              let c : get_or xs j 0 < get_or xs (j + 1) 0 = up j (omega (arith, lt, long, e)) in
+              let d : get_or xs (j + 1) 0 ≡ get_or xs k 0 = ap (λ m. get_or xs m 0) e in omega (arith, a, b, c, d))
+          | inr here ↦
+              (let e : k ≡ i = omega (arith, past, here) in
+              let a : get_or (insert xs i y) k 0 ≡ y = ap (λ m. get_or (insert xs i y) m 0) e ∙ get_or-insert_at xs i y 0 short in
+              let b = get_or-insert_above xs i y 0 k past short in
+              let c = above k past (omega (arith, lt, long)) in omega (arith, a, b, c))
         ]
+      ]
     ]
 
 pub rising_remove : (xs : List ℕ) (i : ℕ) → IsStrictlyIncreasing xs → i < length xs → IsStrictlyIncreasing (remove xs i)
@@ -99,15 +99,15 @@ rising_remove xs i up inside k lt =
           let b = get_or-remove_below xs i 0 (k + 1) early inside in
           let c : get_or xs k 0 < get_or xs (k + 1) 0 = up k (omega (arith, early, inside)) in omega (arith, a, b, c))
       | inr late ↦ elim (cases_lt k i) [
-          | inl edge ↦
-              (let a = get_or-remove_below xs i 0 k edge inside in
-              let b = get_or-remove_above xs i 0 (k + 1) late inside in
-              let c = AllPairs-from_increasing xs up k (k + 1 + 1) 0 (omega arith) (omega (arith, lt, long)) in omega (arith, a, b, c))
-          | inr past ↦
-              (let a = get_or-remove_above xs i 0 k past inside in
-              let b = get_or-remove_above xs i 0 (k + 1) (omega (arith, past)) inside in
-              let c : get_or xs (k + 1) 0 < get_or xs (k + 1 + 1) 0 = up (k + 1) (omega (arith, lt, long)) in omega (arith, a, b, c))
-        ]
+        | inl edge ↦
+            (let a = get_or-remove_below xs i 0 k edge inside in
+            let b = get_or-remove_above xs i 0 (k + 1) late inside in
+            let c = AllPairs-from_increasing xs up k (k + 1 + 1) 0 (omega arith) (omega (arith, lt, long)) in omega (arith, a, b, c))
+        | inr past ↦
+            (let a = get_or-remove_above xs i 0 k past inside in
+            let b = get_or-remove_above xs i 0 (k + 1) (omega (arith, past)) inside in
+            let c : get_or xs (k + 1) 0 < get_or xs (k + 1 + 1) 0 = up (k + 1) (omega (arith, lt, long)) in omega (arith, a, b, c))
+      ]
     ]
 
 -- what is removed is no longer there
@@ -141,9 +141,9 @@ among_remove xs i n up inside =
           ∙ sym (and_right (is_among xs n) (not (x == n)) (ap (λ (b : Bool). not b) (eq-eqb x n same))))
       | inr other ↦
           (let parts : is_among xs n ≡ ((is_among (take i xs) n || ((x == n) || false)) || is_among (drop (i + 1) xs) n) =
-              ap (λ l. is_among l n) (sym (take-append-drop (i + 1) xs))
-              ∙ (among_append (take (i + 1) xs) (drop (i + 1) xs) n
-              ∙ ap (λ b. b || is_among (drop (i + 1) xs) n) (ap (λ l. is_among l n) (take_more xs i 0 inside) ∙ among_append (take i xs) (x ∷ []) n)) in
+          ap (λ l. is_among l n) (sym (take-append-drop (i + 1) xs))
+          ∙ (among_append (take (i + 1) xs) (drop (i + 1) xs) n
+          ∙ ap (λ b. b || is_among (drop (i + 1) xs) n) (ap (λ l. is_among l n) (take_more xs i 0 inside) ∙ among_append (take i xs) (x ∷ []) n)) in
           ap (λ k. is_among (take i xs ++ drop k xs) n) (sym (add-one i))
           ∙ (among_append (take i xs) (drop (i + 1) xs) n
           ∙ (without_this (is_among (take i xs) n) (is_among (drop (i + 1) xs) n) (x == n) (ne_eqb x n other)

@@ -97,10 +97,12 @@ scan_is_answer s f list sound h = by (covered s f) refl h
 
     by : (b : Bool) → covered s f ≡ b → (if b then Ok (filter (sat s f) (fin.keys s.nodes)) else Err NotCovered) ≡ Ok list → IsAnswer s f list
     by true e g =
-        let same : filter (sat s f) (fin.keys s.nodes) ≡ list = ap (list_of list) g in
-        (e, λ n.
-        ap (λ l. is_among l n) (sym same) ∙ (among_filter (sat s f) (fin.keys s.nodes) n ∙ is n (sat s f n) refl (λ t.
-        contains_among (fin.keys s.nodes) n (contains_of_is_in (fin.keys s.nodes) n (sym (fin.contains_key-keys s.nodes n) ∙ there s sound f e n t)))))
+        let same : filter (sat s f) (fin.keys s.nodes) ≡ list = ap (list_of list) g in (
+          e,
+          λ n.
+              ap (λ l. is_among l n) (sym same) ∙ (among_filter (sat s f) (fin.keys s.nodes) n ∙ is n (sat s f n) refl (λ t.
+              contains_among (fin.keys s.nodes) n (contains_of_is_in (fin.keys s.nodes) n (sym (fin.contains_key-keys s.nodes n) ∙ there s sound f e n t)))),
+        )
     by false e g = cc
 
 -- what an edit leaves among a list, where the list is right but for some numbers: l whether it had this one, m whether it is one of these, s whether it should have it
@@ -146,10 +148,13 @@ module _ (s : State) (f : Formula) (nodes last new came went : List ℕ) (sound 
   among_went n = ap (λ l. is_among l n) went_is ∙ among_filter (λ m. is_among last m && not (sat s f m)) nodes n
 
   pub is_answer : IsAnswer s f new
-  is_answer = (but.0, λ n. new_is n
-      ∙ (ap (λ b. (is_among last n && not b) || is_among came n) (among_went n)
-      ∙ (ap (λ b. (is_among last n && not ((is_among last n && not (sat s f n)) && is_among nodes n)) || b) (among_came n)
-      ∙ edited (is_among last n) (is_among nodes n) (sat s f n) (but.1 n))))
+  is_answer = (
+    but.0,
+    λ n. new_is n
+        ∙ (ap (λ b. (is_among last n && not b) || is_among came n) (among_went n)
+        ∙ (ap (λ b. (is_among last n && not ((is_among last n && not (sat s f n)) && is_among nodes n)) || b) (among_came n)
+        ∙ edited (is_among last n) (is_among nodes n) (sat s f n) (but.1 n))),
+  )
 
   pub is_scan : scan s f ≡ Ok new
   is_scan = answer_is_scan s f new sound up_new is_answer
@@ -233,7 +238,7 @@ found_changes a b front nodes last f m n pass_a pass_b pin more_a more_front sho
     let same = replay_same nodes (entries b.seen) m more (is_legal b pass_b) (omega (arith, sum, long, inside, reach)) (λ i d low high. named i d low (omega (arith, high, sum))) in
     let before : replay (take m (entries b.seen)) ≡ replay (take m (entries front)) = ap replay (front_same b.seen front m more_front short) in
     let after : replay (take (m + more) (entries b.seen)) ≡ volume_pinned a =
-        ap (λ k. replay (take k (entries b.seen))) sum ∙ (ap replay (front_same b.seen a.seen n more_a inside) ∙ sym (volume_is a n pin)) in
+    ap (λ k. replay (take k (entries b.seen))) sum ∙ (ap replay (front_same b.seen a.seen n more_a inside) ∙ sym (volume_is a n pin)) in
     subst (λ t. IsAnswerBut nodes t f last) after
     (same_answer nodes (replay (take m (entries b.seen))) (replay (take (m + more) (entries b.seen))) f last same
     (subst (λ t. IsAnswer t f last) (sym before) answer))
@@ -289,9 +294,11 @@ mark_joined f last old new n mark fresh more =
 
 -- a mark that is made at a pin
 pub mark_at : (f : Formula) (last : List ℕ) (a : Knowledge) (w : WitnessFacts) (n : ℕ) → IsPass a → IsPinnedTo a n → w.blank ≡ false → w.seen ≡ a.seen → IsAnswer (volume_pinned a) f last → IsMarkOf f last (record { witness = w; number = n })
-mark_at f last a w n pass pin fresh seen answer =
-    (fresh, subst (λ l. n ≤ length l) (sym seen) (pin_seen a n pass pin),
-    subst (λ s. IsAnswer s f last) (volume_is a n pin ∙ ap (λ l. replay (take n (entries l))) (sym seen)) answer)
+mark_at f last a w n pass pin fresh seen answer = (
+  fresh,
+  subst (λ l. n ≤ length l) (sym seen) (pin_seen a n pass pin),
+  subst (λ s. IsAnswer s f last) (volume_is a n pin ∙ ap (λ l. replay (take n (entries l))) (sym seen)) answer,
+)
 
 -- a list that was changed by what became of some nodes, whatever the names of what was read
 pub changed_so : (v w : State) (f g : Formula) (nodes last list new came went gone put mid grown : List ℕ) → IsSound v → IsStrictlyIncreasing nodes → IsStrictlyIncreasing last → IsStrictlyIncreasing new → IsAnswerBut nodes v f last →
@@ -300,12 +307,12 @@ pub changed_so : (v w : State) (f g : Formula) (nodes last list new came went go
     IsAnswer v f new × (scan v f ≡ Ok new) × (came ≡ without new last) × (went ≡ without last new)
 changed_so v w f g nodes last list new came went gone put mid grown sound up_nodes up_last up_new but volume query same came_is went_is kept gone_is put_is left both =
     let x : came ≡ filter (λ n. sat v f n && not (is_among last n)) nodes =
-        came_is ∙ ap (λ (t : State × Formula × List ℕ). filter (λ n. sat t.0 t.1 n && not (is_among t.2 n)) nodes) (λ i. (volume i, query i, same i)) in
+    came_is ∙ ap (λ (t : State × Formula × List ℕ). filter (λ n. sat t.0 t.1 n && not (is_among t.2 n)) nodes) (λ i. (volume i, query i, same i)) in
     let y : went ≡ filter (λ n. is_among last n && not (sat v f n)) nodes =
-        went_is ∙ ap (λ (t : State × Formula × List ℕ). filter (λ n. is_among t.2 n && not (sat t.0 t.1 n)) nodes) (λ i. (volume i, query i, same i)) in
+    went_is ∙ ap (λ (t : State × Formula × List ℕ). filter (λ n. is_among t.2 n && not (sat t.0 t.1 n)) nodes) (λ i. (volume i, query i, same i)) in
     let z : (n : ℕ) → is_among new n ≡ ((is_among last n && not (is_among went n)) || is_among came n) = λ n.
-        both n ∙ (ap (λ b. b || is_among put n) (left n)
-        ∙ ap (λ (t : List ℕ × List ℕ × List ℕ). (is_among t.0 n && not (is_among t.1 n)) || is_among t.2 n) (λ i. (kept i, gone_is i, put_is i))) in (
+    both n ∙ (ap (λ b. b || is_among put n) (left n)
+    ∙ ap (λ (t : List ℕ × List ℕ × List ℕ). (is_among t.0 n && not (is_among t.1 n)) || is_among t.2 n) (λ i. (kept i, gone_is i, put_is i))) in (
       is_answer v f nodes last new came went sound up_nodes up_last up_new but x y z,
       is_scan v f nodes last new came went sound up_nodes up_last up_new but x y z,
       is_came v f nodes last new came went sound up_nodes up_last up_new but x y z,

@@ -262,7 +262,7 @@ replay_same nodes log from zero legal short named =
 replay_same nodes log from (suc more) legal short named =
     let i : ℕ = from + more in
     let before : AreSame nodes (replay (take from log)) (replay (take i log)) =
-        replay_same nodes log from more legal (omega arith) (λ j d low high. named j d low (omega (arith, high))) in
+    replay_same nodes log from more legal (omega arith) (λ j d low high. named j d low (omega (arith, high))) in
     let inside : i < length log = omega arith in
     let d : Entry = record { by = 0; ops = []; dones = [] } in
     let entry : Entry = get_or log i d in

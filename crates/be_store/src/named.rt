@@ -102,12 +102,7 @@ fn add_entry(held: &Writing<'_>, i: u64, nodes: &mut ArrayVec<u64, 64>) -> bool
 }
 
 /// Adds the nodes that the entries from one index to another name, while the lock is held.
-fn add_between(
-    held: &Writing<'_>,
-    from: u64,
-    end: u64,
-    nodes: &mut ArrayVec<u64, 64>,
-) -> bool
+fn add_between(held: &Writing<'_>, from: u64, end: u64, nodes: &mut ArrayVec<u64, 64>) -> bool
     requires end { end ≤ length held.now.knows.seen }
     requires rising { IsStrictlyIncreasing nodes.old.items }
     ensures rising { IsStrictlyIncreasing nodes.new.items }

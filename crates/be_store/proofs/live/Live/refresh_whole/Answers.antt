@@ -15,9 +15,11 @@ invariant_of-self-2 c =
     let nodes = c.query_prepared.new.nodes.items in
     let number = c.in_ok-number.number in
     let pin = c.in_ok-number.ensures.pin in
-    let answer = scan_is_answer v q nodes (pinned_sound a number c.is_pass.ensures pin) (ap (scan v) c.query_prepared.ensures.same ∙ c.in_ok-number.ensures.nodes) in
-    (c.in_ok-number.ensures.rising, mark_at q nodes a c.witness-witness.result number c.is_pass.ensures pin c.witness-witness.ensures.witness.0.0
-    (c.witness-witness.ensures.witness.1 ∙ ap (λ (k : Knowledge). k.seen) c.query_prepared.ensures.pass.1) answer)
+    let answer = scan_is_answer v q nodes (pinned_sound a number c.is_pass.ensures pin) (ap (scan v) c.query_prepared.ensures.same ∙ c.in_ok-number.ensures.nodes) in (
+      c.in_ok-number.ensures.rising,
+      mark_at q nodes a c.witness-witness.result number c.is_pass.ensures pin c.witness-witness.ensures.witness.0.0
+          (c.witness-witness.ensures.witness.1 ∙ ap (λ (k : Knowledge). k.seen) c.query_prepared.ensures.pass.1) answer,
+    )
 
 pub returns-clause-ok : goal.returns-clause-ok
 returns-clause-ok c =
