@@ -5,8 +5,8 @@ ghost use Rattle.be_store.specs.Live.{IsLiveOf};
 ghost use Rattle.be_store.specs.Passes.{IsPassOf};
 ghost use Rattle.be_store.specs.Seats.{pinned_number};
 
-use be_test_tools::both_of;
 use be_store::{Kind, Limits, Live, Name, Op, Pass, Query, Refusal, Store, Updates, Value, parse};
+use be_test_tools::both_of;
 use std::alloc::Global;
 
 /// Numbers that look random: each by a product from the one before.
