@@ -118,7 +118,7 @@ fn find_into(
 }
 
 /// Asks a live query, which stays of the store.
-fn find(
+fn find_once(
     store: &Store,
     pass: &mut Pass,
     live: &mut Live,
@@ -147,8 +147,8 @@ fn find_again(
     ensures own { IsLiveOf store.now live.new }
 {
     let mut nodes = Vec::new(alloc);
-    find(store, pass, live, &mut nodes)?;
-    let pin = find(store, pass, live, &mut nodes)?;
+    find_once(store, pass, live, &mut nodes)?;
+    let pin = find_once(store, pass, live, &mut nodes)?;
     Ok(Answer { pin, nodes })
 }
 
