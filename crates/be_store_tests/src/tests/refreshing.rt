@@ -2,7 +2,7 @@
 //! refreshes return.
 ghost use Rattle.std.specs.Prelude.{◌≡◌, ◌<◌, ◌≤◌, None, length};
 ghost use Rattle.be_store.specs.Live.{IsLiveOf};
-ghost use Rattle.be_store.specs.Passes.{IsPassOf};
+ghost use Rattle.be_store.specs.Passes.{IsPassOf, IsPinnedTo};
 ghost use Rattle.be_store.specs.Seats.{pinned_number};
 
 use be_store::{Kind, Limits, Live, Name, Op, Pass, Query, Refusal, Store, Updates, Value, parse};
@@ -82,6 +82,18 @@ fn follow(list: &mut Vec<u64>, updates: &Updates) -> Result<bool, Refusal> {
     Ok(true)
 }
 
+/// Pins the pass if it isn't pinned. Returns the pin's number.
+fn pin_if_not(store: &Store, pass: &mut Pass) -> u64
+    requires pass { IsPassOf store.now pass.old }
+    ensures pass { IsPassOf store.now pass.new }
+    ensures pinned { IsPinnedTo pass.new.knows result }
+{
+    match pass.pinned() {
+        Some(number) => number,
+        None => store.pin(pass),
+    }
+}
+
 /// Refreshes at a pin that goes with the read. Whether the list is then what the query finds there.
 fn agrees(
     store: &Store,
@@ -96,9 +108,7 @@ fn agrees(
     ensures pass { IsPassOf store.now pass.new }
     ensures own { IsLiveOf store.now live.new }
 {
-    if pass.pinned().is_none() {
-        store.pin(pass);
-    }
+    pin_if_not(store, pass);
     let updates = live.refresh(store, pass)?;
     let found = store.query(alloc, pass, query)?;
     store.unpin(pass);
