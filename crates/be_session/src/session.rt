@@ -159,9 +159,9 @@ fn kept(shared: Arc<Shared, Global>, pass: Pass, spare: Vec<Pass>, fault: Fault)
     requires spare { AreNew shared.value 0 spare.items }
     requires fault { IsNotLast fault }
     ensures { IsUnfinished (record {
-        store = shared.value;
-        knows = pass.knows;
-        spare = vec_len spare;
+      store = shared.value;
+      knows = pass.knows;
+      spare = vec_len spare;
     }) result }
 {
     let session = Session {

@@ -19,7 +19,8 @@ use Rattle.bestore_c.specs.Places.{over}
 abbrev pub IsEnd : Limits → Knowledge → List ℕ → List ℕ → ℕ → ℕ → Type 0
 IsEnd limits a places filled count code =
     ((code ≡ 0) × (log : Log) × IsFinishedBy limits a log
-    × (count ≡ length (lines_from 1 log.entries)) × (count ≤ length places) × (filled ≡ over (lines_from 1 log.entries) places))
+    × (count ≡ length (lines_from 1 log.entries)) × (count ≤ length places)
+    × (filled ≡ over (lines_from 1 log.entries) places))
     ⊎ Refuses InUse count code
 
 -- The store is not closed. Another session of it is open, or memory was refused, and nothing has

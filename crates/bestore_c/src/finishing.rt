@@ -10,11 +10,7 @@ use be_session::{Fault, Session, Unfinished};
 /// The journal's text, if the session is the store's last and there is room for all of the text.
 /// Otherwise the code of a call that left the store as it was. Writes the text's length, or the
 /// number that the error carries.
-pub(crate) fn last_text(
-    session: &mut Session,
-    room: usize,
-    count: &mut u64,
-) -> Result<String, u32>
+pub(crate) fn last_text(session: &mut Session, room: usize, count: &mut u64) -> Result<String, u32>
     ensures store { (session.new.store ≡ session.old.store)
         × (session.new.spare ≡ session.old.spare) }
     ensures seen { IfOk result (λ text. Learns session.old.knows session.new.knows
