@@ -116,6 +116,30 @@ fn agrees(
     Ok(kept && list.as_slice() == found.nodes.as_slice())
 }
 
+/// Refreshes by the one pass or by the other.
+fn agrees_by(
+    store: &Store,
+    alloc: Global,
+    is_writer: bool,
+    writer: &mut Pass,
+    reader: &mut Pass,
+    query: &Query,
+    live: &mut Live,
+    list: &mut Vec<u64>,
+) -> Result<bool, Refusal>
+    requires writer { IsPassOf store.now writer.old }
+    requires reader { IsPassOf store.now reader.old }
+    requires own { IsLiveOf store.now live.old }
+    ensures writer { IsPassOf store.now writer.new }
+    ensures reader { IsPassOf store.now reader.new }
+    ensures own { IsLiveOf store.now live.new }
+{
+    if is_writer {
+        return agrees(store, alloc, writer, query, live, list);
+    }
+    agrees(store, alloc, reader, query, live, list)
+}
+
 /// Writes by one pass and refreshes by another, time after time. Whether the list always was what
 /// the query found.
 fn agrees_always(
@@ -138,12 +162,10 @@ fn agrees_always(
     for round in 0..200 {
         let count = if round % 20 == 19 { 70 } else { number % 6 };
         number = write_some(store, writer, count, number)?;
-        let same = if number % 3 == 0 {
-            agrees(store, alloc, writer, query, live, &mut list)?
-        } else {
-            agrees(store, alloc, reader, query, live, &mut list)?
-        };
-        if !same {
+        let is_writer = number % 3 == 0;
+        if !agrees_by(
+            store, alloc, is_writer, writer, reader, query, live, &mut list,
+        )? {
             return Ok(false);
         }
     }
