@@ -307,6 +307,26 @@ static void meet_while_locked(void)
     CHECK(met > 0 && bes_close(&first) == BES_OK && bes_close(&second) == BES_OK);
 }
 
+/* The last handle stays open, and its store whole, until there is memory for the journal's text. */
+static void finish_later(void)
+{
+    bes_pass pass = BES_PASS_INIT, other = BES_PASS_INIT;
+    uint64_t node = 0, count = 7;
+    uint8_t text[64];
+    uint32_t answer = BES_NO_MEMORY;
+    CHECK(bes_open(64, 2, 10, &pass) == BES_OK && bes_another(&pass, &other) == BES_OK && bes_new_node(&other, &node) == BES_OK);
+    CHECK(bes_close(&pass) == BES_OK);
+    for (unsigned turn = 1; answer == BES_NO_MEMORY; turn++) {
+        CHECK(bes_pin(&other, &count) == BES_OK && count == 1 && bes_unpin(&other) == BES_OK);
+        requests = 0;
+        refused = turn;
+        answer = bes_finish(&other, text, sizeof text, &count);
+        refused = 0;
+        CHECK(answer == BES_OK || (answer == BES_NO_MEMORY && count == 0 && turn < 100));
+    }
+    CHECK(count == 21 && memcmp(text, "1 by 0 new -> node 1\n", 21) == 0 && bes_close(&other) == BES_CLOSED);
+}
+
 /* A state without a pin: memory for its place is asked for first. */
 static void state_without_pin(void)
 {
@@ -330,6 +350,7 @@ int main(void)
     meet_busy();
     meet_while_locked();
     state_without_pin();
+    finish_later();
     CHECK(bes_release(&kept) == BES_OK && bes_release(&by_text) == BES_OK && bes_release(&by_items) == BES_OK);
     CHECK(bes_dismiss(&witness) == BES_OK);
     /* A pass that was given back isn't lost if there is no memory for its handle. */

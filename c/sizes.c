@@ -599,7 +599,8 @@ static void many_entries(void)
         CHECK(count == length && memcmp(told, expected, length) == 0 && told[length] == 7);
     }
     CHECK(written < MOST_ENTRIES || bes_new_node(&pass, &node) == BES_COMMITS_SPENT);
-    OK(bes_close(&pass));
+    OK(bes_finish(&pass, told, sizeof told, &count));
+    CHECK(count == length && memcmp(told, expected, length) == 0);
 }
 
 /* What grows, by the names that tests/growth.txt has. */

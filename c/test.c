@@ -709,6 +709,31 @@ static void journal(void)
     CHECK(bes_close(&pass) == BES_OK);
 }
 
+/* The last handle closes the store, pinned or not, and only if there is room for the whole journal. */
+static void finishing(void)
+{
+    static const char all[] = "1 by 2 new -> node 1\n2 by 1 new -> node 2\n3 by 2 new -> node 3\n";
+    bes_pass mine = BES_PASS_INIT, theirs = BES_PASS_INIT, moved = BES_PASS_INIT;
+    uint64_t node = 0, number = 0, count = 7;
+    uint8_t text[128];
+    memset(text, 7, sizeof text);
+    CHECK(bes_finish(&mine, text, 128, &count) == BES_CLOSED && count == 0 && text[0] == 7);
+    CHECK(bes_open(64, 3, 10, &mine) == BES_OK && bes_another(&mine, &theirs) == BES_OK);
+    CHECK(bes_new_node(&mine, &node) == BES_OK && bes_new_node(&theirs, &node) == BES_OK);
+    count = 7;
+    CHECK(bes_finish(&theirs, text, 128, &count) == BES_IN_USE && count == 0 && text[0] == 7);
+    CHECK(bes_finish(&mine, text, 128, &count) == BES_IN_USE && bes_new_node(&mine, &node) == BES_OK && node == 3);
+    CHECK(bes_pin(&theirs, &number) == BES_OK && bes_close(&theirs) == BES_OK && bes_pin(&mine, &number) == BES_OK);
+    CHECK(bes_finish(&mine, text, sizeof all - 2, &count) == BES_OK && count == sizeof all - 1 && text[0] == 7);
+    CHECK(bes_unpin(&mine) == BES_OK && bes_pin(&mine, &number) == BES_OK && number == 3);
+    CHECK(bes_move(&mine, &moved) == BES_OK);
+    CHECK(bes_finish(&moved, text, sizeof all - 1, &count) == BES_OK && count == sizeof all - 1);
+    CHECK(memcmp(text, all, sizeof all - 1) == 0 && text[sizeof all - 1] == 7);
+    CHECK(bes_finish(&moved, text, 128, &count) == BES_CLOSED && bes_close(&moved) == BES_CLOSED);
+    CHECK(bes_open(8, 1, 10, &mine) == BES_OK && bes_finish(&mine, text, 0, &count) == BES_OK && count == 0);
+    CHECK(bes_close(&mine) == BES_CLOSED);
+}
+
 /* If two errors hold, the one is returned that bestore.h lists first. */
 static void order_of_reads(void)
 {
@@ -806,6 +831,25 @@ static void all_passes(void)
     CHECK(bes_close(&last) == BES_OK);
 }
 
+/* A store of 64 passes is closed by whichever is the last, with the writes of all. */
+static void finishing_all(void)
+{
+    static bes_pass taken[65];
+    static uint8_t text[64 * 32];
+    bes_pass first = BES_PASS_INIT;
+    uint64_t node = 0, count = 0, lines = 0;
+    CHECK(bes_open(64, 64, 100, &first) == BES_OK && bes_new_node(&first, &node) == BES_OK);
+    CHECK(take_passes(&first, taken) == 63);
+    for (int i = 0; i < 63; i++)
+        CHECK(bes_new_node(&taken[i], &node) == BES_OK);
+    CHECK(bes_close(&first) == BES_OK);
+    close_passes(taken, 62);
+    CHECK(bes_finish(&taken[62], text, sizeof text, &count) == BES_OK && count <= sizeof text);
+    for (uint64_t i = 0; i < count; i++)
+        lines += text[i] == '\n';
+    CHECK(lines == 64);
+}
+
 int main(void)
 {
     closed_handle();
@@ -829,9 +873,11 @@ int main(void)
     states();
     usage();
     journal();
+    finishing();
     spent();
     order_of_reads();
     order_of_writes();
     all_passes();
+    finishing_all();
     return 0;
 }

@@ -234,6 +234,20 @@ static void pins()
     CHECK(again.pin().number() == 3);
 }
 
+// The last pass closes its store.
+static void finishing()
+{
+    Store store({64, 2, 100});
+    Pass other = store.another();
+    store.new_node();
+    refused(BES_IN_USE, [&] { store.finish(); });
+    other.new_node();
+    store.close();
+    CHECK(other.finish() == "1 by 1 new -> node 1\n2 by 0 new -> node 2\n");
+    refused(BES_CLOSED, [&] { other.finish(); });
+    other.close();
+}
+
 // A witness shows a pass what another one has seen, also in another thread; it outlives its store, and is of no other.
 static void witnesses()
 {
@@ -383,6 +397,7 @@ int main()
     predicates();
     live_queries();
     pins();
+    finishing();
     witnesses();
     nodes_and_status();
     states();

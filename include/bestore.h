@@ -118,7 +118,8 @@ enum {
     BES_NO_VALUE = 73,        /* the number doesn't fit the kind */
     BES_BAD_PART = 74,        /* a name or value isn't within the bytes */
     BES_NO_ITEM = 75,         /* there is no item of this number */
-    BES_CONFLICT = 76         /* the journal has another length than bes_apply_if expects */
+    BES_CONFLICT = 76,        /* the journal has another length than bes_apply_if expects */
+    BES_IN_USE = 77           /* another handle of the store is open */
 };
 
 /* The kinds of values, by the type codes of BeOS. */
@@ -261,6 +262,16 @@ uint32_t bes_move(bes_pass *pass, bes_pass *other);
  * BES_CLOSED.
  * Cost: a step for each pass that waits; for the last handle the time to free all pages and the journal. */
 uint32_t bes_close(bes_pass *pass);
+
+/* Closes the store by its last handle, and writes the whole journal as text, as bes_journal does. Of each pass it has just the
+ * transactions that calls of the pass have committed, at their commit numbers. If bytes_room is less than count, nothing is written, and
+ * the handle stays open: call again with more room. The handle may be pinned.
+ * [in,out] pass  the last open handle of the store, which is closed
+ * [out] bytes    the text. No zero byte follows it.
+ * [out] count    how many bytes it has
+ * BES_CLOSED. BES_IN_USE: another handle is open. BES_NO_MEMORY. The handle stays open after the last two.
+ * Cost: time and memory for the whole text, and the time to free all pages. */
+uint32_t bes_finish(bes_pass *pass, uint8_t *bytes, size_t bytes_room, uint64_t *count);
 
 /* Writes the pass's number, as the journal, BES_BUSY and bes_status have it.
  * [out] number   the number, 0 to passes - 1

@@ -305,6 +305,15 @@ public:
         });
     }
 
+    // Closes the store by its last pass, which is then closed, and returns the whole journal as text. Throws BES_IN_USE if another pass
+    // is open; the pass is as it was then.
+    std::string finish()
+    {
+        return detail::whole<std::string>(1 << 16, detail::Place::none, [&](char *text, std::size_t room, std::uint64_t *count) {
+            return bes_finish(handle(), reinterpret_cast<std::uint8_t *>(text), room, count);
+        });
+    }
+
     // The entries of the journal from an index on, which is 0 for the one with commit number 1.
     //
     //     for (const bestore::Entry &entry : pass.journal_from(seen))

@@ -63,7 +63,7 @@ public:
     {
     }
 
-    // The error as bestore.h lists it, BES_BUSY to BES_CONFLICT.
+    // The error as bestore.h lists it, BES_BUSY to BES_IN_USE.
     std::uint32_t number() const noexcept { return number_; }
 
     // Its name there, as "BES_BUSY".

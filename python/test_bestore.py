@@ -181,6 +181,23 @@ class Journals(unittest.TestCase):
             self.assertEqual((len(lines), lines[1]), (1200, "2 by 0 drop 1 -> ok"))
 
 
+    def test_finish(self):
+        with bestore.open(64, 2, 100) as store:
+            with store.another() as other:
+                store.new_node()
+                self.assertRaises(bestore.InUse, store.finish)
+                self.assertRaises(bestore.InUse, other.finish)
+                other.new_node()
+            self.assertEqual(store.finish(), "1 by 1 new -> node 1\n2 by 0 new -> node 2\n")
+            self.assertRaises(bestore.Closed, store.finish)
+        with bestore.open(1024, 1, 2000) as store:
+            raw = bestore.Batch().new_node().set(1, "r", bytes(255))
+            for _ in range(200):
+                store.apply(raw)
+            journal = store.journal()
+            self.assertEqual(store.finish(), journal)
+
+
 class PreparedQueries(unittest.TestCase):
     def test_asked_again(self):
         with bestore.open(64, 1, 100) as store, bestore.prepare("size < 5") as small:

@@ -34,6 +34,7 @@ UNFIT = {
     "test_limits": "the limits are the server's",
     "test_closed_is_given_again": "it meets a pass",
     "test_numbers": "it meets a pass",
+    "test_finish": "the server closes its store",
     "test_witness": "it makes witnesses",
     "test_witness_is_of_one_store": "it makes witnesses",
     "test_long": "each attribute is a round trip",

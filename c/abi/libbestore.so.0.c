@@ -172,6 +172,7 @@ CALL(bes_columns, bes_pass *, const uint64_t *, size_t, const bes_name *, size_t
      uint64_t *)
 CALL(bes_found, bes_prepared *, uint64_t, uint64_t *, size_t, uint64_t *)
 NUMBER(BES_CONFLICT, 76)
+NUMBER(BES_IN_USE, 77)
 
 SIZE(bes_name, 72)
 FIELD(bes_name, length, 0, uint64_t)
@@ -191,6 +192,7 @@ CALL(bes_witness_of, bes_pass *, bes_witness *)
 CALL(bes_join, bes_pass *, bes_witness *, uint64_t *)
 CALL(bes_dismiss, bes_witness *)
 CALL(bes_move_witness, bes_witness *, bes_witness *)
+CALL(bes_finish, bes_pass *, uint8_t *, size_t, uint64_t *)
 
 int main(void)
 {

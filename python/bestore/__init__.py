@@ -31,11 +31,11 @@ from ._connected_errors import (
     BrokenConnection, Disconnected, Expired, LineTooLong, NoServer, NotAllowed, NotKept, NoWatch, ProtocolError, ServerError,
     ServerRefusal, TimedOut, TooManyWatches, Unavailable,
 )
-from .changes import Change, ChangedAttributes
+from .change import Change, ChangedAttributes
 from .connected import connect
 from .errors import (
     BadBytes, BadCount, BadItems, BadLimits, BadPart, BadPattern, Busy, Closed, CommitsSpent, Conflict, DataLength,
-    Error, ErrorNumber, Forked, Full, HasNul, IndexExists, NameLength, Nested, NoAttribute, NoIndex, NoItem, NoKind,
+    Error, ErrorNumber, Forked, Full, HasNul, InUse, IndexExists, NameLength, Nested, NoAttribute, NoIndex, NoItem, NoKind,
     NoMemory, NoNode, NoOperation, NoPass, NotCovered, NotIndexable, NotPinned, NotReached, NotUTF8, NoValue, NoVolume, Opened,
     OtherStore, OtherVolume, PartialIndex, Pinned, QueryError, QueryNotUTF8, QuerySyntax, Refusal, TooDeep, TooLong, TooMany, TooManyAttempts, TooManyAttributes,
     TooManyIndices, WrongKind,
@@ -60,7 +60,7 @@ __all__ = [
     "Attributes", "BadBytes", "BadCount", "BadItems", "BadLimits", "BadPart", "BadPattern", "Batch",
     "BrokenConnection", "Busy", "Change", "ChangedAttributes", "Closed", "CommitsSpent", "Comparison", "Conflict",
     "DataLength", "Disconnected", "Entry", "Error", "ErrorNumber", "Expired", "Forked", "Full", "HasNul", "Held",
-    "Hint", "INT32", "INT64", "IndexExists", "Int32", "Int64", "Integer", "Item", "Kind", "LineTooLong", "MIME",
+    "Hint", "INT32", "INT64", "InUse", "IndexExists", "Int32", "Int64", "Integer", "Item", "Kind", "LineTooLong", "MIME",
     "MOST_OPERATIONS", "MakeIndex", "Name", "NameLength", "Nested", "NewNode", "NoAttribute", "NoIndex", "NoItem",
     "NoKind", "NoMemory", "NoNode", "NoOperation", "NoPass", "NoServer", "NoValue", "NoVolume", "NoWatch", "NotAllowed",
     "NotCovered", "NotIndexable", "NotKept", "NotPinned", "NotReached", "NotUTF8", "Opened", "Operation", "Operator", "OtherStore",

@@ -106,6 +106,7 @@ def _arguments() -> dict[str, List[Any]]:
         "bes_open": [word, word, word, handle],
         "bes_another": [handle, handle],
         "bes_close": [handle],
+        "bes_finish": [handle, text, size, words],
         "bes_meet": [handle, words],
         "bes_witness_of": [handle, handle],
         "bes_join": [handle, handle, words],

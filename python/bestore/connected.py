@@ -411,6 +411,11 @@ class ConnectedPass(LockOwner, ThreadPass):
                 self._connection.close()
                 self._connection = None
 
+    def finish(self) -> str:
+        """`Unavailable`: a server closes its store."""
+        self._check_process()
+        raise Unavailable(self.path, "finish")
+
     def meet(self) -> int:
         """`Unavailable`: a pass of a server has seen what its replies have."""
         self._check_process()

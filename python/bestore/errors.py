@@ -46,6 +46,7 @@ class ErrorNumber(enum.IntEnum):
     BAD_PART = 74
     NO_ITEM = 75
     CONFLICT = 76
+    IN_USE = 77
 
 
 class Error(Exception):
@@ -359,6 +360,7 @@ class NoKind(_OfList, ValueError, number=ErrorNumber.NO_KIND, meaning="no such k
 class NoValue(_OfList, ValueError, number=ErrorNumber.NO_VALUE, meaning="the number doesn't fit the kind"): ...
 class BadPart(_OfList, ValueError, number=ErrorNumber.BAD_PART, meaning="a part isn't within the bytes"): ...
 class NoItem(_OfList, QueryError, ValueError, number=ErrorNumber.NO_ITEM, meaning="no such item"): ...
+class InUse(Refusal, number=ErrorNumber.IN_USE, meaning="another handle is open"): ...
 
 
 class QueryNotUTF8(_AtPlace, NotUTF8):

@@ -240,6 +240,9 @@ class LocalPass(HandleOwner, Pass):
     def close(self) -> None:
         self._give_up(calls.bes_close)
 
+    def finish(self) -> str:
+        return self._text(1, calls.bes_finish)
+
     def meet(self) -> int:
         seen = ctypes.c_uint64()
         check(self._call(calls.bes_meet, ctypes.byref(seen)))
@@ -263,10 +266,14 @@ class LocalPass(HandleOwner, Pass):
         return LocalVersion(self)
 
     def journal(self, tries: int = TRIES) -> str:
+        return self._text(tries, calls.bes_journal)
+
+    def _text(self, tries: int, call: Callable[..., int]) -> str:
+        """The text that a call writes, which is made again until there is room for all of it."""
         count, room = ctypes.c_uint64(), 65536
         while True:
             written = ctypes.create_string_buffer(room)
-            check(self._tried(tries, calls.bes_journal, written, room, ctypes.byref(count)), count.value)
+            check(self._tried(tries, call, written, room, ctypes.byref(count)), count.value)
             if count.value <= room:
                 return written.raw[:count.value].decode()
             room = 2 * count.value

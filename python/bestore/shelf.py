@@ -246,6 +246,10 @@ class Shelf(ThreadPass):
     def __del__(self) -> None:
         """Each pass ends with what names it."""
 
+    def finish(self) -> str:
+        """Closes the volumes, one after another, and returns their journals. An error leaves those before it closed."""
+        return "".join(user.finish() for user in self._passes)
+
     def meet(self) -> int:
         """Meets a pass that was closed, of each volume. Returns how many entries both have seen together."""
         return sum(user.meet() for user in self._passes)

@@ -11,7 +11,7 @@ from functools import partial
 from itertools import groupby
 from typing import Callable, Iterator, List, NamedTuple, Optional, Sequence, Tuple, TypeVar, Union
 
-from .changes import Change
+from .change import Change
 from .errors import NotReached, Conflict, Nested, NoIndex, NoVolume, PartialIndex, TooManyAttempts
 from .handles import Owner
 from .nodes import volume_of
@@ -127,6 +127,12 @@ class Pass(Owner, ABC):
     def close(self) -> None:
         """Closes the pass, if it is open, and gives it back: `another` may give it out again. The store goes with
         its last pass."""
+
+    @abstractmethod
+    def finish(self) -> str:
+        """Closes the store by its last pass, which is then closed, and returns the whole journal, as `journal` does. Of each
+        pass it has just the writes that its calls have committed, at their commit numbers. `InUse` if another pass is open, and
+        so always in a file: the store has a pass of its own there. `NoMemory`. The pass is as it was after either."""
 
     @abstractmethod
     def meet(self) -> int:

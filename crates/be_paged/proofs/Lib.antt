@@ -6,3 +6,4 @@ pub mod IndexEntries
 pub mod Asking
 pub mod Applying
 pub mod Told
+pub mod Sizes

@@ -1,6 +1,7 @@
 -- What is written of nodes at names: a cell for each, and the bytes of texts one after the other.
 use Rattle.std.specs.Prelude.{◌≡◌, ◌≢◌, ◌≤◌, ◌⊎◌, ◌+◌, ◌*◌, ℕ, Bool, List, [], ◌∷◌, ◌++◌, None}
-use Rattle.std.specs.Prelude.{Some, Ok, Err, IfSome, length, take, drop, map as each, if◌then◌else◌}
+use Rattle.std.specs.Prelude.{Some, Ok, Err, IfNone, IfSome, length, take, drop, map as each}
+use Rattle.std.specs.Prelude.{if◌then◌else◌}
 use Rattle.std.specs.FinMap as map
 use Rattle.std.specs.Int.{cast_unsigned, w64}
 use Rattle.std.specs.Option.{option_map_or}
@@ -8,6 +9,7 @@ use Rattle.std.specs.declared.option.Option.{Option}
 use Rattle.std.specs.declared.result.Result.{Result}
 use Rattle.be_pages.specs.declared.room.Standing.{Standing}
 use Rattle.be_tree.specs.Cursor.{IsCursor, remaining}
+use Rattle.be_tree.specs.Page.{item_at}
 use Rattle.be_tree.specs.Pair.{Pair}
 use Rattle.be_tree.specs.Range.{pairs_from}
 use Rattle.be_tree.specs.Tree.{pairs}
@@ -156,3 +158,26 @@ pub record HasPayload (nodes : Nodes) (node : ℕ) (name payload : List ℕ) : T
   pub there : value_at nodes node name ≡ Some value
   pub is_value : IsValue value
   pub is : payload ≡ payload_of value
+
+-- a look-up of a node's attribute found an item that has its payload
+abbrev pub IsValuePlace : (old new : ℕ → ℕ → ℕ) (catalog node : ℕ) (name : List ℕ)
+    → Option (ℕ × ℕ) → Type 0
+IsValuePlace old new catalog node name place = (nodes : Nodes) → IsCatalog (pairs old catalog) nodes
+    → AreValid nodes
+    → IfSome place (λ at. HasPayload nodes node name (item_at (new at.0) at.1).payload)
+
+-- and if it found none, the node has no such attribute
+abbrev pub IsValueAbsent : (words : ℕ → ℕ → ℕ) (catalog node : ℕ) (name : List ℕ)
+    → Option (ℕ × ℕ) → Type 0
+IsValueAbsent words catalog node name place = (nodes : Nodes)
+    → IsCatalog (pairs words catalog) nodes → AreValid nodes
+    → IfNone place (value_at nodes node name ≡ None)
+
+-- after what was written before come these answers, which the nodes of the catalog give
+abbrev pub Tells : (words : ℕ → ℕ → ℕ) (catalog : ℕ) → (Nodes → List (Result Value Refusal))
+    → (old_cells new_cells : List Cell) (old_bytes new_bytes : List ℕ) (old new : Filled) → Type 0
+Tells words catalog answers old_cells new_cells old_bytes new_bytes old new = (nodes : Nodes)
+    → IsCatalog (pairs words catalog) nodes → AreValid nodes
+    → (found : List (Result Value Refusal)) (cell_places : List Cell) (byte_places : List ℕ)
+    → AreTold found cell_places old_cells byte_places old_bytes old
+    → AreTold (found ++ answers nodes) cell_places new_cells byte_places new_bytes new

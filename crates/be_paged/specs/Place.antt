@@ -9,6 +9,7 @@ use Rattle.be_tree.specs.Tree.{pairs}
 use Rattle.be_paged.specs.Catalog.{catalog_key}
 use Rattle.be_paged.specs.Source.{IsItemAt}
 use Rattle.be_paged.specs.declared.asked.Asked.{Asked}
+use Rattle.be_paged.specs.declared.version.Version.{Version}
 
 -- an item lies at the place of the page, and its payload is what the tree has at the key
 pub record IsPlaceOf (standing : ℕ → Standing) (words : ℕ → ℕ → ℕ) (root : ℕ) (key : List ℕ)
@@ -28,6 +29,13 @@ abbrev pub IsKnownOf : (standing : ℕ → Standing) (words : ℕ → ℕ → �
     → Option (Option (ℕ × ℕ)) → Type 0
 IsKnownOf standing words root node name known = IfSome known
     (IsFoundAt standing words root (catalog_key node name))
+
+-- the same of the catalog of a version in hand
+abbrev pub IsKnownIn : {S : Type 0} → (standing_of : S → ℕ → Standing)
+    → (words_of : S → ℕ → ℕ → ℕ) → S → Version → (node : ℕ) (name : List ℕ)
+    → Option (Option (ℕ × ℕ)) → Type 0
+IsKnownIn standing_of words_of now version node name known =
+    IsKnownOf (standing_of now) (words_of now) version.catalog node name known
 
 -- and so is what is remembered of an attribute that was looked for
 abbrev pub IsAsked : (standing : ℕ → Standing) (words : ℕ → ℕ → ℕ) (root : ℕ) → Option Asked

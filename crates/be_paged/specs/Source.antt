@@ -11,10 +11,11 @@ use Rattle.be_tree.specs.Pair.{Pair}
 use Rattle.be_tree.specs.Range.{pairs_from}
 use Rattle.be_tree.specs.Tree.{pairs}
 use Rattle.be_tree.specs.declared.cursor.Cursor.{Cursor}
-use Rattle.be_value.specs.Key.{key}
+use Rattle.be_value.specs.Key.{IsValue, key}
 use Rattle.be_value.specs.Value.{kind_of, is_indexable}
 use Rattle.be_value.specs.declared.values.Value.{Value}
 use Rattle.be_volume.specs.Volume.{State}
+use Rattle.be_paged.specs.Catalog.{payload_of}
 use Rattle.be_paged.specs.Entry.{Entry}
 use Rattle.be_paged.specs.Page.{contents_of, IsGapAt, IsNamedAt}
 use Rattle.be_paged.specs.Version.{IsVersion}
@@ -25,6 +26,10 @@ pub record IsItemAt (standing : ℕ → Standing) (words : ℕ → ℕ → ℕ) 
   pub readable : IsTrue (is_readable (standing page))
   pub in_page : at + 42 ≤ 512
   pub fits : IsItem (words page) at
+
+-- an item lies where a look-up found one
+abbrev pub HasItem : (standing : ℕ → Standing) (words : ℕ → ℕ → ℕ) → Option (ℕ × ℕ) → Type 0
+HasItem standing words place = IfSome place (λ at. IsItemAt standing words at.0 at.1)
 
 -- the cursor is in the tree of the index at a place, after the key of the item at a place of a
 -- page; at a place past the indices it is in no tree
@@ -57,6 +62,12 @@ IsKnown entries known = IfSome known (λ last. IsIndexOf entries last)
 -- whether the pairs of an index have the key of the value and the node
 abbrev pub has_pair : List Pair → ℕ → Value → Bool
 has_pair items node v = is_indexable (kind_of v) && is_some (payload_at items (key v node))
+
+-- whether an index has the pair of a node and of the value that an item encodes
+abbrev pub DecidesPair : (words : ℕ → ℕ → ℕ) (index node page at : ℕ) → Bool → Type 0
+DecidesPair words index node page at has = (v : Value) → IsValue v
+    → (item_at (words page) at).payload ≡ payload_of v
+    → has ≡ has_pair (pairs words index) node v
 
 -- the page encodes the volume, what is remembered is of that page, and the cursor is where it says
 pub record SourceOf (standing : ℕ → Standing) (words : ℕ → ℕ → ℕ) (page : ℕ)

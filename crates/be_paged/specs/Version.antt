@@ -49,3 +49,9 @@ pub record IsVersion (standing : ℕ → Standing) (words : ℕ → ℕ → ℕ)
   pub in_hand : IsInHand standing words (contents_of (words page))
   pub spells : Spells words (contents_of (words page)) volume
   pub sound : IsSound volume
+
+-- the page has the version of some volume
+abbrev pub HasVersion : {S : Type 0} → (S → ℕ → Standing) → (S → ℕ → ℕ → ℕ) → S → (page : ℕ)
+    → Type 0
+HasVersion standing_of words_of now page = (volume : State)
+    × IsVersion (standing_of now) (words_of now) page volume

@@ -21,7 +21,7 @@ ghost use Rattle.be_volume.specs.declared.maps.Index.{Index as AnyIndex};
 ghost use Rattle.be_paged.specs.Catalog.{IsIndexOf};
 ghost use Rattle.be_paged.specs.Changes.{Changes, IsReady, repaired, with_indices, key_turned};
 ghost use Rattle.be_paged.specs.Page.{contents, IsNamedAt};
-ghost use Rattle.be_paged.specs.Place.{IsKnownOf};
+ghost use Rattle.be_paged.specs.Place.{IsKnownIn};
 ghost use Rattle.be_paged.specs.Version.{IsInHand, Spells};
 
 use crate::entries::{index_at, search, set_root};
@@ -195,8 +195,7 @@ pub(crate) fn change_entry<R: Room>(
     new: Option<&Value>,
 ) -> Result<(), Refusal>
     requires in_hand { IsInHand (R.standing room.old) (R.words room.old) (contents version.old) }
-    requires known { IsKnownOf (R.standing room.old) (R.words room.old) version.old.catalog node
-        name.now known }
+    requires known { IsKnownIn R.standing R.words room.old version.old node name.now known }
     requires open { IsTrue (R.is_open (R.kept room.old)) }
     ensures changes { OnOk result (Changes R.kept R.standing R.words (contents version.old)
         (contents version.new) room.old room.new) }

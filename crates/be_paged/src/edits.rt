@@ -11,7 +11,7 @@ ghost use Rattle.be_volume.specs.Volume.{State, step, steps};
 ghost use Rattle.be_volume.specs.declared.ops.Op.TheVariants as ops;
 ghost use Rattle.be_paged.specs.Changes.{Changes, IsBare, SetsWhatStands, Steps, Reaches};
 ghost use Rattle.be_paged.specs.Page.{contents};
-ghost use Rattle.be_paged.specs.Place.{IsAsked, IsKnownOf};
+ghost use Rattle.be_paged.specs.Place.{IsAsked, IsKnownIn};
 ghost use Rattle.be_paged.specs.Version.{IsInHand, Spells};
 
 use crate::asked::{Asked, known_of};
@@ -57,8 +57,7 @@ fn set_value<R: Room>(
     known: Option<Option<(u64, usize)>>,
 ) -> Result<Done, Refusal>
     requires in_hand { IsInHand (R.standing room.old) (R.words room.old) (contents version.old) }
-    requires known { IsKnownOf (R.standing room.old) (R.words room.old) version.old.catalog node
-        name.now known }
+    requires known { IsKnownIn R.standing R.words room.old version.old node name.now known }
     requires open { IsTrue (R.is_open (R.kept room.old)) }
     ensures changes { OnOk result (Changes R.kept R.standing R.words (contents version.old)
         (contents version.new) room.old room.new) }
@@ -90,8 +89,7 @@ fn unset_value<R: Room>(
     known: Option<Option<(u64, usize)>>,
 ) -> Result<Done, Refusal>
     requires in_hand { IsInHand (R.standing room.old) (R.words room.old) (contents version.old) }
-    requires known { IsKnownOf (R.standing room.old) (R.words room.old) version.old.catalog node
-        name.now known }
+    requires known { IsKnownIn R.standing R.words room.old version.old node name.now known }
     requires open { IsTrue (R.is_open (R.kept room.old)) }
     ensures changes { OnOk result (Changes R.kept R.standing R.words (contents version.old)
         (contents version.new) room.old room.new) }

@@ -100,7 +100,7 @@ fn store_words<R: Room>(room: &mut R, page: u64, at: usize, words: &[u64; 8])
     ensures only { OnlyWrites R.kept R.standing R.words page at (at + 8) room.old room.new }
 {
     for j in 0..8 {
-        room.fill(page, at + j, words[j]);
+        room.refill(page, at + j, words[j]);
     }
 }
 
@@ -216,9 +216,9 @@ impl Entry {
         ensures entry { IsEntry (R.words room.new page) at }
         ensures only { OnlyWrites R.kept R.standing R.words page at (at + 11) room.old room.new }
     {
-        room.fill(page, at, self.len as u64);
+        room.refill(page, at, self.len as u64);
         store_words(room, page, at + 1, &self.words);
-        room.fill(page, at + 9, kind_number(self.kind));
-        room.fill(page, at + 10, self.root);
+        room.refill(page, at + 9, kind_number(self.kind));
+        room.refill(page, at + 10, self.root);
     }
 }

@@ -3,16 +3,12 @@
 //! An index has a node's attribute exactly if its tree has the attribute's key. The key of a signed
 //! 64-bit number, as sizes and times are, is made from the words that hold the number; any other
 //! value is first taken in hand.
-ghost use Rattle.std.specs.Prelude.{◌≡◌, ◌+◌, ◌≤◌, ◌++◌, IsTrue, is_some, length};
+ghost use Rattle.std.specs.Prelude.{◌≡◌, ◌≤◌, ◌++◌, is_some, length};
 ghost use Rattle.std.specs.Int.{to_be_bytes, w64};
-ghost use Rattle.be_pages.specs.Pages.{IsUnchanged, is_readable};
+ghost use Rattle.be_pages.specs.Pages.{IsUnchanged};
 ghost use Rattle.be_tree.specs.Key.{payload_at};
-ghost use Rattle.be_tree.specs.Page.{IsItem, item_at};
 ghost use Rattle.be_tree.specs.Tree.{IsTree, pairs};
-ghost use Rattle.be_value.specs.Key.{IsValue};
-ghost use Rattle.be_value.specs.declared.values.Value.{Value as AnyValue};
-ghost use Rattle.be_paged.specs.Catalog.{payload_of as payload};
-ghost use Rattle.be_paged.specs.Source.{has_pair};
+ghost use Rattle.be_paged.specs.Source.{DecidesPair, IsItemAt};
 
 use crate::catalog::{kind_at, number64_at, value_at};
 use arrayvec::ArrayVec;
@@ -40,18 +36,16 @@ fn has_number<L: Look>(look: &mut L, index: u64, number: &[u8], node: u64) -> bo
 #[inline(never)]
 fn any_is_indexed_at<L: Look>(look: &mut L, index: u64, page: u64, at: usize, node: u64) -> bool
     requires tree { IsTree (L.standing look.old) (L.words look.old) index }
-    requires readable { IsTrue (is_readable (L.standing look.old page)) }
-    requires in_page { at + 42 ≤ 512 }
-    requires item { IsItem (L.words look.old page) at }
-    ensures has { (v : AnyValue) → IsValue v → (item_at (L.words look.old page) at).payload
-        ≡ payload v →
-        result ≡ has_pair (pairs (L.words look.old) index) node v }
+    requires item { IsItemAt (L.standing look.old) (L.words look.old) page at }
+    ensures has { DecidesPair (L.words look.old) index node page at result }
     ensures unchanged { IsUnchanged L.kept L.standing L.words look.old look.new }
 {
-    let Some(value) = value_at(look, page, at) else {
-        return false;
-    };
-    value.kind().indexable() && has_key(look, index, key_of(&value, node).as_slice())
+    match value_at(look, page, at) {
+        Some(value) => {
+            value.kind().indexable() && has_key(look, index, key_of(&value, node).as_slice())
+        }
+        None => false,
+    }
 }
 
 /// Whether the index of a tree has the value that the item at a place encodes, with its node.
@@ -63,12 +57,8 @@ pub(crate) fn is_indexed_at<L: Look>(
     node: u64,
 ) -> bool
     requires tree { IsTree (L.standing look.old) (L.words look.old) index }
-    requires readable { IsTrue (is_readable (L.standing look.old page)) }
-    requires in_page { at + 42 ≤ 512 }
-    requires item { IsItem (L.words look.old page) at }
-    ensures has { (v : AnyValue) → IsValue v → (item_at (L.words look.old page) at).payload
-        ≡ payload v →
-        result ≡ has_pair (pairs (L.words look.old) index) node v }
+    requires item { IsItemAt (L.standing look.old) (L.words look.old) page at }
+    ensures has { DecidesPair (L.words look.old) index node page at result }
     ensures unchanged { IsUnchanged L.kept L.standing L.words look.old look.new }
 {
     let Some(kind) = kind_at(look, page, at) else {

@@ -9,12 +9,11 @@ ghost use Rattle.std.specs.Prelude.{slice_index_or, true};
 ghost use Rattle.std.specs.Int.{to_be_bytes, w64};
 ghost use Rattle.std.specs.List.{range_with_len};
 ghost use Rattle.be_volume.specs.Maps.{name_cmp};
-ghost use Rattle.be_volume.specs.Volume.{State};
 ghost use Rattle.be_pages.specs.Pages.{IsUnchanged, is_readable};
 ghost use Rattle.be_paged.specs.Entry.{Entry as AnyEntry};
 ghost use Rattle.be_paged.specs.Page.{contents_of, entry_at, IsEntry, IsNamedAt, IsVersionPage};
 ghost use Rattle.be_paged.specs.Source.{IsFound, IsKnown};
-ghost use Rattle.be_paged.specs.Version.{IsVersion};
+ghost use Rattle.be_paged.specs.Version.{HasVersion};
 
 use crate::entry::kind_numbered;
 use be_pages::Look;
@@ -30,17 +29,14 @@ pub(crate) struct FoundIndex {
     pub(crate) root: u64,
 }
 
+/// The index that was found, if one was.
+pub(crate) type Known = Option<FoundIndex>;
+
 /// The index of a name on a version page, if there is one. The index that was found last is looked
 /// at first.
 #[inline(always)]
-pub(crate) fn known_index<L: Look>(
-    look: &mut L,
-    page: u64,
-    name: &Name,
-    known: &mut Option<FoundIndex>,
-) -> Option<FoundIndex>
-    requires version { (volume : State)
-        × IsVersion (L.standing look.old) (L.words look.old) page volume }
+pub(crate) fn known_index<L: Look>(look: &mut L, page: u64, name: &Name, known: &mut Known) -> Known
+    requires version { HasVersion L.standing L.words look.old page }
     requires known { IsKnown (contents_of (L.words look.old page)).entries known.old }
     ensures found { IsFound (contents_of (L.words look.new page)).entries name.now result }
     ensures known { IsKnown (contents_of (L.words look.new page)).entries known.new }
@@ -57,8 +53,7 @@ pub(crate) fn known_index<L: Look>(
 
 /// The index at a place of a version page, if there is one.
 pub(crate) fn index_there<L: Look>(look: &mut L, page: u64, place: usize) -> Option<FoundIndex>
-    requires version { (volume : State)
-        × IsVersion (L.standing look.old) (L.words look.old) page volume }
+    requires version { HasVersion L.standing L.words look.old page }
     ensures known { IsKnown (contents_of (L.words look.new page)).entries result }
     ensures unchanged { IsUnchanged L.kept L.standing L.words look.old look.new }
 {
@@ -71,14 +66,8 @@ pub(crate) fn index_there<L: Look>(look: &mut L, page: u64, place: usize) -> Opt
 
 /// Finds the index of a name, and keeps it for the next time.
 #[inline(never)]
-fn find_to_know<L: Look>(
-    look: &mut L,
-    page: u64,
-    name: &Name,
-    known: &mut Option<FoundIndex>,
-) -> Option<FoundIndex>
-    requires version { (volume : State)
-        × IsVersion (L.standing look.old) (L.words look.old) page volume }
+fn find_to_know<L: Look>(look: &mut L, page: u64, name: &Name, known: &mut Known) -> Known
+    requires version { HasVersion L.standing L.words look.old page }
     ensures found { IsFound (contents_of (L.words look.new page)).entries name.now result }
     ensures known { IsKnown (contents_of (L.words look.new page)).entries known.new }
     ensures unchanged { IsUnchanged L.kept L.standing L.words look.old look.new }
@@ -90,8 +79,7 @@ fn find_to_know<L: Look>(
 
 /// Whether the index at a number of a version page has this name.
 fn is_named<L: Look>(look: &mut L, page: u64, i: usize, name: &Name) -> bool
-    requires version { (volume : State)
-        × IsVersion (L.standing look.old) (L.words look.old) page volume }
+    requires version { HasVersion L.standing L.words look.old page }
     requires in_range { i < length (contents_of (L.words look.old page)).entries }
     ensures named { result ≡ true → IsNamedAt (contents_of (L.words look.old page)).entries name.now
         i }
@@ -108,8 +96,7 @@ fn is_named<L: Look>(look: &mut L, page: u64, i: usize, name: &Name) -> bool
 /// The index of a name on a version page, if there is one. Of most indices on the way it reads one
 /// word.
 pub(crate) fn find_index<L: Look>(look: &mut L, page: u64, name: &Name) -> Option<FoundIndex>
-    requires version { (volume : State)
-        × IsVersion (L.standing look.old) (L.words look.old) page volume }
+    requires version { HasVersion L.standing L.words look.old page }
     ensures found { IsFound (contents_of (L.words look.new page)).entries name.now result }
     ensures unchanged { IsUnchanged L.kept L.standing L.words look.old look.new }
 {

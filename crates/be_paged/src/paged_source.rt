@@ -14,7 +14,7 @@ ghost use Rattle.be_value.specs.declared.values.Kind.TheVariants.{Cstr};
 ghost use Rattle.be_volume.specs.Volume.{State};
 ghost use Rattle.be_paged.specs.Page.{contents_of};
 ghost use Rattle.be_paged.specs.Source.{StandsAfter};
-ghost use Rattle.be_paged.specs.Version.{IsVersion};
+ghost use Rattle.be_paged.specs.Version.{HasVersion, IsVersion};
 ghost use Rattle.be_paged.specs.Entry.{Entry as AnyEntry};
 
 use crate::on_page::{FoundIndex, known_index};
@@ -50,8 +50,7 @@ fn has_texts(kind: Kind) -> bool
 
 /// The version of a page as a source. It reads nothing yet, and keeps the look until `into_look`.
 pub fn source<L: Look>(look: L, version_page: u64) -> PagedSource<L>
-    requires version { (volume : State)
-        × IsVersion (L.standing look) (L.words look) version_page volume }
+    requires version { HasVersion L.standing L.words look version_page }
     ensures answers { (volume : State)
         → IsVersion (L.standing look) (L.words look) version_page volume
         → ⟦<PagedSource<L> as Source>⟧.answers_for result volume }

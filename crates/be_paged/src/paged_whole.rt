@@ -11,7 +11,7 @@ ghost use Rattle.be_value.specs.declared.refusals.Refusal.TheVariants.{NoNode};
 ghost use Rattle.be_volume.specs.Keys.{IsKey};
 ghost use Rattle.be_volume.specs.Reading.{index_kinds};
 ghost use Rattle.be_volume.specs.Volume.{State};
-ghost use Rattle.be_paged.specs.Version.{IsVersion};
+ghost use Rattle.be_paged.specs.Version.{HasVersion, IsVersion};
 
 use crate::on_page::find_index;
 use crate::reading::{attrs, get, indices, next};
@@ -32,8 +32,7 @@ pub struct PagedWhole<L> {
 /// The version of a page, to be read whole. It reads nothing yet, and keeps the look until
 /// `into_look`.
 pub fn whole<L: Look>(alloc: Global, look: L, version_page: u64) -> PagedWhole<L>
-    requires version { (volume : State)
-        × IsVersion (L.standing look) (L.words look) version_page volume }
+    requires version { HasVersion L.standing L.words look version_page }
     ensures answers { (volume : State)
         → IsVersion (L.standing look) (L.words look) version_page volume
         → ⟦<PagedWhole<L> as Whole>⟧.answers_for result volume }
@@ -60,7 +59,7 @@ impl<L: Look> PagedWhole<L> {
 impl<L: Look> Whole for PagedWhole<L> {
     ghost use Rattle.std.specs.Prelude.{ℕ};
     ghost use Rattle.be_pages.specs.declared.room.Standing.{Standing as Stands};
-    ghost use Rattle.be_paged.specs.Version.{IsVersion};
+    ghost use Rattle.be_paged.specs.Version.{HasVersion, IsVersion};
 
     ghost Kept = { L.Kept × ((ℕ → Stands) × (ℕ → ℕ → ℕ)) };
 
@@ -93,8 +92,7 @@ fn attrs_of<L: Look>(
     version_page: u64,
     node: u64,
 ) -> Result<Option<Vec<(Name, Value)>>, AllocError>
-    requires version { (volume : State)
-        × IsVersion (L.standing look.old) (L.words look.old) version_page volume }
+    requires version { HasVersion L.standing L.words look.old version_page }
     ensures attrs { (volume : State) → IsVersion (L.standing look.old) (L.words look.old)
         version_page volume →
         IfOk result (λ list. option_map (λ l. l.items) list
@@ -123,8 +121,7 @@ fn kinds_of<L: Look>(
     look: &mut L,
     version_page: u64,
 ) -> Result<Vec<(Name, Kind)>, AllocError>
-    requires version { (volume : State)
-        × IsVersion (L.standing look.old) (L.words look.old) version_page volume }
+    requires version { HasVersion L.standing L.words look.old version_page }
     ensures indices { (volume : State)
         → IsVersion (L.standing look.old) (L.words look.old) version_page volume →
         IfOk result (λ list. list.items ≡ index_kinds volume) }
@@ -138,8 +135,7 @@ fn kinds_of<L: Look>(
 
 /// Whether the index of a name has a key; false without an index.
 fn has_pair<L: Look>(look: &mut L, version_page: u64, name: &Name, key: &[u8]) -> bool
-    requires version { (volume : State)
-        × IsVersion (L.standing look.old) (L.words look.old) version_page volume }
+    requires version { HasVersion L.standing L.words look.old version_page }
     ensures found { (volume : State) → IsVersion (L.standing look.old) (L.words look.old)
         version_page volume →
         result ≡ true → IsKey volume name.now key.now }
@@ -156,8 +152,7 @@ fn has_pair<L: Look>(look: &mut L, version_page: u64, name: &Name, key: &[u8]) -
 
 /// Whether the index of a name has a node: it has the key of the node's attribute.
 fn index_has<L: Look>(look: &mut L, version_page: u64, node: u64, name: &Name) -> bool
-    requires version { (volume : State)
-        × IsVersion (L.standing look.old) (L.words look.old) version_page volume }
+    requires version { HasVersion L.standing L.words look.old version_page }
     ensures held { (volume : State) → IsVersion (L.standing look.old) (L.words look.old)
         version_page volume →
         result ≡ is_held volume node name.now }

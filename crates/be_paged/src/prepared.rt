@@ -13,7 +13,7 @@ ghost use Rattle.be_volume.specs.Volume.{State};
 ghost use Rattle.be_plan.specs.Walk.{AreAllOn, HasNodes, HasOnly, Keeps};
 ghost use Rattle.be_paged.specs.Page.{contents_of};
 ghost use Rattle.be_paged.specs.Source.{IsFound};
-ghost use Rattle.be_paged.specs.Version.{IsVersion};
+ghost use Rattle.be_paged.specs.Version.{HasVersion, IsVersion};
 
 use crate::on_page::{FoundIndex, index_there, known_index};
 use be_pages::Look;
@@ -30,8 +30,7 @@ fn meet_index<L: Look>(
     version_page: u64,
     prepared: &mut PreparedQuery,
 ) -> Option<FoundIndex>
-    requires version { (volume : State)
-        × IsVersion (L.standing look.old) (L.words look.old) version_page volume }
+    requires version { HasVersion L.standing L.words look.old version_page }
     ensures found { IfSome result (λ index. (name : List ℕ) → AreAllOn prepared.old name →
         IsFound (contents_of (L.words look.new version_page)).entries name (Some index)) }
     ensures same { prepared.new ≡ prepared.old }
@@ -56,8 +55,7 @@ fn nodes_of<L: Look>(
     keys: KeyRange<'_>,
     found: &mut Vec<u64>,
 ) -> Result<(), Refusal>
-    requires version { (volume : State)
-        × IsVersion (L.standing look.old) (L.words look.old) version_page volume }
+    requires version { HasVersion L.standing L.words look.old version_page }
     requires index { IsFound (contents_of (L.words look.old version_page)).entries keys.name.now
         (Some index) }
     ensures memory { IfErr result (λ e. e ≡ OutOfMemory) }
@@ -87,8 +85,7 @@ pub fn answer_decided<L: Look>(
     prepared: &mut PreparedQuery,
     found: &mut Vec<u64>,
 ) -> Result<bool, Refusal>
-    requires version { (volume : State)
-        × IsVersion (L.standing look.old) (L.words look.old) version_page volume }
+    requires version { HasVersion L.standing L.words look.old version_page }
     ensures answer { IfOk result (λ decided. decided ≡ true → (volume : State) →
         IsVersion (L.standing look.old) (L.words look.old) version_page volume
         → scan volume prepared.old ≡ Ok found.new.items) }

@@ -17,7 +17,7 @@ ghost use Rattle.be_paged.specs.Source.{IsKnown};
 ghost use Rattle.be_paged.specs.Nodes.{nodes_from};
 ghost use Rattle.be_paged.specs.Place.{IsFoundAt, IsKnownOf};
 ghost use Rattle.be_paged.specs.Reading.{AreValid};
-ghost use Rattle.be_paged.specs.Version.{IsVersion};
+ghost use Rattle.be_paged.specs.Version.{HasVersion, IsVersion};
 
 use crate::attributes::list_attributes;
 use crate::catalog::{catalog_key, value_at};
@@ -27,7 +27,6 @@ use crate::indexed::is_indexed_at;
 use crate::marks::list_nodes;
 use crate::on_page::{FoundIndex, known_index};
 use crate::version::{Version, fill_version};
-use arrayvec::ArrayVec;
 use be_pages::Look;
 use be_query::Comparison;
 use be_tree::{find_place, has_key};
@@ -104,8 +103,7 @@ pub(crate) fn holds_in<L: Look>(
     comparison: &Comparison,
     known: &mut Option<FoundIndex>,
 ) -> bool
-    requires version { (volume : State)
-        × IsVersion (L.standing look.old) (L.words look.old) version_page volume }
+    requires version { HasVersion L.standing L.words look.old version_page }
     requires known { IsKnown (contents_of (L.words look.old version_page)).entries known.old }
     ensures answer { (volume : State) → IsVersion (L.standing look.old) (L.words look.old)
         version_page volume →
@@ -130,8 +128,7 @@ pub(crate) fn holds_in<L: Look>(
 
 /// The number that the next node gets. It costs one load.
 pub fn next<L: Look>(look: &mut L, version_page: u64) -> u64
-    requires version { (volume : State)
-        × IsVersion (L.standing look.old) (L.words look.old) version_page volume }
+    requires version { HasVersion L.standing L.words look.old version_page }
     ensures next { (volume : State) → IsVersion (L.standing look.old) (L.words look.old)
         version_page volume → result ≡ volume.next }
     ensures unchanged { IsUnchanged L.kept L.standing L.words look.old look.new }
@@ -143,8 +140,7 @@ pub fn next<L: Look>(look: &mut L, version_page: u64) -> u64
 /// catalog's tree, and takes no memory.
 #[inline(always)]
 pub fn get<L: Look>(look: &mut L, version_page: u64, node: u64, name: &Name) -> Option<Value>
-    requires version { (volume : State)
-        × IsVersion (L.standing look.old) (L.words look.old) version_page volume }
+    requires version { HasVersion L.standing L.words look.old version_page }
     ensures value { (volume : State) → IsVersion (L.standing look.old) (L.words look.old)
         version_page volume → result ≡ attribute volume node name.now }
     ensures unchanged { IsUnchanged L.kept L.standing L.words look.old look.new }
@@ -162,8 +158,7 @@ pub fn attrs<L: Look>(
     version_page: u64,
     node: u64,
 ) -> Result<Vec<(Name, Value)>, Refusal>
-    requires version { (volume : State)
-        × IsVersion (L.standing look.old) (L.words look.old) version_page volume }
+    requires version { HasVersion L.standing L.words look.old version_page }
     ensures answer { (volume : State) → IsVersion (L.standing look.old) (L.words look.old)
         version_page volume →
         Answers (λ list. list.items) result (attributes_at volume node) }
@@ -186,18 +181,13 @@ pub fn indices<L: Look>(
     look: &mut L,
     version_page: u64,
 ) -> Result<Vec<(Name, Kind)>, Refusal>
-    requires version { (volume : State)
-        × IsVersion (L.standing look.old) (L.words look.old) version_page volume }
+    requires version { HasVersion L.standing L.words look.old version_page }
     ensures answer { (volume : State) → IsVersion (L.standing look.old) (L.words look.old)
         version_page volume →
         Answers (λ list. list.items) result (Ok (index_kinds volume)) }
     ensures unchanged { IsUnchanged L.kept L.standing L.words look.old look.new }
 {
-    let mut version = Version {
-        next: 0,
-        catalog: 0,
-        entries: ArrayVec::new(),
-    };
+    let mut version = Version::new();
     fill_version(look, version_page, &mut version);
     Ok(kinds(alloc, &version.entries)?)
 }
@@ -212,8 +202,7 @@ pub fn nodes<L: Look>(
     from: u64,
     most: usize,
 ) -> Result<Vec<u64>, Refusal>
-    requires version { (volume : State)
-        × IsVersion (L.standing look.old) (L.words look.old) version_page volume }
+    requires version { HasVersion L.standing L.words look.old version_page }
     ensures answer { (volume : State) → IsVersion (L.standing look.old) (L.words look.old)
         version_page volume →
         Answers (λ list. list.items) result (Ok (nodes_from volume from most)) }

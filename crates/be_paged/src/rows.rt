@@ -3,34 +3,33 @@
 //! A row is what one node has at the names. One descent leads to the first of its attributes. A
 //! cursor steps to the next name's as long as the names lie side by side, by ascending bytes. Any
 //! other name costs a descent. If a node has none of the names, the node itself is looked up.
-ghost use Rattle.std.specs.Prelude.{◌≡◌, ◌≢◌, ◌+◌, ◌*◌, ◌^◌, ◌<◌, ◌≤◌, ℕ, List, [], ◌∷◌, ◌++◌, Err};
+ghost use Rattle.std.specs.Prelude.{◌≡◌, ◌+◌, ◌*◌, ◌^◌, ◌<◌, ◌≤◌, [], ◌∷◌, Err};
 ghost use Rattle.std.specs.Prelude.{None, Some, IfSome, IfNone, drop, length, map as each};
 ghost use Rattle.std.specs.Prelude.{slice_get};
 ghost use Rattle.std.specs.FinMap as map;
-ghost use Rattle.std.specs.declared.result.Result.{Result as AnyResult};
 ghost use Rattle.be_pages.specs.Pages.{IsUnchanged};
 ghost use Rattle.be_tree.specs.Cursor.{IsCursor, remaining};
 ghost use Rattle.be_tree.specs.Page.{item_at};
 ghost use Rattle.be_tree.specs.Tree.{IsTree, pairs};
-ghost use Rattle.be_value.specs.declared.refusals.Refusal.{Refusal as AnyRefusal};
-ghost use Rattle.be_value.specs.declared.values.Value.{Value as AnyValue};
 ghost use Rattle.be_volume.specs.Maps.{Nodes as AllNodes};
 ghost use Rattle.be_volume.specs.Reading.{attribute};
 ghost use Rattle.be_volume.specs.Volume.{State};
-ghost use Rattle.be_paged.specs.Catalog.{IsCatalog, value_at};
-ghost use Rattle.be_paged.specs.Cells.{AreTold, HasPayload, IsAmong, IsFew, IsInRow, IsReadInto};
-ghost use Rattle.be_paged.specs.Cells.{StartsElsewhere, TellsColumns, cell_of, found_at, name_in};
-ghost use Rattle.be_paged.specs.Cells.{why_none};
+ghost use Rattle.be_paged.specs.Catalog.{IsCatalog};
+ghost use Rattle.be_paged.specs.Cells.{IsAmong, IsFew, IsInRow, IsReadInto, IsValueAbsent};
+ghost use Rattle.be_paged.specs.Cells.{IsValuePlace, StartsElsewhere, Tells, TellsColumns};
+ghost use Rattle.be_paged.specs.Cells.{cell_of, found_at, name_in, why_none};
 ghost use Rattle.be_paged.specs.Place.{IsFoundAt};
 ghost use Rattle.be_paged.specs.Reading.{AreValid};
-ghost use Rattle.be_paged.specs.Source.{IsItemAt};
-ghost use Rattle.be_paged.specs.Version.{IsVersion};
-ghost use Rattle.be_paged.specs.declared.cells.Cell.{Cell as AnyCell};
+ghost use Rattle.be_paged.specs.Source.{HasItem, IsItemAt};
+ghost use Rattle.be_paged.specs.Version.{HasVersion, IsVersion};
 
 use crate::cells::{Cell, Filled, HeldName, empty_cell, held_key, read_into, tell, tell_value};
 use be_pages::Look;
 use be_tree::{Cursor, find_place, has_key, is_key_at};
 use be_value::Refusal;
+
+/// The page and the place of an item, if there is one.
+type FoundItem = Option<(u64, usize)>;
 
 /// A step of the cursor, and the place of the item that it passed, if that has the key.
 fn step_to<L: Look>(look: &mut L, cursor: &mut Cursor, key: &[u8]) -> Option<(u64, usize)>
@@ -88,15 +87,10 @@ fn value_place<L: Look>(
     requires tree { IsTree (L.standing look.old) (L.words look.old) catalog }
     requires cursor { IsCursor (L.standing look.old) (L.words look.old) cursor.old }
     requires among { IsAmong (L.words look.old) catalog cursor.old }
-    ensures item { IfSome result (λ at. IsItemAt (L.standing look.new) (L.words look.new) at.0
-        at.1) }
-    ensures some { (nodes : AllNodes) → IsCatalog (pairs (L.words look.old) catalog) nodes
-        → AreValid nodes
-        → IfSome result (λ at. HasPayload nodes node (name_in name.now)
-        (item_at (L.words look.new at.0) at.1).payload) }
-    ensures none { (nodes : AllNodes) → IsCatalog (pairs (L.words look.old) catalog) nodes
-        → AreValid nodes
-        → IfNone result (value_at nodes node (name_in name.now) ≡ None) }
+    ensures item { HasItem (L.standing look.new) (L.words look.new) result }
+    ensures some { IsValuePlace (L.words look.old) (L.words look.new) catalog node
+        (name_in name.now) result }
+    ensures none { IsValueAbsent (L.words look.old) catalog node (name_in name.now) result }
     ensures cursor { IsCursor (L.standing look.new) (L.words look.new) cursor.new }
     ensures among { IsAmong (L.words look.new) catalog cursor.new }
     ensures unchanged { IsUnchanged L.kept L.standing L.words look.old look.new }
@@ -155,13 +149,9 @@ fn tell_attribute<L: Look>(
         known.old }
     requires cells { filled.old.cells < 2 ^ 32 }
     requires few { IsFew filled.old }
-    ensures told { (nodes : AllNodes) → IsCatalog (pairs (L.words look.old) catalog) nodes
-        → AreValid nodes
-        → (found : List (AnyResult AnyValue AnyRefusal)) (cell_places : List AnyCell)
-        (byte_places : List ℕ)
-        → AreTold found cell_places cells.old byte_places bytes.old filled.old
-        → AreTold (found ++ found_at nodes node (name_in name.now) ∷ []) cell_places cells.new
-        byte_places bytes.new filled.new }
+    ensures told { Tells (L.words look.old) catalog
+        (λ nodes. found_at nodes node (name_in name.now) ∷ []) cells.old cells.new bytes.old
+        bytes.new filled.old filled.new }
     ensures row { IsInRow (L.standing look.new) (L.words look.new) catalog node cursor.new
         known.new }
     ensures one { filled.new.cells ≡ filled.old.cells + 1 }
@@ -190,13 +180,9 @@ fn tell_row<L: Look>(
     requires tree { IsTree (L.standing look.old) (L.words look.old) catalog }
     requires cells { filled.old.cells + length names.now ≤ 2 ^ 32 }
     requires few { IsFew filled.old }
-    ensures told { (nodes : AllNodes) → IsCatalog (pairs (L.words look.old) catalog) nodes
-        → AreValid nodes
-        → (found : List (AnyResult AnyValue AnyRefusal)) (cell_places : List AnyCell)
-        (byte_places : List ℕ)
-        → AreTold found cell_places cells.old byte_places bytes.old filled.old
-        → AreTold (found ++ each (found_at nodes node) (each name_in names.now)) cell_places
-        cells.new byte_places bytes.new filled.new }
+    ensures told { Tells (L.words look.old) catalog
+        (λ nodes. each (found_at nodes node) (each name_in names.now)) cells.old cells.new
+        bytes.old bytes.new filled.old filled.new }
     ensures count { filled.new.cells ≡ filled.old.cells + length names.now }
     ensures few { IsFew filled.new }
     ensures unchanged { IsUnchanged L.kept L.standing L.words look.old look.new }
@@ -232,8 +218,7 @@ pub fn columns<L: Look>(
     cells: &mut [Cell],
     bytes: &mut [u8],
 ) -> u64
-    requires version { (volume : State)
-        × IsVersion (L.standing look.old) (L.words look.old) version_page volume }
+    requires version { HasVersion L.standing L.words look.old version_page }
     requires few { length nodes.now * length names.now ≤ 2 ^ 32 }
     ensures told { (volume : State) → IsVersion (L.standing look.old) (L.words look.old)
         version_page volume →
@@ -260,8 +245,7 @@ pub fn get_into<L: Look>(
     name: &HeldName,
     bytes: &mut [u8],
 ) -> Option<Cell>
-    requires version { (volume : State)
-        × IsVersion (L.standing look.old) (L.words look.old) version_page volume }
+    requires version { HasVersion L.standing L.words look.old version_page }
     ensures value { (volume : State) → IsVersion (L.standing look.old) (L.words look.old)
         version_page volume →
         IsReadInto (attribute volume node (name_in name.now)) result bytes.old bytes.new }
@@ -274,22 +258,12 @@ pub fn get_into<L: Look>(
 
 /// The place of the value of a node's attribute, if the node has it. One descent.
 #[inline(always)]
-fn found_value<L: Look>(
-    look: &mut L,
-    catalog: u64,
-    node: u64,
-    name: &HeldName,
-) -> Option<(u64, usize)>
+fn found_value<L: Look>(look: &mut L, catalog: u64, node: u64, name: &HeldName) -> FoundItem
     requires tree { IsTree (L.standing look.old) (L.words look.old) catalog }
-    ensures item { IfSome result (λ at. IsItemAt (L.standing look.new) (L.words look.new) at.0
-        at.1) }
-    ensures some { (nodes : AllNodes) → IsCatalog (pairs (L.words look.old) catalog) nodes
-        → AreValid nodes
-        → IfSome result (λ at. HasPayload nodes node (name_in name.now)
-        (item_at (L.words look.new at.0) at.1).payload) }
-    ensures none { (nodes : AllNodes) → IsCatalog (pairs (L.words look.old) catalog) nodes
-        → AreValid nodes
-        → IfNone result (value_at nodes node (name_in name.now) ≡ None) }
+    ensures item { HasItem (L.standing look.new) (L.words look.new) result }
+    ensures some { IsValuePlace (L.words look.old) (L.words look.new) catalog node
+        (name_in name.now) result }
+    ensures none { IsValueAbsent (L.words look.old) catalog node (name_in name.now) result }
     ensures unchanged { IsUnchanged L.kept L.standing L.words look.old look.new }
 {
     let key = held_key(node, name);

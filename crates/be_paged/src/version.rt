@@ -9,20 +9,33 @@ use crate::entry::Entry;
 use arrayvec::ArrayVec;
 use be_pages::{Look, Room};
 
-/// A version page's contents in hand.
+/// A version page's contents in hand. It is large, so a writer keeps one from one write to the
+/// next, whatever its contents are then.
 #[derive(Drop)]
-pub(crate) struct Version {
+pub struct Version {
     pub(crate) next: u64,
     pub(crate) catalog: u64,
     pub(crate) entries: ArrayVec<Entry, 32>,
 }
 
-/// Reads a version page into contents that have no index yet. They are filled in place, since
-/// contents that are passed by value cost their whole capacity.
+impl Version {
+    /// Contents that have no index yet.
+    pub fn new() -> Version
+        ensures { result.entries.items ≡ [] }
+    {
+        Version {
+            next: 0,
+            catalog: 0,
+            entries: ArrayVec::new(),
+        }
+    }
+}
+
+/// Reads a version page into contents, whatever they were. They are filled in place, since contents
+/// that are passed by value cost their whole capacity.
 pub(crate) fn fill_version<L: Look>(look: &mut L, page: u64, version: &mut Version)
     requires readable { IsTrue (is_readable (L.standing look.old page)) }
     requires page { IsVersionPage (L.words look.old page) }
-    requires empty { version.old.entries.items ≡ [] }
     ensures contents { contents version.new ≡ contents_of (L.words look.old page) }
     ensures unchanged { IsUnchanged L.kept L.standing L.words look.old look.new }
 {
@@ -31,6 +44,7 @@ pub(crate) fn fill_version<L: Look>(look: &mut L, page: u64, version: &mut Versi
     let catalog = look.word(page, 3);
     version.next = next;
     version.catalog = catalog;
+    version.entries.clear();
     for i in 0..count {
         version.entries.push(Entry::load(look, page, 4 + 11 * i));
     }

@@ -54,8 +54,7 @@ fn refusal<L: Look>(
 fn write_version<R: Room>(room: &mut R, version: &Version) -> Result<u64, Refusal>
     requires named { All (λ e. IsName e.name) version.now.entries.items }
     requires open { IsTrue (R.is_open (R.kept room.old)) }
-    ensures contents { IfOk result (λ page. contents_of (R.words room.new page)
-        ≡ contents version.now) }
+    ensures contents { IfOk result (λ p. contents_of (R.words room.new p) ≡ contents version.now) }
     ensures page { IfOk result (λ page. IsVersionPage (R.words room.new page)) }
     ensures taken { IfOk result (λ page. R.standing room.new page ≡ Filled) }
     ensures swaps { IfOk result (λ page. Swaps R.kept R.standing R.words [] (page ∷ []) room.old
@@ -73,8 +72,7 @@ fn replace_version<R: Room>(room: &mut R, old_page: u64, version: &Version) -> R
     requires in_use { IsTrue (is_kept (R.standing room.old old_page)) }
     requires named { All (λ e. IsName e.name) version.now.entries.items }
     requires open { IsTrue (R.is_open (R.kept room.old)) }
-    ensures contents { IfOk result (λ page. contents_of (R.words room.new page)
-        ≡ contents version.now) }
+    ensures contents { IfOk result (λ p. contents_of (R.words room.new p) ≡ contents version.now) }
     ensures page { IfOk result (λ page. IsVersionPage (R.words room.new page)) }
     ensures taken { IfOk result (λ page. R.standing room.new page ≡ Filled) }
     ensures swaps { IfOk result (λ page. Swaps R.kept R.standing R.words (old_page ∷ []) (page ∷ [])
@@ -94,9 +92,11 @@ fn replace_version<R: Room>(room: &mut R, old_page: u64, version: &Version) -> R
 ///
 /// The errors are those of the plain volume, NoNode to NotIndexable: they come before a page is
 /// taken, and the room is unchanged. If no page is left, the error is Full, and what was there when
-/// the write began is there again once it is undone. It takes no memory.
+/// the write began is there again once it is undone. It takes no memory: `version` is a place for
+/// the version's contents, and what it has before and after means nothing.
 pub fn apply_into<R: Room>(
     room: &mut R,
+    version: &mut Version,
     version_page: u64,
     ops: &[Op],
     dones: &mut ArrayVec<Done, 64>,
@@ -112,22 +112,17 @@ pub fn apply_into<R: Room>(
     ensures err { IfErr result (λ e. IsRefusedList R.kept R.standing R.words R.full volume ops.now e
         room.old room.new) }
 {
-    let mut version = Version {
-        next: 0,
-        catalog: 0,
-        entries: ArrayVec::new(),
-    };
-    fill_version(room, version_page, &mut version);
+    fill_version(room, version_page, version);
     let mut asked = None;
-    if let Some(reason) = refusal(room, &version, ops, &mut asked) {
+    if let Some(reason) = refusal(room, version, ops, &mut asked) {
         return Err(reason);
     }
-    edit_all(room, &mut version, ops, asked, dones)?;
-    let page = replace_version(room, version_page, &version)?;
+    edit_all(room, version, ops, asked, dones)?;
+    let page = replace_version(room, version_page, version)?;
     Ok(page)
 }
 
-/// The same, with the outcomes in a list of their own.
+/// The same, with the outcomes in a list of their own, and a place of its own for the contents.
 pub fn apply<R: Room>(
     room: &mut R,
     version_page: u64,
@@ -143,8 +138,9 @@ pub fn apply<R: Room>(
     ensures err { IfErr result (λ e. IsRefusedList R.kept R.standing R.words R.full volume ops.now e
         room.old room.new) }
 {
+    let mut version = Version::new();
     let mut dones = ArrayVec::new();
-    match apply_into(room, version_page, ops, &mut dones) {
+    match apply_into(room, &mut version, version_page, ops, &mut dones) {
         Ok(page) => Ok((page, dones)),
         Err(refusal) => Err(refusal),
     }

@@ -191,4 +191,17 @@ count_free P none = sym (count_map P none)
 -- what a call of `take` uses, and of `fill`
 pub ruleset taking = (stands_set, unretired_set, busy_place)
 
+-- a page that has a word filled stays as it is
+pub filled_still : (P : List Place) (p : ℕ) → standing_in P p ≡ stands.Filled → StandsAt (standing_in P) (standing_in P) p stands.Filled
+filled_still P p h q = elim (cases_eq q p) [
+  | inl e ↦ subst (λ r. standing_in P r ≡ (if r == p then stands.Filled else standing_in P r)) (sym e)
+      (h ∙ sym (ap (λ (b : Bool). if b then stands.Filled else standing_in P p) (same_test p)))
+  | inr ne ↦ sym (ap (λ (b : Bool). if b then stands.Filled else standing_in P q) (other_test q p ne))
+]
+
+pub filled_inside : (P : List Place) (p : ℕ) → standing_in P p ≡ stands.Filled → p < length P
+filled_inside P p h = read_inside P p (ap is_readable h)
+
+pub ruleset refilling = (filled_still, filled_inside)
+
 pub ruleset filling = (stands_set, unretired_set, in_hand, inside)

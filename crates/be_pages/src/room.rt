@@ -95,6 +95,18 @@ pub trait Room: Look {
         ensures others { (q : ℕ) → q ≢ page → Self.words self.new q ≡ Self.words self.old q }
         ensures kept { Self.kept self.new ≡ Self.kept self.old };
 
+    /// Writes one word of a page that has a word filled in this write. It is `fill` for such a
+    /// page, and costs less, since where the page is needn't be looked up.
+    fn refill(&mut self, page: u64, i: usize, word: u64)
+        requires open { IsTrue (Self.is_open (Self.kept self.old)) }
+        requires filled { Self.standing self.old page ≡ Filled }
+        requires in_page { i < 512 }
+        ensures standing { StandsAt (Self.standing self.old) (Self.standing self.new) page Filled }
+        ensures place { (j : ℕ) → Self.words self.new page j
+            ≡ (if j == i then word else Self.words self.old page j) }
+        ensures others { (q : ℕ) → q ≢ page → Self.words self.new q ≡ Self.words self.old q }
+        ensures kept { Self.kept self.new ≡ Self.kept self.old };
+
     /// Gives a page up. One that was taken in this write is free at once; any other keeps its words
     /// until the write is kept.
     fn give_up(&mut self, page: u64)

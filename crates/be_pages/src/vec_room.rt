@@ -71,6 +71,11 @@ impl Room for VecRoom {
         self.pool.fill(page);
     }
 
+    #[tactic(auto, using(crate::proofs::Rooms::refilling))]
+    fn refill(&mut self, page: u64, i: usize, word: u64) {
+        self.words[page as usize * PAGE_WORDS + i] = word;
+    }
+
     fn give_up(&mut self, page: u64) {
         self.pool.give_up(page);
     }

@@ -13,6 +13,8 @@ use Rattle.be_value.specs.declared.values.Value.TheVariants.{Ullg}
 use Rattle.be_query.specs.Grammar.{Formula, Leaf, And, Or, comparisons}
 use Rattle.be_query.specs.declared.tree.Cmp.{Cmp}
 use Rattle.be_query.specs.Grammar.{Literal}
+use Rattle.be_query.specs.View.{literal}
+use Rattle.be_query.specs.declared.tree.Comparison.{Comparison}
 use Rattle.be_volume.specs.Maps.{name_cmp}
 use Rattle.be_volume.specs.Query.{holds, is_true_of, sat, sees}
 use Rattle.be_volume.specs.Volume.{State}
@@ -48,6 +50,22 @@ high_of range = if range.bounded then Some range.high.items else None
 abbrev pub IsIn : Range → List ℕ → Type 0
 IsIn range k = Within range.low.items (high_of range) k
 
+-- no key from these bytes on is left out
+abbrev pub KeepsFrom : List ℕ → Range → Range → Type 0
+KeepsFrom bytes old new = (k : List ℕ) → is_lt (name_cmp k bytes) ≡ false → IsIn old k → IsIn new k
+
+-- each key of the range is at these bytes or after them
+abbrev pub IsFrom : List ℕ → Range → Type 0
+IsFrom bytes range = (k : List ℕ) → IsIn range k → is_lt (name_cmp k bytes) ≡ false
+
+-- no key up to these bytes is left out
+abbrev pub KeepsTo : List ℕ → Range → Range → Type 0
+KeepsTo bytes old new = (k : List ℕ) → is_gt (name_cmp k bytes) ≡ false → IsIn old k → IsIn new k
+
+-- each key of the range is at these bytes or before them
+abbrev pub IsTo : List ℕ → Range → Type 0
+IsTo bytes range = (k : List ℕ) → IsIn range k → is_gt (name_cmp k bytes) ≡ false
+
 -- the greatest number of a node
 abbrev pub last_node : ℕ
 last_node = 2 ^ 64 - 1
@@ -67,6 +85,14 @@ KeepsTrue kind op literal old new = (v : Value) (n : ℕ) → IsPair kind v n �
 abbrev pub AllTrue : Kind → Cmp → Literal → Range → Type 0
 AllTrue kind op literal range = (v : Value) (n : ℕ) → IsPair kind v n → IsIn range (key v n)
     → holds op v literal ≡ true
+
+-- the same of a comparison as the program has it
+abbrev pub KeepsTrueOf : Kind → Comparison → Range → Range → Type 0
+KeepsTrueOf kind comparison = KeepsTrue kind comparison.op (literal comparison.literal)
+
+-- the same of a comparison as the program has it
+abbrev pub AllTrueOf : Kind → Comparison → Range → Type 0
+AllTrueOf kind comparison = AllTrue kind comparison.op (literal comparison.literal)
 
 -- The value takes the place of the literal at the values of an index of this kind: a comparison
 -- with the literal is true of one of them exactly if the operator is true of the two values.

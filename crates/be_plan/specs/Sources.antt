@@ -1,4 +1,4 @@
--- What a plain volume answers for.
+-- What a source answers for.
 use Rattle.std.specs.Prelude.{◌≡◌}
 use Rattle.be_volume.specs.Volume.{State}
 use Rattle.be_volume.specs.Sound.{IsSound}
@@ -7,3 +7,8 @@ use Rattle.be_volume.specs.Sound.{IsSound}
 pub record IsVolume (own : State) (volume : State) : Type 0 where
   pub same : volume ≡ own
   pub sound : IsSound volume
+
+-- the source answers for each volume that it answered for
+abbrev pub StillAnswers : {Own : Type 0} → (Own → State → Type 0) → Own → Own → Type 0
+StillAnswers answers_for old new = (volume : State) → answers_for old volume
+    → answers_for new volume

@@ -4,11 +4,13 @@ use Rattle.std.specs.Cmp.Lexicographic.{pointwise}
 use Rattle.std.specs.List.{Contains}
 use Rattle.std.specs.Ordering.{is_lt}
 use Rattle.std.specs.declared.option.Option.{Option}
+use Rattle.be_value.specs.declared.refusals.Refusal.{Refusal}
+use Rattle.be_value.specs.declared.refusals.Refusal.TheVariants.{OutOfMemory, NotCovered}
 use Rattle.be_value.specs.declared.values.Value.{Value}
 use Rattle.be_query.specs.Grammar.{Formula, Leaf, And, Or}
 use Rattle.be_plan.specs.Cover.{Comparison, leaves}
 use Rattle.be_volume.specs.Maps.{name_cmp}
-use Rattle.be_volume.specs.Query.{sat, sees}
+use Rattle.be_volume.specs.Query.{covered, sat, sees}
 use Rattle.be_volume.specs.Volume.{State}
 use Rattle.be_volume.specs.Keys.{IsKey, IsNextKey}
 use Rattle.be_volume.specs.PairKeys.{is_at_or_after}
@@ -29,6 +31,18 @@ AreAllOn (Or a b) name = ⊥
 -- each of the nodes is still there
 abbrev pub Keeps : List ℕ → List ℕ → Type 0
 Keeps before after = (n : ℕ) → Contains before n → Contains after n
+
+-- each of the nodes was there before, or the formula is true of it
+abbrev pub AddsTrue : State → Formula → List ℕ → List ℕ → Type 0
+AddsTrue s f before after = (n : ℕ) → Contains after n → Contains before n ⊎ (sat s f n ≡ true)
+
+-- each node of which the formula is true is there
+abbrev pub HasAllTrue : State → Formula → List ℕ → Type 0
+HasAllTrue s f found = (n : ℕ) → sat s f n ≡ true → Contains found n
+
+-- there is no memory, or the query rests on no index
+abbrev pub IsNoAnswer : State → Formula → Refusal → Type 0
+IsNoAnswer s f e = (e ≡ OutOfMemory) ⊎ ((e ≡ NotCovered) × (covered s f ≡ false))
 
 -- each node whose key lies from `low` to `high`, and that is wanted, is there
 abbrev pub HasWanted : State → (ℕ → Type 0) → List ℕ → List ℕ → Option (List ℕ) → List ℕ → Type 0

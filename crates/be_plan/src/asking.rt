@@ -4,17 +4,15 @@
 //! under `||` alone, as most are, has nothing to choose from. Neither have comparisons of one name
 //! under `&&`, as the two ends of a range: their index is asked for once, and no cover is made. Of
 //! any other side under `&&` the choice is made as for a query of its own.
-ghost use Rattle.std.specs.Prelude.{◌≡◌, ◌⊎◌, ◌≤◌, ℕ, true, false, OnOk, IfOk, IfErr, IfSome};
-ghost use Rattle.std.specs.List.{Contains};
+ghost use Rattle.std.specs.Prelude.{◌≡◌, ◌≤◌, true, OnOk, IfOk, IfErr, IfSome};
 ghost use Rattle.std.specs.Option.{option_copied};
 ghost use Rattle.std.specs.List.Sorted.{IsStrictlyIncreasing};
 ghost use Rattle.be_value.specs.Refusal.{Answers};
-ghost use Rattle.be_value.specs.declared.refusals.Refusal.TheVariants.{OutOfMemory, NotCovered};
 ghost use Rattle.be_query.specs.Grammar.{comparisons};
 ghost use Rattle.be_query.specs.View.{formula};
-ghost use Rattle.be_volume.specs.Query.{covered, sat, scan};
+ghost use Rattle.be_volume.specs.Query.{covered, scan};
 ghost use Rattle.be_volume.specs.Volume.{State};
-ghost use Rattle.be_plan.specs.Walk.{AreAllOn, Keeps};
+ghost use Rattle.be_plan.specs.Walk.{AddsTrue, AreAllOn, HasAllTrue, IsNoAnswer, Keeps};
 
 use crate::Source;
 use crate::choosing::choose_by_source;
@@ -71,13 +69,10 @@ fn collect_named<S: Source>(
     ensures stays { S.kept source.new ≡ S.kept source.old }
     ensures answers { S.answers_for source.new volume }
     ensures keeps { Keeps found.old.items found.new.items }
-    ensures only { (n : ℕ) → Contains found.new.items n → Contains found.old.items n
-        ⊎ (sat volume (formula tree.now) n ≡ true) }
-    ensures has { OnOk result ((n : ℕ) → sat volume (formula tree.now) n ≡ true
-        → Contains found.new.items n) }
+    ensures only { AddsTrue volume (formula tree.now) found.old.items found.new.items }
+    ensures has { OnOk result (HasAllTrue volume (formula tree.now) found.new.items) }
     ensures covered { OnOk result (covered volume (formula tree.now) ≡ true) }
-    ensures refused { IfErr result (λ e. (e ≡ OutOfMemory)
-        ⊎ ((e ≡ NotCovered) × (covered volume (formula tree.now) ≡ false))) }
+    ensures refused { IfErr result (λ e. IsNoAnswer volume (formula tree.now) e) }
 {
     let Some(kind) = source.kind_of(name) else {
         return Err(Refusal::NotCovered);
@@ -103,13 +98,10 @@ fn collect_chosen<S: Source>(
     ensures stays { S.kept source.new ≡ S.kept source.old }
     ensures answers { S.answers_for source.new volume }
     ensures keeps { Keeps found.old.items found.new.items }
-    ensures only { (n : ℕ) → Contains found.new.items n → Contains found.old.items n
-        ⊎ (sat volume (formula tree.now) n ≡ true) }
-    ensures has { OnOk result ((n : ℕ) → sat volume (formula tree.now) n ≡ true
-        → Contains found.new.items n) }
+    ensures only { AddsTrue volume (formula tree.now) found.old.items found.new.items }
+    ensures has { OnOk result (HasAllTrue volume (formula tree.now) found.new.items) }
     ensures covered { OnOk result (covered volume (formula tree.now) ≡ true) }
-    ensures refused { IfErr result (λ e. (e ≡ OutOfMemory)
-        ⊎ ((e ≡ NotCovered) × (covered volume (formula tree.now) ≡ false))) }
+    ensures refused { IfErr result (λ e. IsNoAnswer volume (formula tree.now) e) }
 {
     let Some(cover) = choose_by_source(alloc, tree, source)? else {
         return Err(Refusal::NotCovered);
@@ -131,13 +123,10 @@ fn collect_side<S: Source>(
     ensures stays { S.kept source.new ≡ S.kept source.old }
     ensures answers { S.answers_for source.new volume }
     ensures keeps { Keeps found.old.items found.new.items }
-    ensures only { (n : ℕ) → Contains found.new.items n → Contains found.old.items n
-        ⊎ (sat volume (formula tree.now) n ≡ true) }
-    ensures has { OnOk result ((n : ℕ) → sat volume (formula tree.now) n ≡ true
-        → Contains found.new.items n) }
+    ensures only { AddsTrue volume (formula tree.now) found.old.items found.new.items }
+    ensures has { OnOk result (HasAllTrue volume (formula tree.now) found.new.items) }
     ensures covered { OnOk result (covered volume (formula tree.now) ≡ true) }
-    ensures refused { IfErr result (λ e. (e ≡ OutOfMemory)
-        ⊎ ((e ≡ NotCovered) × (covered volume (formula tree.now) ≡ false))) }
+    ensures refused { IfErr result (λ e. IsNoAnswer volume (formula tree.now) e) }
 {
     match only_name(tree) {
         Some(name) => collect_named(alloc, source, range, tree, name, found),
@@ -159,13 +148,10 @@ fn collect<S: Source>(
     requires few { comparisons (formula tree.now) ≤ 256 }
     ensures stays { S.kept source.new ≡ S.kept source.old }
     ensures answers { S.answers_for source.new volume }
-    ensures only { (n : ℕ) → Contains found.new.items n → Contains found.old.items n
-        ⊎ (sat volume (formula tree.now) n ≡ true) }
-    ensures has { OnOk result ((n : ℕ) → sat volume (formula tree.now) n ≡ true
-        → Contains found.new.items n) }
+    ensures only { AddsTrue volume (formula tree.now) found.old.items found.new.items }
+    ensures has { OnOk result (HasAllTrue volume (formula tree.now) found.new.items) }
     ensures covered { OnOk result (covered volume (formula tree.now) ≡ true) }
-    ensures refused { IfErr result (λ e. (e ≡ OutOfMemory)
-        ⊎ ((e ≡ NotCovered) × (covered volume (formula tree.now) ≡ false))) }
+    ensures refused { IfErr result (λ e. IsNoAnswer volume (formula tree.now) e) }
 {
     let mut rest = tree;
     'sides: while let Tree::Or(a, b) = rest {

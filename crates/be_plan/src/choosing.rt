@@ -13,6 +13,7 @@ ghost use Rattle.be_query.specs.View.{formula, literal};
 ghost use Rattle.be_volume.specs.Query.{covered, has_index};
 ghost use Rattle.be_volume.specs.Volume.{State};
 ghost use Rattle.be_plan.specs.Explain.{are_places};
+ghost use Rattle.be_plan.specs.Sources.{StillAnswers};
 ghost use Rattle.be_plan.specs.Cover.{chosen, choice, covers, cheaper, both_covers, score_of};
 
 use crate::{Cover, Picks, Source};
@@ -99,8 +100,7 @@ fn choose_part<S: Source>(
     ensures small { IfOk result (λ c. IfSome c.cover
         (λ cover. cover.score ≤ 5 * comparisons (formula tree.now))) }
     ensures stays { S.kept source.new ≡ S.kept source.old }
-    ensures answers { (volume : State) → S.answers_for source.old volume
-        → S.answers_for source.new volume }
+    ensures answers { StillAnswers S.answers_for source.old source.new }
     ensures still { (volume : State) × S.answers_for source.new volume }
 {
     match tree {

@@ -6,6 +6,7 @@ ghost use Rattle.std.specs.Prelude.{◌≡◌, Some};
 ghost use Rattle.be_query.specs.View.{formula};
 ghost use Rattle.be_volume.specs.Query.{sees, sat};
 ghost use Rattle.be_volume.specs.Volume.{State};
+ghost use Rattle.be_plan.specs.Sources.{StillAnswers};
 ghost use Rattle.be_plan.specs.Walk.{asks_name};
 
 use crate::Source;
@@ -27,8 +28,7 @@ pub(crate) fn satisfies<S: Source>(
         ≡ Some value.now →
         result ≡ sat volume (formula tree.now) node }
     ensures stays { S.kept source.new ≡ S.kept source.old }
-    ensures answers { (volume : State) → S.answers_for source.old volume
-        → S.answers_for source.new volume }
+    ensures answers { StillAnswers S.answers_for source.old source.new }
     ensures still { (volume : State) × S.answers_for source.new volume }
 {
     match tree {
@@ -54,8 +54,7 @@ pub(crate) fn is_true<S: Source>(source: &mut S, tree: &Tree, node: u64) -> bool
     ensures answer { (volume : State) → S.answers_for source.old volume → result
         ≡ sat volume (formula tree.now) node }
     ensures stays { S.kept source.new ≡ S.kept source.old }
-    ensures answers { (volume : State) → S.answers_for source.old volume
-        → S.answers_for source.new volume }
+    ensures answers { StillAnswers S.answers_for source.old source.new }
     ensures still { (volume : State) × S.answers_for source.new volume }
 {
     match tree {

@@ -31,7 +31,7 @@ ghost use Rattle.be_volume.specs.Maps.{name_cmp};
 ghost use Rattle.be_volume.specs.Query.{holds, holds_of_number, is_true_of, literal_number, sat};
 ghost use Rattle.be_volume.specs.Volume.{State};
 ghost use Rattle.be_plan.specs.Walk.{AreAllOn};
-ghost use Rattle.be_plan.specs.Narrow.{AllTrue, KeepsTrue, IsIn, IsBetween, IsPair, StandsFor};
+ghost use Rattle.be_plan.specs.Narrow.{AllTrueOf, KeepsTrueOf, IsIn, IsBetween, IsPair, StandsFor};
 ghost use Rattle.be_plan.specs.Narrow.{HasEnds, Allows, LeavesRest, high_of, limit, rest_true};
 
 use crate::ranges::Range;
@@ -78,10 +78,8 @@ fn narrow_by(
     requires stands { StandsFor (literal comparison.now.literal) kind bound }
     requires ends { HasEnds bound front.now first.now after.now }
     ensures within { (k : List ℕ) → IsIn range.new k → IsIn range.old k }
-    ensures keeps { KeepsTrue kind comparison.now.op (literal comparison.now.literal) range.old
-        range.new }
-    ensures decides { result ≡ true → AllTrue kind comparison.now.op
-        (literal comparison.now.literal) range.new }
+    ensures keeps { KeepsTrueOf kind comparison.now range.old range.new }
+    ensures decides { result ≡ true → AllTrueOf kind comparison.now range.new }
 {
     match comparison.op {
         Cmp::Eq => range.raise_to(front, first) && range.lower_to(front, without_last(after)),
@@ -99,10 +97,8 @@ fn narrow_by_integer(range: &mut Range, comparison: &Comparison, kind: Kind, byt
     requires stands { StandsFor (literal comparison.now.literal) kind bound }
     requires bytes { bytes.now ≡ value_key bound }
     ensures within { (k : List ℕ) → IsIn range.new k → IsIn range.old k }
-    ensures keeps { KeepsTrue kind comparison.now.op (literal comparison.now.literal) range.old
-        range.new }
-    ensures decides { result ≡ true → AllTrue kind comparison.now.op
-        (literal comparison.now.literal) range.new }
+    ensures keeps { KeepsTrueOf kind comparison.now range.old range.new }
+    ensures decides { result ≡ true → AllTrueOf kind comparison.now range.new }
 {
     narrow_by(range, comparison, kind, bytes, &NUMBER_FIRST, &NUMBER_AFTER)
 }
@@ -117,11 +113,9 @@ fn narrow_by_number(
 ) -> Option<bool>
     requires { literal_number (literal comparison.now.literal) ≡ Some number }
     ensures within { (k : List ℕ) → IsIn range.new k → IsIn range.old k }
-    ensures keeps { KeepsTrue kind comparison.now.op (literal comparison.now.literal) range.old
-        range.new }
-    ensures decides { IfSome result (λ all. all ≡ true → (v : AnyValue) (n : ℕ) → IsPair kind v n
-        → IsIn range.new (key_bytes v n) →
-        holds comparison.now.op v (literal comparison.now.literal) ≡ true) }
+    ensures keeps { KeepsTrueOf kind comparison.now range.old range.new }
+    ensures decides { IfSome result (λ all. all ≡ true
+        → AllTrueOf kind comparison.now range.new) }
 {
     match kind {
         Kind::Long => {
@@ -192,10 +186,8 @@ fn is_false_of_all(comparison: &Comparison, kind: Kind, number: Option<i128>) ->
 /// left; a literal that is no value of the kind decides nothing.
 fn narrow_integers(range: &mut Range, comparison: &Comparison, kind: Kind) -> bool
     ensures within { (k : List ℕ) → IsIn range.new k → IsIn range.old k }
-    ensures keeps { KeepsTrue kind comparison.now.op (literal comparison.now.literal) range.old
-        range.new }
-    ensures decides { result ≡ true → AllTrue kind comparison.now.op
-        (literal comparison.now.literal) range.new }
+    ensures keeps { KeepsTrueOf kind comparison.now range.old range.new }
+    ensures decides { result ≡ true → AllTrueOf kind comparison.now range.new }
 {
     let number = literal_number(&comparison.literal);
     if let Some(number) = number {
@@ -274,10 +266,8 @@ fn narrow_by_long(range: &mut Range, op: Cmp, words: &[u8])
 fn narrow_by_text(range: &mut Range, comparison: &Comparison, words: &str) -> bool
     requires { literal comparison.now.literal ≡ Exact words.now }
     ensures within { (k : List ℕ) → IsIn range.new k → IsIn range.old k }
-    ensures keeps { KeepsTrue Kind.Cstr comparison.now.op (literal comparison.now.literal) range.old
-        range.new }
-    ensures decides { result ≡ true → AllTrue Kind.Cstr comparison.now.op
-        (literal comparison.now.literal) range.new }
+    ensures keeps { KeepsTrueOf Kind.Cstr comparison.now range.old range.new }
+    ensures decides { result ≡ true → AllTrueOf Kind.Cstr comparison.now range.new }
 {
     let bytes = words.as_bytes();
     if bytes.len() > 255 {
@@ -301,10 +291,8 @@ fn narrow_by_text(range: &mut Range, comparison: &Comparison, words: &str) -> bo
 /// left.
 fn narrow_texts(range: &mut Range, comparison: &Comparison) -> bool
     ensures within { (k : List ℕ) → IsIn range.new k → IsIn range.old k }
-    ensures keeps { KeepsTrue Kind.Cstr comparison.now.op (literal comparison.now.literal) range.old
-        range.new }
-    ensures decides { result ≡ true → AllTrue Kind.Cstr comparison.now.op
-        (literal comparison.now.literal) range.new }
+    ensures keeps { KeepsTrueOf Kind.Cstr comparison.now range.old range.new }
+    ensures decides { result ≡ true → AllTrueOf Kind.Cstr comparison.now range.new }
 {
     match (comparison.op, &comparison.literal) {
         (Cmp::Eq, Literal::Pattern(pattern)) => narrow_by_pattern(range, pattern),
@@ -317,10 +305,8 @@ fn narrow_texts(range: &mut Range, comparison: &Comparison) -> bool
 /// left.
 fn narrow(range: &mut Range, comparison: &Comparison, kind: Kind) -> bool
     ensures within { (k : List ℕ) → IsIn range.new k → IsIn range.old k }
-    ensures keeps { KeepsTrue kind comparison.now.op (literal comparison.now.literal) range.old
-        range.new }
-    ensures decides { result ≡ true → AllTrue kind comparison.now.op
-        (literal comparison.now.literal) range.new }
+    ensures keeps { KeepsTrueOf kind comparison.now range.old range.new }
+    ensures decides { result ≡ true → AllTrueOf kind comparison.now range.new }
 {
     match kind {
         Kind::Cstr => narrow_texts(range, comparison),

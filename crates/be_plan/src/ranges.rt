@@ -7,7 +7,7 @@ ghost use Rattle.std.specs.Prelude.{◌≡◌, ◌+◌, ◌≤◌, true, false, 
 ghost use Rattle.std.specs.Option.{option_copied};
 ghost use Rattle.std.specs.Ordering.{is_lt, is_gt};
 ghost use Rattle.be_volume.specs.Maps.{name_cmp};
-ghost use Rattle.be_plan.specs.Narrow.{IsIn, high_of, is_above};
+ghost use Rattle.be_plan.specs.Narrow.{IsFrom, IsIn, IsTo, KeepsFrom, KeepsTo, high_of, is_above};
 
 use arrayvec::ArrayVec;
 use std::cmp::Ordering;
@@ -164,15 +164,10 @@ impl Range {
     /// a range. Returns whether none is left.
     pub(crate) fn raise_to(&mut self, front: &[u8], end: &[u8]) -> bool
         ensures within { (k : List ℕ) → IsIn self.new k → IsIn self.old k }
-        ensures keeps { (k : List ℕ) → is_lt (name_cmp k (front.now ++ end.now)) ≡ false
-            → IsIn self.old k → IsIn self.new k }
-        ensures leaves { result ≡ true → (k : List ℕ) → IsIn self.new k
-            → is_lt (name_cmp k (front.now ++ end.now)) ≡ false }
+        ensures keeps { KeepsFrom (front.now ++ end.now) self.old self.new }
+        ensures leaves { result ≡ true → IsFrom (front.now ++ end.now) self.new }
     {
-        if self.starts_at(front, end) {
-            return true;
-        }
-        put(&mut self.low, front, end)
+        self.starts_at(front, end) || put(&mut self.low, front, end)
     }
 
     /// Whether no key of the range is above the front followed by the end; if not, the range has
@@ -190,10 +185,8 @@ impl Range {
     /// a range. Returns whether none is left.
     pub(crate) fn lower_to(&mut self, front: &[u8], end: &[u8]) -> bool
         ensures within { (k : List ℕ) → IsIn self.new k → IsIn self.old k }
-        ensures keeps { (k : List ℕ) → is_gt (name_cmp k (front.now ++ end.now)) ≡ false
-            → IsIn self.old k → IsIn self.new k }
-        ensures leaves { result ≡ true → (k : List ℕ) → IsIn self.new k
-            → is_gt (name_cmp k (front.now ++ end.now)) ≡ false }
+        ensures keeps { KeepsTo (front.now ++ end.now) self.old self.new }
+        ensures leaves { result ≡ true → IsTo (front.now ++ end.now) self.new }
     {
         if self.ends_at(front, end) {
             return true;

@@ -16,6 +16,7 @@ ghost use Rattle.be_volume.specs.Reading.{attribute, index_kind};
 ghost use Rattle.be_volume.specs.Volume.{State};
 ghost use Rattle.be_volume.specs.Keys.{IsKey, IsNextKey};
 ghost use Rattle.be_volume.specs.Sound.{IsSound};
+ghost use Rattle.be_plan.specs.Sources.{StillAnswers};
 ghost use Rattle.be_plan.specs.Walk.{HasNodes, HasOnly, HasOnlyTrue, HasWithin, Keeps};
 
 use crate::TextTest;
@@ -50,8 +51,7 @@ pub trait Source {
         ensures answer { (volume : State) → answers_for self.old volume → result
             ≡ index_kind volume name.now }
         ensures stays { kept self.new ≡ kept self.old }
-        ensures answers { (volume : State) → answers_for self.old volume
-            → answers_for self.new volume };
+        ensures answers { StillAnswers answers_for self.old self.new };
 
     /// The least key of the index of that name at `from` or after it, or strictly after it. Keys
     /// are ordered by their bytes, and `from` may be any bytes. Without an index there is none.
@@ -60,8 +60,7 @@ pub trait Source {
         ensures answer { (volume : State) → answers_for self.old volume →
             IsNextKey volume name.now from.now after (option_map (λ k. k.items) result) }
         ensures stays { kept self.new ≡ kept self.old }
-        ensures answers { (volume : State) → answers_for self.old volume
-            → answers_for self.new volume };
+        ensures answers { StillAnswers answers_for self.old self.new };
 
     /// Adds the node of each of these keys; best in the order of the keys. Without an index there
     /// is none.
@@ -76,8 +75,7 @@ pub trait Source {
             HasNodes volume keys.entry.name.now keys.entry.low.now (option_copied keys.entry.high)
             found.new.items) }
         ensures stays { kept self.new ≡ kept self.old }
-        ensures answers { (volume : State) → answers_for self.old volume
-            → answers_for self.new volume };
+        ensures answers { StillAnswers answers_for self.old self.new };
 
     /// Adds the node of each of these keys of whose text the comparison is true, and returns true,
     /// if the source tests texts where they are and the index is one of texts. Otherwise it adds
@@ -103,8 +101,7 @@ pub trait Source {
         ensures none { IfOk result (λ tested. tested ≡ false
             → found.new.items ≡ found.old.items) }
         ensures stays { kept self.new ≡ kept self.old }
-        ensures answers { (volume : State) → answers_for self.old volume
-            → answers_for self.new volume }
+        ensures answers { StillAnswers answers_for self.old self.new }
     {
         Ok(false)
     }
@@ -117,8 +114,7 @@ pub trait Source {
         ensures finds { (volume : State) → answers_for self.old volume
             → IsKey volume name.now key.now → result ≡ true }
         ensures stays { kept self.new ≡ kept self.old }
-        ensures answers { (volume : State) → answers_for self.old volume
-            → answers_for self.new volume };
+        ensures answers { StillAnswers answers_for self.old self.new };
 
     /// The node's attribute of that name, whether or not an index has it.
     fn value(&mut self, node: u64, name: &Name) -> Option<Value>
@@ -126,8 +122,7 @@ pub trait Source {
         ensures answer { (volume : State) → answers_for self.old volume → result
             ≡ attribute volume node name.now }
         ensures stays { kept self.new ≡ kept self.old }
-        ensures answers { (volume : State) → answers_for self.old volume
-            → answers_for self.new volume };
+        ensures answers { StillAnswers answers_for self.old self.new };
 
     /// Whether the comparison is true of what it sees of the node. A pair of an index is always its
     /// node's attribute, so the index of the comparison's name holds the attribute or nothing, and
@@ -139,8 +134,7 @@ pub trait Source {
             result ≡ sat volume (Leaf comparison.now.name comparison.now.op
             (literal comparison.now.literal)) node }
         ensures stays { kept self.new ≡ kept self.old }
-        ensures answers { (volume : State) → answers_for self.old volume
-            → answers_for self.new volume }
+        ensures answers { StillAnswers answers_for self.old self.new }
     {
         let name = &comparison.name;
         let Some(value) = self.value(node, name) else {

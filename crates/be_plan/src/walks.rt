@@ -23,7 +23,7 @@ ghost use Rattle.be_volume.specs.Sound.{IsSound};
 ghost use Rattle.be_volume.specs.Volume.{State};
 ghost use Rattle.be_plan.specs.Narrow.{LeavesRest, high_of};
 ghost use Rattle.be_plan.specs.Texts.{IsKeyOf};
-ghost use Rattle.be_plan.specs.Walk.{HasOnlyTrue, HasWithin, IsNodeWithin, Keeps};
+ghost use Rattle.be_plan.specs.Walk.{AddsTrue, HasOnlyTrue, HasWithin, IsNodeWithin, Keeps};
 
 use crate::evaluating::{asks_name, is_true, satisfies};
 use crate::ranges::Range;
@@ -55,8 +55,7 @@ fn visit<S: Source>(
     ensures answers { S.answers_for source.new volume }
     ensures memory { IfErr result (λ e. e ≡ OutOfMemory) }
     ensures keeps { Keeps found.old.items found.new.items }
-    ensures only { (n : ℕ) → Contains found.new.items n → Contains found.old.items n
-        ⊎ (sat volume (formula tree.now) n ≡ true) }
+    ensures only { AddsTrue volume (formula tree.now) found.old.items found.new.items }
     ensures has { OnOk result ((v : AnyValue) (n : ℕ) → n < 2 ^ 64 → key.now ≡ key_bytes v n →
         sat volume (formula tree.now) n ≡ true → Contains found.new.items n) }
 {
@@ -85,8 +84,7 @@ fn visit_all<S: Source>(
     ensures answers { S.answers_for source.new volume }
     ensures memory { IfErr result (λ e. e ≡ OutOfMemory) }
     ensures keeps { Keeps found.old.items found.new.items }
-    ensures only { (n : ℕ) → Contains found.new.items n → Contains found.old.items n
-        ⊎ (sat volume (formula tree.now) n ≡ true) }
+    ensures only { AddsTrue volume (formula tree.now) found.old.items found.new.items }
     ensures has { OnOk result (HasWithin volume (formula tree.now) name.now range.now.low.items
         (high_of range.now) found.new.items) }
 {
@@ -295,8 +293,7 @@ fn walk_rest<S: Source>(
     ensures answers { S.answers_for source.new volume }
     ensures memory { IfErr result (λ e. e ≡ OutOfMemory) }
     ensures keeps { Keeps found.old.items found.new.items }
-    ensures only { (n : ℕ) → Contains found.new.items n → Contains found.old.items n
-        ⊎ (sat volume (formula tree.now) n ≡ true) }
+    ensures only { AddsTrue volume (formula tree.now) found.old.items found.new.items }
     ensures has { OnOk result (HasWithin volume (formula tree.now) name.now range.now.low.items
         (high_of range.now) found.new.items) }
 {
@@ -333,8 +330,7 @@ pub(crate) fn walk<S: Source>(
     ensures answers { S.answers_for source.new volume }
     ensures memory { IfErr result (λ e. e ≡ OutOfMemory) }
     ensures keeps { Keeps found.old.items found.new.items }
-    ensures only { (n : ℕ) → Contains found.new.items n → Contains found.old.items n
-        ⊎ (sat volume (formula tree.now) n ≡ true) }
+    ensures only { AddsTrue volume (formula tree.now) found.old.items found.new.items }
     ensures has { OnOk result (HasWithin volume (formula tree.now) name.now range.now.low.items
         (high_of range.now) found.new.items) }
 {

@@ -99,14 +99,14 @@ unpinning s (Some p) = (ok, with_store s (unpinned s.store))
 
 -- A live query is taken as it is, whatever it rests on; it was answered nothing so far.
 abbrev pub watching : Session → Result Formula Refusal → Reply × Session
-watching s (Ok f) = (ok, with_live s (record { query = f; last = [] }))
+watching s (Ok f) = (ok, with_live s (record { query = f; last = []; table = None }))
 watching s (Err e) = (refused e, s)
 
 -- what came and what went since the last answer, which is now this one
 abbrev pub updating : Session → LiveQuery → Result (List ℕ) Refusal → Reply × Session
 updating s l (Ok now) = (
   updates (without now l.last) (without l.last now),
-  with_live s (record { query = l.query; last = now }),
+  with_live s (record { query = l.query; last = now; table = None }),
 )
 updating s l (Err e) = (refused e, s)
 

@@ -29,6 +29,11 @@ const LIMITS: Limits = Limits {
     commits: 1_000_000,
 };
 
+/// Rows that make a node whose k is 5, after an index of k.
+const FIVE: &str = "mkindex k LONG => ok
+new => node 1
+set 1 k LONG 5 => ok";
+
 /// The character that a character of a row stands for: the pictures of control characters are
 /// those.
 fn meaning_of(c: char) -> char {

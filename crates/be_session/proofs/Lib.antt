@@ -1,4 +1,5 @@
 pub mod Spare
+pub mod Collected
 pub mod Meant
 pub mod Built
 pub mod Spelt

@@ -1,6 +1,7 @@
 pub mod Fault
 pub mod Meaning
 pub mod Sitting
+pub mod Finishing
 pub mod Operations
 pub mod Items
 pub mod Explained

@@ -1,5 +1,5 @@
 -- A query that is prepared: parsed once and kept, so that it can be asked again.
-use Rattle.std.specs.Prelude.{◌≡◌, ℕ, List, [], refl}
+use Rattle.std.specs.Prelude.{◌≡◌, ℕ, List, [], None, refl}
 use Rattle.std.specs.Coded.{Coded, code_by, coded_ℕ, coded_list, coded×}
 use Rattle.be_query.specs.Grammar.{Formula}
 use Rattle.be_store.specs.Live.{LiveQuery, coded_live}
@@ -22,8 +22,8 @@ coded_prepared =
 -- this query before it was asked or refreshed: nothing was found, its last answer is empty, and
 -- nothing came or went
 abbrev pub IsUnasked : Formula → PreparedQuery → Type 0
-IsUnasked query p = (p.live ≡ record { query = query; last = [] }) × (p.found ≡ []) × (p.came ≡ [])
-    × (p.went ≡ [])
+IsUnasked query p = (p.live ≡ record { query = query; last = []; table = None })
+    × (p.found ≡ []) × (p.came ≡ []) × (p.went ≡ [])
 
 -- the same query, which found these nodes when it was asked last
 abbrev pub with_found : PreparedQuery → List ℕ → PreparedQuery

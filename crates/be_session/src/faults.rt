@@ -32,6 +32,8 @@ pub enum Fault {
     /// Another write came first: the journal has this many entries, and not the number that the
     /// caller named.
     Conflict(u64),
+    /// Another session of the store is open, so this one can't close the store.
+    InUse,
     Refused(Refusal),
 }
 
@@ -66,6 +68,7 @@ impl Fault {
             Fault::BadPart => 74,
             Fault::NoItem => 75,
             Fault::Conflict(_) => 76,
+            Fault::InUse => 77,
         }
     }
 }

@@ -7,6 +7,7 @@
 
 mod explaining;
 mod faults;
+mod finishing;
 mod held;
 mod items;
 mod lists;
@@ -19,6 +20,7 @@ mod spellings;
 mod states;
 
 pub use faults::{Fault, ListFault};
+pub use finishing::Unfinished;
 pub use held::held_name;
 pub use items::{PredicateItem, query_of_items};
 pub use lists::{Operation, operations};

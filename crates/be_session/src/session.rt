@@ -21,6 +21,7 @@ ghost use Rattle.be_store.specs.Live.{Refreshes};
 ghost use Rattle.be_store.specs.Passes.{HasRead, IsPassOf, IsPinnedTo, volume_pinned};
 ghost use Rattle.be_store.specs.Statuses.{TellsStatus};
 ghost use Rattle.be_session.specs.Explained.{explanation_in};
+ghost use Rattle.be_session.specs.Finishing.{IsFinished, IsNotLast, IsUnfinished};
 ghost use Rattle.be_session.specs.Sitting.{AtPin, HasMet, IsHandedOut, IsPinned, IsUnwritten};
 ghost use Rattle.be_session.specs.Sitting.{IsUnwrittenIf, IsNoQuery, IsOpened, IsUnpinnedAt};
 ghost use Rattle.be_session.specs.Sitting.{IsUnrefreshed, Joins, ReadAnswers};
@@ -32,11 +33,11 @@ use crate::explaining::cover_text;
 use crate::held::are_few;
 use crate::passes::{put_last, take_last};
 use crate::shared::Shared;
-use crate::{Fault, StatePlace};
+use crate::{Fault, StatePlace, Unfinished};
 use be_store::laws::seen_is_legal;
 use be_store::{
-    ArrayVec, Cell, Done, Entry, HeldName, Kind, Limits, Live, Name, Op, Pass, Query, Refusal,
-    Status, Store, Updates, Value, Witness, parse,
+    ArrayVec, Cell, Done, Entry, HeldName, Journal, Kind, Limits, Live, Name, Op, Pass, Query,
+    Refusal, Status, Store, Updates, Value, Witness, parse,
 };
 use std::alloc::{AllocFailed, Global};
 use std::marker::Model;
@@ -152,6 +153,25 @@ fn of_returned(alloc: Global, shared: Arc<Shared, Global>) -> Result<Box<Session
     }
 }
 
+/// The session of these parts, which can't close its store for this reason.
+fn kept(shared: Arc<Shared, Global>, pass: Pass, spare: Vec<Pass>, fault: Fault) -> Unfinished
+    requires pass { IsPassOf shared.value pass }
+    requires spare { AreNew shared.value 0 spare.items }
+    requires fault { IsNotLast fault }
+    ensures { IsUnfinished (record {
+      store = shared.value;
+      knows = pass.knows;
+      spare = vec_len spare;
+    }) result }
+{
+    let session = Session {
+        shared,
+        pass,
+        spare,
+    };
+    Unfinished::Kept(session, fault)
+}
+
 /// Whether a write may have this many operations: 1 to 64.
 fn is_batch(ops: &[Op]) -> bool
     ensures is { result ≡ true → (1 ≤ length ops.now) × (length ops.now ≤ 64) }
@@ -225,6 +245,47 @@ impl Session {
         } = self;
         drop(shared.give_back(pass));
         shared.give_back_all(spare);
+    }
+
+    /// Whether `finish` may be called. InUse: another session of the store is open. OutOfMemory.
+    /// It takes the memory for that call, so that `finish` takes none.
+    pub fn may_finish(&mut self) -> Result<(), Fault>
+        ensures same { self.new ≡ self.old }
+        ensures err { IfErr result IsNotLast }
+    {
+        if Arc::strong_count(&self.shared) != 1 {
+            return Err(Fault::InUse);
+        }
+        self.spare.reserve(self.shared.passes() + 1)?;
+        Ok(())
+    }
+
+    /// Closes the store, if this is its last session, and returns its journal. It takes the pass
+    /// and all that were given back or wait; they may be pinned. It waits for nobody, and costs a
+    /// load and a join for each pass.
+    ///
+    /// The journal is that of the whole, whatever calls were made by whatever sessions. Each write
+    /// of a session that was accepted is there, at its commit number, and nothing else is. An error
+    /// says what became of the session.
+    pub fn finish(self) -> Result<Journal, Unfinished>
+        ensures ok { IfOk result (IsFinished self) }
+        ensures err { IfErr result (IsUnfinished self) }
+    {
+        let Session {
+            shared,
+            pass,
+            mut spare,
+        } = self;
+        if spare.reserve(shared.passes() + 1).is_err() {
+            return Err(kept(shared, pass, spare, Fault::Refused(Refusal::OutOfMemory)));
+        }
+        match Arc::try_unwrap(shared) {
+            Ok(shared) => match shared.finish(pass, spare) {
+                Some(journal) => Ok(journal),
+                None => Err(Unfinished::PassLost),
+            },
+            Err(shared) => Err(kept(shared, pass, spare, Fault::InUse)),
+        }
     }
 
     /// Meets a pass that was given back: both have then seen what either had. Returns the length of
@@ -486,7 +547,7 @@ impl Session {
         let Some(_) = self.pass.pinned() else {
             return Err(Fault::NotPinned);
         };
-        Ok(live.refresh(self.shared.store(), &mut self.pass)?)
+        Ok(live.refresh_whole(self.shared.store(), &mut self.pass)?)
     }
 
     /// The index cover from which a query would be answered in the pinned version: the chosen

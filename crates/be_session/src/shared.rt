@@ -1,12 +1,16 @@
 //! What the sessions of a store share: the store, and the passes that were given back.
-ghost use Rattle.std.specs.Prelude.{◌≡◌, ◌≤◌, ◌<◌, IfOk, IfSome, vec_len};
-ghost use Rattle.be_table.specs.Works.{AreNew};
+ghost use Rattle.std.specs.Prelude.{◌≡◌, ◌≤◌, ◌<◌, ◌+◌, ◌^◌, ℕ, IfOk, IfSome, length, map, true};
+ghost use Rattle.std.specs.Prelude.{vec_capacity, vec_len};
+ghost use Rattle.be_table.specs.History.{StartsWith};
+ghost use Rattle.be_table.specs.Steps.{Has};
+ghost use Rattle.be_table.specs.Works.{AllAt, AreNew, knows_of};
 ghost use Rattle.be_store.specs.Passes.{IsPassOf};
+ghost use Rattle.be_session.specs.Finishing.{IsFinishedBy};
 ghost use Rattle.be_session.specs.Sitting.{AreAllSeats, IsUnpinnedOf, MayWaitAt};
 
 use crate::passes::take_last;
 use be_store::laws::seen_is_legal;
-use be_store::{Pass, Store};
+use be_store::{Journal, Pass, Store};
 use counted_slot::{Counted, Fits, TAKEN};
 use std::alloc::{AllocError, Global};
 use std::marker::Model;
@@ -72,6 +76,64 @@ fn unpinned(store: &Store, mut pass: Pass) -> Pass
     pass
 }
 
+/// Adds the pass of number k, which waits in its slot. False if it isn't there, and isn't the own
+/// one, which is among the passes.
+fn collect(
+    _store: &Store,
+    slots: &[Counted<Option<Returned>>],
+    own: u64,
+    k: usize,
+    passes: &mut Vec<Pass>,
+) -> bool
+    requires seats { AreAllSeats _store.now slots.now × (k < length slots.now) }
+    requires here { AllAt _store.now.id passes.old.items }
+    requires own { Has (map knows_of passes.old.items) own }
+    requires room { vec_len passes.old < vec_capacity passes.old }
+    ensures here { AllAt _store.now.id passes.new.items }
+    ensures more { StartsWith passes.new.items passes.old.items }
+    ensures has { result ≡ true → Has (map knows_of passes.new.items) k }
+    ensures room { (vec_capacity passes.new ≡ vec_capacity passes.old)
+        × (vec_len passes.new ≤ vec_len passes.old + 1) }
+{
+    if k as u64 == own {
+        return true;
+    }
+    match take(&slots[k]) {
+        Some(pass) => {
+            passes.push_reserved(pass);
+            true
+        }
+        None => false,
+    }
+}
+
+/// Adds the passes from the number `first` on, which wait in their slots, but for the own one.
+/// False if one isn't there.
+fn collect_all(
+    store: &Store,
+    slots: &[Counted<Option<Returned>>],
+    own: u64,
+    first: usize,
+    passes: &mut Vec<Pass>,
+) -> bool
+    requires seats { AreAllSeats store.now slots.now }
+    requires here { AllAt store.now.id passes.old.items }
+    requires own { Has (map knows_of passes.old.items) own }
+    requires first { (k : ℕ) → k < first → Has (map knows_of passes.old.items) k }
+    requires room { vec_len passes.old + length slots.now ≤ vec_capacity passes.old }
+    ensures here { AllAt store.now.id passes.new.items }
+    ensures more { StartsWith passes.new.items passes.old.items }
+    ensures all { result ≡ true → (k : ℕ) → k < store.now.limits.passes
+        → Has (map knows_of passes.new.items) k }
+{
+    for k in first..slots.len() {
+        if !collect(store, slots, own, k, passes) {
+            return false;
+        }
+    }
+    true
+}
+
 /// A store, with a slot for each of its passes.
 #[derive(Drop)]
 pub(crate) struct Shared {
@@ -107,6 +169,31 @@ impl Shared {
         ensures { result.now ≡ self.now }
     {
         &self.store
+    }
+
+    /// How many passes the store has.
+    pub(crate) fn passes(&self) -> usize
+        ensures count { result ≡ self.now.limits.passes }
+        ensures few { result < 2 ^ 63 }
+    {
+        self.slots.len()
+    }
+
+    /// Closes the store with this pass, those that nobody has used, and all that were given back.
+    /// None if one isn't there.
+    pub(crate) fn finish(self, pass: Pass, mut passes: Vec<Pass>) -> Option<Journal>
+        requires pass { IsPassOf self pass }
+        requires new { AreNew self 0 passes.items }
+        requires room { vec_len passes + self.limits.passes < vec_capacity passes }
+        ensures { IfSome result (IsFinishedBy self.limits pass.knows) }
+    {
+        let Shared { store, slots } = self;
+        let (own, first) = (pass.number(), passes.len());
+        passes.push_reserved(pass);
+        if !collect_all(&store, slots.as_slice(), own, first, &mut passes) {
+            return None;
+        }
+        Some(store.close(passes))
     }
 
     /// Releases the pin of a pass and gives the pass back. Each pass has a slot of its own, which

@@ -16,6 +16,7 @@ mod closings;
 mod conversations;
 mod ends;
 mod escapes;
+mod help;
 pub mod laws;
 mod lines;
 mod peers;
@@ -24,7 +25,6 @@ mod screens;
 mod scripts;
 mod shells;
 mod terminals;
-mod usages;
 
 pub use asides::Aside;
 pub use breaks::Breaking;

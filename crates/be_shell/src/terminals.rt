@@ -5,10 +5,10 @@ ghost use Rattle.be_shell.specs.Terminal as spec;
 
 use crate::Line;
 use crate::asides::{Aside, aside_of, skip, split_word, typed_of};
+use crate::help::{hint, print_help, print_usage, wants_hint};
 use crate::peers::Peer;
 use crate::saves::save;
 use crate::scripts::{Script, next_line, open_script};
-use crate::usages::{hint, print_help, print_usage, wants_hint};
 use be_script_runner::RunFault;
 use std::alloc::Global;
 use std::io::Eprint;

@@ -16,7 +16,7 @@ use Rattle.be_volume.specs.Volume.{State}
 pub held_at : (xs : List ℕ) (n i : ℕ) → i < length xs → get_or xs i 0 ≡ n → is_among xs n ≡ true
 held_at xs n i lt is = list_any-from_Any (λ m. m == n) xs (i, n, lt, get_or_default xs i n 0 lt ∙ is, eq-eqb n n refl)
 
-lacks : (xs : List ℕ) (n i : ℕ) → ((k : ℕ) → k < i → get_or xs k 0 < n) → ((k : ℕ) → i ≤ k → k < length xs → n < get_or xs k 0) → is_among xs n ≡ false
+pub lacks : (xs : List ℕ) (n i : ℕ) → ((k : ℕ) → k < i → get_or xs k 0 < n) → ((k : ℕ) → i ≤ k → k < length xs → n < get_or xs k 0) → is_among xs n ≡ false
 lacks xs n i below above = list_any_none (λ m. m == n) xs (λ k d lt. ne_eqb (get_or xs k d) n (λ e.
     let same : get_or xs k 0 ≡ n = get_or_default xs k 0 d lt ∙ e in
     elim (cases_lt k i) [ inl before ↦ absurd (let l = below k before in omega (arith, l, same)) | inr past ↦ absurd (let l = above k past lt in omega (arith, l, same)) ]))
@@ -25,11 +25,11 @@ pub without_append : (xs ys others : List ℕ) → without (xs ++ ys) others ≡
 without_append xs ys others = filter-append (λ n. not (is_among others n)) xs ys
 
 -- an answer by which a live query is updated is a refresh
-pub refreshes : (volume : State) (old new : LiveQuery) (now came went : List ℕ) → scan volume old.query ≡ Ok now → new ≡ record { query = old.query; last = now } →
+pub refreshes : (volume : State) (old new : LiveQuery) (now came went : List ℕ) → scan volume old.query ≡ Ok now → new.query ≡ old.query → new.last ≡ now →
     came ≡ without now old.last → went ≡ without old.last now → Refreshes volume old new came went
-refreshes volume old new now came went answer is created removed =
-    let last : now ≡ new.last = sym (ap (λ (l : LiveQuery). l.last) is) in record {
-      query = ap (λ (l : LiveQuery). l.query) is;
+refreshes volume old new now came went answer query is created removed =
+    let last : now ≡ new.last = sym is in record {
+      query = query;
       answer = answer ∙ ap Ok last;
       created = created ∙ ap (λ l. without l old.last) last;
       removed = removed ∙ ap (without old.last) last;

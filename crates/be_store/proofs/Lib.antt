@@ -11,3 +11,6 @@ pub mod Calls
 pub mod Told
 pub mod Statuses
 pub mod Remade
+pub mod Among
+pub mod Framed
+pub mod Caught

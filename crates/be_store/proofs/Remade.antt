@@ -27,10 +27,10 @@ has_operations : (log : List Entry) → IsHistory log → All HasOperations log
 unfolding IsHistory
 has_operations log h = h.1
 
-volume_is : (a : Knowledge) (n : ℕ) → IsPinnedTo a n → volume_pinned a ≡ replay (take n (entries a.seen))
+pub volume_is : (a : Knowledge) (n : ℕ) → IsPinnedTo a n → volume_pinned a ≡ replay (take n (entries a.seen))
 volume_is a n pin = ap (λ o. option_map_or (λ m. replay (take m (entries a.seen))) o empty) pin
 
-front_sound : (a : Knowledge) (n : ℕ) → IsPass a → IsSound (replay (take n (entries a.seen)))
+pub front_sound : (a : Knowledge) (n : ℕ) → IsPass a → IsSound (replay (take n (entries a.seen)))
 front_sound a n pass =
     let few : a.limits.commits < 4294967296 = pass.within.short in
     let room : length a.seen ≤ a.limits.commits = pass.room in

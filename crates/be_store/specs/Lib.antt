@@ -3,6 +3,8 @@ pub mod History
 pub mod Writing
 pub mod Conditional
 pub mod Live
+pub mod Marks
+pub mod Named
 pub mod Alone
 pub mod Calls
 pub mod Told

@@ -27,11 +27,14 @@
 
 mod answers;
 mod asking;
+mod changed;
 mod columns;
 mod conditional;
 mod entries;
 pub mod laws;
 mod live;
+mod marks;
+mod named;
 mod pinned;
 mod states;
 mod store;

@@ -1,15 +1,23 @@
 //! Live queries: what changed in an answer since it was asked last.
 ghost use Rattle.std.specs.List.Sorted.{IsStrictlyIncreasing};
 ghost use Rattle.std.specs.Prelude.{◌≡◌, ◌≢◌, ◌⊎◌, ◌<◌, ◌≤◌, ◌-◌, ◌++◌, ℕ, [], IfOk, IfErr, OnOk};
-ghost use Rattle.std.specs.Prelude.{Err, drop, false, get_or, length, take, true};
+ghost use Rattle.std.specs.Prelude.{Err, None, drop, false, get_or, length, take, true};
 ghost use Rattle.be_value.specs.declared.refusals.Refusal.TheVariants.{OutOfMemory};
 ghost use Rattle.be_value.specs.Refusal.{Answers};
 ghost use Rattle.be_volume.specs.Query.{scan};
-ghost use Rattle.be_store.specs.Live.{Refreshes, without};
+ghost use Rattle.be_store.specs.History.{Learns};
+ghost use Rattle.be_store.specs.Live.{IsAnswerBut, IsLiveOf, Refreshes, without};
+ghost use Rattle.be_table.specs.Rule.{entries};
+ghost use Rattle.be_journal.specs.declared.entries.Entry.{Entry as AnyEntry};
+ghost use Rattle.be_store.specs.Named.{NamesAmong};
 ghost use Rattle.be_store.specs.Passes.{IsPassOf, IsPinnedTo, HasRead, volume_pinned};
 
 use crate::answers::Updates;
+use crate::changed::{ask_each, put_in, take_out};
+use crate::marks::Mark;
+use crate::named::MOST;
 use crate::{Pass, Store};
+use arrayvec::ArrayVec;
 use be_plan::PreparedQuery;
 use be_query::Query;
 use be_value::Refusal;
@@ -17,35 +25,47 @@ use std::alloc::Global;
 use std::marker::Model;
 
 /// A live query: it is asked again and again, and keeps its answer at the last refresh.
+///
+/// It also keeps where that refresh was made, so that the next one reads what was written since
+/// then. So refresh it by passes of one store.
 #[derive(Drop)]
 pub struct Live {
     alloc: Global,
     query: PreparedQuery,
     last: Vec<u64>,
+    mark: Option<Mark>,
 }
 
 impl Model for Live {
     ghost use Rattle.std.specs.List.Sorted.{IsStrictlyIncreasing};
+    ghost use Rattle.std.specs.Option.{option_map};
     ghost use Rattle.be_store.specs.Live.{LiveQuery, coded_live};
+    ghost use Rattle.be_store.specs.Marks.{IsMarked};
 
     ghost Value = { LiveQuery };
 
     ghost coded = { coded_live };
 
-    ghost view = { λ l. record { query = l.query; last = l.last.items } };
+    ghost view = { λ l. record {
+      query = l.query;
+      last = l.last.items;
+      table = option_map (λ m. m.witness.table) l.mark;
+    } };
 
-    ghost invariant = { λ l. IsStrictlyIncreasing l.last.items };
+    ghost invariant = { λ l. IsStrictlyIncreasing l.last.items
+        × IsMarked l.query l.last.items l.mark };
 }
 
 impl Live {
     /// A query that was never refreshed: its last answer is empty. No memory.
     pub fn new(alloc: Global, query: Query) -> Live
-        ensures { result ≡ record { query = query; last = [] } }
+        ensures { result ≡ record { query = query; last = []; table = None } }
     {
         Live {
             alloc,
             query: PreparedQuery::new(query),
             last: Vec::new(alloc),
+            mark: None,
         }
     }
 
@@ -78,41 +98,191 @@ impl Live {
     }
 
     /// Takes the query's nodes as of now, wherever they were found, and returns which nodes came
-    /// and which went since the last time.
+    /// and which went since the last time. The next refresh asks the whole query.
     ///
     /// OutOfMemory leaves the live query as it was. It goes over both lists once, and takes memory
     /// for what it returns.
     pub fn update(&mut self, answer: Vec<u64>) -> Result<Updates, Refusal>
         requires { IsStrictlyIncreasing answer.items }
         ensures ok { IfOk result (λ u. (self.new
-            ≡ record { query = self.old.query; last = answer.items })
+            ≡ record { query = self.old.query; last = answer.items; table = None })
             × (u.created.items ≡ without answer.items self.old.last)
             × (u.removed.items ≡ without self.old.last answer.items)) }
         ensures err { IfErr result (λ e. (self.new ≡ self.old) × (e ≡ OutOfMemory)) }
     {
         let updates = changes(self.alloc, self.last.as_slice(), answer.as_slice())?;
         self.last = answer;
+        self.mark = None;
         Ok(updates)
     }
 
-    /// Asks the query in the pinned version, and returns which nodes came and which went since the
-    /// last refresh.
+    /// Finds the nodes at which the answer in the pinned version can differ from the last one.
+    /// Returns false if the whole query is to be asked.
+    fn find_changes(
+        &mut self,
+        store: &Store,
+        pass: &mut Pass,
+        pin: u64,
+        nodes: &mut ArrayVec<u64, 64>,
+    ) -> bool
+        requires pass { IsPassOf store.now pass.old }
+        requires pinned { IsPinnedTo pass.old.knows pin }
+        requires own { IsLiveOf store.now self.old }
+        requires empty { nodes.old.items ≡ [] }
+        ensures pass { IsPassOf store.now pass.new }
+        ensures learns { Learns pass.old.knows pass.new.knows }
+        ensures volume { volume_pinned pass.new.knows ≡ volume_pinned pass.old.knows }
+        ensures same { self.new ≡ self.old }
+        ensures rising { IsStrictlyIncreasing nodes.new.items }
+        ensures others { result ≡ true → IsAnswerBut nodes.new.items
+            (volume_pinned pass.old.knows) self.old.query self.old.last }
+    {
+        pass.is_pass();
+        let Some(mut mark) = self.mark.take() else {
+            return false;
+        };
+        store.join(pass, &mut mark.witness);
+        pass.is_pass();
+        let most = most_asked(self.last.len());
+        let found = add_changes(store, pass, mark.number, pin, most, nodes);
+        self.mark = Some(mark);
+        found && nodes.len() <= most
+    }
+
+    /// Asks the query of these nodes alone, and changes the last answer by what became of them.
+    fn ask_changed(
+        &mut self,
+        store: &Store,
+        pass: &mut Pass,
+        pin: u64,
+        nodes: &[u64],
+    ) -> Result<Updates, Refusal>
+        requires pass { IsPassOf store.now pass.old }
+        requires pinned { IsPinnedTo pass.old.knows pin }
+        requires rising { IsStrictlyIncreasing nodes.now }
+        requires others { IsAnswerBut nodes.now (volume_pinned pass.old.knows) self.old.query
+            self.old.last }
+        ensures pass { IsPassOf store.now pass.new × HasRead pass.old.knows pass.new.knows }
+        ensures ok { IfOk result (λ u. Refreshes (volume_pinned pass.old.knows) self.old self.new
+            u.created.items u.removed.items) }
+        ensures own { IfOk result (λ u. IsLiveOf store.now self.new) }
+        ensures err { IfErr result (λ e. (self.new ≡ self.old) × (e ≡ OutOfMemory)) }
+    {
+        pass.is_pass();
+        let mut updates = Updates {
+            created: Vec::new(self.alloc),
+            removed: Vec::new(self.alloc),
+        };
+        let (look, page) = store.reader(pass);
+        let list = self.last.as_slice();
+        let (look, answer) = ask_each(look, page, self.query.query(), list, nodes, &mut updates);
+        *pass = look.into_seat();
+        answer?;
+        self.last.reserve(updates.created.len())?;
+        let witness = store.witness(pass);
+        take_out(&mut self.last, updates.removed.as_slice());
+        put_in(&mut self.last, updates.created.as_slice());
+        self.mark = Some(Mark {
+            witness,
+            number: pin,
+        });
+        Ok(updates)
+    }
+
+    /// Asks the whole query in the pinned version, and returns which nodes came and which went
+    /// since the last refresh, whatever store that was in.
     ///
     /// NotCovered and OutOfMemory leave it as it was. It costs what `Store::query_prepared` and
     /// `update` cost.
-    pub fn refresh(&mut self, store: &Store, pass: &mut Pass) -> Result<Updates, Refusal>
+    pub fn refresh_whole(&mut self, store: &Store, pass: &mut Pass) -> Result<Updates, Refusal>
         requires pass { IsPassOf store.now pass.old }
         requires pinned { (n : ℕ) × IsPinnedTo pass.old.knows n }
         ensures pass { IsPassOf store.now pass.new × HasRead pass.old.knows pass.new.knows }
         ensures ok { IfOk result (λ u. Refreshes (volume_pinned pass.old.knows) self.old self.new
             u.created.items u.removed.items) }
+        ensures own { IfOk result (λ u. IsLiveOf store.now self.new) }
         ensures err { IfErr result (λ e. (self.new ≡ self.old)
             × ((e ≡ OutOfMemory) ⊎ (scan (volume_pinned pass.old.knows) self.old.query ≡ Err e))) }
     {
+        pass.is_pass();
         let mut nodes = Vec::with_capacity(self.alloc, self.last.len())?;
-        store.query_prepared(self.alloc, pass, &mut self.query, &mut nodes)?;
-        self.update(nodes)
+        let number = store.query_prepared(self.alloc, pass, &mut self.query, &mut nodes)?;
+        let updates = changes(self.alloc, self.last.as_slice(), nodes.as_slice())?;
+        let witness = store.witness(pass);
+        self.last = nodes;
+        self.mark = Some(Mark { witness, number });
+        Ok(updates)
     }
+
+    /// Asks the query in the pinned version, and returns which nodes came and which went since the
+    /// last refresh, which was made in this store. The pass has then seen what the last refresh had
+    /// seen of the journal, too; its pin stays.
+    ///
+    /// NotCovered and OutOfMemory leave it as it was. It reads the journal's entries since the last
+    /// refresh, and asks the query of the nodes that they name. For that it tries the lock once; if
+    /// it gets it, other passes' writes are Busy meanwhile. It asks the whole query, which costs
+    /// what `refresh_whole` costs, if another pass holds the lock, the version is older than that
+    /// of the last refresh, an index was made or removed since then, or many nodes were written:
+    /// more than 4, and one for each 32 of the last answer, or more than 64. Memory for what it
+    /// returns.
+    pub fn refresh(&mut self, store: &Store, pass: &mut Pass) -> Result<Updates, Refusal>
+        requires pass { IsPassOf store.now pass.old }
+        requires pinned { (n : ℕ) × IsPinnedTo pass.old.knows n }
+        requires own { IsLiveOf store.now self.old }
+        ensures pass { IsPassOf store.now pass.new }
+        ensures learns { Learns pass.old.knows pass.new.knows }
+        ensures volume { volume_pinned pass.new.knows ≡ volume_pinned pass.old.knows }
+        ensures own { IsLiveOf store.now self.new }
+        ensures ok { IfOk result (λ u. Refreshes (volume_pinned pass.old.knows) self.old self.new
+            u.created.items u.removed.items) }
+        ensures err { IfErr result (λ e. (self.new ≡ self.old)
+            × ((e ≡ OutOfMemory) ⊎ (scan (volume_pinned pass.old.knows) self.old.query ≡ Err e))) }
+    {
+        let Some(pin) = pass.pinned() else {
+            unreachable!()
+        };
+        let mut nodes = ArrayVec::new();
+        if !self.find_changes(store, pass, pin, &mut nodes) {
+            return self.refresh_whole(store, pass);
+        }
+        self.ask_changed(store, pass, pin, nodes.as_slice())
+    }
+}
+
+/// How many nodes a refresh asks one by one if the last answer has so many. A node costs about as
+/// much as 32 in a range of an index.
+fn most_asked(nodes: usize) -> usize {
+    MOST.min(4 + nodes / 32)
+}
+
+/// Adds the nodes that the entries from one number of a version to a later one name. Returns false
+/// if there are more than `most` entries, or if they make or remove an index.
+#[tactic(auto, using(crate::proofs::Caught::learns_nothing))]
+fn add_changes(
+    store: &Store,
+    pass: &mut Pass,
+    from: u64,
+    end: u64,
+    most: usize,
+    nodes: &mut ArrayVec<u64, 64>,
+) -> bool
+    requires pass { IsPassOf store.now pass.old }
+    requires end { end ≤ length pass.old.knows.seen }
+    requires rising { IsStrictlyIncreasing nodes.old.items }
+    ensures pass { IsPassOf store.now pass.new }
+    ensures learns { Learns pass.old.knows pass.new.knows }
+    ensures rising { IsStrictlyIncreasing nodes.new.items }
+    ensures order { result ≡ true → from ≤ end }
+    ensures named { result ≡ true → (i : ℕ) (d : AnyEntry) → from ≤ i → i < end →
+        NamesAmong nodes.new.items (get_or (entries pass.old.knows.seen) i d) }
+{
+    if end < from || end - from > most as u64 {
+        return false;
+    }
+    if from == end {
+        return true;
+    }
+    store.add_named_between(pass, from, end, nodes)
 }
 
 /// The first index from `from` on at which a rising list has this number or a greater one, or the

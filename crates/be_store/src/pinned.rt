@@ -18,8 +18,8 @@ ghost use Rattle.be_paged.specs.Nodes.{nodes_from};
 ghost use Rattle.be_table.specs.Seats.{pinned_number};
 ghost use Rattle.be_table.specs.Steps.{unpins, with_history};
 ghost use Rattle.be_table.specs.Works.{IsSeatOf};
-ghost use Rattle.be_store.specs.History.{Pins};
-ghost use Rattle.be_store.specs.Live.{Refreshes};
+ghost use Rattle.be_store.specs.History.{Learns, Pins};
+ghost use Rattle.be_store.specs.Live.{IsLiveOf, Refreshes};
 ghost use Rattle.be_store.specs.Passes.{IsAtRest, IsAtRest-prop, IsPassOf, IsPinnedTo};
 ghost use Rattle.be_store.specs.Passes.{HasRead, volume_pinned};
 
@@ -256,10 +256,14 @@ impl Pinned<'_> {
     /// As `Live::refresh`.
     pub fn refresh(&mut self, live: &mut Live) -> Result<Updates, Refusal>
         requires pinned { (n : ℕ) × IsPinnedTo self.old.pass.now.knows n }
+        requires own { IsLiveOf self.old.store.now live.old }
         ensures same_reference { self.new.pass.ghost_name ≡ self.old.pass.ghost_name }
         ensures store { (self.new.store.now ≡ self.old.store.now)
             × (self.new.number ≡ self.old.number) }
-        ensures read { HasRead self.old.pass.now.knows self.new.pass.now.knows }
+        ensures learns { Learns self.old.pass.now.knows self.new.pass.now.knows }
+        ensures volume { volume_pinned self.new.pass.now.knows
+            ≡ volume_pinned self.old.pass.now.knows }
+        ensures own { IsLiveOf self.old.store.now live.new }
         ensures ok { IfOk result (λ u. Refreshes (volume_pinned self.old.pass.now.knows) live.old
             live.new u.created.items u.removed.items) }
         ensures err { IfErr result (λ e. (live.new ≡ live.old)

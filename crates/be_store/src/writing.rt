@@ -14,12 +14,13 @@ ghost use Rattle.be_store.specs.Writing.{Begins, HasRoomAtFull, ScansEarly, Writ
 
 use crate::ApplyIfError;
 use arrayvec::ArrayVec;
-use be_paged::apply_into;
+use be_paged::{Version, apply_into};
 use be_table::Writing;
 use be_value::Refusal;
 use be_volume::{Done, Op};
 
-/// Applies the operations to a version, in an open write.
+/// Applies the operations to a version, in an open write, whose place for contents it takes and
+/// puts back.
 fn apply_to(
     writing: &mut Writing<'_>,
     version_page: u64,
@@ -39,7 +40,63 @@ fn apply_to(
         (λ w least. IsSpent w.knows least)
         volume ops.now e writing.old writing.new) }
 {
-    apply_into(writing, version_page, ops, dones)
+    let mut space = writing.take_space();
+    let answer = apply_in(writing, &mut space, version_page, ops, dones);
+    writing.put_space(space);
+    answer
+}
+
+/// Applies the operations with a place for the version's contents, if there is one.
+fn apply_in(
+    writing: &mut Writing<'_>,
+    space: &mut Option<Box<Version>>,
+    version_page: u64,
+    ops: &[Op],
+    dones: &mut ArrayVec<Done, 64>,
+) -> Result<u64, Refusal>
+    ghost volume: { State }
+    requires version { IsVersion (standing_among writing.old.knows.places)
+        (word_of_page writing.old.knows.words) version_page volume }
+    requires count { (1 ≤ length ops.now) × (length ops.now ≤ 64) }
+    requires fits { volume.next + 64 < 2 ^ 64 }
+    requires open { writing.old.knows.published ≡ false }
+    requires empty { dones.old.items ≡ [] }
+    ensures ok { IfOk result (λ page. Applies open_of standing_in_work words_of version_page page
+        volume ops.now dones.new.items writing.old writing.new) }
+    ensures err { IfErr result (λ e. IsRefusedList open_of standing_in_work words_of
+        (λ w least. IsSpent w.knows least)
+        volume ops.now e writing.old writing.new) }
+{
+    match space {
+        Some(version) => apply_into(writing, version, version_page, ops, dones),
+        None => apply_apart(writing, version_page, ops, dones),
+    }
+}
+
+/// Applies the operations with a place of its own. It is a function apart, since a function clears
+/// all its places as it begins.
+#[inline(never)]
+fn apply_apart(
+    writing: &mut Writing<'_>,
+    version_page: u64,
+    ops: &[Op],
+    dones: &mut ArrayVec<Done, 64>,
+) -> Result<u64, Refusal>
+    ghost volume: { State }
+    requires version { IsVersion (standing_among writing.old.knows.places)
+        (word_of_page writing.old.knows.words) version_page volume }
+    requires count { (1 ≤ length ops.now) × (length ops.now ≤ 64) }
+    requires fits { volume.next + 64 < 2 ^ 64 }
+    requires open { writing.old.knows.published ≡ false }
+    requires empty { dones.old.items ≡ [] }
+    ensures ok { IfOk result (λ page. Applies open_of standing_in_work words_of version_page page
+        volume ops.now dones.new.items writing.old writing.new) }
+    ensures err { IfErr result (λ e. IsRefusedList open_of standing_in_work words_of
+        (λ w least. IsSpent w.knows least)
+        volume ops.now e writing.old writing.new) }
+{
+    let mut version = Version::new();
+    apply_into(writing, &mut version, version_page, ops, dones)
 }
 
 /// Scans if a scan is due, and only then, so that the write takes pages that were given up lately.

@@ -9,15 +9,17 @@ mod carrying;
 mod conditional;
 mod handing;
 mod races;
+mod refreshing;
 mod room;
 mod sizes;
 mod states;
 mod writers;
 
+use crate::tests::refreshing::follows_random_writes;
 use crate::tests::room::{Room, for_one, for_two};
 use crate::tests::writers::change_by_four;
 use be_store::{Kind, Limits, Name, Op, Refusal, Store, Value};
-use be_test_tools::{OUTSIDE_LIMITS, check_lines, has_hundred_by_each, numbered};
+use be_test_tools::{OUTSIDE_LIMITS, again, check_lines, has_hundred_by_each, numbered};
 use std::alloc::{AllocError, Global};
 use std::test::Fail;
 use std::thread::Threads;
@@ -29,10 +31,7 @@ fn count_passes(alloc: Global, pages: u64, passes: u64, commits: u64) -> Result<
         passes,
         commits,
     };
-    let (_, dealt) = match Store::open(alloc, limits) {
-        Err(Refusal::OutOfMemory) => Store::open(alloc, limits)?,
-        answer => answer?,
-    };
+    let (_, dealt) = again!(Store::open(alloc, limits))?;
     Ok(dealt.len() as u64)
 }
 
@@ -110,6 +109,36 @@ fn live_query(rt: HostRuntime) -> Result<(), Fail> {
 0 unpin / 0 pin / 0 refresh => ok / pin 6 / created 2 / removed 1
 0 unpin / 0 pin / 0 refresh => ok / pin 6 / created / removed";
     check_lines(rt.alloc(), &mut for_one(rt.alloc(), 64, 100)?, lines)
+}
+
+/// A live query is refreshed by another pass, at an older pin, and once an index was removed and
+/// made again.
+#[test]
+fn live_query_of_two_passes(rt: HostRuntime) -> Result<(), Fail> {
+    let lines = "live k>4 / 0 mkindex k LONG / 0 new;set 1 k LONG 5 => ok / commit 1 / ok / \
+         commit 2 / node 1 / ok
+0 pin / 0 refresh / 1 new;set 2 k LONG 9 => pin 2 / created 1 / removed / commit 3 / node 2 / ok
+1 pin / 1 refresh / 0 refresh / 1 refresh => pin 3 / created 2 / removed / created / removed 2 / \
+         created 2 / removed
+1 drop 1;set 2 k LONG 1;new;set 3 k LONG 7 / 1 unpin / 1 pin => commit 4 / ok / ok / node 3 / ok / \
+         ok / pin 4
+1 refresh / 1 rmindex k / 1 unpin / 1 pin => created 3 / removed 1 2 / commit 5 / ok / ok / pin 5
+1 refresh / 1 mkindex k LONG / 1 unpin / 1 pin => refused 17 NotCovered / commit 6 / ok / \
+         ok / pin 6
+1 refresh / 1 set 2 k LONG 8 / 1 unpin / 1 pin / 1 refresh => created / removed 3 / commit 7 / \
+         ok / ok / pin 7 / created 2 / removed";
+    check_lines(rt.alloc(), &mut for_two(rt.alloc(), 64, 100)?, lines)
+}
+
+/// What refreshes return keeps a list equal to what the query finds, beside random writes.
+#[test]
+fn live_query_beside_writes(rt: HostRuntime) -> Result<(), Fail> {
+    let follows = match follows_random_writes(rt.alloc()) {
+        Err(Refusal::OutOfMemory) => follows_random_writes(rt.alloc()),
+        answer => answer,
+    };
+    assert_eq!(rt; follows, Ok(true));
+    Ok(())
 }
 
 /// A prepared query follows the index of its name: to another place, to another kind, and away.
@@ -395,19 +424,16 @@ fn pages_reused(rt: HostRuntime) -> Result<(), Fail> {
 }
 
 /// What is read of k if it is this number.
-fn number_lines(alloc: Global, number: i32) -> Result<String, AllocError> {
+fn number_lines(alloc: Global, number: i32) -> Result<String, Refusal> {
     let pin = number.saturating_add(3);
     let nodes = if number == 0 { " 1" } else { "" };
-    format!(in alloc;
+    Ok(format!(in alloc;
         "0 pin / 0 query k==0 / 0 get 1 k => pin {pin} / pin {pin} / nodes{nodes} / LONG {number}"
-    )
+    )?)
 }
 
 fn check_number(alloc: Global, room: &mut Room, number: i32) -> Result<(), Fail> {
-    let lines = match number_lines(alloc, number) {
-        Err(_) => number_lines(alloc, number)?,
-        Ok(lines) => lines,
-    };
+    let lines = again!(number_lines(alloc, number))?;
     check_lines(alloc, room, lines.as_str())
 }
 
@@ -492,10 +518,7 @@ fn entries_of_the_journal(rt: HostRuntime) -> Result<(), Fail> {
 /// increment.
 #[test]
 fn four_writers(rt: HostRuntime) -> Result<(), Fail> {
-    let answer = match change_by_four(&rt) {
-        Err(Refusal::OutOfMemory) => change_by_four(&rt),
-        answer => answer,
-    };
+    let answer = again!(change_by_four(&rt));
     assert_eq!(rt; answer, Ok((4, 200)));
     Ok(())
 }

@@ -27,3 +27,4 @@ pub mod Readers
 pub mod Fills
 pub mod Unused
 pub mod Worked
+pub mod Shares

@@ -9,9 +9,11 @@ ghost use Rattle.be_pages.specs.Place.{published_place};
 ghost use Rattle.be_journal.specs.Journal.{Grows, extended, with_room};
 
 use be_journal::Journal;
+use be_paged::Version;
 use be_pages::PagePool;
 use be_value::Refusal;
 use be_volume::{Done, Op};
+use std::alloc::{AllocError, Global};
 
 /// The journal, and where the pages of the current version and of older ones are.
 #[derive(Drop)]
@@ -23,6 +25,16 @@ pub struct Ledger {
     pub pool: PagePool,
     /// How many pages the last whole scan left retired.
     pub left: usize,
+    /// A place for a version's contents, which a write takes out and puts back.
+    pub space: Option<Box<Version>>,
+}
+
+/// A place for a version's contents.
+pub(crate) fn first_space(alloc: Global) -> Result<Box<Version>, AllocError> {
+    match Box::new(alloc, Version::new()) {
+        Ok(space) => Ok(space),
+        Err(_) => Err(AllocError),
+    }
 }
 
 impl Ledger {
@@ -86,6 +98,7 @@ impl Ledger {
             page: _,
             pool: _,
             left: _,
+            space: _,
         } = self;
         journal
     }

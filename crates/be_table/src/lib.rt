@@ -34,6 +34,7 @@
 //! history, so the contract of a call names the events that its steps are.
 #![tactic(auto)]
 
+mod counting;
 mod deal;
 pub mod laws;
 mod ledger;
@@ -49,6 +50,7 @@ mod table;
 mod witness;
 mod writing;
 
+pub use counting::full_counts;
 pub use limits::Limits;
 pub use pinned::PinnedLook;
 pub use seat::Seat;

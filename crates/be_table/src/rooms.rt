@@ -49,6 +49,10 @@ impl<'a> Room for Writing<'a> {
         Writing::fill(self, page, i, word)
     }
 
+    fn refill(&mut self, page: u64, i: usize, word: u64) {
+        Writing::refill(self, page, i, word)
+    }
+
     fn give_up(&mut self, page: u64) {
         Writing::give_up(self, page)
     }

@@ -9,7 +9,7 @@ ghost use Rattle.be_core.specs.Machine.{has};
 ghost use Rattle.be_table.specs.Rule.{one_step_on, reach_at, word_place, page_at};
 
 use crate::deal::{deal, gather, lay_first};
-use crate::ledger::Ledger;
+use crate::ledger::{Ledger, first_space};
 use crate::limits::Limits;
 use crate::marks::PinnedVersion;
 use crate::pass::View;
@@ -111,11 +111,15 @@ impl VersionTable {
         let Ok(pool) = PagePool::new(alloc, limits.pages as usize, 1) else {
             return Err(Refusal::OutOfMemory);
         };
+        let Ok(space) = first_space(alloc) else {
+            return Err(Refusal::OutOfMemory);
+        };
         slots.push_reserved(Some(Ledger {
             journal: Journal::new(alloc, limits.commits),
             page: 0,
             pool,
             left: 0,
+            space: Some(space),
         }));
         let Ok(mut words) = vec![in alloc; 0; PAGES + PAGE_WORDS * limits.pages as usize] else {
             return Err(Refusal::OutOfMemory);

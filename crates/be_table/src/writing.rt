@@ -33,6 +33,7 @@ use crate::seat::{Base, Seat};
 use crate::status::{Announcement, Found, Status, older};
 use crate::table::{ANNOUNCE, CURRENT, LOCK, PAGES, VersionTable};
 use be_journal::{Entry, replay_push};
+use be_paged::Version;
 use be_pages::{PAGE_WORDS, Place};
 use be_value::Refusal;
 use be_volume::{Done, Op};
@@ -122,6 +123,20 @@ impl<'a> Writing<'a> {
         (self.ledger.journal.len(), self.ledger.page)
     }
 
+    /// Takes out the place for a version's contents, which the next write finds if it is put back.
+    pub fn take_space(&mut self) -> Option<Box<Version>>
+        ensures { self.new ≡ self.old }
+    {
+        self.ledger.space.take()
+    }
+
+    /// Puts back what `take_space` took out.
+    pub fn put_space(&mut self, space: Option<Box<Version>>)
+        ensures { self.new ≡ self.old }
+    {
+        self.ledger.space = space;
+    }
+
     /// The journal's text. OutOfMemory. No step.
     pub fn journal_text(&self) -> Result<String, Refusal>
         ensures { Answers string_bytes result (Ok (lines_from 1 (entries self.now.knows.seen))) }
@@ -175,6 +190,24 @@ impl<'a> Writing<'a> {
     {
         fill_word(self.table, &mut self.base, page, i, word);
         self.ledger.pool.fill(page);
+    }
+
+    /// Writes word i of a page that has a word filled in this write, as `fill` does. Where the page
+    /// is needn't be looked up.
+    pub fn refill(&mut self, page: u64, i: usize, word: u64)
+        requires open { self.old.knows.published ≡ false }
+        requires filled { (page < length self.old.knows.places)
+            × (place_of self.old.knows.places page ≡ Place.Filled) }
+        requires place { i < 512 }
+        ensures write { self.new ≡ record self.old {
+          knows = fills_word (with_history self.old.knows self.new.knows.history) page i
+              word;
+        } }
+        ensures moves { Makes self.old.knows.number self.old.knows.history
+            (fill_moves self.old.knows page i word) self.new.knows.history }
+        ensures inside { word_place page i < length self.old.knows.words }
+    {
+        fill_word(self.table, &mut self.base, page, i, word);
     }
 
     /// Gives a page up. One that was taken in this write is free at once; one of the current

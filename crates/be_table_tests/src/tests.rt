@@ -13,10 +13,10 @@ mod writes;
 use crate::tests::races::race;
 use crate::tests::room::{Room, count_seats, opened};
 use be_table::Limits;
-use be_test_tools::{OUTSIDE_LIMITS, check_lines, has_hundred_by_each};
+use be_test_tools::{OUTSIDE_LIMITS, again, check_lines, has_hundred_by_each};
 use be_value::Refusal;
 use be_volume::Op;
-use std::alloc::{AllocError, Global};
+use std::alloc::Global;
 use std::test::Fail;
 
 /// Limits outside of their ranges are refused with BadLimits; the least ones open a table of one
@@ -107,16 +107,13 @@ fn count_until_due(alloc: Global, room: &mut Room) -> Result<(u64, u64), Fail> {
     Ok((before, enter_until_due(room)?))
 }
 
-fn scanned(alloc: Global, written: u64) -> Result<String, AllocError> {
-    format!(in alloc; "1 read / 1 unpin / 0 scan / 0 due => 1 / ok / {written} / 0")
+fn scanned(alloc: Global, written: u64) -> Result<String, Refusal> {
+    Ok(format!(in alloc; "1 read / 1 unpin / 0 scan / 0 due => 1 / ok / {written} / 0")?)
 }
 
 /// What is read and found under the lock after so many writes.
 fn check_scanned(alloc: Global, room: &mut Room, written: u64) -> Result<(), Fail> {
-    let lines = match scanned(alloc, written) {
-        Err(_) => scanned(alloc, written)?,
-        Ok(lines) => lines,
-    };
+    let lines = again!(scanned(alloc, written))?;
     check_lines(alloc, room, lines.as_str())
 }
 

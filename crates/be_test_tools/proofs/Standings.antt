@@ -1,5 +1,5 @@
 -- Where pages stand.
-use Rattle.std.proofs.Common.{IsTrue, refl}
+use Rattle.std.proofs.Common.{◌≡◌, IsTrue, refl, ap}
 use mathlib.Core.Bool.{false≢true}
 use Rattle.be_pages.specs.declared.room.Standing.{Standing}
 use Rattle.be_pages.specs.declared.room.Standing.TheVariants.{Free, Old, GivenUp, Taken, Filled}
@@ -11,3 +11,6 @@ taken_readable Old taken = absurd (false≢true taken)
 taken_readable GivenUp taken = absurd (false≢true taken)
 taken_readable Taken taken = refl
 taken_readable Filled taken = refl
+
+pub filled_readable : (s : Standing) → s ≡ Filled → IsTrue (is_readable s)
+filled_readable s filled = ap is_readable filled

@@ -68,6 +68,14 @@ impl<R: Room> Room for Counted<R> {
         self.pages.fill(page, i, word);
     }
 
+    #[tactic(auto, using(crate::proofs::Standings::filled_readable))]
+    fn refill(&mut self, page: u64, i: usize, word: u64) {
+        if self.pages.word(page, i) != word {
+            self.stores = self.stores.wrapping_add(1);
+        }
+        self.pages.refill(page, i, word);
+    }
+
     fn give_up(&mut self, page: u64) {
         self.pages.give_up(page)
     }

@@ -1,11 +1,12 @@
 //! What the tests of several crates share: worked examples as texts, the loop over their lines, the
-//! texts of replies, pages that count accesses, a writer of bytes that fails, and a list with room
-//! for bytes.
+//! texts of replies, pages that count accesses, a writer of bytes that fails, a list with room for
+//! bytes, and the second try of a call.
 //!
 //! It is here once, and is proved once. A test checks results, and needs no contract, so most of
 //! this has none.
 #![tactic(auto)]
 
+mod again;
 mod counted;
 mod examples;
 mod lines;
@@ -14,10 +15,11 @@ mod replies;
 mod stores;
 mod writers;
 
+pub use be_value::Refusal;
 pub use counted::Counted;
 pub use examples::{COVERAGE, EQUAL_VALUES, EXAMPLES, LISTS, TEXTS, TWO_INDICES};
 pub use lines::{Answers, beyond, check_lines};
 pub use long_lists::longest_list;
 pub use replies::{answer_lines, done_lines, list_of, reply_lines};
 pub use stores::{OUTSIDE_LIMITS, both_of, has_hundred_by_each, is_legal, numbered, pair_of};
-pub use writers::{Narrow, list_with_room};
+pub use writers::{Narrow, list_with_room, may_write};

@@ -24,19 +24,16 @@ impl Narrow<'_> {
         }
     }
 
-    /// Whether it has no room left.
-    pub fn is_full(&self) -> bool {
-        self.room == 0
-    }
-
-    /// Whether it got all that is expected.
-    pub fn has_all(&self) -> bool {
-        self.is_as_expected && self.expected.is_empty()
-    }
-
-    /// Whether it got a prefix of what is expected, and not all.
-    pub fn is_cut_short(&self) -> bool {
-        self.is_as_expected && !self.expected.is_empty()
+    /// Whether a writing may have ended so: well with all that is expected, or by a failed write
+    /// with a prefix of it and no room left.
+    pub fn may_end(&self, well: bool, by_write: bool) -> bool {
+        let has_all = self.expected.is_empty();
+        let is_so = if has_all {
+            well
+        } else {
+            by_write && self.room == 0
+        };
+        self.is_as_expected && is_so
     }
 }
 
@@ -64,6 +61,14 @@ impl Write for Narrow<'_> {
     fn flush(&mut self) -> io::Result<()> {
         Ok(())
     }
+}
+
+/// Whether a writing may have written this: one of the two texts, or a front of one if it ran out
+/// of memory.
+pub fn may_write(written: &str, well: bool, by_memory: bool, texts: [&str; 2]) -> bool {
+    let [one, other] = texts;
+    (well && (written == one || written == other))
+        || (by_memory && (one.starts_with(written) || other.starts_with(written)))
 }
 
 /// An empty list with room for 256 bytes, into which a test writes without a request for memory.

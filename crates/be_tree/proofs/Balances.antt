@@ -325,7 +325,7 @@ module _ {S K : Type 0} (kept_of : S → K) (standing_of : S → ℕ → Standin
       swaps_same kept_of standing_of words_of (pages_below level (words_of start) (items_of (words_of start was))) (pages_below level (words_of mid) (pairs_of (words_of mid) given slots)) start mid h.node.swaps was hand_tree_at.page_once
       (readable_kept (standing_of start was) hand_tree_at.page_in_use)
 
-  pub hand_apart : IsApart level (standing_of mid) (words_of mid) given slots was
+  pub hand_apart : IsApart standing_of words_of mid level given slots was
   hand_apart =
       let before = pages_below level (words_of start) (items_of (words_of start was)) in
       let after = pages_below level (words_of mid) (pairs_of (words_of mid) given slots) in

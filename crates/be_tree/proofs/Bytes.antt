@@ -3,4 +3,5 @@ pub mod Words
 pub mod Zeros
 pub mod Branches
 pub mod Straddling
+pub mod Joining
 pub mod Payloads

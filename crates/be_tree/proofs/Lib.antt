@@ -19,3 +19,4 @@ pub mod Putting
 pub mod Removing
 pub mod Reading
 pub mod Searching
+pub mod Sizes

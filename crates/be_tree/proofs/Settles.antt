@@ -17,7 +17,7 @@ use Rattle.be_tree.specs.Settling.{IsChildInHand, IsSettled, beside}
 use Rattle.be_tree.specs.Slot.{pairs_of}
 use Rattle.be_tree.specs.Splicing.{spliced}
 use Rattle.be_tree.specs.Tree.{AreNeighbours, Becomes, IsBelow, IsTreeAt, child, pages_at, pages_below, pairs_at, pairs_below}
-use Rattle.be_tree.specs.Writing.{AreApart, CanBeWritten, IsApart}
+use Rattle.be_tree.specs.Writing.{AreApart, IsWritable, IsApart}
 use Rattle.be_tree.proofs.Frame.{readable_kept, swaps_same, times-cons}
 use Rattle.be_tree.proofs.Nodes.Children.{first_changed, names_page, second_changed, second_rising, two_in_three, two_neighbours, whole_below}
 use Rattle.be_tree.proofs.Nodes.Joins.{left_changed, left_in_hand, left_length, right_changed, right_in_hand, right_length}
@@ -83,7 +83,7 @@ module _ {S K : Type 0} (kept_of : S → K) (standing_of : S → ℕ → Standin
       subst (λ (w : ℕ → ℕ). length (item_at w (item_place i)).payload ≡ 8) (sym above_same)
       (names_page (suc level) level 2 step.page (standing_of start) (words_of start) refl h.tree i (subst (λ (w : ℕ → ℕ). i < w 1) above_same lt))
 
-  pub alone_apart : IsApart level (standing_of mid) (words_of mid) given slots was
+  pub alone_apart : IsApart standing_of words_of mid level given slots was
   alone_apart =
       let before = pages_below level (words_of start) (items_of (words_of start was)) in
       let after = pages_below level (words_of mid) (pairs_of (words_of mid) given slots) in
@@ -173,8 +173,8 @@ module _ {S K : Type 0} (kept_of : S → K) (standing_of : S → ℕ → Standin
 
 -- two neighbours with the items of both in hand
 pub record TwoInHand {S K : Type 0} (kept_of : S → K) (standing_of : S → ℕ → Standing) (words_of : S → ℕ → ℕ → ℕ) (page level i l r : ℕ) (given : Pair) (all : List Pair) (both : List Slot) (start read : S) : Type 0 where
-  pub can : CanBeWritten level (standing_of read) (words_of read) given both
-  pub are_apart : AreApart level (standing_of read) (words_of read) given both l r
+  pub can : IsWritable standing_of words_of read level given both
+  pub are_apart : AreApart standing_of words_of read level given both l r
   pub settled : (us : List Pair) (new : S)
       → Becomes kept_of standing_of words_of (l ∷ r ∷ pages_below level (words_of read) (pairs_of (words_of read) given both)) (pairs_below level (words_of read) (pairs_of (words_of read) given both)) (suc level) us read new
       → Becomes kept_of standing_of words_of (pages_below (suc level) (words_of start) (items_of (words_of start page))) all (suc level) (spliced (record { at = i; gone = 2 }) (items_of (words_of start page)) us) start new

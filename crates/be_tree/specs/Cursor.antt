@@ -1,6 +1,6 @@
 -- The pairs after a cursor.
-use Rattle.std.specs.Prelude.{ℕ, ◌+◌, ◌<◌, ◌≤◌, List, [], ◌∷◌, ◌++◌, length, drop, slice_index_or}
-use Rattle.std.specs.Prelude.{All}
+use Rattle.std.specs.Prelude.{◌≡◌, ℕ, ◌+◌, ◌<◌, ◌≤◌, List, [], ◌∷◌, ◌++◌, length, drop}
+use Rattle.std.specs.Prelude.{All, slice_index_or}
 use Rattle.be_pages.specs.declared.room.Standing.{Standing}
 use Rattle.be_tree.specs.Pair.{Pair}
 use Rattle.be_tree.specs.Page.{items_of}
@@ -21,6 +21,11 @@ pairs_along words (place ∷ path) = pairs_along words path ++ pairs_past words 
 -- the pairs after a cursor, which it has still to return
 abbrev pub remaining : (words : ℕ → ℕ → ℕ) → Cursor → List Pair
 remaining words cursor = pairs_along words cursor.path.items
+
+-- the pairs after a cursor are those past a place, then those after another cursor
+abbrev pub IsSplit : (words : ℕ → ℕ → ℕ) → Cursor → Place → Cursor → Type 0
+IsSplit words before place after = remaining words before
+    ≡ pairs_past words place ++ remaining words after
 
 -- a place in a page of a well-formed tree
 pub record IsPlace (standing : ℕ → Standing) (words : ℕ → ℕ → ℕ) (place : Place) : Type 0 where

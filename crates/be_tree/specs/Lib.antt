@@ -12,3 +12,4 @@ pub mod Splicing
 pub mod Path
 pub mod Settling
 pub mod Places
+pub mod Counting

@@ -1,6 +1,6 @@
 -- The way down to a key, and what becomes of a tree below it and up to its root.
 use Rattle.std.specs.Prelude.{◌≡◌, ℕ, suc, ◌-◌, ◌<◌, ◌≤◌, List, [], ◌∷◌, ◌++◌, length, take}
-use Rattle.std.specs.Prelude.{drop, All, true, IfOk, IfErr}
+use Rattle.std.specs.Prelude.{drop, All, true, IfOk, IfErr, Result}
 use Rattle.std.specs.declared.cmp.Ordering.TheVariants.{Equal}
 use Rattle.be_pages.specs.declared.room.Standing.{Standing}
 use Rattle.be_pages.specs.Pages.{Swaps}
@@ -10,12 +10,12 @@ use Rattle.be_tree.specs.declared.rising.Changed.{Changed}
 use Rattle.be_tree.specs.declared.rising.Edit.{Edit}
 use Rattle.be_tree.specs.declared.slot.Slot.{Slot}
 use Rattle.be_tree.specs.Pair.{Pair}
-use Rattle.be_tree.specs.Key.{IsBranchFor, IsGap, IsRising, StartsAt, key_cmp}
+use Rattle.be_tree.specs.Key.{IsBranchFor, IsGap, IsRising, StartsAt, key_cmp, put, without}
 use Rattle.be_tree.specs.Page.{item_at, item_place, items_of, level_of}
 use Rattle.be_tree.specs.Slot.{IsReady, pairs_of}
 use Rattle.be_tree.specs.Splicing.{spliced}
-use Rattle.be_tree.specs.Tree.{Becomes, IsTree, IsTreeAt, child, least_of_root, pages_at}
-use Rattle.be_tree.specs.Tree.{pages_below, pairs_at, pairs_below}
+use Rattle.be_tree.specs.Tree.{Becomes, BecomesTree, IsTree, IsTreeAt, child, least_of_root}
+use Rattle.be_tree.specs.Tree.{pages, pages_at, pages_below, pairs, pairs_at, pairs_below}
 
 -- a step of a way: one of an inner page's branches
 pub record IsStep (words : ℕ → ℕ → ℕ) (page : ℕ) (step : Step) : Type 0 where
@@ -45,6 +45,33 @@ pub record IsPathTo (standing : ℕ → Standing) (words : ℕ → ℕ → ℕ) 
   pub found : IfOk path.place (λ at. (at < words path.leaf 1)
       × (key_cmp (item_at (words path.leaf) (item_place at)).key key ≡ Equal))
   pub absent : IfErr path.place (IsGap key (items_of (words path.leaf)))
+
+-- the way down to a key, whose place is this
+pub record IsPathAt {S : Type 0} (standing_of : S → ℕ → Standing) (words_of : S → ℕ → ℕ → ℕ)
+    (now : S) (root : ℕ) (key : List ℕ) (path : Path) (place : Result ℕ ℕ) : Type 0 where
+  pub leads : IsPathTo (standing_of now) (words_of now) root key path
+  pub place_is : path.place ≡ place
+
+-- the way down to the key of a pair that may be put, whose place is this
+pub record IsPathFor {S : Type 0} (standing_of : S → ℕ → Standing) (words_of : S → ℕ → ℕ → ℕ)
+    (now : S) (root : ℕ) (pair : Pair) (path : Path) (place : Result ℕ ℕ) : Type 0 where
+  pub leads : IsPathTo (standing_of now) (words_of now) root pair.key path
+  pub place_is : path.place ≡ place
+  pub key_fits : length pair.key ≤ 264
+
+-- if a write takes a key out of a tree, its pages become those of a tree without it
+abbrev pub TakesOut : {S K E : Type 0} → (S → K) → (S → ℕ → Standing) → (S → ℕ → ℕ → ℕ)
+    → (root : ℕ) (key : List ℕ) → Result ℕ E → (old new : S) → Type 0
+TakesOut kept_of standing_of words_of root key result old new =
+    IfOk result (λ to. BecomesTree kept_of standing_of words_of (pages (words_of old) root)
+    (without key (pairs (words_of old) root)) to old new)
+
+-- if a write puts a pair into a tree, its pages become those of a tree with it
+abbrev pub PutsInto : {S K E : Type 0} → (S → K) → (S → ℕ → Standing) → (S → ℕ → ℕ → ℕ)
+    → (root : ℕ) (pair : Pair) → Result ℕ E → (old new : S) → Type 0
+PutsInto kept_of standing_of words_of root pair result old new =
+    IfOk result (λ to. BecomesTree kept_of standing_of words_of (pages (words_of old) root)
+    (put pair (pairs (words_of old) root)) to old new)
 
 -- the pairs of a page, with these in the place of those below a step
 abbrev pub around : (words : ℕ → ℕ → ℕ) → Step → List Pair → List Pair

@@ -1,5 +1,6 @@
 -- A node that is settled among the children of a page.
 use Rattle.std.specs.Prelude.{◌≡◌, ℕ, suc, ◌+◌, ◌-◌, ◌<◌, ◌≤◌, List, ◌++◌, length, take, drop, All}
+use Rattle.std.specs.Prelude.{IfOk, Result}
 use Rattle.be_pages.specs.declared.room.Standing.{Standing}
 use Rattle.be_tree.specs.declared.path.Step.{Step}
 use Rattle.be_tree.specs.declared.settling.Settled.{Settled}
@@ -54,6 +55,17 @@ pub record IsSettled {S K : Type 0} (kept_of : S → K) (standing_of : S → ℕ
       (suc level)
       (spliced settled.cut (items_of (words_of start step.page))
       (pairs_of (words_of now) given settled.branches.items)) start now
+
+-- what a write makes of a node in hand is settled below the step, whatever the state was when the
+-- node was taken in hand
+abbrev pub Settles : {S K E : Type 0} → (S → K) → (S → ℕ → Standing) → (S → ℕ → ℕ → ℕ) → Step
+    → (was level : ℕ) (given : Pair) → List Slot → Result Settled E → (old new : S) → Type 0
+Settles {S} kept_of standing_of words_of step was level given slots result old new =
+    IfOk result (λ settled. (start : S)
+    → IsChildInHand kept_of standing_of words_of step was level given slots start old
+    → IsSettled kept_of standing_of words_of step level given
+    (beside (suc level) (words_of start) step
+    (pairs_below level (words_of old) (pairs_of (words_of old) given slots))) settled start new)
 
 -- the page at the end of a way is in hand with these slots, which make a tree of these pairs
 pub record IsAbove {S K : Type 0} (kept_of : S → K) (standing_of : S → ℕ → Standing)

@@ -3,7 +3,7 @@ use Rattle.std.specs.Prelude.{◌≡◌, ◌≢◌, ℕ, ◌+◌, ◌<◌, ◌�
 use Rattle.std.specs.Prelude.{All, IsTrue}
 use Rattle.be_pages.specs.declared.room.Standing.{Standing}
 use Rattle.be_pages.specs.declared.room.Standing.TheVariants.{Free, Filled}
-use Rattle.be_pages.specs.Pages.{is_kept, StandsAt, Swaps}
+use Rattle.be_pages.specs.Pages.{is_kept, OnlyWrites, StandsAt, Swaps}
 use Rattle.be_tree.specs.declared.slot.Slot.{Slot}
 use Rattle.be_tree.specs.declared.splicing.Cut.{Cut}
 use Rattle.be_tree.specs.Pair.{Pair}
@@ -25,6 +25,12 @@ IsCopy from to i j = IsStored to j (item_at from (item_place i))
 -- so many items of one page, from number i on, are those of another from number j on
 abbrev pub AreCopies : (from to : ℕ → ℕ) (i j count : ℕ) → Type 0
 AreCopies from to i j count = (k : ℕ) → k < count → IsCopy from to (i + k) (j + k)
+
+-- only a page's words from one item up to another are written
+abbrev pub WritesItems : {S K : Type 0} → (S → K) → (S → ℕ → Standing) → (S → ℕ → ℕ → ℕ)
+    → (page from to : ℕ) → (old new : S) → Type 0
+WritesItems kept_of standing_of words_of page from to old new =
+    OnlyWrites kept_of standing_of words_of page (item_place from) (item_place to) old new
 
 -- a page has the items of another, with room for `more` in the place of a cut
 pub record HasGap (from to : ℕ → ℕ) (cut : Cut) (more : ℕ) : Type 0 where

@@ -1,6 +1,7 @@
 -- What a node in hand takes to be written, and what is made of it.
 use Rattle.std.specs.Prelude.{◌≡◌, ◌≢◌, ℕ, suc, ◌≤◌, List, ◌∷◌, ◌++◌, length, All, IsTrue, Result}
-use Rattle.std.specs.Prelude.{OnErr, IfErr}
+use Rattle.std.specs.Prelude.{OnErr, IfErr, IfOk}
+use Rattle.arrayvec.specs.ArrayVec.{ArrayVec}
 use Rattle.be_pages.specs.declared.room.Standing.{Standing}
 use Rattle.be_pages.specs.Pages.{is_kept, times, KeepsStart}
 use Rattle.be_pages.specs.Refusal.{IsFullOf}
@@ -12,25 +13,25 @@ use Rattle.be_tree.specs.Tree.{Becomes, BecomesTree, IsBelow, pages_below, pairs
 
 -- what is below the node's items is well formed, and each item can be read, also the pair that
 -- is put among them
-abbrev pub CanBeWritten : (level : ℕ) (standing : ℕ → Standing) (words : ℕ → ℕ → ℕ) (given : Pair)
-    → List Slot → Type 0
-CanBeWritten level standing words given slots =
-    IsBelow level standing words (pairs_of words given slots)
-    × (All (IsReady standing words) slots × (length given.key ≤ 264))
+abbrev pub IsWritable : {S : Type 0} → (S → ℕ → Standing) → (S → ℕ → ℕ → ℕ) → (now : S)
+    → (level : ℕ) (given : Pair) → List Slot → Type 0
+IsWritable standing_of words_of now level given slots =
+    IsBelow level (standing_of now) (words_of now) (pairs_of (words_of now) given slots)
+    × (All (IsReady (standing_of now) (words_of now)) slots × (length given.key ≤ 264))
 
 -- a page that is in use, and not below the node
-abbrev pub IsApart : (level : ℕ) (standing : ℕ → Standing) (words : ℕ → ℕ → ℕ) (given : Pair)
-    → List Slot → (page : ℕ) → Type 0
-IsApart level standing words given slots page =
-    IsTrue (is_kept (standing page)) ×
-    (times page (pages_below level words (pairs_of words given slots)) ≡ 0)
+abbrev pub IsApart : {S : Type 0} → (S → ℕ → Standing) → (S → ℕ → ℕ → ℕ) → (now : S)
+    → (level : ℕ) (given : Pair) → List Slot → (page : ℕ) → Type 0
+IsApart standing_of words_of now level given slots page =
+    IsTrue (is_kept (standing_of now page)) ×
+    (times page (pages_below level (words_of now) (pairs_of (words_of now) given slots)) ≡ 0)
 
 -- two such pages
-abbrev pub AreApart : (level : ℕ) (standing : ℕ → Standing) (words : ℕ → ℕ → ℕ) (given : Pair)
-    → List Slot → (left right : ℕ) → Type 0
-AreApart level standing words given slots left right =
-    IsApart level standing words given slots left
-    × (IsApart level standing words given slots right × (left ≢ right))
+abbrev pub AreApart : {S : Type 0} → (S → ℕ → Standing) → (S → ℕ → ℕ → ℕ) → (now : S)
+    → (level : ℕ) (given : Pair) → List Slot → (left right : ℕ) → Type 0
+AreApart standing_of words_of now level given slots left right =
+    IsApart standing_of words_of now level given slots left
+    × (IsApart standing_of words_of now level given slots right × (left ≢ right))
 
 -- These pages and those below the node have become the pages below these branches, with the node's
 -- pairs.
@@ -42,6 +43,14 @@ Replaces kept_of standing_of words_of level given slots pages branches old new =
     (pages ++ pages_below level (words_of old) (pairs_of (words_of old) given slots))
     (pairs_below level (words_of old) (pairs_of (words_of old) given slots)) (suc level) branches
     old new
+
+-- if a write packs the node, that is so of the branches that it returns
+abbrev pub Packs : {S K E : Type 0} → (S → K) → (S → ℕ → Standing) → (S → ℕ → ℕ → ℕ)
+    → (level : ℕ) (given : Pair) → List Slot → (pages : List ℕ) → Result (ArrayVec Slot) E → S → S
+    → Type 0
+Packs kept_of standing_of words_of level given slots pages result old new =
+    IfOk result (λ branches. Replaces kept_of standing_of words_of level given slots pages
+    (pairs_of (words_of new) given branches.items) old new)
 
 -- and those of a tree with this root
 abbrev pub ReplacesTree : {S K : Type 0} → (S → K) → (S → ℕ → Standing) → (S → ℕ → ℕ → ℕ)

@@ -13,14 +13,13 @@ ghost use Rattle.std.specs.Prelude.{◌≡◌, ℕ, [], ◌+◌, ◌<◌, ◌≤
 ghost use Rattle.std.specs.Prelude.{option_map, drop, IfNone, IfSome, Some, slice_get};
 ghost use Rattle.be_pages.specs.declared.room.Standing.{Standing as Stands};
 ghost use Rattle.be_pages.specs.Pages.{IsUnchanged, is_readable};
-ghost use Rattle.be_tree.specs.Cursor.{IsCursor, IsPlace, pairs_past};
-ghost use Rattle.be_tree.specs.Cursor.{remaining};
+ghost use Rattle.be_tree.specs.Cursor.{IsCursor, IsPlace, IsSplit, remaining};
 ghost use Rattle.be_tree.specs.Page.{IsItem, item_at, items_of};
 ghost use Rattle.be_tree.specs.Range.{pair_in, pairs_from};
 ghost use Rattle.be_tree.specs.Tree.{IsTree, IsTreeAt, pairs};
 ghost use Rattle.be_tree.specs.Words.{IsFirst};
 
-use crate::lookup::{branch_for, end_of, item_number, search};
+use crate::lookup::{branch_in, item_number, search};
 use crate::page::{HEADER_WORDS, ITEM_WORDS, child_at, first_word};
 use crate::payload::fill_payload;
 use crate::walk::{TreeItem, fill_key, key_at};
@@ -112,8 +111,7 @@ impl Cursor {
         let mut page = root - 1;
         let mut level = look.word(page, 0);
         while level > 0 {
-            let end = end_of(look, page);
-            let at = branch_for(look, page, end, from, first);
+            let at = branch_in(look, page, from, first);
             let next = item_number(at) + 1;
             let child = child_at(look, page, at);
             self.path.push(Place {
@@ -172,8 +170,7 @@ impl Cursor {
         ensures place { IfSome result (IsPlace (L.standing look.old) (L.words look.old)) }
         ensures left { IfSome result (λ place. place.next < L.words look.old place.page 1) }
         ensures short { IfSome result (λ place. place.level + length self.new.path.items ≤ 13) }
-        ensures parts { IfSome result (λ place. remaining (L.words look.old) self.old
-            ≡ pairs_past (L.words look.old) place ++ remaining (L.words look.old) self.new) }
+        ensures parts { IfSome result (λ at. IsSplit (L.words look.old) self.old at self.new) }
         ensures cursor { IsCursor (L.standing look.old) (L.words look.old) self.new }
         ensures unchanged { IsUnchanged L.kept L.standing L.words look.old look.new }
     {
@@ -195,8 +192,7 @@ impl Cursor {
         ensures leaf { IfSome result (λ place. place.level ≡ 0) }
         ensures left { IfSome result (λ place. place.next < L.words look.old place.page 1) }
         ensures short { IfSome result (λ place. place.level + length self.new.path.items ≤ 13) }
-        ensures parts { IfSome result (λ place. remaining (L.words look.old) self.old
-            ≡ pairs_past (L.words look.old) place ++ remaining (L.words look.old) self.new) }
+        ensures parts { IfSome result (λ at. IsSplit (L.words look.old) self.old at self.new) }
         ensures cursor { IsCursor (L.standing look.old) (L.words look.old) self.new }
         ensures unchanged { IsUnchanged L.kept L.standing L.words look.old look.new }
     {

@@ -1,13 +1,11 @@
 //! A pair is put where a path leads.
-ghost use Rattle.std.specs.Prelude.{◌≡◌, ◌<◌, ◌≤◌, IfOk, IsTrue, Ok, Err, length};
-ghost use Rattle.be_tree.specs.Key.{put};
-ghost use Rattle.be_tree.specs.Path.{IsPathTo};
-ghost use Rattle.be_tree.specs.Tree.{BecomesTree, pages, pairs};
+ghost use Rattle.std.specs.Prelude.{◌≡◌, ◌≤◌, IsTrue, Ok, Err, length};
+ghost use Rattle.be_tree.specs.Path.{IsPathFor, IsPathTo, PutsInto};
 ghost use Rattle.be_tree.specs.Writing.{Refuses};
 
 use crate::item::Item;
 use crate::page::{MOST_ITEMS, fill_slots};
-use crate::path::Path;
+use crate::path::{NewRoot, Path};
 use crate::rising::{Edit, change_leaf};
 use crate::settling::settle;
 use crate::siblings::count_of;
@@ -15,21 +13,13 @@ use crate::slot::Slot;
 use crate::splicing::Cut;
 use arrayvec::ArrayVec;
 use be_pages::Room;
-use be_value::Refusal;
 
 /// Puts a pair where a path to its key leads, and gives the new root.
-pub(crate) fn put_on<R: Room>(
-    room: &mut R,
-    root: u64,
-    path: &Path,
-    pair: &Item,
-) -> Result<u64, Refusal>
+pub(crate) fn put_on<R: Room>(room: &mut R, root: u64, path: &Path, pair: &Item) -> NewRoot
     requires path { IsPathTo (R.standing room.old) (R.words room.old) root pair.now.key path.now }
     requires key_fits { length pair.now.key ≤ 264 }
     requires open { IsTrue (R.is_open (R.kept room.old)) }
-    ensures ok { IfOk result (λ new. BecomesTree R.kept R.standing R.words
-        (pages (R.words room.old) root) (put pair.now (pairs (R.words room.old) root)) new room.old
-        room.new) }
+    ensures ok { PutsInto R.kept R.standing R.words root pair.now result room.old room.new }
     ensures refused { Refuses R.kept R.standing R.words R.full result room.old room.new }
 {
     match path.place {
@@ -39,20 +29,10 @@ pub(crate) fn put_on<R: Room>(
 }
 
 /// Puts a pair in the place of the one that has its key.
-fn put_over<R: Room>(
-    room: &mut R,
-    root: u64,
-    path: &Path,
-    at: usize,
-    pair: &Item,
-) -> Result<u64, Refusal>
-    requires path { IsPathTo (R.standing room.old) (R.words room.old) root pair.now.key path.now }
-    requires found { path.now.place ≡ Ok at }
-    requires key_fits { length pair.now.key ≤ 264 }
+fn put_over<R: Room>(room: &mut R, root: u64, path: &Path, at: usize, pair: &Item) -> NewRoot
+    requires path { IsPathFor R.standing R.words room.old root pair.now path.now (Ok at) }
     requires open { IsTrue (R.is_open (R.kept room.old)) }
-    ensures ok { IfOk result (λ new. BecomesTree R.kept R.standing R.words
-        (pages (R.words room.old) root) (put pair.now (pairs (R.words room.old) root)) new room.old
-        room.new) }
+    ensures ok { PutsInto R.kept R.standing R.words root pair.now result room.old room.new }
     ensures refused { Refuses R.kept R.standing R.words R.full result room.old room.new }
 {
     let edit = Edit {
@@ -63,20 +43,10 @@ fn put_over<R: Room>(
 }
 
 /// Puts a pair between two others, where none has its key.
-fn put_in<R: Room>(
-    room: &mut R,
-    root: u64,
-    path: &Path,
-    at: usize,
-    pair: &Item,
-) -> Result<u64, Refusal>
-    requires path { IsPathTo (R.standing room.old) (R.words room.old) root pair.now.key path.now }
-    requires absent { path.now.place ≡ Err at }
-    requires key_fits { length pair.now.key ≤ 264 }
+fn put_in<R: Room>(room: &mut R, root: u64, path: &Path, at: usize, pair: &Item) -> NewRoot
+    requires path { IsPathFor R.standing R.words room.old root pair.now path.now (Err at) }
     requires open { IsTrue (R.is_open (R.kept room.old)) }
-    ensures ok { IfOk result (λ new. BecomesTree R.kept R.standing R.words
-        (pages (R.words room.old) root) (put pair.now (pairs (R.words room.old) root)) new room.old
-        room.new) }
+    ensures ok { PutsInto R.kept R.standing R.words root pair.now result room.old room.new }
     ensures refused { Refuses R.kept R.standing R.words R.full result room.old room.new }
 {
     if count_of(room, path.leaf) == MOST_ITEMS {
@@ -91,21 +61,11 @@ fn put_in<R: Room>(
 
 /// Puts a pair into a full leaf.
 #[inline(never)]
-fn overflow<R: Room>(
-    room: &mut R,
-    root: u64,
-    path: &Path,
-    at: usize,
-    pair: &Item,
-) -> Result<u64, Refusal>
-    requires path { IsPathTo (R.standing room.old) (R.words room.old) root pair.now.key path.now }
-    requires absent { path.now.place ≡ Err at }
-    requires key_fits { length pair.now.key ≤ 264 }
+fn overflow<R: Room>(room: &mut R, root: u64, path: &Path, at: usize, pair: &Item) -> NewRoot
+    requires path { IsPathFor R.standing R.words room.old root pair.now path.now (Err at) }
     requires full { R.words room.old path.now.leaf 1 ≡ 12 }
     requires open { IsTrue (R.is_open (R.kept room.old)) }
-    ensures ok { IfOk result (λ new. BecomesTree R.kept R.standing R.words
-        (pages (R.words room.old) root) (put pair.now (pairs (R.words room.old) root)) new room.old
-        room.new) }
+    ensures ok { PutsInto R.kept R.standing R.words root pair.now result room.old room.new }
     ensures refused { Refuses R.kept R.standing R.words R.full result room.old room.new }
 {
     let mut slots = ArrayVec::new();

@@ -28,6 +28,7 @@
 #![tactic(auto)]
 
 mod clearing;
+mod counting;
 mod cursor;
 mod edit;
 mod inserting;
@@ -49,6 +50,7 @@ mod walk;
 mod writing;
 
 pub use clearing::clear;
+pub use counting::{few_in_hand, forest_pages, swaps_take, takes_add, tree_level, tree_pages};
 pub use cursor::Cursor;
 pub use edit::insert;
 pub use laws::{tree_beside, tree_kept, tree_replaced, tree_undone};

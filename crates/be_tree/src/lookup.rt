@@ -90,8 +90,7 @@ pub fn find_place<L: Look>(look: &mut L, root: u64, key: &[u8]) -> Option<(u64, 
     let mut page = root - 1;
     let mut level = look.word(page, 0);
     while level > 0 {
-        let end = end_of(look, page);
-        let at = branch_for(look, page, end, key, first);
+        let at = branch_in(look, page, key, first);
         page = child_at(look, page, at);
         level -= 1;
     }
@@ -150,8 +149,22 @@ pub(crate) fn item_number(at: usize) -> usize
     (at - HEADER_WORDS) / ITEM_WORDS
 }
 
-/// The place of the branch below which a key belongs: the last one whose key is not greater, or the
-/// first one. So the first one's key isn't read.
+/// The place of the branch below which a key belongs, as `branch_for` finds it.
+#[inline(always)]
+pub(crate) fn branch_in<L: Look>(look: &mut L, page: u64, key: &[u8], first: u64) -> usize
+    requires readable { IsTrue (is_readable (L.standing look.old page)) }
+    requires page { IsPage (L.words look.old page) }
+    requires some { 0 < L.words look.old page 1 }
+    requires first { IsFirst key.now first }
+    ensures branch { IsBranchAt key.now (items_of (L.words look.old page)) result }
+    ensures unchanged { IsUnchanged L.kept L.standing L.words look.old look.new }
+{
+    let end = end_of(look, page);
+    branch_for(look, page, end, key, first)
+}
+
+/// The place of the branch below which a key belongs, on a page whose items end at `end`: the last
+/// one whose key is not greater, or the first one. So the first one's key isn't read.
 #[inline(always)]
 pub(crate) fn branch_for<L: Look>(
     look: &mut L,

@@ -1,12 +1,12 @@
 //! Items read from a page and written to it.
 ghost use Rattle.std.specs.Prelude.{◌≡◌, ◌≢◌, [], ◌+◌, ◌-◌, ◌*◌, ◌/◌, ◌%◌, ◌<◌, ◌≤◌, ◌++◌};
-ghost use Rattle.std.specs.Prelude.{IsTrue, length, drop, map, slice_index};
+ghost use Rattle.std.specs.Prelude.{IsTrue, length, take, drop, map, slice_index};
 ghost use Rattle.std.specs.List.{range_with_len};
 ghost use Rattle.std.specs.Int.{from_be_bytes, to_be_bytes, w64};
 ghost use Rattle.be_pages.specs.Pages.{is_readable, IsUnchanged, OnlyWrites};
 ghost use Rattle.be_pages.specs.declared.room.Standing.TheVariants.{Filled};
-ghost use Rattle.be_tree.specs.Page.{IsItem, IsPadded, IsPage, item_at, bytes_at, key_len};
-ghost use Rattle.be_tree.specs.Page.{words_for};
+ghost use Rattle.be_tree.specs.Page.{IsItem, IsPadded, IsPage, item_at, bytes_at, bytes_past};
+ghost use Rattle.be_tree.specs.Page.{key_len, words_for};
 ghost use Rattle.be_tree.specs.Page.{item_place};
 ghost use Rattle.std.specs.Prelude.{◌^◌, ◌⊎◌};
 ghost use Rattle.be_tree.specs.declared.slot.Slot.TheVariants.{At};
@@ -56,8 +56,7 @@ pub(crate) fn number_beyond<L: Look>(look: &mut L, page: u64, at: usize, skip: u
     requires readable { IsTrue (is_readable (L.standing look.old page)) }
     requires skips { skip < 8 }
     requires in_page { at + words_for (skip + 8) ≤ 512 }
-    ensures number { result ≡ from_be_bytes w64
-        (drop skip (bytes_at (L.words look.old page) at (skip + 8))) }
+    ensures number { result ≡ from_be_bytes w64 (bytes_past (L.words look.old page) at skip 8) }
     ensures unchanged { IsUnchanged L.kept L.standing L.words look.old look.new }
 {
     let first = look.word(page, at);
@@ -283,7 +282,7 @@ pub(crate) fn store_bytes<R: Room>(room: &mut R, page: u64, at: usize, bytes: &[
         room.old room.new }
 {
     for i in 0..(bytes.len() + 7) / 8 {
-        room.fill(page, at + i, word_from(bytes, 8 * i));
+        room.refill(page, at + i, word_from(bytes, 8 * i));
     }
 }
 
@@ -299,7 +298,7 @@ pub(crate) fn store_item<R: Room>(room: &mut R, page: u64, at: usize, item: &Ite
 {
     let bytes = item.bytes();
     let key_len = item.key_len();
-    room.fill(
+    room.refill(
         page,
         at,
         ((key_len as u64) << LENGTH_BITS) + (bytes.len() - key_len) as u64,
@@ -309,6 +308,7 @@ pub(crate) fn store_item<R: Room>(room: &mut R, page: u64, at: usize, item: &Ite
 
 /// Copies the words of an item to a place of a page that has a word filled. An item that lies there
 /// already is left alone.
+#[inline(always)]
 pub(crate) fn copy_item<R: Room>(room: &mut R, page: u64, at: usize, from: u64, place: usize)
     requires filled { R.standing room.old page ≡ Filled }
     requires in_page { at + 42 ≤ 512 }
@@ -325,16 +325,48 @@ pub(crate) fn copy_item<R: Room>(room: &mut R, page: u64, at: usize, from: u64, 
         return;
     }
     let header = room.word(from, place);
-    room.fill(page, at, header);
+    room.refill(page, at, header);
     let n = ((header >> LENGTH_BITS) + header % (1 << LENGTH_BITS)) as usize;
     for i in 0..(n + 7) / 8 {
         let word = room.word(from, place + 1 + i);
-        room.fill(page, at + 1 + i, word);
+        room.refill(page, at + 1 + i, word);
     }
 }
 
+/// The first `skip` bytes of a word, and after them the first bytes of a number.
+#[inline(always)]
+fn joined(first: u64, number: u64, skip: usize) -> u64
+    requires { (0 < skip) × (skip < 8) }
+    ensures { result ≡ first / 2 ^ (64 - 8 * skip) * 2 ^ (64 - 8 * skip) % 2 ^ 64
+        + number / 2 ^ (8 * skip) }
+{
+    (first >> (64 - 8 * skip) << (64 - 8 * skip)) + (number >> (8 * skip))
+}
+
+/// Writes the first `skip` bytes of a word, a number in the eight bytes after them, and zeros up to
+/// the end of its last word.
+#[inline(always)]
+fn store_number<R: Room>(room: &mut R, page: u64, at: usize, first: u64, skip: usize, number: u64)
+    requires filled { R.standing room.old page ≡ Filled }
+    requires skips { skip < 8 }
+    requires in_page { at + words_for (skip + 8) ≤ 512 }
+    requires open { IsTrue (R.is_open (R.kept room.old)) }
+    ensures bytes { bytes_at (R.words room.new page) at (skip + 8)
+        ≡ take skip (to_be_bytes w64 first) ++ to_be_bytes w64 number }
+    ensures padded { IsPadded (R.words room.new page) at (skip + 8) }
+    ensures only { OnlyWrites R.kept R.standing R.words page at (at + words_for (skip + 8)) room.old
+        room.new }
+{
+    if skip == 0 {
+        room.refill(page, at, number);
+        return;
+    }
+    room.refill(page, at, joined(first, number, skip));
+    room.refill(page, at + 1, number << (64 - 8 * skip));
+}
+
 /// Writes the branch to another page at a place of a page that has a word filled. The whole words
-/// of its key are copied as words.
+/// of its key are copied as words, and the rest of it and the number are written as words too.
 fn store_branch<R: Room>(room: &mut R, page: u64, at: usize, child: u64)
     requires filled { R.standing room.old page ≡ Filled }
     requires in_page { at + 42 ≤ 512 }
@@ -347,16 +379,14 @@ fn store_branch<R: Room>(room: &mut R, page: u64, at: usize, child: u64)
     ensures only { OnlyWrites R.kept R.standing R.words page at (at + 42) room.old room.new }
 {
     let key_len = (room.word(child, 2) >> LENGTH_BITS) as usize;
-    room.fill(page, at, ((key_len as u64) << LENGTH_BITS) + 8);
+    room.refill(page, at, ((key_len as u64) << LENGTH_BITS) + 8);
     let whole = key_len / 8;
     for i in 0..whole {
         let word = room.word(child, 3 + i);
-        room.fill(page, at + 1 + i, word);
+        room.refill(page, at + 1 + i, word);
     }
-    let mut rest: ArrayVec<u8, 16> = ArrayVec::new();
-    fill_bytes(room, child, 3 + whole, 0, key_len % 8, &mut rest);
-    extend(&mut rest, &child.to_be_bytes());
-    store_bytes(room, page, at + 1 + whole, &rest);
+    let last = room.word(child, 3 + whole);
+    store_number(room, page, at + 1 + whole, last, key_len % 8, child);
 }
 
 /// Writes the item of a slot at a place of a page that has a word filled.

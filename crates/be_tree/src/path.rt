@@ -11,10 +11,11 @@ ghost use Rattle.be_tree.specs.Path.{IsPathTo};
 ghost use Rattle.be_tree.specs.Tree.{IsTree};
 ghost use Rattle.be_tree.specs.Words.{IsFirst};
 
-use crate::lookup::{branch_for, end_of, item_number, search};
+use crate::lookup::{branch_in, item_number, search};
 use crate::page::{child_at, first_word};
 use arrayvec::ArrayVec;
 use be_pages::Look;
+use be_value::Refusal;
 
 /// An inner page on the way down, and the number of the branch that the way takes.
 #[derive(Clone, Copy)]
@@ -54,6 +55,9 @@ impl Path {
     }
 }
 
+/// The root of a tree that was changed, or why it wasn't.
+pub(crate) type NewRoot = Result<u64, Refusal>;
+
 /// The place of a key among a page's items: which one has it, or how many have lesser keys.
 fn search_number<L: Look>(look: &mut L, page: u64, key: &[u8], first: u64) -> Result<usize, usize>
     requires readable { IsTrue (is_readable (L.standing look.old page)) }
@@ -84,8 +88,7 @@ pub(crate) fn find_path<L: Look>(look: &mut L, root: u64, key: &[u8], path: &mut
     let mut page = root - 1;
     let mut level = look.word(page, 0);
     while level > 0 {
-        let end = end_of(look, page);
-        let place = branch_for(look, page, end, key, first);
+        let place = branch_in(look, page, key, first);
         let at = item_number(place);
         path.above.push(Step { page, at });
         page = child_at(look, page, place);

@@ -6,7 +6,7 @@ ghost use Rattle.std.specs.Prelude.{◌≡◌, [], ◌+◌, ◌<◌, ◌≤◌, 
 ghost use Rattle.std.specs.Prelude.{slice_index};
 ghost use Rattle.std.specs.Int.{from_be_bytes, w32, w64};
 ghost use Rattle.be_pages.specs.Pages.{IsUnchanged, is_readable};
-ghost use Rattle.be_tree.specs.Page.{IsItem, bytes_at, item_at, words_for};
+ghost use Rattle.be_tree.specs.Page.{IsItem, bytes_past, item_at, words_for};
 
 use crate::page::{LENGTH_BITS, fill_bytes, number_beyond, straddled};
 use arrayvec::ArrayVec;
@@ -75,14 +75,14 @@ fn number32_after<L: Look>(look: &mut L, page: u64, at: usize, skip: usize) -> u
     requires readable { IsTrue (is_readable (L.standing look.old page)) }
     requires skips { skip < 8 }
     requires in_page { at + words_for (skip + 4) ≤ 512 }
-    ensures number { result ≡ from_be_bytes w32
-        (drop skip (bytes_at (L.words look.old page) at (skip + 4))) }
+    ensures number { result ≡ from_be_bytes w32 (bytes_past (L.words look.old page) at skip 4) }
     ensures unchanged { IsUnchanged L.kept L.standing L.words look.old look.new }
 {
-    let first = look.word(page, at);
     if skip <= 4 {
-        return ((first >> (32 - 8 * skip)) % (1 << 32)) as u32;
+        let word = look.word(page, at);
+        return ((word >> (32 - 8 * skip)) % (1 << 32)) as u32;
     }
+    let first = look.word(page, at);
     let second = look.word(page, at + 1);
     (straddled(first, second, skip) >> 32) as u32
 }

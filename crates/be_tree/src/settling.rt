@@ -11,7 +11,7 @@ ghost use Rattle.std.specs.Prelude.{length, true, IfOk, IsTrue};
 ghost use Rattle.be_pages.specs.Pages.{IsUnchanged, is_readable};
 ghost use Rattle.be_tree.specs.Page.{IsPage, item_at, item_place, level_of};
 ghost use Rattle.be_tree.specs.Path.{IsInHand, whole};
-ghost use Rattle.be_tree.specs.Settling.{IsChildInHand, IsSettled, IsTurned, beside};
+ghost use Rattle.be_tree.specs.Settling.{IsChildInHand, IsTurned, Settles};
 ghost use Rattle.be_tree.specs.Slot.{loaded, pairs_of};
 ghost use Rattle.be_tree.specs.Splicing.{spliced};
 ghost use Rattle.be_tree.specs.Tree.{BecomesTree, child, pages, pairs_below};
@@ -36,42 +36,27 @@ pub(crate) struct Settled {
     pub(crate) branches: ArrayVec<Slot, 2>,
 }
 
+/// What a node in hand was settled to, or why it wasn't.
+type Settling = Result<Settled, Refusal>;
+
 /// Writes a node in hand that is too large, whose page is the child of a step, in two pages.
-fn settle_split<R: Room>(
-    room: &mut R,
-    step: Step,
-    was: u64,
-    node: Node<'_>,
-) -> Result<Settled, Refusal>
+fn settle_split<R: Room>(room: &mut R, step: Step, was: u64, node: Node<'_>) -> Settling
     requires child { (start : R) × IsChildInHand R.kept R.standing R.words step was node.level
         node.pair.now node.slots.now start room.old }
     requires crowded { 12 < length node.slots.now }
     requires open { IsTrue (R.is_open (R.kept room.old)) }
-    ensures ok { IfOk result (λ settled. (start : R)
-        → IsChildInHand R.kept R.standing R.words step was node.entry.level node.entry.pair.now
-        node.entry.slots.now start room.old
-        → IsSettled R.kept R.standing R.words step node.entry.level node.entry.pair.now
-        (beside (suc node.entry.level) (R.words start) step
-        (pairs_below node.entry.level (R.words room.old)
-        (pairs_of (R.words room.old) node.entry.pair.now node.entry.slots.now))) settled start
-        room.new) }
+    ensures ok { Settles R.kept R.standing R.words step was node.entry.level node.entry.pair.now
+        node.entry.slots.now result room.old room.new }
     ensures refused { Refuses R.kept R.standing R.words R.full result room.old room.new }
 {
+    let at = step.at;
     let branches = pack(room, was, node)?;
-    let cut = Cut {
-        at: step.at,
-        gone: 1,
-    };
+    let cut = Cut { at, gone: 1 };
     Ok(Settled { cut, branches })
 }
 
 /// Writes it together with the items of the child before it.
-fn settle_left<R: Room>(
-    room: &mut R,
-    step: Step,
-    was: u64,
-    node: Node<'_>,
-) -> Result<Settled, Refusal>
+fn settle_left<R: Room>(room: &mut R, step: Step, was: u64, node: Node<'_>) -> Settling
     requires child { (start : R) × IsChildInHand R.kept R.standing R.words step was node.level
         node.pair.now node.slots.now start room.old }
     requires beyond { 0 < step.at }
@@ -79,14 +64,8 @@ fn settle_left<R: Room>(
         (item_at (R.words room.old step.page) (item_place (step.at - 1)))) 1 + length node.slots.now
         ≤ 24 }
     requires open { IsTrue (R.is_open (R.kept room.old)) }
-    ensures ok { IfOk result (λ settled. (start : R)
-        → IsChildInHand R.kept R.standing R.words step was node.entry.level node.entry.pair.now
-        node.entry.slots.now start room.old
-        → IsSettled R.kept R.standing R.words step node.entry.level node.entry.pair.now
-        (beside (suc node.entry.level) (R.words start) step
-        (pairs_below node.entry.level (R.words room.old)
-        (pairs_of (R.words room.old) node.entry.pair.now node.entry.slots.now))) settled start
-        room.new) }
+    ensures ok { Settles R.kept R.standing R.words step was node.entry.level node.entry.pair.now
+        node.entry.slots.now result room.old room.new }
     ensures refused { Refuses R.kept R.standing R.words R.full result room.old room.new }
 {
     let at = step.at - 1;
@@ -105,25 +84,14 @@ fn settle_left<R: Room>(
 }
 
 /// Writes it together with the items of the child after it.
-fn settle_right<R: Room>(
-    room: &mut R,
-    step: Step,
-    was: u64,
-    node: Node<'_>,
-) -> Result<Settled, Refusal>
+fn settle_right<R: Room>(room: &mut R, step: Step, was: u64, node: Node<'_>) -> Settling
     requires child { (start : R) × IsChildInHand R.kept R.standing R.words step was node.level
         node.pair.now node.slots.now start room.old }
     requires before { step.at + 1 < R.words room.old step.page 1 }
     requires few { length node.slots.now ≤ 12 }
     requires open { IsTrue (R.is_open (R.kept room.old)) }
-    ensures ok { IfOk result (λ settled. (start : R)
-        → IsChildInHand R.kept R.standing R.words step was node.entry.level node.entry.pair.now
-        node.entry.slots.now start room.old
-        → IsSettled R.kept R.standing R.words step node.entry.level node.entry.pair.now
-        (beside (suc node.entry.level) (R.words start) step
-        (pairs_below node.entry.level (R.words room.old)
-        (pairs_of (R.words room.old) node.entry.pair.now node.entry.slots.now))) settled start
-        room.new) }
+    ensures ok { Settles R.kept R.standing R.words step was node.entry.level node.entry.pair.now
+        node.entry.slots.now result room.old room.new }
     ensures refused { Refuses R.kept R.standing R.words R.full result room.old room.new }
 {
     let right = child_at(room, step.page, HEADER_WORDS + ITEM_WORDS * (step.at + 1));
@@ -138,10 +106,8 @@ fn settle_right<R: Room>(
         pair: node.pair,
     };
     let branches = pack_two(room, was, right, both)?;
-    let cut = Cut {
-        at: step.at,
-        gone: 2,
-    };
+    let at = step.at;
+    let cut = Cut { at, gone: 2 };
     Ok(Settled { cut, branches })
 }
 
@@ -162,23 +128,12 @@ fn left_has_room<R: Room>(room: &mut R, step: Step, was: u64, node: Node<'_>) ->
 }
 
 /// Settles a node in hand, whose page is the child of a step.
-fn settle_child<R: Room>(
-    room: &mut R,
-    step: Step,
-    was: u64,
-    node: Node<'_>,
-) -> Result<Settled, Refusal>
+fn settle_child<R: Room>(room: &mut R, step: Step, was: u64, node: Node<'_>) -> Settling
     requires child { (start : R) × IsChildInHand R.kept R.standing R.words step was node.level
         node.pair.now node.slots.now start room.old }
     requires open { IsTrue (R.is_open (R.kept room.old)) }
-    ensures ok { IfOk result (λ settled. (start : R)
-        → IsChildInHand R.kept R.standing R.words step was node.entry.level node.entry.pair.now
-        node.entry.slots.now start room.old
-        → IsSettled R.kept R.standing R.words step node.entry.level node.entry.pair.now
-        (beside (suc node.entry.level) (R.words start) step
-        (pairs_below node.entry.level (R.words room.old)
-        (pairs_of (R.words room.old) node.entry.pair.now node.entry.slots.now))) settled start
-        room.new) }
+    ensures ok { Settles R.kept R.standing R.words step was node.entry.level node.entry.pair.now
+        node.entry.slots.now result room.old room.new }
     ensures refused { Refuses R.kept R.standing R.words R.full result room.old room.new }
 {
     if node.slots.len() > MOST_ITEMS {

@@ -11,7 +11,7 @@ ghost use Rattle.be_tree.specs.declared.slot.Slot.{Slot as Slots};
 ghost use Rattle.be_tree.specs.Page.{IsItem, IsPage, item_place};
 ghost use Rattle.be_tree.specs.Slot.{IsOff, IsReady, pair_of};
 ghost use Rattle.be_tree.specs.Splicing.{AreCopies, CanBeSpliced, HasGap, IsSpliced};
-ghost use Rattle.be_tree.specs.Splicing.{IsStored, IsTaken};
+ghost use Rattle.be_tree.specs.Splicing.{IsStored, IsTaken, WritesItems};
 ghost use Rattle.be_tree.specs.Writing.{Refuses};
 
 use crate::item::Item;
@@ -29,18 +29,12 @@ fn copy_down<R: Room>(room: &mut R, from: u64, first: usize, page: u64, at: usiz
     requires items { (k : ℕ) → k < count → IsItem (R.words room.old from) (item_place (first + k)) }
     requires open { IsTrue (R.is_open (R.kept room.old)) }
     ensures copied { AreCopies (R.words room.old from) (R.words room.new page) first at count }
-    ensures only { OnlyWrites R.kept R.standing R.words page (item_place at)
-        (item_place (at + count)) room.old room.new }
+    ensures only { WritesItems R.kept R.standing R.words page at (at + count) room.old room.new }
 {
     for i in 0..count {
+        let to = HEADER_WORDS + ITEM_WORDS * (at + i);
         let place = HEADER_WORDS + ITEM_WORDS * (first + i);
-        copy_item(
-            room,
-            page,
-            HEADER_WORDS + ITEM_WORDS * (at + i),
-            from,
-            place,
-        );
+        copy_item(room, page, to, from, place);
     }
 }
 
@@ -52,19 +46,13 @@ fn copy_up<R: Room>(room: &mut R, page: u64, first: usize, at: usize, count: usi
     requires items { (k : ℕ) → k < count → IsItem (R.words room.old page) (item_place (first + k)) }
     requires open { IsTrue (R.is_open (R.kept room.old)) }
     ensures copied { AreCopies (R.words room.old page) (R.words room.new page) first at count }
-    ensures only { OnlyWrites R.kept R.standing R.words page (item_place at)
-        (item_place (at + count)) room.old room.new }
+    ensures only { WritesItems R.kept R.standing R.words page at (at + count) room.old room.new }
 {
     for i in 0..count {
         let j = count - 1 - i;
+        let to = HEADER_WORDS + ITEM_WORDS * (at + j);
         let place = HEADER_WORDS + ITEM_WORDS * (first + j);
-        copy_item(
-            room,
-            page,
-            HEADER_WORDS + ITEM_WORDS * (at + j),
-            page,
-            place,
-        );
+        copy_item(room, page, to, page, place);
     }
 }
 
@@ -75,8 +63,7 @@ fn move_items<R: Room>(room: &mut R, page: u64, first: usize, at: usize, count: 
     requires items { (k : ℕ) → k < count → IsItem (R.words room.old page) (item_place (first + k)) }
     requires open { IsTrue (R.is_open (R.kept room.old)) }
     ensures copied { AreCopies (R.words room.old page) (R.words room.new page) first at count }
-    ensures only { OnlyWrites R.kept R.standing R.words page (item_place at)
-        (item_place (at + count)) room.old room.new }
+    ensures only { WritesItems R.kept R.standing R.words page at (at + count) room.old room.new }
 {
     if first < at {
         copy_up(room, page, first, at, count);
@@ -146,8 +133,8 @@ pub(crate) fn store_slots<R: Room>(room: &mut R, page: u64, at: usize, slots: &[
     ensures items { (k : ℕ) (d : Slots) → k < length slots.now
         → IsStored (R.words room.new page) (at + k)
         (pair_of (R.words room.old) pair.now (slice_index_or slots.now k d)) }
-    ensures only { OnlyWrites R.kept R.standing R.words page (item_place at)
-        (item_place (at + length slots.now)) room.old room.new }
+    ensures only { WritesItems R.kept R.standing R.words page at (at + length slots.now) room.old
+        room.new }
 {
     for i in 0..slots.len() {
         store_slot(

@@ -1,20 +1,17 @@
 //! The item that a path leads to is taken out.
-ghost use Rattle.std.specs.Prelude.{◌≡◌, ◌<◌, IfOk, IsTrue, Ok};
-ghost use Rattle.be_tree.specs.Key.{without};
-ghost use Rattle.be_tree.specs.Path.{IsPathTo, least_at};
-ghost use Rattle.be_tree.specs.Tree.{BecomesTree, pages, pairs};
+ghost use Rattle.std.specs.Prelude.{◌≡◌, IsTrue, Ok};
+ghost use Rattle.be_tree.specs.Path.{IsPathAt, TakesOut, least_at};
 ghost use Rattle.be_tree.specs.Writing.{Refuses};
 
 use crate::item::Item;
 use crate::page::{LEAST_ITEMS, fill_slots};
-use crate::path::{Path, Step};
+use crate::path::{NewRoot, Path, Step};
 use crate::rising::{Edit, change_leaf};
 use crate::settling::settle;
 use crate::siblings::count_of;
 use crate::splicing::Cut;
 use arrayvec::ArrayVec;
 use be_pages::Room;
-use be_value::Refusal;
 
 /// Takes out the item that a path leads to, which has this number, and gives the new root.
 pub(crate) fn take_out<R: Room>(
@@ -23,13 +20,10 @@ pub(crate) fn take_out<R: Room>(
     key: &[u8],
     path: &Path,
     at: usize,
-) -> Result<u64, Refusal>
-    requires path { IsPathTo (R.standing room.old) (R.words room.old) root key.now path.now }
-    requires found { path.now.place ≡ Ok at }
+) -> NewRoot
+    requires path { IsPathAt R.standing R.words room.old root key.now path.now (Ok at) }
     requires open { IsTrue (R.is_open (R.kept room.old)) }
-    ensures ok { IfOk result (λ new. BecomesTree R.kept R.standing R.words
-        (pages (R.words room.old) root) (without key.now (pairs (R.words room.old) root)) new
-        room.old room.new) }
+    ensures ok { TakesOut R.kept R.standing R.words root key.now result room.old room.new }
     ensures refused { Refuses R.kept R.standing R.words R.full result room.old room.new }
 {
     if count_of(room, path.leaf) <= least_of_leaf(&path.above) {
@@ -45,19 +39,10 @@ pub(crate) fn take_out<R: Room>(
 
 /// Takes an item out of a leaf that has no more than it has to keep.
 #[inline(never)]
-fn underflow<R: Room>(
-    room: &mut R,
-    root: u64,
-    key: &[u8],
-    path: &Path,
-    at: usize,
-) -> Result<u64, Refusal>
-    requires path { IsPathTo (R.standing room.old) (R.words room.old) root key.now path.now }
-    requires found { path.now.place ≡ Ok at }
+fn underflow<R: Room>(room: &mut R, root: u64, key: &[u8], path: &Path, at: usize) -> NewRoot
+    requires path { IsPathAt R.standing R.words room.old root key.now path.now (Ok at) }
     requires open { IsTrue (R.is_open (R.kept room.old)) }
-    ensures ok { IfOk result (λ new. BecomesTree R.kept R.standing R.words
-        (pages (R.words room.old) root) (without key.now (pairs (R.words room.old) root)) new
-        room.old room.new) }
+    ensures ok { TakesOut R.kept R.standing R.words root key.now result room.old room.new }
     ensures refused { Refuses R.kept R.standing R.words R.full result room.old room.new }
 {
     let none = Item::new(&[], &[]);

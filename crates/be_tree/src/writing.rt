@@ -10,7 +10,8 @@ ghost use Rattle.be_pages.specs.Pages.{Swaps, KeepsStart};
 ghost use Rattle.be_pages.specs.Refusal.{IsFullOf};
 ghost use Rattle.be_tree.specs.Slot.{IsBranchSlot, IsReady, branch_to, pair_of, pairs_of};
 ghost use Rattle.be_tree.specs.Tree.{IsBelow, IsWritten, BecomesTree, child, least_of_root};
-ghost use Rattle.be_tree.specs.Writing.{AreApart, CanBeWritten, IsApart, Replaces, ReplacesTree};
+ghost use Rattle.be_tree.specs.Writing.{AreApart, IsApart, IsWritable, Packs, Replaces};
+ghost use Rattle.be_tree.specs.Writing.{ReplacesTree};
 
 use crate::item::Item;
 use crate::page::{LEAST_ITEMS, MOST_ITEMS, child_at};
@@ -67,11 +68,9 @@ fn write_changed<R: Room>(room: &mut R, old: u64, node: Node<'_>) -> Result<u64,
 
 /// Writes a node with what is below it, as `write_changed` does, and gives its page.
 pub(crate) fn write_branch<R: Room>(room: &mut R, old: u64, node: Node<'_>) -> Result<u64, Refusal>
-    requires node { CanBeWritten node.level (R.standing room.old) (R.words room.old) node.pair.now
-        node.slots.now }
+    requires node { IsWritable R.standing R.words room.old node.level node.pair.now node.slots.now }
     requires size { (6 ≤ length node.slots.now) × (length node.slots.now ≤ 12) }
-    requires old { IsApart node.level (R.standing room.old) (R.words room.old) node.pair.now
-        node.slots.now old }
+    requires old { IsApart R.standing R.words room.old node.level node.pair.now node.slots.now old }
     requires open { IsTrue (R.is_open (R.kept room.old)) }
     ensures ok { IfOk result (λ page. Replaces R.kept R.standing R.words node.entry.level
         node.entry.pair.now node.entry.slots.now (old ∷ [])
@@ -92,12 +91,10 @@ fn write_parts<R: Room>(
     node: Node<'_>,
     cut: usize,
 ) -> Result<(u64, u64), Refusal>
-    requires node { CanBeWritten node.level (R.standing room.old) (R.words room.old) node.pair.now
-        node.slots.now }
+    requires node { IsWritable R.standing R.words room.old node.level node.pair.now node.slots.now }
     requires first { (6 ≤ cut) × (cut ≤ 12) }
     requires second { (cut + 6 ≤ length node.slots.now) × (length node.slots.now ≤ cut + 12) }
-    requires old { IsApart node.level (R.standing room.old) (R.words room.old) node.pair.now
-        node.slots.now old }
+    requires old { IsApart R.standing R.words room.old node.level node.pair.now node.slots.now old }
     requires open { IsTrue (R.is_open (R.kept room.old)) }
     ensures ok { IfOk result (λ both. Replaces R.kept R.standing R.words node.entry.level
         node.entry.pair.now node.entry.slots.now (old ∷ [])
@@ -137,15 +134,12 @@ pub(crate) fn pack<R: Room>(
     old: u64,
     node: Node<'_>,
 ) -> Result<ArrayVec<Slot, 2>, Refusal>
-    requires node { CanBeWritten node.level (R.standing room.old) (R.words room.old) node.pair.now
-        node.slots.now }
+    requires node { IsWritable R.standing R.words room.old node.level node.pair.now node.slots.now }
     requires size { (6 ≤ length node.slots.now) × (length node.slots.now ≤ 24) }
-    requires old { IsApart node.level (R.standing room.old) (R.words room.old) node.pair.now
-        node.slots.now old }
+    requires old { IsApart R.standing R.words room.old node.level node.pair.now node.slots.now old }
     requires open { IsTrue (R.is_open (R.kept room.old)) }
-    ensures ok { IfOk result (λ branches. Replaces R.kept R.standing R.words node.entry.level
-        node.entry.pair.now node.entry.slots.now (old ∷ [])
-        (pairs_of (R.words room.new) node.entry.pair.now branches.items) room.old room.new) }
+    ensures ok { Packs R.kept R.standing R.words node.entry.level node.entry.pair.now
+        node.entry.slots.now (old ∷ []) result room.old room.new }
     ensures branches { IfOk result (λ branches. All IsBranchSlot branches.items) }
     ensures some { IfOk result (λ branches. (0 < length branches.items)
         × (length branches.items ≤ 2)) }
@@ -171,15 +165,13 @@ pub(crate) fn pack_two<R: Room>(
     right: u64,
     node: Node<'_>,
 ) -> Result<ArrayVec<Slot, 2>, Refusal>
-    requires node { CanBeWritten node.level (R.standing room.old) (R.words room.old) node.pair.now
-        node.slots.now }
+    requires node { IsWritable R.standing R.words room.old node.level node.pair.now node.slots.now }
     requires size { (6 ≤ length node.slots.now) × (length node.slots.now ≤ 24) }
-    requires two { AreApart node.level (R.standing room.old) (R.words room.old) node.pair.now
-        node.slots.now left right }
+    requires two { AreApart R.standing R.words room.old node.level node.pair.now node.slots.now left
+        right }
     requires open { IsTrue (R.is_open (R.kept room.old)) }
-    ensures ok { IfOk result (λ branches. Replaces R.kept R.standing R.words node.entry.level
-        node.entry.pair.now node.entry.slots.now (left ∷ right ∷ [])
-        (pairs_of (R.words room.new) node.entry.pair.now branches.items) room.old room.new) }
+    ensures ok { Packs R.kept R.standing R.words node.entry.level node.entry.pair.now
+        node.entry.slots.now (left ∷ right ∷ []) result room.old room.new }
     ensures branches { IfOk result (λ branches. All IsBranchSlot branches.items) }
     ensures some { IfOk result (λ branches. (0 < length branches.items)
         × (length branches.items ≤ 2)) }
@@ -220,12 +212,10 @@ pub(crate) fn write_first_root<R: Room>(
 
 /// Writes items as a tree of their own, and gives its root. The old root's page is given up.
 pub(crate) fn write_root<R: Room>(room: &mut R, old: u64, node: Node<'_>) -> Result<u64, Refusal>
-    requires node { CanBeWritten node.level (R.standing room.old) (R.words room.old) node.pair.now
-        node.slots.now }
+    requires node { IsWritable R.standing R.words room.old node.level node.pair.now node.slots.now }
     requires enough { least_of_root node.level ≤ length node.slots.now }
     requires few { length node.slots.now ≤ 18 }
-    requires old { IsApart node.level (R.standing room.old) (R.words room.old) node.pair.now
-        node.slots.now old }
+    requires old { IsApart R.standing R.words room.old node.level node.pair.now node.slots.now old }
     requires low { node.level < 2 ^ 32 }
     requires open { IsTrue (R.is_open (R.kept room.old)) }
     ensures ok { IfOk result (λ root. ReplacesTree R.kept R.standing R.words node.entry.level
@@ -252,11 +242,9 @@ pub(crate) fn write_root<R: Room>(room: &mut R, old: u64, node: Node<'_>) -> Res
 /// page of the one branch that is left of an inner root. The old root's page is given up.
 pub(crate) fn write_rest<R: Room>(room: &mut R, old: u64, node: Node<'_>) -> Result<u64, Refusal>
     requires low { node.level < 2 ^ 32 }
-    requires node { CanBeWritten node.level (R.standing room.old) (R.words room.old) node.pair.now
-        node.slots.now }
+    requires node { IsWritable R.standing R.words room.old node.level node.pair.now node.slots.now }
     requires few { length node.slots.now ≤ 18 }
-    requires old { IsApart node.level (R.standing room.old) (R.words room.old) node.pair.now
-        node.slots.now old }
+    requires old { IsApart R.standing R.words room.old node.level node.pair.now node.slots.now old }
     requires open { IsTrue (R.is_open (R.kept room.old)) }
     ensures ok { IfOk result (λ root. ReplacesTree R.kept R.standing R.words node.entry.level
         node.entry.pair.now node.entry.slots.now old root room.old room.new) }

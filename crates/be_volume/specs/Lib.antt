@@ -1,6 +1,7 @@
 pub mod Ahead
 pub mod Coded
 pub mod Indices
+pub mod Items
 pub mod Keys
 pub mod Maps
 pub mod PairKeys

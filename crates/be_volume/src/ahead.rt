@@ -6,7 +6,9 @@
 //! for each of them, so it is made only for a new name, and only if the old count and the sets of
 //! the node before it reach the limit together.
 ghost use Rattle.std.specs.FinMap as map;
-ghost use Rattle.std.specs.Prelude.{◌≡◌, ◌≤◌, ◌<◌, ◌+◌, ◌^◌, IsOk, false, length, nat_le};
+ghost use Rattle.std.specs.Prelude.{◌≡◌, ◌≤◌, ◌<◌, ◌+◌, ◌^◌, IsOk, false, length, nat_eq};
+ghost use Rattle.std.specs.Prelude.{nat_le};
+ghost use Rattle.std.specs.Cmp.Lexicographic.{pointwise};
 ghost use Rattle.std.specs.Result.{result_err};
 ghost use Rattle.be_volume.specs.Ahead.{AreDone, StillAnswers, state_after, next_after, node_after};
 ghost use Rattle.be_volume.specs.Ahead.{attribute_after, count_after, sets_after, index_after};
@@ -214,10 +216,21 @@ fn attribute_after(op: &Op, next: u64, there: bool, node: u64, name: &Name) -> b
     match op {
         Op::New => node != next && there,
         Op::Drop(dropped) => node != *dropped && there,
-        Op::Set(changed, set, _) => (node == *changed && name == set) || there,
-        Op::Unset(changed, unset) => !(node == *changed && name == unset) && there,
+        Op::Set(changed, set, _) => (node == *changed && is_same(name, set)) || there,
+        Op::Unset(changed, unset) => !(node == *changed && is_same(name, unset)) && there,
         _ => there,
     }
+}
+
+/// Whether two names are the same. The names of one list mostly differ in their length or in their
+/// last byte, so these are compared first.
+#[inline(always)]
+fn is_same(name: &Name, other: &Name) -> bool
+    ensures { result ≡ pointwise nat_eq name.now other.now }
+{
+    let bytes = name.as_str().as_bytes();
+    let others = other.as_str().as_bytes();
+    bytes.len() == others.len() && bytes.last() == others.last() && name == other
 }
 
 /// Whether the node has as many attributes after these operations as it may. They are counted only

@@ -5,3 +5,4 @@ pub mod Calls
 pub mod Usage
 pub mod States
 pub mod Witnesses
+pub mod Finishing

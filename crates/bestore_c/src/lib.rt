@@ -25,12 +25,14 @@ ghost use Rattle.bestore_c.specs.Calls.{PrintsPrepared, PutsOutAtPin, Reads, Ref
 ghost use Rattle.bestore_c.specs.Calls.{Refuses, ShowsFound};
 ghost use Rattle.bestore_c.specs.Calls.{HoldsName, ReadsHeld, ShowsChanges, TellsAtPin, TellsEntry};
 ghost use Rattle.bestore_c.specs.Calls.{TellsJournal, TellsNumber, WritesSpelled, WritesSpelledIf};
+ghost use Rattle.bestore_c.specs.Finishing.{Finishes};
 ghost use Rattle.bestore_c.specs.States.{TellsState, untold_at};
 ghost use Rattle.bestore_c.specs.Usage.{TellsUsage};
 ghost use Rattle.bestore_c.specs.Witnesses.{AreOfOneStore, JoinsWitness, Vouches};
 
 mod asking;
 mod entries;
+mod finishing;
 mod handle;
 mod listing;
 mod loose;
@@ -51,6 +53,7 @@ use be_session::{
 };
 use be_store::{ArrayVec, Cell, HeldName, Limits};
 use entries::tell_entry;
+use finishing::{end, last_text};
 use handle::{
     Attribute, Counts, Handle, PlaceHandle, PreparedHandle, UpdateCounts, Usage, WitnessHandle,
 };
@@ -180,6 +183,34 @@ pub extern "C" fn bes_close(alloc: Global, pass: &mut Handle) -> u32
     pass.live = false;
     Box::into_inner(session).close();
     DONE
+}
+
+/// Closes the store by its last handle, which is then closed. Returns the journal's text: how many
+/// bytes it has, and all of them. If there is too little room, it returns the length alone, and the
+/// handle stays open.
+#[unsafe(no_mangle)]
+pub extern "C" fn bes_finish(
+    alloc: Global,
+    pass: &mut Handle,
+    bytes: &mut [u8],
+    count: &mut u64,
+) -> u32
+    ensures pass { Finishes pass.old.owned.value pass.new.owned.value bytes.old bytes.new count.new
+        result }
+    ensures kept { (result ≡ 0) ⊎ (bytes.new ≡ bytes.old) }
+{
+    if !pass.live {
+        *count = 0;
+        return CLOSED;
+    }
+    match last_text(pass.owned.lent(), bytes.len(), count) {
+        Ok(text) => {
+            let session = mem::replace(&mut pass.owned, Owned::none(alloc)).into_box();
+            pass.live = false;
+            end(Box::into_inner(session), text.as_str(), bytes, count)
+        }
+        Err(code) => code,
+    }
 }
 
 /// Meets a pass that was given back: both have then seen what either had. Returns the length of

@@ -59,6 +59,7 @@ constants! {
     BES_BAD_PART = 74;
     BES_NO_ITEM = 75;
     BES_CONFLICT = 76;
+    BES_IN_USE = 77;
 
     BES_STRING_TYPE = 0x4353_5452;
     BES_INT32_TYPE = 0x4c4f_4e47;
@@ -209,6 +210,7 @@ extern "C" {
     pub fn bes_another(pass: *mut bes_pass, other: *mut bes_pass) -> u32;
     pub fn bes_move(pass: *mut bes_pass, other: *mut bes_pass) -> u32;
     pub fn bes_close(pass: *mut bes_pass) -> u32;
+    pub fn bes_finish(pass: *mut bes_pass, bytes: *mut u8, bytes_room: usize, count: *mut u64) -> u32;
     pub fn bes_meet(pass: *mut bes_pass, seen: *mut u64) -> u32;
     pub fn bes_witness_of(pass: *mut bes_pass, witness: *mut bes_witness) -> u32;
     /// The witness is one of a pass of the same store: otherwise the behaviour is undefined.

@@ -61,6 +61,8 @@ pub enum Error {
     BadLimits,
     /// Each pass of the store is in use.
     NoPass,
+    /// Another pass of the store is open, or another clone of it.
+    InUse,
     /// The witness is of a pass of another store.
     OtherStore,
     /// A batch has not 1 to 64 operations.
@@ -198,6 +200,7 @@ impl Error {
             Error::HasNul { .. } => sys::BES_HAS_NUL,
             Error::BadLimits => sys::BES_BAD_LIMITS,
             Error::NoPass => sys::BES_NO_PASS,
+            Error::InUse => sys::BES_IN_USE,
             Error::BadCount { .. } => sys::BES_BAD_COUNT,
             Error::Conflict { .. } => sys::BES_CONFLICT,
             Error::Unexpected { code, .. } => *code,
@@ -289,6 +292,7 @@ impl From<Refused> for Error {
             sys::BES_HAS_NUL => Error::HasNul { operation },
             sys::BES_BAD_LIMITS => Error::BadLimits,
             sys::BES_NO_PASS => Error::NoPass,
+            sys::BES_IN_USE => Error::InUse,
             FORKED => Error::Forked,
             code => Error::Unexpected {
                 code,
@@ -320,6 +324,7 @@ impl Error {
             Error::OutOfMemory => "out of memory",
             Error::BadLimits => "a limit is out of its range",
             Error::NoPass => "each pass is in use",
+            Error::InUse => "another pass is open",
             Error::OtherStore => "the witness is of another store",
             Error::Forked => "the handle belongs to the parent of this process",
             Error::NodesSpent => "the next node is too great for a volume of a shelf",

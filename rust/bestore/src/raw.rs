@@ -474,6 +474,15 @@ impl RawPass {
         })
     }
 
+    /// Closes the store, and then the handle is closed. Otherwise both are as they were.
+    pub(crate) fn finish(&self) -> Answer<Vec<u8>> {
+        let pass = self.handle.get()?;
+        whole(1 << 16, |bytes, room, count| {
+            // SAFETY: as the module says.
+            unsafe { sys::bes_finish(pass, bytes, room, count) }
+        })
+    }
+
     /// The entry with this index and the pass that wrote it. It has no operations if the journal ends before.
     pub(crate) fn entry(&self, from: u64) -> Answer<(u64, List)> {
         let pass = self.handle.get()?;

@@ -65,6 +65,27 @@ impl Store {
         Ok(Pass::new(self.own()?.raw().another()?))
     }
 
+    /// Closes the store by its last clone, when no pass is open, and returns the whole journal as text, a line for each entry. Of each
+    /// pass it has just the writes that its calls have committed, at their commit numbers.
+    ///
+    /// # Errors
+    /// [`Error::InUse`]: another clone or a pass is open. [`Error::OutOfMemory`], [`Error::Forked`]. The store is returned with the
+    /// error, as it was.
+    pub fn finish(self) -> std::result::Result<String, (Self, Error)> {
+        let Self { own, birthplace } = self;
+        let pass = match Arc::try_unwrap(own) {
+            Ok(own) => own.into_inner().unwrap_or_else(PoisonError::into_inner),
+            Err(own) => return Err((Self { own, birthplace }, Error::InUse)),
+        };
+        match pass.raw().finish() {
+            Ok(text) => Ok(String::from_utf8_lossy(&text).into_owned()),
+            Err(refused) => {
+                let own = Arc::new(Mutex::new(pass));
+                Err((Self { own, birthplace }, refused.into()))
+            }
+        }
+    }
+
     /// [`Error::Forked`] in a forked child of the process that opened the store.
     pub(crate) fn check(&self) -> Result<()> {
         Ok(self.birthplace.check()?)

@@ -268,6 +268,22 @@ fn a_pass_that_was_dropped_is_met() {
 }
 
 #[test]
+fn the_last_clone_closes_its_store() {
+    let store = store();
+    let (pass, clone) = (store.pass().unwrap(), store.clone());
+    pass.new_node().unwrap();
+    let (store, error) = store.finish().unwrap_err();
+    assert!(matches!(error, Error::InUse));
+    drop(clone);
+    let (store, error) = store.finish().unwrap_err();
+    assert!(matches!(error, Error::InUse));
+    pass.new_node().unwrap();
+    let journal = pass.journal().unwrap();
+    drop(pass);
+    assert_eq!(store.finish().unwrap(), journal);
+}
+
+#[test]
 fn a_witness_is_joined_in_another_thread() {
     let store = store();
     let (first, mut second) = (store.pass().unwrap(), store.pass().unwrap());

@@ -10,21 +10,19 @@ ghost use Rattle.be_plan.specs.Cover.{covers};
 ghost use Rattle.be_paged.specs.Version.{IsVersion};
 
 use crate::tests::same::same_lists;
-use be_paged::{attrs, indices, source};
-use be_pages::{Look, VecRoom};
+use be_paged::source;
+use be_pages::Look;
 use be_plan::{Cover, Picks, Source, choose_from, covers, run};
 use be_query::{Query, parse};
-use be_value::{Kind, Name, Refusal, Value};
+use be_test_tools::again;
+use be_value::Refusal;
 use be_volume::Volume;
 use std::alloc::Global;
 use std::test::Fail;
 
 /// The query of a text.
 pub(crate) fn read_query(alloc: Global, text: &str) -> Result<Query, Refusal> {
-    match parse(alloc, text) {
-        Err(Refusal::OutOfMemory) => parse(alloc, text),
-        query => query,
-    }
+    again!(parse(alloc, text))
 }
 
 /// What a query is answered from: one pick that is given, or what is chosen.
@@ -73,10 +71,7 @@ fn ask<S: Source>(
 
 /// The nodes of a query on the plain volume.
 fn asked_plain(plain: &Volume, query: &Query) -> Result<Vec<u64>, Refusal> {
-    match plain.query(query) {
-        Err(Refusal::OutOfMemory) => plain.query(query),
-        answer => answer,
-    }
+    again!(plain.query(query))
 }
 
 /// The answer of both forms to a query, which is answered from one pick or from what is chosen, and
@@ -93,64 +88,10 @@ pub(crate) fn query_both<L: Look + Drop>(
     ensures unchanged { IfOk result (λ r. IsUnchanged L.kept L.standing L.words look r.0) }
 {
     let mut reader = source(look, page);
-    let answer = match ask(alloc, plain, query, pick, &mut reader) {
-        Err(Refusal::OutOfMemory) => ask(alloc, plain, query, pick, &mut reader),
-        answer => answer,
-    };
+    let answer = again!(ask(alloc, plain, query, pick, &mut reader));
     let look = reader.into_look();
     if !same_lists(&answer, &asked_plain(plain, query)) {
         return Err(Fail::new("the forms answer the query otherwise"));
     }
     Ok((look, answer))
-}
-
-/// The attributes over pages.
-pub(crate) fn attrs_pages(
-    alloc: Global,
-    room: &mut VecRoom,
-    page: u64,
-    node: u64,
-) -> Result<Vec<(Name, Value)>, Refusal>
-    requires version { (volume : State)
-        × IsVersion (⟦<VecRoom as Look>⟧.standing room.old) (⟦<VecRoom as Look>⟧.words room.old)
-        page volume }
-    ensures unchanged { IsUnchanged ⟦<VecRoom as Look>⟧.kept ⟦<VecRoom as Look>⟧.standing
-        ⟦<VecRoom as Look>⟧.words room.old room.new }
-{
-    match attrs(alloc, room, page, node) {
-        Err(Refusal::OutOfMemory) => attrs(alloc, room, page, node),
-        answer => answer,
-    }
-}
-
-pub(crate) fn attrs_plain(plain: &Volume, node: u64) -> Result<Vec<(Name, Value)>, Refusal> {
-    match plain.attrs(node) {
-        Err(Refusal::OutOfMemory) => plain.attrs(node),
-        answer => answer,
-    }
-}
-
-/// The indices over pages.
-pub(crate) fn indices_pages(
-    alloc: Global,
-    room: &mut VecRoom,
-    page: u64,
-) -> Result<Vec<(Name, Kind)>, Refusal>
-    requires version { (volume : State)
-        × IsVersion (⟦<VecRoom as Look>⟧.standing room.old) (⟦<VecRoom as Look>⟧.words room.old)
-        page volume }
-    ensures unchanged { IsUnchanged ⟦<VecRoom as Look>⟧.kept ⟦<VecRoom as Look>⟧.standing
-        ⟦<VecRoom as Look>⟧.words room.old room.new }
-{
-    match indices(alloc, room, page) {
-        Err(Refusal::OutOfMemory) => indices(alloc, room, page),
-        answer => answer,
-    }
-}
-
-pub(crate) fn indices_plain(plain: &Volume) -> Result<Vec<(Name, Kind)>, Refusal> {
-    match plain.indices() {
-        Err(Refusal::OutOfMemory) => plain.indices(),
-        answer => answer,
-    }
 }

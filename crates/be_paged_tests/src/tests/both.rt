@@ -3,18 +3,22 @@
 //!
 //! The type keeps that the pages encode the plain volume, so a test that goes from one call to the
 //! next states nothing.
-use crate::tests::asking::{attrs_pages, attrs_plain, indices_pages, indices_plain, query_both};
+use crate::tests::asking::query_both;
 use crate::tests::same::same_lists;
 use crate::tests::writing::{accepts, apply_pages, refuses, room_of};
 use arrayvec::ArrayVec;
-use be_paged::get;
+use be_paged::{attrs, get, indices, nodes};
 use be_pages::{Look, VecRoom};
 use be_query::Query;
+use be_test_tools::again;
 use be_value::{Kind, Name, Refusal, Value};
 use be_volume::{Done, Op, Volume};
 use std::alloc::Global;
 use std::marker::Model;
 use std::test::Fail;
+
+/// Nodes, or why they were refused.
+type Nodes = Result<Vec<u64>, Refusal>;
 
 /// A plain volume, and a room with the version page of an equal one.
 #[derive(Drop)]
@@ -122,15 +126,19 @@ impl Both {
         alloc: Global,
         node: u64,
     ) -> Result<Result<Vec<(Name, Value)>, Refusal>, Fail> {
-        let list = attrs_pages(alloc, &mut self.room, self.page, node);
-        let same = same_lists(&list, &attrs_plain(&self.plain, node));
+        let list = again!(attrs(alloc, &mut self.room, self.page, node));
+        let same = same_lists(&list, &again!(self.plain.attrs(node)));
         agreed(same, list, "the forms have other attributes")
     }
 
     /// The indices.
     pub(crate) fn indices(&mut self, alloc: Global) -> Result<Vec<(Name, Kind)>, Fail> {
-        let list = indices_pages(alloc, &mut self.room, self.page);
-        let plain = indices_plain(&self.plain);
-        agreed_indices(list, plain)
+        let list = again!(indices(alloc, &mut self.room, self.page));
+        agreed_indices(list, again!(self.plain.indices()))
+    }
+
+    /// Up to `most` nodes of the form over pages, from a number on.
+    pub(crate) fn nodes(&mut self, alloc: Global, from: u64, most: usize) -> Nodes {
+        again!(nodes(alloc, &mut self.room, self.page, from, most))
     }
 }

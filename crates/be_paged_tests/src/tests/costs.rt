@@ -15,12 +15,12 @@ use crate::tests::lines::request_of;
 use crate::tests::run_lines;
 use crate::tests::sizes::{accepted, numbered};
 use arrayvec::ArrayVec;
-use be_paged::{answer_decided, apply_into, get, source};
+use be_paged::{Version, answer_decided, apply_into, get, source};
 use be_pages::{Look, Room};
 use be_plan::{PreparedQuery, answer};
 use be_query::Query;
 use be_script_language::Request;
-use be_test_tools::{Counted, list_of};
+use be_test_tools::{Counted, again, list_of};
 use be_value::{Name, Refusal, Value, word_of};
 use be_volume::{Op, Volume};
 use std::alloc::{AllocError, Global};
@@ -67,11 +67,7 @@ enum Cost {
 
 /// Whether a node has an attribute, and what the look at it costs.
 fn count_get(both: Both, node: u64, name: &Name) -> Cost {
-    let Both {
-        plain: _plain,
-        room,
-        page,
-    } = both;
+    let Both { room, page, .. } = both;
     let mut look = Counted::new(room);
     let value = get(&mut look, page, node, name);
     Cost::Read {
@@ -119,11 +115,7 @@ fn query_cost(alloc: Global, text: &str) -> Result<Cost, Fail> {
 
 /// What a prepared query costs when it is asked again: the nodes, or none if a plan would be asked.
 fn count_again(alloc: Global, both: Both, query: Query) -> Result<Cost, Refusal> {
-    let Both {
-        plain: _plain,
-        room,
-        page,
-    } = both;
+    let Both { room, page, .. } = both;
     let mut look = Counted::new(room);
     let mut prepared = PreparedQuery::new(query);
     let mut nodes = Vec::new(alloc);
@@ -159,8 +151,9 @@ fn apply_counted<R: Room>(
     requires fits { volume.next + 64 < 2 ^ 64 }
     requires open { IsTrue (R.is_open (R.kept room.old)) }
 {
+    let mut version = Version::new();
     let mut dones = ArrayVec::new();
-    let _page = apply_into(room, page, ops, &mut dones)?;
+    let _page = apply_into(room, &mut version, page, ops, &mut dones)?;
     Ok(())
 }
 
@@ -205,10 +198,7 @@ fn ops_of(alloc: Global, request: &str) -> Result<Vec<Op>, Refusal> {
         return list_of(alloc, request);
     }
     let count = (word_of(count.as_bytes()).unwrap_or(0) % 256) as u8;
-    match sets_of(alloc, kind, count) {
-        Err(Refusal::OutOfMemory) => sets_of(alloc, kind, count),
-        ops => ops,
-    }
+    again!(sets_of(alloc, kind, count))
 }
 
 fn write_cost(alloc: Global, request: &str) -> Result<Cost, Fail> {
@@ -314,13 +304,13 @@ again size>=1000 && size<2000 => 100 found, 458 words read"#;
 fn write_costs(rt: HostRuntime) -> Result<(), Fail> {
     let rows =
         "new;set 302 name CSTR 10150-copy.txt;set 302 size LONG 1505;set 302 kind CSTR image/png \
-=> 281 words stored, 11 pages taken, 614 words read
-set 150 size LONG 1505 => 219 words stored, 7 pages taken, 366 words read
-set 150 kind CSTR image/png => 58 words stored, 4 pages taken, 193 words read
-set 150 kind CSTR text/plain => 55 words stored, 4 pages taken, 193 words read
-sizes 64 => 6247 words stored, 144 pages taken, 17529 words read
-names 8 => 141 words stored, 6 pages taken, 616 words read
-names 64 => 643 words stored, 26 pages taken, 4685 words read
-drop 150 => 258 words stored, 10 pages taken, 722 words read";
+=> 281 words stored, 11 pages taken, 615 words read
+set 150 size LONG 1505 => 219 words stored, 7 pages taken, 368 words read
+set 150 kind CSTR image/png => 58 words stored, 4 pages taken, 195 words read
+set 150 kind CSTR text/plain => 55 words stored, 4 pages taken, 195 words read
+sizes 64 => 6247 words stored, 144 pages taken, 17601 words read
+names 8 => 141 words stored, 6 pages taken, 619 words read
+names 64 => 643 words stored, 26 pages taken, 4692 words read
+drop 150 => 258 words stored, 10 pages taken, 724 words read";
     expect_rows(rt.alloc(), rows)
 }

@@ -13,7 +13,7 @@ use crate::tests::run_lines;
 use crate::tests::test_looks::Before;
 use crate::tests::writing::{accepts, apply_pages};
 use be_pages::{Look, VecRoom};
-use be_test_tools::{Counted, EQUAL_VALUES};
+use be_test_tools::{Counted, EQUAL_VALUES, again};
 use be_value::Refusal;
 use be_volume::{Op, Volume};
 use std::alloc::Global;
@@ -73,10 +73,7 @@ fn counting_look(rt: HostRuntime) -> Result<(), Fail> {
 fn copy_of(plain: &Volume) -> Result<Volume, Refusal>
     ensures { IfOk result (λ copy. copy ≡ plain.now) }
 {
-    match plain.copy() {
-        Err(Refusal::OutOfMemory) => plain.copy(),
-        copy => copy,
-    }
+    again!(plain.copy())
 }
 
 /// Fails unless the version from before the open write gives these nodes. Returns the room as it

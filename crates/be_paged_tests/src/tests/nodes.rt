@@ -2,49 +2,12 @@
 //! leaf has 12 pairs at most.
 //!
 //! A row is `FROM MOST => NODES`. What is refused memory is asked again, as elsewhere here.
-ghost use Rattle.be_pages.specs.Pages.{IsUnchanged};
-ghost use Rattle.be_volume.specs.Volume.{State};
-ghost use Rattle.be_paged.specs.Version.{IsVersion};
-
 use crate::tests::both::Both;
 use crate::tests::sizes::numbered;
-use be_paged::nodes;
-use be_pages::{Look, VecRoom};
-use be_value::{Refusal, Value, word_of};
+use be_value::{Value, word_of};
 use be_volume::Op;
 use std::alloc::Global;
 use std::test::Fail;
-
-/// The nodes over pages.
-fn nodes_pages(
-    alloc: Global,
-    room: &mut VecRoom,
-    page: u64,
-    from: u64,
-    most: usize,
-) -> Result<Vec<u64>, Refusal>
-    requires version { (volume : State)
-        × IsVersion (⟦<VecRoom as Look>⟧.standing room.old) (⟦<VecRoom as Look>⟧.words room.old)
-        page volume }
-    ensures unchanged { IsUnchanged ⟦<VecRoom as Look>⟧.kept ⟦<VecRoom as Look>⟧.standing
-        ⟦<VecRoom as Look>⟧.words room.old room.new }
-{
-    match nodes(alloc, room, page, from, most) {
-        Err(Refusal::OutOfMemory) => nodes(alloc, room, page, from, most),
-        answer => answer,
-    }
-}
-
-/// The nodes of the form over pages, with both forms as they were.
-fn nodes_of(alloc: Global, both: Both, from: u64, most: usize) -> Result<(Both, Vec<u64>), Fail> {
-    let Both {
-        plain,
-        mut room,
-        page,
-    } = both;
-    let list = nodes_pages(alloc, &mut room, page, from, most)?;
-    Ok((Both { plain, room, page }, list))
-}
 
 fn number(word: &str) -> u64 {
     word_of(word.as_bytes()).unwrap_or(u64::MAX)
@@ -67,12 +30,12 @@ fn are_numbers(list: &[u64], words: &str) -> bool {
 }
 
 /// Fails unless a row is so.
-fn expect_row(alloc: Global, both: Both, row: &str) -> Result<Both, Fail> {
+fn expect_row(alloc: Global, mut both: Both, row: &str) -> Result<Both, Fail> {
     let Some((asked, expected)) = row.split_once(" => ") else {
         return Err(Fail::new(row));
     };
     let (from, most) = asked.split_once(" ").unwrap_or((asked, ""));
-    let (both, list) = nodes_of(alloc, both, number(from), number(most) as usize)?;
+    let list = both.nodes(alloc, number(from), number(most) as usize)?;
     if !are_numbers(&list, expected) {
         return Err(Fail::new(row));
     }
@@ -154,8 +117,7 @@ fn nodes_with_attributes(rt: HostRuntime) -> Result<(), Fail> {
 51 2 => 53 54
 98 99 => 98 99 100
 101 1 => none";
-    let both = expect_rows(rt.alloc(), both, rows)?;
-    let (_both, list) = nodes_of(rt.alloc(), both, 0, 1000)?;
-    assert_eq!(rt; list.len(), 98);
+    let mut both = expect_rows(rt.alloc(), both, rows)?;
+    assert_eq!(rt; both.nodes(rt.alloc(), 0, 1000)?.len(), 98);
     Ok(())
 }

@@ -2,6 +2,7 @@
 //! taken, 64 attributes of a node and 32 indices are taken and listed whole, and one attribute and
 //! one index more are refused.
 use crate::tests::both::Both;
+use be_test_tools::again;
 use be_value::{Kind, Name, Refusal, Value};
 use be_volume::Op;
 use std::alloc::Global;
@@ -91,10 +92,7 @@ fn with_attributes(alloc: Global, ops: &[Op]) -> Result<Both, Fail> {
 
 #[test]
 fn most_operations_and_attributes(rt: HostRuntime) -> Result<(), Fail> {
-    let ops = match node_list(rt.alloc()) {
-        Err(Refusal::OutOfMemory) => node_list(rt.alloc())?,
-        ops => ops?,
-    };
+    let ops = again!(node_list(rt.alloc()))?;
     let mut both = with_attributes(rt.alloc(), &ops)?;
     lists_attributes(rt.alloc(), &mut both, 64)?;
     refused(both, sized(64)?, Refusal::TooManyAttrs)
@@ -102,10 +100,7 @@ fn most_operations_and_attributes(rt: HostRuntime) -> Result<(), Fail> {
 
 #[test]
 fn most_indices(rt: HostRuntime) -> Result<(), Fail> {
-    let ops = match index_list(rt.alloc()) {
-        Err(Refusal::OutOfMemory) => index_list(rt.alloc())?,
-        ops => ops?,
-    };
+    let ops = again!(index_list(rt.alloc()))?;
     let mut both = with_list(rt.alloc(), &ops, 32)?;
     lists_indices(rt.alloc(), &mut both, 32)?;
     refused(both, index(32)?, Refusal::TooManyIndices)

@@ -13,6 +13,7 @@ ghost use Rattle.be_paged.specs.Version.{IsVersion};
 use arrayvec::ArrayVec;
 use be_paged::{apply, first_page};
 use be_pages::{Look, Room, VecRoom};
+use be_test_tools::again;
 use be_value::Refusal;
 use be_volume::{Done, Op, Volume};
 use std::alloc::Global;
@@ -24,10 +25,7 @@ pub(crate) fn room_of(alloc: Global, pages: u64) -> Result<(VecRoom, u64), Refus
         (⟦<VecRoom as Look>⟧.words r.0) r.1 empty) }
     ensures start { IfOk result (λ r. IsWriteStart (⟦<VecRoom as Look>⟧.standing r.0)) }
 {
-    let mut room = match VecRoom::new(alloc, pages) {
-        Err(Refusal::OutOfMemory) => VecRoom::new(alloc, pages)?,
-        answer => answer?,
-    };
+    let mut room = again!(VecRoom::new(alloc, pages))?;
     let page = room.take()?;
     let words = first_page();
     room.fill(page, 0, words[0]);
@@ -45,10 +43,7 @@ fn apply_plain(plain: &mut Volume, ops: &[Op]) -> Result<ArrayVec<Done, 64>, Ref
     requires fits { plain.old.next + 64 < 2 ^ 64 }
     ensures { Writes (λ dones. dones.items) plain.old ops.now result plain.new }
 {
-    match plain.apply(ops) {
-        Err(Refusal::OutOfMemory) => plain.apply(ops),
-        answer => answer,
-    }
+    again!(plain.apply(ops))
 }
 
 /// Applies a list to the pages. The plain volume isn't asked: it names the volume that they encode.

@@ -1,6 +1,6 @@
 //! Races: scripts at once, each on a thread of its own.
 use be_script_runner::{Gate, Limits, OpenGate, RunFault, race};
-use be_test_tools::{Narrow, list_with_room, longest_list};
+use be_test_tools::{Narrow, list_with_room, longest_list, may_write};
 use be_value::word_of;
 use std::alloc::{AllocError, Global};
 use std::io::Write;
@@ -498,17 +498,16 @@ fn pages_of_a_race(rt: HostRuntime) -> Result<(), Fail> {
 /// Whether a race writes as many bytes as there is room for, and then ends with `Write`; or with
 /// success if there is room for all. It may return false if memory ran out, which isn't reported as
 /// `Write`.
-fn fills<R: Threads + Wait>(rt: &R, alloc: Global, room: usize) -> Result<bool, RunFault> {
+fn fills<R: Threads + Wait>(rt: &R, alloc: Global, room: usize) -> bool {
     let Ok(scripts) = scripts_of(alloc, &["new\n", ""]) else {
-        return Ok(false);
+        return false;
     };
     let mut writer = Narrow::new(OF_TWO.as_bytes(), room, true);
-    match race_on(rt, scripts, 64, &OpenGate, &mut writer) {
-        Ok(legal) => Ok(legal && writer.has_all()),
-        Err(RunFault::Write) if writer.is_full() => Ok(writer.is_cut_short()),
-        Err(RunFault::Memory) => Ok(false),
-        Err(fault) => Err(fault),
-    }
+    let ended = race_on(rt, scripts, 64, &OpenGate, &mut writer);
+    writer.may_end(
+        matches!(&ended, Ok(true)),
+        matches!(&ended, Err(RunFault::Write)),
+    )
 }
 
 /// A writer that fails at each place: a front is written.
@@ -516,24 +515,16 @@ fn fills<R: Threads + Wait>(rt: &R, alloc: Global, room: usize) -> Result<bool, 
 fn failing_writer_of_a_race(rt: HostRuntime) -> Result<(), Fail> {
     let alloc = rt.alloc();
     for room in 0..=OF_TWO.len() {
-        if !fills(&rt, alloc, room)? && !fills(&rt, alloc, room)? {
-            return Err(Fail::new(room));
-        }
+        assert!(rt;
+            fills(&rt, alloc, room) || fills(&rt, alloc, room),
+            "{room}"
+        );
     }
     Ok(())
 }
 
 /// What is written if the one line of a race is refused because memory ran out.
 const OF_NONE: &str = "pass 0\nrefused 10 OutOfMemory\npass 1\njournal 0\nreplay ok\n";
-
-/// Whether a race that ended so may have written this: all, or a front if memory ran out.
-fn may_write(ended: Result<bool, RunFault>, written: &str) -> bool {
-    match ended {
-        Ok(legal) => legal && (written == OF_TWO || written == OF_NONE),
-        Err(RunFault::Memory) => OF_TWO.starts_with(written) || OF_NONE.starts_with(written),
-        Err(_) => false,
-    }
-}
 
 /// A request for memory that is refused is reported as Memory, or by the line, over a writer that
 /// needs none.
@@ -546,6 +537,17 @@ fn refused_memory(rt: HostRuntime) -> Result<(), Fail> {
         Err(_) => scripts_of(alloc, &["new\n", ""])?,
     };
     let ended = race_on(&rt, scripts, 64, &OpenGate, &mut written);
-    assert!(rt; may_write(ended, str::from_utf8(&written)?));
+    let (well, by_memory) = (
+        matches!(&ended, Ok(true)),
+        matches!(&ended, Err(RunFault::Memory)),
+    );
+    assert!(rt;
+        may_write(
+            str::from_utf8(&written)?,
+            well,
+            by_memory,
+            [OF_TWO, OF_NONE]
+        )
+    );
     Ok(())
 }

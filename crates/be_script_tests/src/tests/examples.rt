@@ -1,5 +1,5 @@
 //! Worked examples.
-use super::{check, check_after, check_bytes};
+use super::{FIVE, check, check_after, check_bytes};
 use be_test_tools::{COVERAGE, EXAMPLES, TEXTS, TWO_INDICES};
 use std::test::Fail;
 
@@ -69,20 +69,15 @@ fn batches(rt: HostRuntime) -> Result<(), Fail> {
 /// before.
 #[test]
 fn live_query(rt: HostRuntime) -> Result<(), Fail> {
-    check(
-        rt.alloc(),
-        "
-        mkindex k LONG => ok
-        new => node 1
-        set 1 k LONG 5 => ok
+    let rows = "
         live k>4 => ok
         refresh => created 1 / removed
         new => node 2
         set 1 k LONG 1 => ok
         set 2 k LONG 9 => ok
         refresh => created 2 / removed 1
-        refresh => created / removed",
-    )
+        refresh => created / removed";
+    check_after(rt.alloc(), FIVE, rows)
 }
 
 /// Reads are of the pinned version until `unpin`. A second `pin` or `unpin` changes nothing, and

@@ -128,11 +128,7 @@ fn failing_reader(rt: HostRuntime) -> Result<(), Fail> {
 fn fills(alloc: Global, room: usize, fails: bool) -> bool {
     let mut writer = Narrow::new(REPLIES.as_bytes(), room, fails);
     let end = end_of(run(alloc, &mut SCRIPT.as_bytes(), &mut writer, LIMITS));
-    if room < REPLIES.len() {
-        writer.is_full() && writer.is_cut_short() && end == "write"
-    } else {
-        writer.has_all() && end == "well"
-    }
+    writer.may_end(end == "well", end == "write")
 }
 
 /// The same of a writer that fails and of one that takes nothing, at the second run if memory may

@@ -1,6 +1,6 @@
 //! Rules of the script language, one after the other. A comment in a row is a comment of its script
 //! too.
-use super::check;
+use super::{FIVE, check, check_after};
 use std::test::Fail;
 
 /// Which lines are comments or blank, and what a CR and other blank-like characters in a line are.
@@ -372,12 +372,10 @@ fn batches(rt: HostRuntime) -> Result<(), Fail> {
 /// A pin is the number of accepted writes, and stays until `unpin`.
 #[test]
 fn pins(rt: HostRuntime) -> Result<(), Fail> {
-    check(
+    check_after(
         rt.alloc(),
+        FIVE,
         "
-        mkindex k LONG => ok
-        new => node 1
-        set 1 k LONG 5 => ok
         # A pin is the number of accepted writes.
         pin => pin 3
         # A second one changes nothing, and no write moves a pin.

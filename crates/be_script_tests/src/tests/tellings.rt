@@ -2,7 +2,7 @@
 use super::LIMITS;
 use be_journal_text::{Finding, check, dump, dump_state, journal_told};
 use be_script_runner::{Limits, RunFault, run_and_tell};
-use be_test_tools::{Narrow, list_with_room};
+use be_test_tools::{Narrow, list_with_room, may_write};
 use std::alloc::{AllocError, Global};
 use std::str;
 use std::test::Fail;
@@ -30,15 +30,6 @@ const STATE_TOLD: &str =
 const OF_ONE: &str = "node 1\njournal 1\n1 by 0 new -> node 1\nreplay ok\n";
 
 const OF_NONE: &str = "refused 10 OutOfMemory\njournal 0\nreplay ok\n";
-
-/// Whether a run that ended so may have written this: all, or a front if memory ran out.
-fn may_tell(ended: Result<bool, RunFault>, told: &str) -> bool {
-    match ended {
-        Ok(legal) => legal && (told == OF_ONE || told == OF_NONE),
-        Err(RunFault::Memory) => OF_ONE.starts_with(told) || OF_NONE.starts_with(told),
-        Err(_) => false,
-    }
-}
 
 /// Whether a run of a script that writes its journal writes this, at the second run if memory may
 /// have run out at the first. The run must report that the journal is legal.
@@ -118,24 +109,23 @@ fn journal_is_read(rt: HostRuntime) -> Result<(), Fail> {
 /// Whether a run that writes its journal writes as many bytes as there is room for, and then ends
 /// with `Write`; or with success if there is room for all. It may return false if memory ran out,
 /// which isn't reported as `Write`.
-fn fills(alloc: Global, room: usize) -> Result<bool, RunFault> {
+fn fills(alloc: Global, room: usize) -> bool {
     let mut writer = Narrow::new(TOLD.as_bytes(), room, true);
-    match run_and_tell(alloc, &mut SCRIPT.as_bytes(), &mut writer, LIMITS) {
-        Ok(legal) => Ok(legal && writer.has_all()),
-        Err(RunFault::Write) if writer.is_full() => Ok(writer.is_cut_short()),
-        Err(RunFault::Memory) => Ok(false),
-        Err(fault) => Err(fault),
-    }
+    let ended = run_and_tell(alloc, &mut SCRIPT.as_bytes(), &mut writer, LIMITS);
+    writer.may_end(
+        matches!(&ended, Ok(true)),
+        matches!(&ended, Err(RunFault::Write)),
+    )
 }
 
 /// A writer that fails at each place: a front is written.
 #[test]
 fn failing_writer_of_a_telling(rt: HostRuntime) -> Result<(), Fail> {
-    let alloc = rt.alloc();
     for room in 0..=TOLD.len() {
-        if !fills(alloc, room)? && !fills(alloc, room)? {
-            return Err(Fail::new(room));
-        }
+        assert!(rt;
+            fills(rt.alloc(), room) || fills(rt.alloc(), room),
+            "{room}"
+        );
     }
     Ok(())
 }
@@ -147,7 +137,11 @@ fn refused_memory_of_a_telling(rt: HostRuntime) -> Result<(), Fail> {
     let alloc = rt.alloc();
     let mut told = list_with_room(alloc)?;
     let ended = run_and_tell(alloc, &mut b"new\n".as_slice(), &mut told, LIMITS);
-    assert!(rt; may_tell(ended, str::from_utf8(&told)?));
+    let (well, by_memory) = (
+        matches!(&ended, Ok(true)),
+        matches!(&ended, Err(RunFault::Memory)),
+    );
+    assert!(rt; may_write(str::from_utf8(&told)?, well, by_memory, [OF_ONE, OF_NONE]));
     Ok(())
 }
 

@@ -5,44 +5,15 @@ ghost use Rattle.be_store_tests.specs.Staying.{StaysPass};
 
 use crate::tests::races::make_hundred;
 use crate::tests::room::{Room, for_one};
-use be_store::{Op, Pass, Place, Refusal, Store};
+use crate::tests::states::next_list;
+use be_store::{Pass, Place, Refusal, Store};
+use be_test_tools::again;
 use std::alloc::Global;
 use std::thread;
 use std::thread::Threads;
 
-/// The next list at the pin. BadLimits if the pass isn't pinned.
-fn read_once(
-    store: &Store,
-    alloc: Global,
-    pass: &mut Pass,
-    place: &mut Place,
-) -> Result<Option<Vec<Op>>, Refusal>
-    requires { IsPassOf store.now pass.old }
-    ensures { StaysPass store.now pass.old pass.new }
-{
-    match pass.pinned() {
-        Some(_) => store.state(alloc, pass, place),
-        None => Err(Refusal::BadLimits),
-    }
-}
-
-/// The same, once more after running out of memory.
-fn read_at_last(
-    store: &Store,
-    alloc: Global,
-    pass: &mut Pass,
-    place: &mut Place,
-) -> Result<Option<Vec<Op>>, Refusal>
-    requires { IsPassOf store.now pass.old }
-    ensures { StaysPass store.now pass.old pass.new }
-{
-    match read_once(store, alloc, pass, place) {
-        Err(Refusal::OutOfMemory) => read_once(store, alloc, pass, place),
-        list => list,
-    }
-}
-
-/// Reads the next list, and writes it to the room; false if there is none.
+/// Reads the next list, again after running out of memory, and writes it to the room; false if
+/// there is none.
 fn carry_list(
     store: &Store,
     alloc: Global,
@@ -53,7 +24,7 @@ fn carry_list(
     requires { IsPassOf store.now pass.old }
     ensures { StaysPass store.now pass.old pass.new }
 {
-    let Some(ops) = read_at_last(store, alloc, pass, place)? else {
+    let Some(ops) = again!(next_list(store, alloc, pass, place))? else {
         return Ok(false);
     };
     room.write_list(ops.as_slice())?;

@@ -4,7 +4,7 @@ ghost use Rattle.be_store.specs.Passes.{IsPassOf};
 ghost use Rattle.be_store_tests.specs.Staying.{StaysPass};
 
 use be_store::{Journal, Op, Pass, Refusal, Store};
-use be_test_tools::{is_legal, pair_of};
+use be_test_tools::{again, is_legal, pair_of};
 use std::alloc::Global;
 use std::thread;
 use std::thread::Threads;
@@ -25,10 +25,7 @@ fn make_at_last(store: &Store, pass: &mut Pass) -> Result<(), Refusal>
     requires { IsPassOf store.now pass.old }
     ensures { StaysPass store.now pass.old pass.new }
 {
-    match make_once(store, pass) {
-        Err(Refusal::OutOfMemory) => make_once(store, pass),
-        answer => answer,
-    }
+    again!(make_once(store, pass))
 }
 
 /// Makes a hundred nodes. Returns whether each was accepted.

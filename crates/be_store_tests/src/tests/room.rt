@@ -8,7 +8,7 @@ use crate::tests::handing::hand_over;
 use crate::tests::races::{closed, journal_of, make_both};
 use crate::tests::states::{nodes_from, state_text};
 use be_store::{Journal, Limits, Live, Op, Pass, Refusal, Store, parse};
-use be_test_tools::{Answers, answer_lines, both_of};
+use be_test_tools::{Answers, again, answer_lines, both_of};
 use std::alloc::Global;
 use std::marker::Model;
 use std::thread::Threads;
@@ -27,7 +27,8 @@ pub(crate) struct Room {
 }
 
 impl Model for Room {
-    ghost use Rattle.std.specs.Prelude.{◌≡◌, true};
+    ghost use Rattle.std.specs.Prelude.{◌≡◌, true, IfSome};
+    ghost use Rattle.be_store.specs.Live.{IsLiveOf};
     ghost use Rattle.be_store.specs.Passes.{IsPassOf};
     ghost use Rattle.be_table.specs.Place.{Opened};
 
@@ -37,7 +38,8 @@ impl Model for Room {
 
     ghost invariant = { λ r. IsPassOf r.store r.first × (r.first.knows.number ≡ 0)
         × (r.has_second ≡ true → IsPassOf r.store r.second × (r.second.knows.number ≡ 1))
-        × (r.store.limits.passes ≡ r.passes) };
+        × (r.store.limits.passes ≡ r.passes)
+        × IfSome r.live (λ live. IsLiveOf r.store live) };
 }
 
 /// The store of a room for one pass.
@@ -83,18 +85,12 @@ fn open_for_two(alloc: Global, pages: u64, commits: u64) -> Result<Room, Refusal
 
 /// A room for one pass, opened again after running out of memory.
 pub(crate) fn for_one(alloc: Global, pages: u64, commits: u64) -> Result<Room, Refusal> {
-    match open_for_one(alloc, pages, commits) {
-        Err(Refusal::OutOfMemory) => open_for_one(alloc, pages, commits),
-        room => room,
-    }
+    again!(open_for_one(alloc, pages, commits))
 }
 
 /// A room for two passes, opened again after running out of memory.
 pub(crate) fn for_two(alloc: Global, pages: u64, commits: u64) -> Result<Room, Refusal> {
-    match open_for_two(alloc, pages, commits) {
-        Err(Refusal::OutOfMemory) => open_for_two(alloc, pages, commits),
-        room => room,
-    }
+    again!(open_for_two(alloc, pages, commits))
 }
 
 /// The first line of a reply.
@@ -131,10 +127,7 @@ impl Room {
 
     /// The same, once more after running out of memory.
     pub(crate) fn write_list(&mut self, ops: &[Op]) -> Result<u64, Refusal> {
-        match self.write_once(ops) {
-            Err(Refusal::OutOfMemory) => self.write_once(ops),
-            answer => answer,
-        }
+        again!(self.write_once(ops))
     }
 
     /// The same of one operation.
@@ -204,10 +197,7 @@ impl Room {
     /// The operations that rebuild the version of pass 0, read once more after running out of
     /// memory.
     pub(crate) fn state(&mut self, alloc: Global) -> Text {
-        match self.state_once(alloc) {
-            Err(Refusal::OutOfMemory) => self.state_once(alloc),
-            text => text,
-        }
+        again!(self.state_once(alloc))
     }
 
     /// Up to `most` nodes from a number on.
@@ -227,10 +217,7 @@ impl Room {
 
     /// What the live query finds at the pin of pass 0.
     fn again(&mut self, alloc: Global) -> Text {
-        match &mut self.live {
-            Some(live) => ask_again(&self.store, alloc, &mut self.first, live),
-            None => Err(Refusal::BadLimits),
-        }
+        ask_again(&self.store, alloc, &mut self.first, &mut self.live)
     }
 
     /// The reply to a request. Its first word names the pass or what both passes do, as in the

@@ -7,7 +7,7 @@
 
 use crate::tests::room::{Room, for_one};
 use be_store::{Name, Op, Refusal, Value};
-use be_test_tools::check_lines;
+use be_test_tools::{again, check_lines};
 use be_value::word_of;
 use std::alloc::{AllocError, Global};
 use std::test::Fail;
@@ -169,10 +169,7 @@ fn many_nodes(rt: HostRuntime) -> Result<(), Fail> {
 /// The list of the first nodes, asked for again after running out of memory.
 fn list_first(alloc: Global, room: &mut Room, count: u64) -> Result<Vec<u64>, Refusal> {
     let most = usize::try_from(count).unwrap_or(0);
-    match room.nodes(alloc, 1, most) {
-        Err(Refusal::OutOfMemory) => room.nodes(alloc, 1, most),
-        nodes => nodes,
-    }
+    again!(room.nodes(alloc, 1, most))
 }
 
 /// Fails unless as many nodes are listed as are asked for, up to each count.

@@ -40,7 +40,7 @@ fn first_list(store: &Store, alloc: Global, pass: &mut Pass, place: &mut Place) 
 }
 
 /// The next list at the pin; for a pass that isn't pinned, the first.
-fn next_list(store: &Store, alloc: Global, pass: &mut Pass, place: &mut Place) -> List
+pub(crate) fn next_list(store: &Store, alloc: Global, pass: &mut Pass, place: &mut Place) -> List
     requires { IsPassOf store.now pass.old }
     ensures { StaysPass store.now pass.old pass.new }
 {
@@ -67,22 +67,6 @@ pub(crate) fn state_text(store: &Store, alloc: Global, pass: &mut Pass) -> Text
     Ok(text)
 }
 
-/// Up to `most` nodes from a number on, at a pin that goes with the read.
-fn nodes_once(
-    store: &Store,
-    alloc: Global,
-    pass: &mut Pass,
-    from: u64,
-    most: usize,
-) -> Result<Vec<u64>, Refusal>
-    requires pass { IsPassOf store.now pass.old }
-    requires unpinned { pinned_number pass.old.knows.phase ≡ None }
-    ensures { StaysPass store.now pass.old pass.new }
-{
-    let mut version = store.pinned(pass);
-    version.nodes(alloc, from, most)
-}
-
 /// Up to `most` nodes from a number on, of the version of the pin, or at a pin that goes with the
 /// read.
 pub(crate) fn nodes_from(
@@ -97,6 +81,9 @@ pub(crate) fn nodes_from(
 {
     match pass.pinned() {
         Some(_) => store.nodes(alloc, pass, from, most),
-        None => nodes_once(store, alloc, pass, from, most),
+        None => {
+            let mut version = store.pinned(pass);
+            version.nodes(alloc, from, most)
+        }
     }
 }

@@ -6,7 +6,7 @@ use crate::tests::room::open;
 use crate::tests::writes::enter_many;
 use be_journal::Journal;
 use be_table::{Limits, Seat, VersionTable};
-use be_test_tools::{both_of, pair_of};
+use be_test_tools::{again, both_of, pair_of};
 use be_value::Refusal;
 use std::alloc::Global;
 use std::thread;
@@ -42,8 +42,5 @@ fn race_once<R: Threads + Sync>(rt: &R, alloc: Global) -> Result<(Journal, bool)
 
 /// The same, tried once more if memory is refused.
 pub(crate) fn race<R: Threads + Sync>(rt: &R, alloc: Global) -> Result<(Journal, bool), Refusal> {
-    match race_once(rt, alloc) {
-        Err(Refusal::OutOfMemory) => race_once(rt, alloc),
-        answer => answer,
-    }
+    again!(race_once(rt, alloc))
 }

@@ -8,7 +8,7 @@ use crate::tests::calls::{Text, answer, answers, both_texts, number_text, write_
 use crate::tests::writes::{act, enter_many, in_write};
 use be_paged::first_page;
 use be_table::{Limits, Seat, VersionTable};
-use be_test_tools::{Answers, answer_lines, both_of};
+use be_test_tools::{Answers, again, answer_lines, both_of};
 use be_value::{Refusal, word_of};
 use be_volume::Op;
 use std::alloc::Global;
@@ -46,10 +46,7 @@ pub(crate) fn open(alloc: Global, limits: Limits) -> Result<(VersionTable, Vec<S
 
 /// How many seats a table with these limits has.
 pub(crate) fn count_seats(alloc: Global, limits: Limits) -> Result<usize, Refusal> {
-    let (_, seats) = match open(alloc, limits) {
-        Err(Refusal::OutOfMemory) => open(alloc, limits)?,
-        answer => answer?,
-    };
+    let (_, seats) = again!(open(alloc, limits))?;
     Ok(seats.len())
 }
 
@@ -75,10 +72,7 @@ fn open_room(alloc: Global, pages: u64) -> Result<Room, Refusal> {
 
 /// A room with so many pages, opened again if memory is refused.
 pub(crate) fn opened(alloc: Global, pages: u64) -> Result<Room, Refusal> {
-    match open_room(alloc, pages) {
-        Err(Refusal::OutOfMemory) => open_room(alloc, pages),
-        room => room,
-    }
+    again!(open_room(alloc, pages))
 }
 
 /// The replies to two passes while another one holds the lock. Their requests are before and after

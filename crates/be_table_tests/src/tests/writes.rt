@@ -13,6 +13,7 @@ ghost use Rattle.be_table_tests.specs.Resting.{IsResting, StaysSeat};
 use arrayvec::ArrayVec;
 use be_paged::apply;
 use be_table::{Seat, VersionTable, Writing};
+use be_test_tools::again;
 use be_value::Refusal;
 use be_volume::{Done, Op};
 
@@ -24,10 +25,7 @@ fn make_room(writing: &mut Writing<'_>, count: usize) -> Result<(), Refusal>
     ensures table { writing.new.table ≡ writing.old.table }
     ensures reserved { IfOk result (λ _. writing.new.reserved ≡ count) }
 {
-    match writing.reserve(count) {
-        Err(Refusal::OutOfMemory) => writing.reserve(count),
-        answer => answer,
-    }
+    again!(writing.reserve(count))
 }
 
 /// Applies a list of operations to a version in an open write.

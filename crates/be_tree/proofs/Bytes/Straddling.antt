@@ -11,10 +11,10 @@ use Rattle.be_tree.specs.Page.{bytes_at, words_for}
 use Rattle.be_tree.proofs.Bytes.Words.{byte_is, pow256}
 use Rattle.be_tree.proofs.Codec.{bytes_at_prefix, map_range_append, map_same, word_bytes}
 
-rejoined : (n m : ℕ) → n / m * m + n % m ≡ n
+pub rejoined : (n m : ℕ) → n / m * m + n % m ≡ n
 rejoined n m = ap (λ (k : ℕ). k + n % m) (mul_comm (n / m) m) ∙ div-add-mod n m
 
-positive : (n : ℕ) → 0 < 256 ^ n
+pub positive : (n : ℕ) → 0 < 256 ^ n
 positive n = subst (λ (m : ℕ). 0 < m) (sym (pow256 n)) (pow_pos (8 * n))
 
 -- a number without its lowest bytes, twice
@@ -38,7 +38,7 @@ same_digit j d m u v e =
     regroup u p q v = omega (arith, sym (mul_assoc u (p * 256) q), ap (λ (n : ℕ). n * q) (sym (mul_assoc u p 256)))
 
 -- the lowest bytes don't see what is above them
-low_bytes : (b d m u v : ℕ) → d + b ≡ m → bytes_high_first b (u * 256 ^ m + v) ≡ bytes_high_first b v
+pub low_bytes : (b d m u v : ℕ) → d + b ≡ m → bytes_high_first b (u * 256 ^ m + v) ≡ bytes_high_first b v
 low_bytes zero d m u v e = refl
 low_bytes (suc b) d m u v e =
     let next : suc d + b ≡ m = omega (arith, e) in
@@ -48,7 +48,7 @@ low_bytes (suc b) d m u v e =
     ap2 p q = cc
 
 -- the bytes of two numbers, the first shifted past the second
-high_append : (a b m u v : ℕ) → a + b ≡ m → v < 256 ^ b → bytes_high_first m (u * 256 ^ b + v) ≡ bytes_high_first a u ++ bytes_high_first b v
+pub high_append : (a b m u v : ℕ) → a + b ≡ m → v < 256 ^ b → bytes_high_first m (u * 256 ^ b + v) ≡ bytes_high_first a u ++ bytes_high_first b v
 high_append zero b m u v e lt =
     let same : b ≡ m = omega (arith, e) in
     ap (λ (k : ℕ). bytes_high_first k (u * 256 ^ b + v)) (sym same) ∙ low_bytes b 0 b u v (omega arith)
@@ -61,14 +61,14 @@ high_append (suc a) b (suc m) u v e lt =
     ap2 : {x y : ℕ} {xs ys : List ℕ} → x ≡ y → xs ≡ ys → x ∷ xs ≡ y ∷ ys
     ap2 p q = cc
 
-high_dropped : (s k m n : ℕ) → s + k ≡ m → drop s (bytes_high_first m n) ≡ bytes_high_first k n
+pub high_dropped : (s k m n : ℕ) → s + k ≡ m → drop s (bytes_high_first m n) ≡ bytes_high_first k n
 high_dropped zero k m n e =
     let same : m ≡ k = omega (arith, e) in
     ap (λ (j : ℕ). bytes_high_first j n) same
 high_dropped (suc s) k zero n e = absurd (omega (arith, e))
 high_dropped (suc s) k (suc m) n e = high_dropped s k m n (omega (arith, e))
 
-high_taken : (s k m n : ℕ) → s + k ≡ m → take s (bytes_high_first m n) ≡ bytes_high_first s (n / 256 ^ k)
+pub high_taken : (s k m n : ℕ) → s + k ≡ m → take s (bytes_high_first m n) ≡ bytes_high_first s (n / 256 ^ k)
 high_taken zero k m n e = refl
 high_taken (suc s) k zero n e = absurd (omega (arith, e))
 high_taken (suc s) k (suc m) n e =
@@ -79,7 +79,7 @@ high_taken (suc s) k (suc m) n e =
     ap2 p q = cc
 
 module _ (x y s t : ℕ) (e : s + t ≡ 8) (ly : y < 2 ^ 64) where
-  second_fits : y / 256 ^ t < 256 ^ s
+  pub second_fits : y / 256 ^ t < 256 ^ s
   second_fits =
       let whole : 256 ^ s * 256 ^ t ≡ 2 ^ 64 = sym (pow-add 256 s t) ∙ ap (λ (n : ℕ). 256 ^ n) e in
       (div-lt_iff_lt-mul {k = 256 ^ t} {x = y} {y = 256 ^ s} (positive t)).1 (subst (λ (n : ℕ). y < n) (sym whole) ly)
@@ -92,7 +92,7 @@ module _ (x y s t : ℕ) (e : s + t ≡ 8) (ly : y < 2 ^ 64) where
       subst (λ (n : ℕ). x % 256 ^ t * 256 ^ s + y / 256 ^ t < n) whole (mul-add-lt (x % 256 ^ t) (256 ^ s) (y / 256 ^ t) (256 ^ t) low second_fits)
 
   -- shifted as a word, the first loses its highest bytes
-  shifted : x * 256 ^ s % 2 ^ 64 ≡ x % 256 ^ t * 256 ^ s
+  pub shifted : x * 256 ^ s % 2 ^ 64 ≡ x % 256 ^ t * 256 ^ s
   shifted =
       let p = 256 ^ t in
       let q = 256 ^ s in

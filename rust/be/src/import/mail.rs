@@ -1,6 +1,6 @@
 //! What the head of a mail says, by the names that BeOS has for it.
 
-use super::words::{decoded, text_of};
+use super::encoded_words::{decoded, text_of};
 use bestore::Value;
 use chrono::DateTime;
 use std::ffi::OsStr;

@@ -2,6 +2,7 @@
 
 pub mod content;
 mod edit;
+mod encoded_words;
 mod extended;
 pub mod follow;
 mod known;
@@ -13,7 +14,6 @@ mod types;
 mod update;
 mod volume;
 mod walk;
-mod words;
 
 use crate::command_line::Import as Line;
 use crate::failure::{complain, Failure};

@@ -7,8 +7,8 @@ use Rattle.be_tree.specs.Key.{payload_at}
 use Rattle.be_tree.specs.Tree.{pairs}
 use Rattle.be_paged.proofs.indexed.any_is_indexed_at.Goals as goal
 
-pub returns-in_default-clause-has : goal.returns-in_default-clause-has
-returns-in_default-clause-has g c = λ v is e. let none = c.in_default.ensures.value v is e in cc
+pub returns-in-None-clause-has : goal.returns-in-None-clause-has
+returns-in-None-clause-has g c = λ v is e. let none = c.in-None.ensures.value v is e in cc
 
 pub returns-then-indexable-clause-has : goal.returns-then-indexable-clause-has
 returns-then-indexable-clause-has g c = λ v is e.

@@ -1,4 +1,4 @@
-use Rattle.std.proofs.Common.{◌≡◌, ℕ, ◌^◌, List, ◌++◌, false, Some, None, ap, sym, ◌∙◌, is_some}
+use Rattle.std.proofs.Common.{◌≡◌, ℕ, ◌^◌, List, ◌++◌, false, Some, None, ap, sym, subst, ◌∙◌, is_some, IsTrue}
 use Rattle.std.specs.Int.{cast_signed, to_be_bytes, w64}
 use Rattle.std.specs.Option.{option_map}
 use Rattle.std.proofs.lemmas.Int.{to_z-of_z}
@@ -6,7 +6,9 @@ use Rattle.be_value.specs.Key.{counted, key}
 use Rattle.be_value.specs.declared.values.Value.{Value}
 use Rattle.be_value.specs.declared.values.Value.TheVariants.{Llng}
 use Rattle.be_tree.specs.Key.{payload_at}
-use Rattle.be_tree.specs.Page.{item_at}
+use Rattle.be_pages.specs.Pages.{is_readable}
+use Rattle.be_pages.specs.declared.room.Standing.{Standing}
+use Rattle.be_tree.specs.Page.{IsItem, item_at}
 use Rattle.be_tree.specs.Tree.{pairs}
 use Rattle.be_paged.specs.Source.{has_pair}
 use Rattle.be_paged.proofs.CatalogPairs.Payloads.{llng, seen, some_kind}
@@ -39,3 +41,10 @@ returns-in-None-clause-has g c = λ v is e.
     let items = pairs (g.L.Look.words c.args.look.now) c.args.index in
     seen payload (has_pair items node) false (option_map (λ m. Llng (cast_signed w64 m)) None)
     (llng payload None (λ w same. sym c.in-Llng.is ∙ some_kind _ _ (c.in-Some.ensures.kind w same)) (λ k m lt same. c.in-None.ensures.number k m lt (moved ∙ same))) v is e
+
+pub any_is_indexed_at-requires-clause-item : goal.any_is_indexed_at-requires-clause-item
+any_is_indexed_at-requires-clause-item g c = record {
+  readable = subst (λ (s : ℕ → Standing). IsTrue (is_readable (s c.args.page))) (sym c.in-Some.ensures.unchanged.standing) c.requires.item.readable;
+  in_page = c.requires.item.in_page;
+  fits = subst (λ (w : ℕ → ℕ → ℕ). IsItem (w c.args.page) c.args.at) (sym c.in-Some.ensures.unchanged.words) c.requires.item.fits;
+}

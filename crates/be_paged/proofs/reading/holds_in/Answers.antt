@@ -1,4 +1,4 @@
-use Rattle.std.proofs.Common.{◌≡◌, ℕ, Bool, true, false, [], List, Some, None, ap, sym, subst, ◌∙◌, refl, is_some}
+use Rattle.std.proofs.Common.{◌≡◌, ℕ, Bool, true, false, [], List, Some, None, ap, sym, subst, ◌∙◌, refl, is_some, IsTrue}
 use Rattle.std.specs.Option.{option_map, option_map_or}
 use Rattle.std.specs.declared.option.Option.{Option}
 use Rattle.std.specs.FinMap as fin
@@ -8,7 +8,8 @@ use Rattle.be_value.specs.declared.values.Kind.TheVariants as kinds
 use Rattle.be_value.specs.declared.values.Value.{Value}
 use Rattle.be_pages.specs.declared.room.Standing.{Standing}
 use Rattle.be_tree.specs.Key.{payload_at}
-use Rattle.be_tree.specs.Page.{item_at}
+use Rattle.be_pages.specs.Pages.{is_readable}
+use Rattle.be_tree.specs.Page.{IsItem, item_at}
 use Rattle.be_tree.specs.Tree.{IsTree, pairs}
 use Rattle.be_volume.specs.Query.{holds}
 use Rattle.be_volume.specs.Reading.{attribute}
@@ -124,6 +125,16 @@ is_indexed_at-requires-clause-tree g c =
     let standing = c.in-Some-known_index.ensures.unchanged.standing ∙ c.holds_at.ensures.unchanged.standing ∙ c.in-Some.ensures.unchanged.standing ∙ c.word-catalog.ensures.standing in
     let later = version_since (g.L.Look.standing c.args.look.now) s (g.L.Look.words c.args.look.now) w c.args.version_page c.requires.version.0 standing since c.requires.version.1 in
     subst (λ (r : ℕ). IsTree s w r) (sym (is_found.root nowhere)) (entry_tree s w (contents_of (w c.args.version_page)) index.place nowhere later.in_hand is_found.named.in_range)
+
+pub is_indexed_at-requires-clause-item : goal.is_indexed_at-requires-clause-item
+is_indexed_at-requires-clause-item g c =
+    let standing = c.in-Some-known_index.ensures.unchanged.standing ∙ c.holds_at.ensures.unchanged.standing ∙ c.in-Some.ensures.unchanged.standing in
+    let words = c.in-Some-known_index.ensures.unchanged.words ∙ c.holds_at.ensures.unchanged.words ∙ c.in-Some.ensures.unchanged.words in
+    record {
+      readable = subst (λ (s : ℕ → Standing). IsTrue (is_readable (s c.in-Some.page))) (sym standing) c.in-Some.ensures.readable;
+      in_page = c.in-Some.ensures.in_page;
+      fits = subst (λ (w : ℕ → ℕ → ℕ). IsItem (w c.in-Some.page) c.in-Some.at) (sym words) c.in-Some.ensures.fits;
+    }
 
 pub returns-in_default-clause-known : goal.returns-in_default-clause-known
 returns-in_default-clause-known g c =

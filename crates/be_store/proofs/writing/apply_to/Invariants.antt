@@ -1,4 +1,4 @@
 use Rattle.be_store.proofs.writing.apply_to.Given as goal
 
-abbrev pub ghost-apply_into : goal.ghost-apply_into
-ghost-apply_into g a = g.volume
+abbrev pub ghost-apply_in : goal.ghost-apply_in
+ghost-apply_in g a = g.volume

@@ -20,7 +20,7 @@ use Rattle.be_tree.proofs.inserting.overflow.Goals as goal
 use Rattle.be_tree.proofs.inserting.overflow.Goals.{After-insert, Start}
 
 puts : (g : Over) (c : Start g) → PutsAt (g.R.Look.standing c.args.room.now) (g.R.Look.words c.args.room.now) c.args.root c.args.path.now c.args.pair.now (record { at = c.args.at; gone = 0 })
-puts g c = puts_in (g.R.Look.standing c.args.room.now) (g.R.Look.words c.args.room.now) c.args.root c.args.path.now c.args.pair.now c.args.at c.requires.path c.requires.absent
+puts g c = puts_in (g.R.Look.standing c.args.room.now) (g.R.Look.words c.args.room.now) c.args.root c.args.path.now c.args.pair.now c.args.at c.requires.path.leads c.requires.path.place_is
 
 pub fill_slots-requires-clause-readable : goal.fill_slots-requires-clause-readable
 fill_slots-requires-clause-readable g c = readable_kept (g.R.Look.standing c.args.room.now c.args.path.now.leaf) (puts g (goal.at.fill_slots-requires-clause-readable g c).Start).leafy.tree.page_in_use
@@ -62,19 +62,19 @@ module _ (g : Over) (c : After-insert g) (at : PutsAt (g.R.Look.standing c.args.
   fit =
       let items = items_of (g.R.Look.words c.args.room.now c.args.path.now.leaf) in
       subst (All (λ x. length x.key ≤ 264)) (sym at.is)
-      (all_spliced (λ x. length x.key ≤ 264) (record { at = c.args.at; gone = 0 }) items (c.args.pair.now ∷ []) at.leafy.tree.below.keys_fit (all_one (λ x. length x.key ≤ 264) c.args.pair.now c.requires.key_fits))
+      (all_spliced (λ x. length x.key ≤ 264) (record { at = c.args.at; gone = 0 }) items (c.args.pair.now ∷ []) at.leafy.tree.below.keys_fit (all_one (λ x. length x.key ≤ 264) c.args.pair.now c.requires.path.key_fits))
 
   hand : IsInHand g.R.Look.kept g.R.Look.standing g.R.Look.words c.args.root c.args.path.now.above.items c.args.path.now.leaf c.args.pair.now c.insert.new.self.items (level_of (g.R.Look.words c.args.room.now c.args.path.now.leaf)) c.args.room.now c.fill_slots.new.look
   hand =
       leaf_in_hand g.R.Look.kept g.R.Look.standing g.R.Look.words (put c.args.pair.now) (rising_put c.args.pair.now) c.args.root c.args.path.now.above.items c.args.path.now.leaf c.args.pair.now c.insert.new.self.items c.args.room.now c.fill_slots.new.look
-      c.fill_slots.ensures.unchanged c.requires.path.way c.requires.path.is_leaf at.leafy pairs_are fit are_ready c.requires.key_fits
+      c.fill_slots.ensures.unchanged c.requires.path.leads.way c.requires.path.leads.is_leaf at.leafy pairs_are fit are_ready c.requires.path.key_fits
 
   tree : (new_root : ℕ) (new : g.row.R.Denot) → BecomesTree g.R.Look.kept g.R.Look.standing g.R.Look.words (pages (g.R.Look.words c.args.room.now) c.args.root)
       (whole (g.R.Look.words c.args.room.now) c.args.path.now.above.items (pairs_below (level_of (g.R.Look.words c.args.room.now c.args.path.now.leaf)) (g.R.Look.words c.fill_slots.new.look) (pairs_of (g.R.Look.words c.fill_slots.new.look) c.args.pair.now c.insert.new.self.items))) new_root c.args.room.now new
       → BecomesTree g.R.Look.kept g.R.Look.standing g.R.Look.words (pages (g.R.Look.words c.args.room.now) c.args.root) (put c.args.pair.now (pairs (g.R.Look.words c.args.room.now) c.args.root)) new_root c.args.room.now new
   tree =
       hand_tree g.R.Look.kept g.R.Look.standing g.R.Look.words (put c.args.pair.now) (rising_put c.args.pair.now) c.args.root c.args.path.now.above.items c.args.path.now.leaf c.args.pair.now c.insert.new.self.items c.args.room.now c.fill_slots.new.look
-      c.fill_slots.ensures.unchanged c.requires.path.way c.requires.path.is_leaf at.leafy pairs_are fit are_ready c.requires.key_fits
+      c.fill_slots.ensures.unchanged c.requires.path.leads.way c.requires.path.leads.is_leaf at.leafy pairs_are fit are_ready c.requires.path.key_fits
 
 pub settle-requires-clause-in_hand : goal.settle-requires-clause-in_hand
 settle-requires-clause-in_hand g c =

@@ -21,7 +21,7 @@ above_zero n e = grind (arith, nat_tests)
 
 -- the state before the count was read
 puts : (g : Over) (c : Start g) → PutsAt (g.R.Look.standing c.args.room.now) (g.R.Look.words c.args.room.now) c.args.root c.args.path.now c.args.pair.now (record { at = c.args.at; gone = 0 })
-puts g c = puts_in (g.R.Look.standing c.args.room.now) (g.R.Look.words c.args.room.now) c.args.root c.args.path.now c.args.pair.now c.args.at c.requires.path c.requires.absent
+puts g c = puts_in (g.R.Look.standing c.args.room.now) (g.R.Look.words c.args.room.now) c.args.root c.args.path.now c.args.pair.now c.args.at c.requires.path.leads c.requires.path.place_is
 
 pub count_of-requires-clause-readable : goal.count_of-requires-clause-readable
 count_of-requires-clause-readable g c =
@@ -32,13 +32,17 @@ count_of-requires-clause-page g c = (puts g (goal.at.count_of-requires-clause-pa
 
 -- and once it was
 path : (g : Over) (c : After-count_of g) → IsPathTo (g.R.Look.standing c.count_of.new.look) (g.R.Look.words c.count_of.new.look) c.args.root c.args.pair.now.key c.args.path.now
-path g c = path_read g.R.Look.kept g.R.Look.standing g.R.Look.words c.args.room.now c.count_of.new.look c.count_of.ensures.unchanged c.args.root c.args.pair.now.key c.args.path.now c.requires.path
+path g c = path_read g.R.Look.kept g.R.Look.standing g.R.Look.words c.args.room.now c.count_of.new.look c.count_of.ensures.unchanged c.args.root c.args.pair.now.key c.args.path.now c.requires.path.leads
 
 after : (g : Over) (c : After-count_of g) → PutsAt (g.R.Look.standing c.count_of.new.look) (g.R.Look.words c.count_of.new.look) c.args.root c.args.path.now c.args.pair.now (record { at = c.args.at; gone = 0 })
-after g c = puts_in (g.R.Look.standing c.count_of.new.look) (g.R.Look.words c.count_of.new.look) c.args.root c.args.path.now c.args.pair.now c.args.at (path g c) c.requires.absent
+after g c = puts_in (g.R.Look.standing c.count_of.new.look) (g.R.Look.words c.count_of.new.look) c.args.root c.args.path.now c.args.pair.now c.args.at (path g c) c.requires.path.place_is
 
 pub overflow-requires-clause-path : goal.overflow-requires-clause-path
-overflow-requires-clause-path g c = path g (goal.at.overflow-requires-clause-path g c).After-count_of
+overflow-requires-clause-path g c = record {
+  leads = path g (goal.at.overflow-requires-clause-path g c).After-count_of;
+  place_is = c.requires.path.place_is;
+  key_fits = c.requires.path.key_fits;
+}
 
 pub change_leaf-requires-clause-way : goal.change_leaf-requires-clause-way
 change_leaf-requires-clause-way g c = (path g (goal.at.change_leaf-requires-clause-way g c).After-count_of).way
@@ -61,7 +65,7 @@ change_leaf-requires-clause-cut g c =
       );
       ready = all_one (IsReady (g.R.Look.standing c.count_of.new.look) (g.R.Look.words c.count_of.new.look)) New tt;
       off = all_one (IsOff c.args.path.now.leaf) New tt;
-      key_fits = c.requires.key_fits;
+      key_fits = c.requires.path.key_fits;
     }
 
 pub change_leaf-requires-clause-edit : goal.change_leaf-requires-clause-edit

@@ -17,12 +17,12 @@ use Rattle.be_tree.proofs.inserting.put_over.Goals.{Start}
 module _ (g : Over) (c : Start g) where
   leafy : ChangesLeaf (put c.args.pair.now) (g.R.Look.standing c.args.room.now) (g.R.Look.words c.args.room.now) c.args.root c.args.path.now.above.items c.args.path.now.leaf
   leafy =
-      put_leaf c.args.pair.now (g.R.Look.standing c.args.room.now) (g.R.Look.words c.args.room.now) c.args.root c.args.path.now.above.items c.args.path.now.leaf c.requires.path.way c.requires.path.branches c.requires.path.is_leaf
+      put_leaf c.args.pair.now (g.R.Look.standing c.args.room.now) (g.R.Look.words c.args.room.now) c.args.root c.args.path.now.above.items c.args.path.now.leaf c.requires.path.leads.way c.requires.path.leads.branches c.requires.path.leads.is_leaf
 
   found : (c.args.at < g.R.Look.words c.args.room.now c.args.path.now.leaf 1) × (key_cmp (item_at (g.R.Look.words c.args.room.now c.args.path.now.leaf) (item_place c.args.at)).key c.args.pair.now.key ≡ Equal)
   found =
       let words = g.R.Look.words c.args.room.now c.args.path.now.leaf in
-      subst (λ r. IfOk r (λ at. (at < words 1) × (key_cmp (item_at words (item_place at)).key c.args.pair.now.key ≡ Equal))) c.requires.found c.requires.path.found
+      subst (λ r. IfOk r (λ at. (at < words 1) × (key_cmp (item_at words (item_place at)).key c.args.pair.now.key ≡ Equal))) c.requires.path.place_is c.requires.path.leads.found
 
   same : key_cmp (get_or (items_of (g.R.Look.words c.args.room.now c.args.path.now.leaf)) c.args.at c.args.pair.now).key c.args.pair.now.key ≡ Equal
   same = ap (λ x. key_cmp x.key c.args.pair.now.key) (item_get (g.R.Look.words c.args.room.now c.args.path.now.leaf) c.args.at c.args.pair.now found.0) ∙ found.1
@@ -46,7 +46,7 @@ change_leaf-requires-clause-cut g c =
       few = omega (arith, (leafy g at).tree.node.is_page.few);
       ready = all_one (IsReady (g.R.Look.standing c.args.room.now) (g.R.Look.words c.args.room.now)) New tt;
       off = all_one (IsOff c.args.path.now.leaf) New tt;
-      key_fits = c.requires.key_fits;
+      key_fits = c.requires.path.key_fits;
     }
 
 pub change_leaf-requires-clause-edit : goal.change_leaf-requires-clause-edit
@@ -55,7 +55,7 @@ change_leaf-requires-clause-edit g c =
     let pair = c.args.pair.now in
     let items = items_of (g.R.Look.words c.args.room.now c.args.path.now.leaf) in
     record {
-      is_leaf = c.requires.path.is_leaf;
+      is_leaf = c.requires.path.leads.is_leaf;
       enough = omega (arith, length_spliced (record { at = c.args.at; gone = 1 }) items (pair ∷ []) (omega (arith, in_items g at)), (leafy g at).tree.node.enough);
       least = λ e. keeps_equal c.args.at items (drop (c.args.at + 1) items) pair (in_items g at) (same g at);
       rising = all_rise (put pair) (rising_put pair) (g.R.Look.standing c.args.room.now) (g.R.Look.words c.args.room.now) c.args.root c.args.path.now.above.items c.args.path.now.leaf (record { at = c.args.at; gone = 1 }) (pair ∷ []) (leafy g at) (is g at);

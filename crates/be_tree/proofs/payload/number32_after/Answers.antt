@@ -21,4 +21,4 @@ pub returns-then-skip-le4-clause-number : goal.returns-then-skip-le4-clause-numb
 returns-then-skip-le4-clause-number g c =
     let words = g.L.Look.words c.args.look.now c.args.page in
     let r = c.args.skip in
-    ap (λ (n : ℕ). n / 2 ^ (32 - 8 * r) % 2 ^ 32) c.word-first.ensures.value ∙ sym (four_of_one words c.args.at r (omega (arith, c.if-skip-le4.true)))
+    ap (λ (n : ℕ). n / 2 ^ (32 - 8 * r) % 2 ^ 32) c.word-word.ensures.value ∙ sym (four_of_one words c.args.at r (omega (arith, c.if-skip-le4.true)))

@@ -19,8 +19,10 @@ returns-then-root-eq0-clause-ok g c =
     (tree_same g.R.Look.kept g.R.Look.standing g.R.Look.words root old c.requires.tree)
 
 pub take_out-requires-clause-path : goal.take_out-requires-clause-path
-take_out-requires-clause-path g c =
-    path_read g.R.Look.kept g.R.Look.standing g.R.Look.words c.args.room.now c.find_path.new.look c.find_path.ensures.unchanged c.args.root c.args.key.now c.find_path.new.path c.find_path.ensures.path
+take_out-requires-clause-path g c = record {
+  leads = path_read g.R.Look.kept g.R.Look.standing g.R.Look.words c.args.room.now c.find_path.new.look c.find_path.ensures.unchanged c.args.root c.args.key.now c.find_path.new.path c.find_path.ensures.path;
+  place_is = c.in-Ok.is;
+}
 
 pub returns-in-Ok-clause-ok : goal.returns-in-Ok-clause-ok
 returns-in-Ok-clause-ok g c =

@@ -18,7 +18,7 @@ above_zero n e = grind (arith, nat_tests)
 
 -- the state before the count was read
 takes : (g : Over) (c : Start g) → TakesAt (g.R.Look.standing c.args.room.now) (g.R.Look.words c.args.room.now) c.args.root c.args.path.now c.args.key.now c.args.at
-takes g c = takes_at (g.R.Look.standing c.args.room.now) (g.R.Look.words c.args.room.now) c.args.root c.args.path.now c.args.key.now c.args.at c.requires.path c.requires.found
+takes g c = takes_at (g.R.Look.standing c.args.room.now) (g.R.Look.words c.args.room.now) c.args.root c.args.path.now c.args.key.now c.args.at c.requires.path.leads c.requires.path.place_is
 
 pub count_of-requires-clause-readable : goal.count_of-requires-clause-readable
 count_of-requires-clause-readable g c =
@@ -29,13 +29,16 @@ count_of-requires-clause-page g c = (takes g (goal.at.count_of-requires-clause-p
 
 -- and once it was
 path : (g : Over) (c : After-count_of g) → IsPathTo (g.R.Look.standing c.count_of.new.look) (g.R.Look.words c.count_of.new.look) c.args.root c.args.key.now c.args.path.now
-path g c = path_read g.R.Look.kept g.R.Look.standing g.R.Look.words c.args.room.now c.count_of.new.look c.count_of.ensures.unchanged c.args.root c.args.key.now c.args.path.now c.requires.path
+path g c = path_read g.R.Look.kept g.R.Look.standing g.R.Look.words c.args.room.now c.count_of.new.look c.count_of.ensures.unchanged c.args.root c.args.key.now c.args.path.now c.requires.path.leads
 
 after : (g : Over) (c : After-count_of g) → TakesAt (g.R.Look.standing c.count_of.new.look) (g.R.Look.words c.count_of.new.look) c.args.root c.args.path.now c.args.key.now c.args.at
-after g c = takes_at (g.R.Look.standing c.count_of.new.look) (g.R.Look.words c.count_of.new.look) c.args.root c.args.path.now c.args.key.now c.args.at (path g c) c.requires.found
+after g c = takes_at (g.R.Look.standing c.count_of.new.look) (g.R.Look.words c.count_of.new.look) c.args.root c.args.path.now c.args.key.now c.args.at (path g c) c.requires.path.place_is
 
 pub underflow-requires-clause-path : goal.underflow-requires-clause-path
-underflow-requires-clause-path g c = path g (goal.at.underflow-requires-clause-path g c).After-count_of
+underflow-requires-clause-path g c = record {
+  leads = path g (goal.at.underflow-requires-clause-path g c).After-count_of;
+  place_is = c.requires.path.place_is;
+}
 
 pub change_leaf-requires-clause-way : goal.change_leaf-requires-clause-way
 change_leaf-requires-clause-way g c = (path g (goal.at.change_leaf-requires-clause-way g c).After-count_of).way

@@ -18,7 +18,7 @@ use Rattle.be_tree.proofs.taking.underflow.Goals as goal
 use Rattle.be_tree.proofs.taking.underflow.Goals.{After-remove, Start}
 
 takes : (g : Over) (c : Start g) → TakesAt (g.R.Look.standing c.args.room.now) (g.R.Look.words c.args.room.now) c.args.root c.args.path.now c.args.key.now c.args.at
-takes g c = takes_at (g.R.Look.standing c.args.room.now) (g.R.Look.words c.args.room.now) c.args.root c.args.path.now c.args.key.now c.args.at c.requires.path c.requires.found
+takes g c = takes_at (g.R.Look.standing c.args.room.now) (g.R.Look.words c.args.room.now) c.args.root c.args.path.now c.args.key.now c.args.at c.requires.path.leads c.requires.path.place_is
 
 pub fill_slots-requires-clause-readable : goal.fill_slots-requires-clause-readable
 fill_slots-requires-clause-readable g c = readable_kept (g.R.Look.standing c.args.room.now c.args.path.now.leaf) (takes g (goal.at.fill_slots-requires-clause-readable g c).Start).leafy.tree.page_in_use
@@ -62,14 +62,14 @@ module _ (g : Over) (c : After-remove g) (at : TakesAt (g.R.Look.standing c.args
   hand : IsInHand g.R.Look.kept g.R.Look.standing g.R.Look.words c.args.root c.args.path.now.above.items c.args.path.now.leaf c.new-none.result c.remove.new.self.items (level_of (g.R.Look.words c.args.room.now c.args.path.now.leaf)) c.args.room.now c.fill_slots.new.look
   hand =
       leaf_in_hand g.R.Look.kept g.R.Look.standing g.R.Look.words (without c.args.key.now) (rising_without c.args.key.now) c.args.root c.args.path.now.above.items c.args.path.now.leaf c.new-none.result c.remove.new.self.items c.args.room.now c.fill_slots.new.look
-      c.fill_slots.ensures.unchanged c.requires.path.way c.requires.path.is_leaf at.leafy pairs_are fit are_ready (omega (arith, ap length c.new-none.ensures.key))
+      c.fill_slots.ensures.unchanged c.requires.path.leads.way c.requires.path.leads.is_leaf at.leafy pairs_are fit are_ready (omega (arith, ap length c.new-none.ensures.key))
 
   tree : (new_root : ℕ) (new : g.row.R.Denot) → BecomesTree g.R.Look.kept g.R.Look.standing g.R.Look.words (pages (g.R.Look.words c.args.room.now) c.args.root)
       (whole (g.R.Look.words c.args.room.now) c.args.path.now.above.items (pairs_below (level_of (g.R.Look.words c.args.room.now c.args.path.now.leaf)) (g.R.Look.words c.fill_slots.new.look) (pairs_of (g.R.Look.words c.fill_slots.new.look) c.new-none.result c.remove.new.self.items))) new_root c.args.room.now new
       → BecomesTree g.R.Look.kept g.R.Look.standing g.R.Look.words (pages (g.R.Look.words c.args.room.now) c.args.root) (without c.args.key.now (pairs (g.R.Look.words c.args.room.now) c.args.root)) new_root c.args.room.now new
   tree =
       hand_tree g.R.Look.kept g.R.Look.standing g.R.Look.words (without c.args.key.now) (rising_without c.args.key.now) c.args.root c.args.path.now.above.items c.args.path.now.leaf c.new-none.result c.remove.new.self.items c.args.room.now c.fill_slots.new.look
-      c.fill_slots.ensures.unchanged c.requires.path.way c.requires.path.is_leaf at.leafy pairs_are fit are_ready (omega (arith, ap length c.new-none.ensures.key))
+      c.fill_slots.ensures.unchanged c.requires.path.leads.way c.requires.path.leads.is_leaf at.leafy pairs_are fit are_ready (omega (arith, ap length c.new-none.ensures.key))
 
 pub settle-requires-clause-in_hand : goal.settle-requires-clause-in_hand
 settle-requires-clause-in_hand g c =

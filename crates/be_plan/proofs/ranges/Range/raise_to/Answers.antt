@@ -17,19 +17,19 @@ kept low bound new k false puts stays above h = ap (λ l. is_lt (name_cmp k l)) 
 pub returns-then-starts_at-clause-leaves : goal.returns-then-starts_at-clause-leaves
 returns-then-starts_at-clause-leaves c = λ e k w. c.starts_at.ensures.starts c.if-starts_at.true k w.from_low
 
-pub returns-clause-within : goal.returns-clause-within
-returns-clause-within c = λ k w. record {
+pub returns-else-starts_at-clause-within : goal.returns-else-starts_at-clause-within
+returns-else-starts_at-clause-within c = λ k w. record {
   from_low = raised c.args.self.now.low.items (c.args.front.now ++ c.args.end.now) c.put.new.bytes.items k c.put.result c.put.ensures.fits
       (λ e. ap (λ b. b.items) (c.put.ensures.not e)) (c.starts_at.ensures.reaches c.if-starts_at.false k) w.from_low;
   to_high = w.to_high;
 }
 
-pub returns-clause-keeps : goal.returns-clause-keeps
-returns-clause-keeps c = λ k h w. record {
+pub returns-else-starts_at-clause-keeps : goal.returns-else-starts_at-clause-keeps
+returns-else-starts_at-clause-keeps c = λ k h w. record {
   from_low = kept c.args.self.now.low.items (c.args.front.now ++ c.args.end.now) c.put.new.bytes.items k c.put.result c.put.ensures.fits
       (λ e. ap (λ b. b.items) (c.put.ensures.not e)) h w.from_low;
   to_high = w.to_high;
 }
 
-pub returns-clause-leaves : goal.returns-clause-leaves
-returns-clause-leaves c = λ e k w. sym (ap (λ l. is_lt (name_cmp k l)) (c.put.ensures.fits e)) ∙ w.from_low
+pub returns-else-starts_at-clause-leaves : goal.returns-else-starts_at-clause-leaves
+returns-else-starts_at-clause-leaves c = λ e k w. sym (ap (λ l. is_lt (name_cmp k l)) (c.put.ensures.fits e)) ∙ w.from_low

@@ -16,7 +16,7 @@ use Rattle.be_tree.proofs.Shape.Roots.{root_tree, root_some}
 use Rattle.be_tree.proofs.Nodes.Slots.{items_count}
 use Rattle.be_tree.proofs.cursor.Cursor.descend.Given.{Over}
 use Rattle.be_tree.proofs.cursor.Cursor.descend.Goals as goal
-use Rattle.be_tree.proofs.cursor.Cursor.descend.Goals.{After-branch_for-at}
+use Rattle.be_tree.proofs.cursor.Cursor.descend.Goals.{After-branch_in-at}
 
 -- a path without a place
 empty : (path : List Place) → path ≡ [] → (standing : ℕ → Standing) (words : ℕ → ℕ → ℕ) → IsPath standing words path
@@ -43,55 +43,52 @@ loop-level-init g c =
     }
 
 -- the room after the search in a page is as at first
-words_same : (g : Over) (c : After-branch_for-at g) → g.L.Look.words c.branch_for-at.new.look ≡ g.L.Look.words c.args.look.now
-words_same g c = c.branch_for-at.ensures.unchanged.words ∙ c.end_of-end.ensures.unchanged.words ∙ c.loop-level.invariant.unchanged.words
+words_same : (g : Over) (c : After-branch_in-at g) → g.L.Look.words c.branch_in-at.new.look ≡ g.L.Look.words c.args.look.now
+words_same g c = c.branch_in-at.ensures.unchanged.words ∙ c.loop-level.invariant.unchanged.words
 
-found : (g : Over) (c : After-branch_for-at g) → IsBranchAt c.args.from.now (items_of (g.L.Look.words c.args.look.now c.loop-level.page)) c.branch_for-at.result
-found g c = subst (λ (w : ℕ → ℕ → ℕ). IsBranchAt c.args.from.now (items_of (w c.loop-level.page)) c.branch_for-at.result) (c.end_of-end.ensures.unchanged.words ∙ c.loop-level.invariant.unchanged.words) c.branch_for-at.ensures.branch
+found : (g : Over) (c : After-branch_in-at g) → IsBranchAt c.args.from.now (items_of (g.L.Look.words c.args.look.now c.loop-level.page)) c.branch_in-at.result
+found g c = subst (λ (w : ℕ → ℕ → ℕ). IsBranchAt c.args.from.now (items_of (w c.loop-level.page)) c.branch_in-at.result) (c.loop-level.invariant.unchanged.words) c.branch_in-at.ensures.branch
 
-at_item : (g : Over) (c : After-branch_for-at g) → (found g c).number < g.L.Look.words c.args.look.now c.loop-level.page 1
+at_item : (g : Over) (c : After-branch_in-at g) → (found g c).number < g.L.Look.words c.args.look.now c.loop-level.page 1
 at_item g c = omega (arith, (found g c).is_branch.before, (found g c).is_branch.is_rank.in_range, c.loop-level.invariant.tree.node.enough, c.loop-level.invariant.some, items_count (g.L.Look.words c.args.look.now c.loop-level.page))
 
-leads : (g : Over) (c : After-branch_for-at g) → LeadsDown c.loop-level.level (c.loop-level.level - 1) (g.L.Look.standing c.args.look.now) (g.L.Look.words c.args.look.now) c.loop-level.page (found g c).number (item_at (g.L.Look.words c.args.look.now c.loop-level.page) (2 + 42 * (found g c).number))
+leads : (g : Over) (c : After-branch_in-at g) → LeadsDown c.loop-level.level (c.loop-level.level - 1) (g.L.Look.standing c.args.look.now) (g.L.Look.words c.args.look.now) c.loop-level.page (found g c).number (item_at (g.L.Look.words c.args.look.now c.loop-level.page) (2 + 42 * (found g c).number))
 leads g c = leads_down c.loop-level.level (c.loop-level.level - 1) (g.L.Look.standing c.args.look.now) (g.L.Look.words c.args.look.now) c.loop-level.invariant.least c.loop-level.page (found g c).number
     (omega (arith, c.loop-level-test.true)) c.loop-level.invariant.tree (at_item g c)
 
 -- the number of the branch's place
-number_is : (g : Over) (c : After-branch_for-at g) → (c.branch_for-at.result - 2) / 42 ≡ (found g c).number
+number_is : (g : Over) (c : After-branch_in-at g) → (c.branch_in-at.result - 2) / 42 ≡ (found g c).number
 number_is g c = omega (arith, (found g c).is_place)
 
 -- a page of a tree has an item
-pub branch_for-at-requires-clause-some : goal.branch_for-at-requires-clause-some
-branch_for-at-requires-clause-some g c =
+pub branch_in-at-requires-clause-some : goal.branch_in-at-requires-clause-some
+branch_in-at-requires-clause-some g c =
     let i = c.loop-level.invariant in
-    subst (λ (w : ℕ → ℕ → ℕ). 0 < w c.loop-level.page 1) (sym (c.end_of-end.ensures.unchanged.words ∙ i.unchanged.words)) (omega (arith, i.tree.node.enough, i.some, items_count (g.L.Look.words c.args.look.now c.loop-level.page)))
-
-pub branch_for-at-requires-clause-end : goal.branch_for-at-requires-clause-end
-branch_for-at-requires-clause-end g c = c.end_of-end.ensures.end ∙ sym (ap (λ (w : ℕ → ℕ → ℕ). 2 + 42 * w c.loop-level.page 1) c.end_of-end.ensures.unchanged.words)
+    subst (λ (w : ℕ → ℕ → ℕ). 0 < w c.loop-level.page 1) (sym (i.unchanged.words)) (omega (arith, i.tree.node.enough, i.some, items_count (g.L.Look.words c.args.look.now c.loop-level.page)))
 
 pub item_number-next-requires : goal.item_number-next-requires
-item_number-next-requires g c = omega (arith, (found g (goal.at.item_number-next-requires g c).After-branch_for-at).is_place)
+item_number-next-requires g c = omega (arith, (found g (goal.at.item_number-next-requires g c).After-branch_in-at).is_place)
 
 pub child_at-child-requires-clause-in_page : goal.child_at-child-requires-clause-in_page
 child_at-child-requires-clause-in_page g c =
-    let at = (goal.at.child_at-child-requires-clause-in_page g c).After-branch_for-at in
+    let at = (goal.at.child_at-child-requires-clause-in_page g c).After-branch_in-at in
     omega (arith, at_item g at, (found g at).is_place, c.loop-level.invariant.tree.node.is_page.few)
 
 pub child_at-child-requires-clause-item : goal.child_at-child-requires-clause-item
 child_at-child-requires-clause-item g c =
-    let at = (goal.at.child_at-child-requires-clause-item g c).After-branch_for-at in
-    subst (λ (w : ℕ → ℕ → ℕ). IsItem (w c.loop-level.page) c.branch_for-at.result) (sym (words_same g at))
+    let at = (goal.at.child_at-child-requires-clause-item g c).After-branch_in-at in
+    subst (λ (w : ℕ → ℕ → ℕ). IsItem (w c.loop-level.page) c.branch_in-at.result) (sym (words_same g at))
     (subst (λ (p : ℕ). IsItem (g.L.Look.words c.args.look.now c.loop-level.page) p) (sym (found g at).is_place) (c.loop-level.invariant.tree.node.is_page.each (found g at).number (at_item g at)))
 
 pub child_at-child-requires-clause-names_page : goal.child_at-child-requires-clause-names_page
 child_at-child-requires-clause-names_page g c =
-    let at = (goal.at.child_at-child-requires-clause-names_page g c).After-branch_for-at in
-    subst (λ (w : ℕ → ℕ → ℕ). length (item_at (w c.loop-level.page) c.branch_for-at.result).payload ≡ 8) (sym (words_same g at))
+    let at = (goal.at.child_at-child-requires-clause-names_page g c).After-branch_in-at in
+    subst (λ (w : ℕ → ℕ → ℕ). length (item_at (w c.loop-level.page) c.branch_in-at.result).payload ≡ 8) (sym (words_same g at))
     (subst (λ (p : ℕ). length (item_at (g.L.Look.words c.args.look.now c.loop-level.page) p).payload ≡ 8) (sym (found g at).is_place) (leads g at).names_page)
 
 pub overflow_add-next : goal.overflow_add-next
 overflow_add-next g c =
-    let at = (goal.at.overflow_add-next g c).After-branch_for-at in
+    let at = (goal.at.overflow_add-next g c).After-branch_in-at in
     omega (arith, c.item_number-next.ensures, number_is g at, at_item g at, c.loop-level.invariant.tree.node.is_page.few)
 
 -- a page in use has a small number, an item's number is at most 12, and no level is above 13
@@ -102,7 +99,7 @@ overflow_cast-page g c =
 
 pub overflow_cast-next : goal.overflow_cast-next
 overflow_cast-next g c =
-    let at = (goal.at.overflow_cast-next g c).After-branch_for-at in
+    let at = (goal.at.overflow_cast-next g c).After-branch_in-at in
     omega (arith, c.item_number-next.ensures, number_is g at, at_item g at, c.loop-level.invariant.tree.node.is_page.few)
 
 pub overflow_cast-level : goal.overflow_cast-level
@@ -110,7 +107,7 @@ overflow_cast-level g c = omega (arith, c.loop-level.invariant.short)
 
 pub loop-level-preserved : goal.loop-level-preserved
 loop-level-preserved g c =
-    let at = (goal.at.loop-level-preserved g c).After-branch_for-at in
+    let at = (goal.at.loop-level-preserved g c).After-branch_in-at in
     let standing = g.L.Look.standing c.args.look.now in
     let words = g.L.Look.words c.args.look.now in
     let page = c.loop-level.page in
@@ -121,7 +118,7 @@ loop-level-preserved g c =
     let branch = item_at (words page) (2 + 42 * next) in
     let place : Place = record { page = page; next = next + 1; level = level } in
     let lead = leads g at in
-    let is = c.child_at-child.ensures.child ∙ ap (λ (w : ℕ → ℕ → ℕ). child (item_at (w page) c.branch_for-at.result)) (words_same g at) ∙ ap (λ (p : ℕ). child (item_at (words page) p)) (found g at).is_place in
+    let is = c.child_at-child.ensures.child ∙ ap (λ (w : ℕ → ℕ → ℕ). child (item_at (w page) c.branch_in-at.result)) (words_same g at) ∙ ap (λ (p : ℕ). child (item_at (words page) p)) (found g at).is_place in
     let pushed : c.push.new.self.items ≡ path ++ place ∷ [] =
     c.push.ensures.items ∙ ap (λ (n : ℕ). path ++ record { page = page; next = n + 1; level = level } ∷ []) (c.item_number-next.ensures ∙ number_is g at) in
     let here = pairs_from (pairs_at down words (child branch)) c.args.from.now c.args.after in
@@ -140,9 +137,8 @@ loop-level-preserved g c =
           ∙ ap (λ xs. xs ++ pairs_along words path) (sym (from_branch level down standing words c.loop-level.invariant.least page c.args.from.now (found g at).is_branch.rank next c.args.after
           (omega (arith, c.loop-level-test.true)) c.loop-level.invariant.tree c.loop-level.invariant.some (found g at).is_branch.is_rank (found g at).is_branch.before (at_item g at)))
           ∙ c.loop-level.invariant.same;
-      unchanged = unchanged_trans g.L.Look.kept g.L.Look.standing g.L.Look.words c.args.look.now c.branch_for-at.new.look c.child_at-child.new.look
-          (unchanged_trans g.L.Look.kept g.L.Look.standing g.L.Look.words c.args.look.now c.end_of-end.new.look c.branch_for-at.new.look
-          (unchanged_trans g.L.Look.kept g.L.Look.standing g.L.Look.words c.args.look.now c.loop-level.look c.end_of-end.new.look c.loop-level.invariant.unchanged c.end_of-end.ensures.unchanged) c.branch_for-at.ensures.unchanged) c.child_at-child.ensures.unchanged;
+      unchanged = unchanged_trans g.L.Look.kept g.L.Look.standing g.L.Look.words c.args.look.now c.branch_in-at.new.look c.child_at-child.new.look
+          (unchanged_trans g.L.Look.kept g.L.Look.standing g.L.Look.words c.args.look.now c.loop-level.look c.branch_in-at.new.look c.loop-level.invariant.unchanged c.branch_in-at.ensures.unchanged) c.child_at-child.ensures.unchanged;
     }
 
 -- the leaf that was come to

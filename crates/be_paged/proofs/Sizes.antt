@@ -1,0 +1,3 @@
+-- How many pages a version has.
+pub mod Keys
+pub mod Items

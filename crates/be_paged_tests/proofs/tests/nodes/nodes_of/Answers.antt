@@ -1,6 +1,0 @@
-use Rattle.be_paged_tests.proofs.Since.{stands_since}
-use Rattle.be_paged_tests.proofs.tests.nodes.nodes_of.Goals as goal
-
-pub invariant_of-result : goal.invariant_of-result
-invariant_of-result c =
-    stands_since _ _ _ _ c.both.inside.page c.both.inside.plain c.in_ok-list.ensures.unchanged.standing c.in_ok-list.ensures.unchanged.words c.both.invariant

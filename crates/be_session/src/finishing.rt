@@ -1,0 +1,13 @@
+//! Why a session did not close its store.
+
+use crate::{Fault, Session};
+
+/// Why a session did not close its store.
+#[derive(Drop)]
+pub enum Unfinished {
+    /// Nothing has happened. InUse: another session of the store is open. OutOfMemory.
+    Kept(Session, Fault),
+    /// A pass is missing, since its session was dropped without `close`. The store is gone. Nobody
+    /// could have closed it any more.
+    PassLost,
+}

@@ -1,0 +1,12 @@
+use Rattle.std.proofs.Common.{◌≡◌, ◌≤◌, ◌&&◌, not, ℕ, take}
+use Rattle.std.specs.List.Sorted.{IsStrictlyIncreasing}
+use Rattle.std.specs.Prelude.{vec_capacity, vec_len}
+use Rattle.be_store.specs.Live.{is_among}
+use Rattle.be_store.proofs.changed.take_out.Given as goal
+
+abbrev pub invariant-loop-number : goal.invariant-loop-number
+invariant-loop-number l = record {
+  rising : IsStrictlyIncreasing l.list.items;
+  left : (n : ℕ) → is_among l.list.items n ≡ (is_among l.fn.list.items n && not (is_among (take l.number-index l.numbers) n));
+  room : (vec_len l.list ≤ vec_len l.fn.list) × (vec_capacity l.list ≡ vec_capacity l.fn.list);
+}

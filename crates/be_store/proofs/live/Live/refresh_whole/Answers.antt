@@ -1,0 +1,34 @@
+use Rattle.std.proofs.Common.{◌≡◌, List, ℕ, refl, sym, ap, ◌∙◌}
+use Rattle.be_table.specs.declared.pass.Knowledge.{Knowledge}
+use Rattle.be_volume.specs.Query.{scan}
+use Rattle.be_store.specs.Live.{LiveQuery, without}
+use Rattle.be_store.specs.Passes.{volume_pinned}
+use Rattle.be_store.proofs.Answering.{refreshes}
+use Rattle.be_store.proofs.Caught.{mark_at, pinned_sound, scan_is_answer}
+use Rattle.be_store.proofs.live.Live.refresh_whole.Goals as goal
+
+pub invariant_of-self-2 : goal.invariant_of-self-2
+invariant_of-self-2 c =
+    let a = c.args.pass.now.knows in
+    let v = volume_pinned a in
+    let q = c.query_prepared.new.query in
+    let nodes = c.query_prepared.new.nodes.items in
+    let number = c.in_ok-number.number in
+    let pin = c.in_ok-number.ensures.pin in
+    let answer = scan_is_answer v q nodes (pinned_sound a number c.is_pass.ensures pin) (ap (scan v) c.query_prepared.ensures.same ∙ c.in_ok-number.ensures.nodes) in (
+      c.in_ok-number.ensures.rising,
+      mark_at q nodes a c.witness-witness.result number c.is_pass.ensures pin c.witness-witness.ensures.witness.0.0
+          (c.witness-witness.ensures.witness.1 ∙ ap (λ (k : Knowledge). k.seen) c.query_prepared.ensures.pass.1) answer,
+    )
+
+pub returns-clause-ok : goal.returns-clause-ok
+returns-clause-ok c =
+    let v = volume_pinned c.args.pass.now.knows in
+    let last = c.as_slice.ensures.value ∙ ap (λ (l : LiveQuery). l.last) c.self.view_is in
+    let now = c.as_slice-2.ensures.value in
+    let told = c.in_ok-updates.ensures.ok in
+    refreshes v c.args.self.now _ c.query_prepared.new.nodes.items c.in_ok-updates.updates.created.items c.in_ok-updates.updates.removed.items
+    (ap (λ (l : LiveQuery). scan v l.query) (sym c.self.view_is) ∙ c.in_ok-number.ensures.nodes)
+    (c.query_prepared.ensures.same ∙ ap (λ (l : LiveQuery). l.query) c.self.view_is) refl
+    (told.0 ∙ ap (λ (x : List ℕ × List ℕ). without x.0 x.1) (λ i. (now i, last i)))
+    (told.1 ∙ ap (λ (x : List ℕ × List ℕ). without x.0 x.1) (λ i. (last i, now i)))

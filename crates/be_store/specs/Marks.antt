@@ -1,0 +1,18 @@
+-- What a live query keeps of its last refresh.
+use Rattle.std.specs.Prelude.{◌≡◌, ◌≤◌, ℕ, false, List, length, take, IfSome}
+use Rattle.std.specs.declared.option.Option.{Option}
+use Rattle.be_journal.specs.Journal.{replay}
+use Rattle.be_query.specs.Grammar.{Formula}
+use Rattle.be_table.specs.Rule.{entries}
+use Rattle.be_store.specs.Live.{IsAnswer}
+use Rattle.be_store.specs.declared.marks.Mark.{Mark}
+
+-- the list is the answer after as many entries of the witness's beginning of the journal as the
+-- mark says
+abbrev pub IsMarkOf : Formula → List ℕ → Mark → Type 0
+IsMarkOf f list mark = (mark.witness.blank ≡ false) × (mark.number ≤ length mark.witness.seen)
+    × IsAnswer (replay (take mark.number (entries mark.witness.seen))) f list
+
+-- the same, if there is a mark
+abbrev pub IsMarked : Formula → List ℕ → Option Mark → Type 0
+IsMarked f list mark = IfSome mark (IsMarkOf f list)

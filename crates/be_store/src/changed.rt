@@ -1,0 +1,186 @@
+//! A few nodes asked one by one, and a rising list changed by what became of them.
+ghost use Rattle.std.specs.List.Sorted.{IsStrictlyIncreasing};
+ghost use Rattle.std.specs.Prelude.{◌≡◌, ◌==◌, ◌≤◌, ◌<◌, ◌+◌, ◌++◌, ◌&&◌, ◌||◌, ◌∷◌, [], ℕ, not};
+ghost use Rattle.std.specs.Prelude.{filter, length};
+ghost use Rattle.std.specs.Prelude.{OnOk, IfErr, if◌then◌else◌, vec_capacity, vec_len};
+ghost use Rattle.be_value.specs.declared.refusals.Refusal.TheVariants.{OutOfMemory};
+ghost use Rattle.be_query.specs.View.{formula};
+ghost use Rattle.be_volume.specs.Query.{sat};
+ghost use Rattle.be_volume.specs.Volume.{State};
+ghost use Rattle.be_paged.specs.Version.{IsVersion};
+ghost use Rattle.be_store.specs.Live.{is_among};
+
+use crate::answers::Updates;
+use be_paged::source;
+use be_pages::Look;
+use be_plan::Source;
+use be_query::{Query, Tree};
+use be_value::Refusal;
+
+/// Whether a rising list has this number.
+fn has(numbers: &[u64], number: u64) -> bool
+    requires { IsStrictlyIncreasing numbers.now }
+    ensures { result ≡ is_among numbers.now number }
+{
+    numbers.binary_search(&number).is_ok()
+}
+
+/// Adds a number to a list, if it is to be there.
+fn add_if(list: &mut Vec<u64>, number: u64, is: bool) -> Result<(), Refusal>
+    ensures ok { OnOk result (list.new.items ≡ list.old.items
+        ++ (if is then number ∷ [] else [])) }
+    ensures err { IfErr result (λ e. e ≡ OutOfMemory) }
+{
+    if !is {
+        return Ok(());
+    }
+    list.push(number)?;
+    Ok(())
+}
+
+/// Adds a node to those that came if the query is true of it and the list lacks it, and to those
+/// that went if it is the other way round.
+fn add_change(list: &[u64], node: u64, is: bool, updates: &mut Updates) -> Result<(), Refusal>
+    requires { IsStrictlyIncreasing list.now }
+    ensures created { OnOk result (updates.new.created.items ≡ updates.old.created.items
+        ++ (if is && not (is_among list.now node) then node ∷ [] else [])) }
+    ensures removed { OnOk result (updates.new.removed.items ≡ updates.old.removed.items
+        ++ (if is_among list.now node && not is then node ∷ [] else [])) }
+    ensures err { IfErr result (λ e. e ≡ OutOfMemory) }
+{
+    let was = has(list, node);
+    add_if(&mut updates.created, node, is && !was)?;
+    add_if(&mut updates.removed, node, was && !is)
+}
+
+/// Whether a tree is true of a node. The source is asked for its comparisons, from left to right,
+/// until that is known.
+fn is_true<S: Source>(source: &mut S, tree: &Tree, node: u64) -> bool
+    requires { (volume : State) × S.answers_for source.old volume }
+    ensures answer { (volume : State) → S.answers_for source.old volume → result
+        ≡ sat volume (formula tree.now) node }
+    ensures stays { S.kept source.new ≡ S.kept source.old }
+    ensures answers { (volume : State) → S.answers_for source.old volume
+        → S.answers_for source.new volume }
+    ensures still { (volume : State) × S.answers_for source.new volume }
+{
+    match tree {
+        Tree::Leaf(comparison) => source.holds(node, comparison),
+        Tree::And(a, b) => is_true(source, a, node) && is_true(source, b, node),
+        Tree::Or(a, b) => is_true(source, a, node) || is_true(source, b, node),
+    }
+}
+
+/// Asks a tree of each of these nodes. Adds those that the list lacks though the tree is true of
+/// them, and those that it has though the tree isn't.
+fn ask_nodes<S: Source>(
+    source: &mut S,
+    tree: &Tree,
+    list: &[u64],
+    nodes: &[u64],
+    updates: &mut Updates,
+) -> Result<(), Refusal>
+    ghost volume: { State }
+    requires answers { S.answers_for source.old volume }
+    requires rising { IsStrictlyIncreasing list.now }
+    requires empty { (updates.old.created.items ≡ []) × (updates.old.removed.items ≡ []) }
+    ensures stays { S.kept source.new ≡ S.kept source.old }
+    ensures created { OnOk result (updates.new.created.items
+        ≡ filter (λ n. sat volume (formula tree.now) n && not (is_among list.now n)) nodes.now) }
+    ensures removed { OnOk result (updates.new.removed.items
+        ≡ filter (λ n. is_among list.now n && not (sat volume (formula tree.now) n)) nodes.now) }
+    ensures err { IfErr result (λ e. e ≡ OutOfMemory) }
+{
+    for node in nodes {
+        let is = is_true(source, tree, *node);
+        add_change(list, *node, is, updates)?;
+    }
+    Ok(())
+}
+
+/// The same of a query, over any reader of a version's pages, which comes back.
+pub(crate) fn ask_each<L: Look>(
+    look: L,
+    version_page: u64,
+    query: &Query,
+    list: &[u64],
+    nodes: &[u64],
+    updates: &mut Updates,
+) -> (L, Result<(), Refusal>)
+    ghost volume: { State }
+    requires version { IsVersion (L.standing look) (L.words look) version_page volume }
+    requires rising { IsStrictlyIncreasing list.now }
+    requires empty { (updates.old.created.items ≡ []) × (updates.old.removed.items ≡ []) }
+    ensures created { OnOk result.1 (updates.new.created.items
+        ≡ filter (λ n. sat volume query.now n && not (is_among list.now n)) nodes.now) }
+    ensures removed { OnOk result.1 (updates.new.removed.items
+        ≡ filter (λ n. is_among list.now n && not (sat volume query.now n)) nodes.now) }
+    ensures err { IfErr result.1 (λ e. e ≡ OutOfMemory) }
+    ensures kept { L.kept result.0 ≡ L.kept look }
+{
+    let mut source = source(look, version_page);
+    let answer = ask_nodes(&mut source, query.tree(), list, nodes, updates);
+    (source.into_look(), answer)
+}
+
+/// Removes a number from a rising list, if it is there.
+fn take_one(list: &mut Vec<u64>, number: u64)
+    requires { IsStrictlyIncreasing list.old.items }
+    ensures rising { IsStrictlyIncreasing list.new.items }
+    ensures left { (n : ℕ) → is_among list.new.items n ≡ (is_among list.old.items n
+        && not (number == n)) }
+    ensures room { (vec_len list.new ≤ vec_len list.old)
+        × (vec_capacity list.new ≡ vec_capacity list.old) }
+{
+    let at = match list.as_slice().binary_search(&number) {
+        Ok(at) => at,
+        Err(_gap) => return,
+    };
+    list.remove(at);
+}
+
+/// Removes these numbers from a rising list.
+pub(crate) fn take_out(list: &mut Vec<u64>, numbers: &[u64])
+    requires { IsStrictlyIncreasing list.old.items }
+    ensures rising { IsStrictlyIncreasing list.new.items }
+    ensures left { (n : ℕ) → is_among list.new.items n ≡ (is_among list.old.items n
+        && not (is_among numbers.now n)) }
+    ensures room { (vec_len list.new ≤ vec_len list.old)
+        × (vec_capacity list.new ≡ vec_capacity list.old) }
+{
+    for number in numbers {
+        take_one(list, *number);
+    }
+}
+
+/// Puts a number into a rising list with room for it, if it isn't there.
+fn put_one(list: &mut Vec<u64>, number: u64)
+    requires rising { IsStrictlyIncreasing list.old.items }
+    requires room { vec_len list.old < vec_capacity list.old }
+    ensures rising { IsStrictlyIncreasing list.new.items }
+    ensures both { (n : ℕ) → is_among list.new.items n ≡ (is_among list.old.items n
+        || (number == n)) }
+    ensures room { (vec_len list.new ≤ vec_len list.old + 1)
+        × (vec_capacity list.old ≤ vec_capacity list.new) }
+{
+    let at = match list.as_slice().binary_search(&number) {
+        Ok(_there) => return,
+        Err(at) => at,
+    };
+    let Ok(()) = list.insert(at, number) else {
+        unreachable!()
+    };
+}
+
+/// Puts these numbers into a rising list, which has room for them.
+pub(crate) fn put_in(list: &mut Vec<u64>, numbers: &[u64])
+    requires rising { IsStrictlyIncreasing list.old.items }
+    requires room { vec_len list.old + length numbers.now ≤ vec_capacity list.old }
+    ensures rising { IsStrictlyIncreasing list.new.items }
+    ensures both { (n : ℕ) → is_among list.new.items n ≡ (is_among list.old.items n
+        || is_among numbers.now n) }
+{
+    for number in numbers {
+        put_one(list, *number);
+    }
+}

@@ -1,0 +1,149 @@
+//! Which nodes the journal's entries name.
+//!
+//! A query's answer changes at no other nodes, if no index was made or removed. The numbers are
+//! collected in place, so none of it takes memory.
+ghost use Rattle.std.specs.List.Sorted.{IsStrictlyIncreasing};
+ghost use Rattle.std.specs.Prelude.{◌≡◌, ◌≤◌, ◌<◌, ℕ, true, get_or, length};
+ghost use Rattle.be_journal.specs.declared.entries.Entry.{Entry as AnyEntry};
+ghost use Rattle.be_table.specs.Rule.{entries};
+ghost use Rattle.be_store.specs.History.{Learns};
+ghost use Rattle.be_store.specs.Live.{is_among};
+ghost use Rattle.be_store.specs.Named.{AreNamedAmong, IsNamedAmong, NamesAmong, node_named};
+ghost use Rattle.be_store.specs.Passes.{IsPassOf};
+
+use crate::{Pass, Store};
+use arrayvec::ArrayVec;
+use be_table::Writing;
+use be_volume::{Done, Op};
+
+/// The most nodes that a refresh asks one by one.
+pub(crate) const MOST: usize = 64;
+
+/// Adds a node to a rising list, if it isn't there. Returns false if there is no room.
+fn add_node(nodes: &mut ArrayVec<u64, 64>, node: u64) -> bool
+    requires rising { IsStrictlyIncreasing nodes.old.items }
+    ensures rising { IsStrictlyIncreasing nodes.new.items }
+    ensures keeps { (n : ℕ) → is_among nodes.old.items n ≡ true → is_among nodes.new.items n
+        ≡ true }
+    ensures has { result ≡ true → is_among nodes.new.items node ≡ true }
+{
+    match nodes.as_slice().binary_search(&node) {
+        Ok(_) => true,
+        Err(at) => nodes.try_insert(at, node).is_ok(),
+    }
+}
+
+/// The node that an operation changes: of one that makes a node the new one's number, and none of
+/// one on an index.
+fn node_named(op: &Op, done: &Done) -> Option<u64>
+    ensures { result ≡ node_named op.now done.now }
+{
+    match op {
+        Op::New => match done {
+            Done::Node(node) => Some(*node),
+            Done::Unit => None,
+        },
+        Op::Drop(node) | Op::Set(node, _, _) | Op::Unset(node, _) => Some(*node),
+        Op::MkIndex(_, _) | Op::RmIndex(_) => None,
+    }
+}
+
+/// Adds the node that an operation changes to a rising list. Returns false if it makes or removes
+/// an index, or there is no room for the node.
+fn add_step(nodes: &mut ArrayVec<u64, 64>, op: &Op, done: &Done) -> bool
+    requires rising { IsStrictlyIncreasing nodes.old.items }
+    ensures rising { IsStrictlyIncreasing nodes.new.items }
+    ensures keeps { (n : ℕ) → is_among nodes.old.items n ≡ true → is_among nodes.new.items n
+        ≡ true }
+    ensures named { result ≡ true → IsNamedAmong nodes.new.items op.now done.now }
+{
+    match node_named(op, done) {
+        Some(node) => add_node(nodes, node),
+        None => false,
+    }
+}
+
+/// Adds the nodes that operations with these outcomes change to a rising list. Returns false if one
+/// of them makes or removes an index, or there is no room for a node; the list then has any
+/// numbers.
+fn add_named(nodes: &mut ArrayVec<u64, 64>, ops: &[Op], dones: &[Done]) -> bool
+    requires rising { IsStrictlyIncreasing nodes.old.items }
+    ensures rising { IsStrictlyIncreasing nodes.new.items }
+    ensures keeps { (n : ℕ) → is_among nodes.old.items n ≡ true → is_among nodes.new.items n
+        ≡ true }
+    ensures named { result ≡ true → AreNamedAmong nodes.new.items ops.now dones.now }
+{
+    for i in 0..ops.len() {
+        let Some(done) = dones.get(i) else {
+            return false;
+        };
+        if !add_step(nodes, &ops[i], done) {
+            return false;
+        }
+    }
+    true
+}
+
+/// Adds the nodes that one entry names, while the lock is held. False as above, and if there is no
+/// memory for the entry.
+fn add_entry(held: &Writing<'_>, i: u64, nodes: &mut ArrayVec<u64, 64>) -> bool
+    requires inside { i < length held.now.knows.seen }
+    requires rising { IsStrictlyIncreasing nodes.old.items }
+    ensures rising { IsStrictlyIncreasing nodes.new.items }
+    ensures keeps { (n : ℕ) → is_among nodes.old.items n ≡ true → is_among nodes.new.items n
+        ≡ true }
+    ensures named { result ≡ true → (d : AnyEntry)
+        → NamesAmong nodes.new.items (get_or (entries held.now.knows.seen) i d) }
+{
+    let Ok(entry) = held.entry(i) else {
+        return false;
+    };
+    add_named(nodes, entry.ops.as_slice(), entry.dones.as_slice())
+}
+
+/// Adds the nodes that the entries from one index to another name, while the lock is held.
+fn add_between(held: &Writing<'_>, from: u64, end: u64, nodes: &mut ArrayVec<u64, 64>) -> bool
+    requires end { end ≤ length held.now.knows.seen }
+    requires rising { IsStrictlyIncreasing nodes.old.items }
+    ensures rising { IsStrictlyIncreasing nodes.new.items }
+    ensures named { result ≡ true → (i : ℕ) (d : AnyEntry) → from ≤ i → i < end →
+        NamesAmong nodes.new.items (get_or (entries held.now.knows.seen) i d) }
+{
+    for i in from..end {
+        if !add_entry(held, i, nodes) {
+            return false;
+        }
+    }
+    true
+}
+
+impl Store {
+    /// Adds the nodes that the entries from one index to another name, which the pass has seen, to
+    /// a rising list. Returns false if one of the entries makes or removes an index, if there is no
+    /// room, or if the one try finds that another pass holds the lock; the list then has any
+    /// numbers. A pin stays.
+    pub(crate) fn add_named_between(
+        &self,
+        pass: &mut Pass,
+        from: u64,
+        end: u64,
+        nodes: &mut ArrayVec<u64, 64>,
+    ) -> bool
+        requires pass { IsPassOf self.now pass.old }
+        requires end { end ≤ length pass.old.knows.seen }
+        requires rising { IsStrictlyIncreasing nodes.old.items }
+        ensures pass { IsPassOf self.now pass.new }
+        ensures learns { Learns pass.old.knows pass.new.knows }
+        ensures rising { IsStrictlyIncreasing nodes.new.items }
+        ensures named { result ≡ true → (i : ℕ) (d : AnyEntry) → from ≤ i → i < end →
+            NamesAmong nodes.new.items (get_or (entries pass.old.knows.seen) i d) }
+    {
+        let Ok(held) = self.lock(pass) else {
+            return false;
+        };
+        let named = add_between(&held, from, end, nodes);
+        *pass = held.unlock();
+        pass.is_pass();
+        named
+    }
+}

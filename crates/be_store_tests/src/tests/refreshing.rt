@@ -1,0 +1,189 @@
+//! A live query that is refreshed beside random writes, and a list that is kept by what the
+//! refreshes return.
+ghost use Rattle.std.specs.Prelude.{◌≡◌, ◌<◌, ◌≤◌, None, length};
+ghost use Rattle.be_store.specs.Live.{IsLiveOf};
+ghost use Rattle.be_store.specs.Passes.{IsPassOf, IsPinnedTo};
+ghost use Rattle.be_store.specs.Seats.{pinned_number};
+
+use be_store::{Kind, Limits, Live, Name, Op, Pass, Query, Refusal, Store, Updates, Value, parse};
+use be_test_tools::both_of;
+use std::alloc::Global;
+
+/// Numbers that look random: each by a product from the one before.
+fn next_number(number: u32) -> u32 {
+    number.wrapping_mul(1_664_525).wrapping_add(1_013_904_223)
+}
+
+/// An operation by a random number, on one of forty nodes.
+fn random_op(number: u32) -> Result<Op, Refusal> {
+    let node = u64::from((number >> 8) % 40 + 1);
+    let size = Name::new("size")?;
+    let value = Value::int64(i64::from((number >> 16) % 100));
+    if (number >> 24) % 32 == 9 {
+        return Ok(Op::MkIndex(Name::new("other")?, Kind::Llng));
+    }
+    if (number >> 24) % 32 == 10 {
+        return Ok(Op::RmIndex(Name::new("other")?));
+    }
+    match (number >> 24) % 8 {
+        0 => Ok(Op::New),
+        1 => Ok(Op::Drop(node)),
+        2 => Ok(Op::Unset(node, size)),
+        3 => Ok(Op::Set(node, Name::new("other")?, value)),
+        _ => Ok(Op::Set(node, size, value)),
+    }
+}
+
+/// Writes an operation, which the volume may refuse.
+fn write_or_not(store: &Store, pass: &mut Pass, op: Op) -> Result<(), Refusal>
+    requires { IsPassOf store.now pass.old }
+    ensures { IsPassOf store.now pass.new }
+{
+    match store.apply(pass, &[op]) {
+        Ok(_) => Ok(()),
+        Err(Refusal::NoNode | Refusal::NoAttr | Refusal::IndexExists | Refusal::NoSuchIndex) => {
+            Ok(())
+        }
+        Err(refusal) => Err(refusal),
+    }
+}
+
+/// Writes so many random operations. Returns the next random number.
+fn write_some(store: &Store, pass: &mut Pass, count: u32, first: u32) -> Result<u32, Refusal>
+    requires { IsPassOf store.now pass.old }
+    ensures { IsPassOf store.now pass.new }
+{
+    let mut number = first;
+    for _ in 0..count {
+        write_or_not(store, pass, random_op(number)?)?;
+        number = next_number(number);
+    }
+    Ok(number)
+}
+
+/// Takes what went out of a list and puts what came into it. Returns false if something went that
+/// isn't there, or came that is.
+fn follow(list: &mut Vec<u64>, updates: &Updates) -> Result<bool, Refusal> {
+    for node in updates.removed.as_slice() {
+        let Some(at) = list.iter().position(|kept| kept == node) else {
+            return Ok(false);
+        };
+        if at < list.len() {
+            list.remove(at);
+        }
+    }
+    for node in updates.created.as_slice() {
+        if list.as_slice().contains(node) {
+            return Ok(false);
+        }
+        list.push(*node)?;
+    }
+    list.sort_unstable();
+    Ok(true)
+}
+
+/// Pins the pass if it isn't pinned. Returns the pin's number.
+fn pin_if_not(store: &Store, pass: &mut Pass) -> u64
+    requires pass { IsPassOf store.now pass.old }
+    ensures pass { IsPassOf store.now pass.new }
+    ensures pinned { IsPinnedTo pass.new.knows result }
+{
+    match pass.pinned() {
+        Some(number) => number,
+        None => store.pin(pass),
+    }
+}
+
+/// Refreshes at a pin that goes with the read. Whether the list is then what the query finds there.
+fn agrees(
+    store: &Store,
+    alloc: Global,
+    pass: &mut Pass,
+    query: &Query,
+    live: &mut Live,
+    list: &mut Vec<u64>,
+) -> Result<bool, Refusal>
+    requires pass { IsPassOf store.now pass.old }
+    requires own { IsLiveOf store.now live.old }
+    ensures pass { IsPassOf store.now pass.new }
+    ensures own { IsLiveOf store.now live.new }
+{
+    pin_if_not(store, pass);
+    let updates = live.refresh(store, pass)?;
+    let found = store.query(alloc, pass, query)?;
+    store.unpin(pass);
+    let kept = follow(list, &updates)?;
+    Ok(kept && list.as_slice() == found.nodes.as_slice())
+}
+
+/// Refreshes by the one pass or by the other.
+fn agrees_by(
+    store: &Store,
+    alloc: Global,
+    is_writer: bool,
+    writer: &mut Pass,
+    reader: &mut Pass,
+    query: &Query,
+    live: &mut Live,
+    list: &mut Vec<u64>,
+) -> Result<bool, Refusal>
+    requires writer { IsPassOf store.now writer.old }
+    requires reader { IsPassOf store.now reader.old }
+    requires own { IsLiveOf store.now live.old }
+    ensures writer { IsPassOf store.now writer.new }
+    ensures reader { IsPassOf store.now reader.new }
+    ensures own { IsLiveOf store.now live.new }
+{
+    if is_writer {
+        return agrees(store, alloc, writer, query, live, list);
+    }
+    agrees(store, alloc, reader, query, live, list)
+}
+
+/// Writes by one pass and refreshes by another, time after time. Whether the list always was what
+/// the query found.
+fn agrees_always(
+    store: &Store,
+    alloc: Global,
+    writer: &mut Pass,
+    reader: &mut Pass,
+    query: &Query,
+    live: &mut Live,
+) -> Result<bool, Refusal>
+    requires writer { IsPassOf store.now writer.old }
+    requires reader { IsPassOf store.now reader.old }
+    requires own { IsLiveOf store.now live.old }
+    ensures writer { IsPassOf store.now writer.new }
+    ensures reader { IsPassOf store.now reader.new }
+    ensures own { IsLiveOf store.now live.new }
+{
+    let mut list = Vec::new(alloc);
+    let mut number = 7;
+    for round in 0..200 {
+        let count = if round % 20 == 19 { 70 } else { number % 6 };
+        number = write_some(store, writer, count, number)?;
+        let is_writer = number % 3 == 0;
+        if !agrees_by(
+            store, alloc, is_writer, writer, reader, query, live, &mut list,
+        )? {
+            return Ok(false);
+        }
+    }
+    Ok(true)
+}
+
+/// The same in a new store.
+pub(crate) fn follows_random_writes(alloc: Global) -> Result<bool, Refusal> {
+    let limits = Limits {
+        pages: 512,
+        passes: 2,
+        commits: 10_000,
+    };
+    let (store, passes) = Store::open(alloc, limits)?;
+    let (mut writer, mut reader) = both_of(passes)?;
+    let size = Op::MkIndex(Name::new("size")?, Kind::Llng);
+    store.apply(&mut writer, &[size])?;
+    let mut live = Live::new(alloc, parse(alloc, "size>30&&size<70||size==5&&other>50")?);
+    let query = parse(alloc, "size>30&&size<70||size==5&&other>50")?;
+    agrees_always(&store, alloc, &mut writer, &mut reader, &query, &mut live)
+}

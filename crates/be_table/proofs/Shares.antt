@@ -1,0 +1,116 @@
+-- The pages of a pool, shared among the versions and an open write.
+use Rattle.std.proofs.Common.{◌≡◌, ℕ, zero, suc, ◌+◌, ◌-◌, ◌<◌, ◌≤◌, ◌==◌, ◌||◌, Bool, true, false, List, [], ◌∷◌, length, ap, sym, subst, ◌∙◌, refl, inl, inr, arith, cond}
+use Rattle.std.proofs.lemmas.Bool.{cases_eq, cases_lt}
+use Rattle.std.proofs.lemmas.Bool.Decides.{nat_tests}
+use Rattle.be_core.specs.Machine.{bit, has}
+use Rattle.be_table.specs.declared.pass.Commit.{Commit}
+use Rattle.be_table.specs.declared.pass.Knowledge.{Knowledge}
+use Rattle.be_table.specs.Counts.{count_below, is_reached, reached}
+use Rattle.be_table.specs.Rule.{reach_at}
+use Rattle.be_table.specs.Steps.{NoCommitReaches}
+use Rattle.be_table.specs.Works.{IsSpent}
+
+bit_cond : (b : Bool) → bit b ≡ cond {A = ℕ} b 1 0
+bit_cond true = refl
+bit_cond false = refl
+
+not_here : (p n : ℕ) → (p ≡ n → ⊥) → bit (p == n) ≡ 0
+not_here p n ne = bit_cond (p == n) ∙ other p n ne
+  where
+    other : (p n : ℕ) → (p ≡ n → ⊥) → cond {A = ℕ} (p == n) 1 0 ≡ 0
+    other p n ne = grind (arith, nat_tests)
+
+at_most_one : (b : Bool) → bit b ≤ 1
+at_most_one true = omega arith
+at_most_one false = omega arith
+
+none_past : (n p : ℕ) → n ≤ p → count_below (λ q. p == q) n ≡ 0
+none_past zero p le = refl
+none_past (suc n) p le = omega (arith, none_past n p (omega (arith, le)), not_here p n (λ e. absurd (omega (arith, e, le))))
+
+one_of_them : (n p : ℕ) → count_below (λ q. p == q) n ≤ 1
+one_of_them zero p = omega arith
+one_of_them (suc n) p = elim (cases_eq p n) [
+  | inl e ↦ omega (arith, none_past n p (omega (arith, e)), at_most_one (p == n))
+  | inr ne ↦ omega (arith, one_of_them n p, not_here p n ne)
+]
+
+-- a list has no more of the pages than it is long
+none_of_none : (n : ℕ) → count_below (has []) n ≡ 0
+none_of_none zero = refl
+none_of_none (suc n) = omega (arith, none_of_none n)
+
+either : (a b : Bool) → bit (a || b) ≤ bit a + bit b
+either true b = omega arith
+either false b = omega arith
+
+one_more : (n p : ℕ) (ps : List ℕ) → count_below (has (p ∷ ps)) n ≤ count_below (λ q. p == q) n + count_below (has ps) n
+one_more zero p ps = omega arith
+one_more (suc n) p ps = omega (arith, one_more n p ps, either (p == n) (has ps n))
+
+pub listed : (ps : List ℕ) (n : ℕ) → count_below (has ps) n ≤ length ps
+listed [] n = omega (arith, none_of_none n)
+listed (p ∷ ps) n = omega (arith, one_more n p ps, one_of_them n p, listed ps n)
+
+-- each page passes one of two tests
+all_counted : (f g : ℕ → Bool) (n : ℕ) → ((p : ℕ) → p < n → 1 ≤ bit (f p) + bit (g p)) → n ≤ count_below f n + count_below g n
+all_counted f g zero each = omega arith
+all_counted f g (suc n) each = omega (arith, each n (omega arith), all_counted f g n (λ p lt. each p (omega (arith, lt))))
+
+left_false : (a b : Bool) → (a || b) ≡ false → a ≡ false
+left_false true b e = e
+left_false false b e = refl
+
+right_false : (a b : Bool) → (a || b) ≡ false → b ≡ false
+right_false true b e = cc
+right_false false b e = e
+
+-- a page that is not reached is in none of the versions
+unreached : (seen : List Commit) (first k j p : ℕ) → is_reached seen first k p ≡ false → j < k → has (reach_at seen (first + j)) p ≡ false
+unreached seen first zero j p e lt = absurd (omega (arith, lt))
+unreached seen first (suc k) j p e lt = elim (cases_eq j k) [
+  | inl same ↦ ap (λ i. has (reach_at seen (first + i)) p) same ∙ left_false (has (reach_at seen (first + k)) p) (is_reached seen first k p) e
+  | inr ne ↦ unreached seen first k j p (right_false (has (reach_at seen (first + k)) p) (is_reached seen first k p) e) (omega (arith, ne, lt))
+]
+
+no_commit : (seen : List Commit) (least p : ℕ) → is_reached seen least (suc (length seen) - least) p ≡ false → NoCommitReaches seen least p
+no_commit seen least p e = λ n above below.
+    let j = n - least in
+    let is : least + j ≡ n = omega (arith, above) in
+    ap (λ i. has (reach_at seen i) p) (sym is) ∙ unreached seen least (suc (length seen) - least) j p e (omega (arith, above, below))
+
+module _ (a : Knowledge) (least : ℕ) (spent : IsSpent a least) where
+  counted : (p : ℕ) → p < a.limits.pages → 1 ≤ bit (is_reached a.seen least (suc (length a.seen) - least) p) + bit (has a.held p)
+  counted p lt = by (is_reached a.seen least (suc (length a.seen) - least) p) refl
+    where
+      by : (b : Bool) → is_reached a.seen least (suc (length a.seen) - least) p ≡ b → 1 ≤ bit b + bit (has a.held p)
+      by true e = omega arith
+      by false e = omega (arith, ap bit (spent.1 p lt (no_commit a.seen least p e)))
+
+  pub shared : a.limits.pages ≤ reached a.seen least a.limits.pages + length a.held
+  shared = omega (arith, all_counted (is_reached a.seen least (suc (length a.seen) - least)) (has a.held) a.limits.pages counted, listed a.held a.limits.pages)
+
+-- of the current version alone
+false_right : (a : Bool) → (a || false) ≡ a
+false_right true = refl
+false_right false = refl
+
+same_tests : (f g : ℕ → Bool) (n : ℕ) → ((p : ℕ) → f p ≡ g p) → count_below f n ≡ count_below g n
+same_tests f g zero same = refl
+same_tests f g (suc n) same = omega (arith, ap bit (same n), same_tests f g n same)
+
+pub shared_now : (a : Knowledge) → IsSpent a (length a.seen) → a.limits.pages ≤ length (reach_at a.seen (length a.seen)) + length a.held
+shared_now a spent =
+    let now = length a.seen in
+    let one : suc now - now ≡ 1 = omega arith in
+    let same : (p : ℕ) → is_reached a.seen now (suc now - now) p ≡ has (reach_at a.seen now) p = λ p.
+    ap (λ k. is_reached a.seen now k p) one ∙ false_right (has (reach_at a.seen (now + 0)) p) ∙ ap (λ i. has (reach_at a.seen i) p) (plus_none now) in
+    omega (
+      arith,
+      shared a now spent,
+      same_tests (is_reached a.seen now (suc now - now)) (has (reach_at a.seen now)) a.limits.pages same,
+      listed (reach_at a.seen now) a.limits.pages,
+    )
+  where
+    plus_none : (n : ℕ) → n + 0 ≡ n
+    plus_none n = omega arith

@@ -1,0 +1,3 @@
+-- How many pages trees of so many pairs have, and how many pages a write has in hand.
+pub mod Trees
+pub mod InHand

@@ -1,0 +1,109 @@
+-- The pages that a write has in hand, counted.
+use Rattle.std.proofs.Common.{◌≡◌, ℕ, zero, suc, ◌+◌, ◌<◌, ◌≤◌, ◌==◌, List, [], ◌∷◌, length, IsTrue, true, false, Bool, refl, inl, inr, arith, cond}
+use Rattle.std.proofs.lemmas.Bool.{cases_eq}
+use Rattle.std.proofs.lemmas.Bool.Decides.{nat_tests}
+use mathlib.Core.Bool.{false≢true}
+use Rattle.be_pages.specs.declared.room.Standing.{Standing}
+use Rattle.be_pages.specs.Pages.{is_taken, times, PageStep, untouched, unused, fresh, given_old, given_new, stays_old, stays_new, Swaps}
+use Rattle.be_tree.specs.Counting.{one_of, in_hand, TakesAtMost, TakesFewer, HasInHand}
+use Rattle.be_tree.proofs.Frame.{times-cons}
+
+-- one change after another
+pub takes_then : (a b : ℕ) (s t u : ℕ → Standing) → TakesAtMost a s t → TakesAtMost b t u → TakesAtMost (a + b) s u
+takes_then a b s t u first second n = omega (arith, first n, second n)
+
+pub takes_fewer_then : (a b : ℕ) (s t u : ℕ → Standing) → TakesAtMost a s t → TakesFewer b t u → TakesFewer (a + b) s u
+takes_fewer_then a b s t u first second n = omega (arith, first n, second n)
+
+-- how often the first n pages are among some
+all_times : ℕ → List ℕ → ℕ
+all_times zero ps = 0
+all_times (suc n) ps = times n ps + all_times n ps
+
+hits : ℕ → ℕ → ℕ
+hits zero p = 0
+hits (suc n) p = cond (p == n) 1 0 + hits n p
+
+no_hits : (n p : ℕ) → n ≤ p → hits n p ≡ 0
+unfolding hits
+no_hits zero p le = refl
+no_hits (suc n) p le = omega (arith, no_hits n p (omega (arith, le)), other n p (omega (arith, le)))
+  where
+    other : (n p : ℕ) → n < p → cond {A = ℕ} (p == n) 1 0 ≡ 0
+    other n p lt = grind (arith, nat_tests)
+
+one_hit : (n p : ℕ) → hits n p ≤ 1
+unfolding hits
+one_hit zero p = omega arith
+one_hit (suc n) p = elim (cases_eq p n) [
+  | inl e ↦ omega (arith, no_hits n p (omega (arith, e)), at_most p n)
+  | inr ne ↦ omega (arith, one_hit n p, other p n ne)
+]
+  where
+    at_most : (p n : ℕ) → cond {A = ℕ} (p == n) 1 0 ≤ 1
+    at_most p n = grind (arith, nat_tests)
+
+    other : (p n : ℕ) → (p ≡ n → ⊥) → cond {A = ℕ} (p == n) 1 0 ≡ 0
+    other p n ne = grind (arith, nat_tests)
+
+none_of_none : (n : ℕ) → all_times n [] ≡ 0
+unfolding all_times
+none_of_none zero = refl
+none_of_none (suc n) = omega (arith, none_of_none n)
+
+all_times_cons : (n p : ℕ) (ps : List ℕ) → all_times n (p ∷ ps) ≡ hits n p + all_times n ps
+unfolding all_times hits
+all_times_cons zero p ps = refl
+all_times_cons (suc n) p ps = omega (arith, all_times_cons n p ps, times-cons n p ps)
+
+all_times_size : (n : ℕ) (ps : List ℕ) → all_times n ps ≤ length ps
+all_times_size n [] = omega (arith, none_of_none n)
+all_times_size n (p ∷ ps) = omega (arith, all_times_cons n p ps, one_hit n p, all_times_size n ps)
+
+-- if each page comes into hand only where it is among these, no more do than these
+by_pages : (n : ℕ) (old new : ℕ → Standing) (ps : List ℕ) → ((q : ℕ) → one_of (is_taken (new q)) ≤ one_of (is_taken (old q)) + times q ps) → in_hand n new ≤ in_hand n old + all_times n ps
+unfolding all_times
+by_pages zero old new ps each = omega arith
+by_pages (suc n) old new ps each = omega (arith, each n, by_pages n old new ps each)
+
+pub takes_by : (old new : ℕ → Standing) (ps : List ℕ) → ((q : ℕ) → one_of (is_taken (new q)) ≤ one_of (is_taken (old q)) + times q ps) → TakesAtMost (length ps) old new
+takes_by old new ps each n = omega (arith, by_pages n old new ps each, all_times_size n ps)
+
+-- the pages in hand are no more than those among which they are
+in_bits : (b : Bool) (n : ℕ) → (IsTrue b → 0 < n) → one_of b ≤ n
+in_bits true n h = h refl
+in_bits false n h = omega arith
+
+hand_by : (n : ℕ) (standing : ℕ → Standing) (ps : List ℕ) → HasInHand standing ps → in_hand n standing ≤ all_times n ps
+unfolding all_times
+hand_by zero standing ps has = omega arith
+hand_by (suc n) standing ps has = omega (arith, in_bits (is_taken (standing n)) (times n ps) (has n), hand_by n standing ps has)
+
+pub hand_size : (standing : ℕ → Standing) (ps : List ℕ) → HasInHand standing ps → (n : ℕ) → in_hand n standing ≤ length ps
+hand_size standing ps has n = omega (arith, hand_by n standing ps has, all_times_size n ps)
+
+-- a page that changes while those in use are replaced
+step_hand : {P : Type 0} {b a : ℕ} {s t : Standing} → PageStep P b a s t → one_of (is_taken t) ≤ one_of (is_taken s) + a
+step_hand (untouched p) = omega arith
+step_hand unused = omega arith
+step_hand fresh = omega arith
+step_hand (given_old p) = omega arith
+step_hand given_new = omega arith
+step_hand (stays_old p) = omega arith
+step_hand stays_new = omega arith
+
+step_has : {P : Type 0} {b a : ℕ} {s t : Standing} → (IsTrue (is_taken s) → 0 < b) → PageStep P b a s t → IsTrue (is_taken t) → 0 < a
+step_has had (untouched p) taken = had taken
+step_has had unused taken = absurd (false≢true taken)
+step_has had (fresh {a}) taken = omega arith
+step_has had (given_old p) taken = absurd (false≢true taken)
+step_has had given_new taken = absurd (false≢true taken)
+step_has had (stays_old p) taken = absurd (false≢true taken)
+step_has had (stays_new {b} {a}) taken = omega arith
+
+module _ {S K : Type 0} (kept_of : S → K) (standing_of : S → ℕ → Standing) (words_of : S → ℕ → ℕ → ℕ) (before after : List ℕ) (old new : S) (swaps : Swaps kept_of standing_of words_of before after old new) where
+  pub takes_swaps : TakesAtMost (length after) (standing_of old) (standing_of new)
+  takes_swaps = takes_by (standing_of old) (standing_of new) after (λ q. step_hand (swaps.each q))
+
+  pub hand_swaps : HasInHand (standing_of old) before → HasInHand (standing_of new) after
+  hand_swaps has q = step_has (has q) (swaps.each q)

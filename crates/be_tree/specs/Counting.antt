@@ -1,0 +1,37 @@
+-- How many pages trees have, and how many of them a write has in hand.
+use Rattle.std.specs.Prelude.{◌≡◌, ℕ, zero, suc, ◌+◌, ◌*◌, ◌^◌, ◌<◌, ◌≤◌, ◌⊎◌, List, IsTrue, Bool}
+use Rattle.std.specs.Prelude.{true, false}
+use Rattle.std.specs.List.{flat_map}
+use Rattle.be_pages.specs.declared.room.Standing.{Standing}
+use Rattle.be_pages.specs.Pages.{is_taken, times}
+use Rattle.be_tree.specs.Pair.{Pair}
+use Rattle.be_tree.specs.Tree.{pairs}
+
+-- the pairs of several trees
+abbrev pub pairs_of_all : (words : ℕ → ℕ → ℕ) (roots : List ℕ) → List Pair
+pairs_of_all words roots = flat_map (λ root. pairs words root) roots
+
+-- so many pairs are enough for a tree of this level: each branch of its root has 6 ^ level pairs
+abbrev pub CanBeHigh : (level count : ℕ) → Type 0
+CanBeHigh level count = (level ≡ 0) ⊎ (2 * 6 ^ level ≤ count)
+
+abbrev pub one_of : Bool → ℕ
+one_of true = 1
+one_of false = 0
+
+-- how many of the first n pages a write has in hand: it has taken them and not given them up
+abbrev pub in_hand : ℕ → (standing : ℕ → Standing) → ℕ
+in_hand zero standing = 0
+in_hand (suc n) standing = one_of (is_taken (standing n)) + in_hand n standing
+
+-- it has at most so many pages more in hand than it had
+abbrev pub TakesAtMost : ℕ → (old new : ℕ → Standing) → Type 0
+TakesAtMost most old new = (n : ℕ) → in_hand n new ≤ in_hand n old + most
+
+-- it has fewer than so many more
+abbrev pub TakesFewer : ℕ → (old new : ℕ → Standing) → Type 0
+TakesFewer most old new = (n : ℕ) → in_hand n new < in_hand n old + most
+
+-- the pages that it has in hand are among these
+abbrev pub HasInHand : (standing : ℕ → Standing) → List ℕ → Type 0
+HasInHand standing ps = (q : ℕ) → IsTrue (is_taken (standing q)) → 0 < times q ps

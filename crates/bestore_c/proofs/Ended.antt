@@ -1,0 +1,52 @@
+-- The journal of a store that was closed, and what one of its passes had seen.
+use Rattle.std.proofs.Common.{◌≡◌, ◌≤◌, ℕ, List, [], ◌∷◌, ◌++◌, length, arith, ap, inl, refl, sym, ◌∙◌, length-append}
+use Rattle.std.proofs.lemmas.List.{append-nil, length-map}
+use Rattle.be_journal.specs.Journal.{Log}
+use Rattle.be_journal.specs.Text.{lines_from}
+use Rattle.be_journal.specs.declared.entries.Entry.{Entry}
+use Rattle.be_session.specs.Finishing.{IsFinishedBy}
+use Rattle.be_store.specs.History.{text_seen}
+use Rattle.be_table.specs.History.{StartsWith}
+use Rattle.be_table.specs.Rule.{entries}
+use Rattle.be_table.specs.Steps.{KeepsSeen}
+use Rattle.be_table.specs.declared.limits.Limits.{Limits}
+use Rattle.be_table.specs.declared.pass.Commit.{Commit}
+use Rattle.be_table.specs.declared.pass.Knowledge.{Knowledge}
+use Rattle.bestore_c.specs.Finishing.{IsEnd}
+use Rattle.bestore_c.specs.Places.{over}
+
+-- the journal begins with what each of the passes has seen
+pub starts_seen : (log : List Entry) (first : List Knowledge) (a : Knowledge) (rest : List Knowledge) → KeepsSeen log (first ++ a ∷ rest) → StartsWith log (entries a.seen)
+starts_seen log [] a rest h = h.0
+starts_seen log (b ∷ first) a rest h = starts_seen log first a rest h.2
+
+none_of : {A : Type 0} (xs : List A) → length xs ≡ 0 → xs ≡ []
+none_of [] h = refl
+none_of (x ∷ xs) h =
+    let no : ⊥ = omega (arith, h) in
+    absurd no
+
+-- a list that is no longer than its beginning is that
+pub is_all : {A : Type 0} (xs ys : List A) → StartsWith ys xs → length ys ≡ length xs → ys ≡ xs
+is_all xs ys more long =
+    let none : length more.0 ≡ 0 = omega (arith, ap length more.1, length-append xs more.0, long) in
+    more.1 ∙ (ap (λ l. xs ++ l) (none_of more.0 none) ∙ append-nil xs)
+
+-- the journal has no more entries than the session that closed the store has seen: they are those
+pub all_was_seen : (limits : Limits) (a : Knowledge) (log : Log) → IsFinishedBy limits a log → length log.entries ≡ length a.seen → log.entries ≡ entries a.seen
+all_was_seen limits a log f long =
+    is_all (entries a.seen) log.entries (starts_seen log.entries f.0 a f.1 f.2.seen) (long ∙ sym (length-map a.seen (λ (c : Commit). c.entry)))
+
+-- so the text of what it has seen is that of the journal
+pub ended : (limits : Limits) (a : Knowledge) (log : Log) (text places filled : List ℕ) (count : ℕ) → IsFinishedBy limits a log → length log.entries ≡ length a.seen
+    → text ≡ text_seen a → length text ≤ length places → count ≡ length text → filled ≡ over text places → IsEnd limits a places filled count 0
+ended limits a log text places filled count f long is fits counted put =
+    let same : text ≡ lines_from 1 log.entries = is ∙ ap (lines_from 1) (sym (all_was_seen limits a log f long)) in
+    inl (
+      refl,
+      log,
+      f,
+      counted ∙ ap length same,
+      omega (arith, counted, fits),
+      put ∙ ap (λ t. over t places) same,
+    )
