@@ -1,13 +1,11 @@
 use Rattle.std.proofs.Common.{ℕ, [], ◌∷◌, sym, subst, arith}
-use Rattle.be_pages.specs.Pages.{after_give_up, Swaps}
+use Rattle.be_pages.specs.Pages.{after_give_up}
 use Rattle.be_tree.specs.Slot.{branch_to, pairs_of}
 use Rattle.be_tree.specs.Tree.{IsWritten}
 use Rattle.be_tree.proofs.Nodes.Stands.{stands_at, stands_else}
 use Rattle.be_tree.proofs.Putting.Puts.{held_after, swaps_given_up}
-use Rattle.be_tree.proofs.Sizes.Refusals.{takes_page}
-use Rattle.be_tree.proofs.writing.write_changed.Given.{Over}
+use Rattle.be_tree.proofs.Sizes.InHand.{takes_given_up, takes_then}
 use Rattle.be_tree.proofs.writing.write_changed.Goals as goal
-use Rattle.be_tree.proofs.writing.write_changed.Goals.{After-give_up}
 
 pub give_up-requires-clause-held : goal.give_up-requires-clause-held
 give_up-requires-clause-held g c = held_after g.R.Look.kept g.R.Look.standing g.R.Look.words [] (c.in_ok-page.page ∷ []) c.args.old c.args.room.now c.write_node.new.room c.in_ok-page.ensures.swaps (omega arith) c.requires.kept
@@ -16,9 +14,8 @@ pub returns-clause-ok : goal.returns-clause-ok
 returns-clause-ok g c =
     subst (λ (w : ℕ → ℕ → ℕ). IsWritten c.args.node.level w (pairs_of (g.R.Look.words c.args.room.now) c.args.node.pair.now c.args.node.slots.now) (branch_to w c.in_ok-page.page)) (sym c.give_up.ensures.words) c.in_ok-page.ensures.ok
 
--- the page is in the place of the old one
-changed : (g : Over) (c : After-give_up g) → Swaps g.R.Look.kept g.R.Look.standing g.R.Look.words (c.args.old ∷ []) (c.in_ok-page.page ∷ []) c.args.room.now c.give_up.new.self
-changed g c =
+pub returns-clause-swaps : goal.returns-clause-swaps
+returns-clause-swaps g c =
     let old = c.args.old in
     let s = g.R.Look.standing c.write_node.new.room in
     let t = g.R.Look.standing c.give_up.new.self in
@@ -26,10 +23,6 @@ changed g c =
     c.give_up.ensures.kept c.give_up.ensures.words
     (stands_at s t old (after_give_up (s old)) c.give_up.ensures.standing) (stands_else s t old (after_give_up (s old)) c.give_up.ensures.standing)
 
-pub returns-clause-swaps : goal.returns-clause-swaps
-returns-clause-swaps g c = changed g (goal.at.returns-clause-swaps g c).After-give_up
-
 pub returns-clause-refused : goal.returns-clause-refused
 returns-clause-refused g c =
-    let at = (goal.at.returns-clause-refused g c).After-give_up in
-    (tt, tt, (takes_page g.R.Look.kept g.R.Look.standing g.R.Look.words (c.args.old ∷ []) c.in_ok-page.page c.args.room.now c.give_up.new.self (changed g at), tt))
+    (tt, tt, (takes_then 1 0 (g.R.Look.standing c.args.room.now) (g.R.Look.standing c.write_node.new.room) (g.R.Look.standing c.give_up.new.self) c.in_ok-page.ensures.refused.2.0 (takes_given_up (g.R.Look.standing c.write_node.new.room) (g.R.Look.standing c.give_up.new.self) c.args.old c.give_up.ensures.standing), tt))

@@ -1,4 +1,4 @@
-use Rattle.std.proofs.Common.{◌≡◌, ◌≢◌, ℕ, ◌<◌, IsTrue, get_or, length, ap, sym, subst, ◌∙◌, arith, zero-add, [], ◌∷◌}
+use Rattle.std.proofs.Common.{◌≡◌, ◌≢◌, ℕ, ◌<◌, IsTrue, get_or, length, ap, sym, subst, ◌∙◌, arith, zero-add}
 use Rattle.std.proofs.lemmas.List.{length-map}
 use Rattle.be_pages.specs.declared.room.Standing.TheVariants.{Filled, Taken}
 use Rattle.be_tree.specs.declared.slot.Slot.{Slot}
@@ -10,11 +10,10 @@ use Rattle.be_tree.proofs.Frame.{written_swaps}
 use Rattle.be_tree.proofs.Nodes.Slots.{stored_map, written_at}
 use Rattle.be_tree.proofs.Nodes.Stands.{stands_at, stands_else}
 use Rattle.be_tree.proofs.Splices.{filled_word, off_free, off_pair, off_ready, other_word}
-use Rattle.be_tree.proofs.Sizes.Refusals.{takes_page}
-use Rattle.be_pages.specs.Pages.{Swaps}
+use Rattle.be_tree.proofs.Sizes.InHand.{takes_one}
 use Rattle.be_tree.proofs.writing.write_node.Given.{Over}
 use Rattle.be_tree.proofs.writing.write_node.Goals as goal
-use Rattle.be_tree.proofs.writing.write_node.Goals.{After-fill-2, After-store_slots}
+use Rattle.be_tree.proofs.writing.write_node.Goals.{After-fill-2}
 
 -- the page with its header: it was free, and no other page has changed
 module _ (g : Over) (c : After-fill-2 g) where
@@ -79,22 +78,19 @@ returns-clause-ok g c =
     written_at c.args.node.level (g.R.Look.words c.store_slots.new.room) (pairs_of v given slots) page c.in_ok-page.ensures.page.0 is_page (only.before 0 (omega arith) ∙ level g at)
     (stored_map f (λ (k : ℕ). item_at w (item_place k)) slots (w 1) counted (λ k d lt. (stored k d lt).0)) (omega (arith, length-map slots f, c.requires.some))
 
--- the page is written
-written : (g : Over) (c : After-store_slots g) → Swaps g.R.Look.kept g.R.Look.standing g.R.Look.words [] (c.in_ok-page.page ∷ []) c.args.room.now c.store_slots.new.room
-written g c =
+pub returns-clause-swaps : goal.returns-clause-swaps
+returns-clause-swaps g c =
+    let at = (goal.at.returns-clause-swaps g c).After-fill-2 in
     let page = c.in_ok-page.page in
     let only = c.store_slots.ensures.only in
     written_swaps g.R.Look.kept g.R.Look.standing g.R.Look.words page c.args.room.now c.store_slots.new.room
     (only.kept ∙ c.fill-2.ensures.kept ∙ c.fill.ensures.kept ∙ c.in_ok-page.ensures.kept)
     c.in_ok-page.ensures.page.1
     (only.standing page ∙ stands_at (g.R.Look.standing c.fill.new.self) (g.R.Look.standing c.fill-2.new.self) page Filled c.fill-2.ensures.standing)
-    (λ q ne. only.standing q ∙ stands g c.After-fill-2 q ne)
-    (λ q ne. only.others q ne ∙ others g c.After-fill-2 q ne)
-
-pub returns-clause-swaps : goal.returns-clause-swaps
-returns-clause-swaps g c = written g (goal.at.returns-clause-swaps g c).After-store_slots
+    (λ q ne. only.standing q ∙ stands g at q ne)
+    (λ q ne. only.others q ne ∙ others g at q ne)
 
 pub returns-clause-refused : goal.returns-clause-refused
 returns-clause-refused g c =
-    let at = (goal.at.returns-clause-refused g c).After-store_slots in
-    (tt, tt, (takes_page g.R.Look.kept g.R.Look.standing g.R.Look.words [] c.in_ok-page.page c.args.room.now c.store_slots.new.room (written g at), tt))
+    let at = (goal.at.returns-clause-refused g c).After-fill-2 in
+    (tt, tt, (takes_one (g.R.Look.standing c.args.room.now) (g.R.Look.standing c.store_slots.new.room) c.in_ok-page.page (λ q ne. c.store_slots.ensures.only.standing q ∙ stands g at q ne), tt))
