@@ -1,5 +1,5 @@
 -- A leaf at the end of a path that has changed.
-use Rattle.std.proofs.Common.{◌≡◌, ◌≢◌, ℕ, zero, suc, ◌+◌, ◌-◌, ◌<◌, ◌≤◌, List, [], ◌∷◌, ◌++◌, Bool, true, length, get_or, take, drop, All, Result, IfOk, IfErr, Ok, Err, None, is_some, ap, sym, subst, ◌∙◌, refl, arith, append_assoc, if◌then◌else◌, length-append, length-drop}
+use Rattle.std.proofs.Common.{◌≡◌, ◌≢◌, ℕ, zero, suc, ◌+◌, ◌-◌, ◌<◌, ◌≤◌, List, [], ◌∷◌, ◌++◌, Bool, true, length, get_or, take, drop, All, IfOk, IfErr, Ok, Err, None, is_some, ap, sym, subst, ◌∙◌, refl, arith, append_assoc, if◌then◌else◌, length-append, length-drop}
 use Rattle.std.specs.declared.cmp.Ordering.TheVariants.{Equal, Greater}
 use Rattle.std.specs.List.{flat_map}
 use Rattle.std.specs.Ordering.{is_eq}
@@ -7,7 +7,7 @@ use Rattle.std.proofs.Math.Seq.{take-suc}
 use mathlib.Core.Bool.{false≢true}
 use Rattle.std.proofs.lemmas.List.{get_or_default, length-take-le}
 use Rattle.be_pages.specs.declared.room.Standing.{Standing}
-use Rattle.be_pages.specs.Pages.{IsUnchanged, KeepsStart, Swaps}
+use Rattle.be_pages.specs.Pages.{IsUnchanged, Swaps}
 use Rattle.be_tree.specs.declared.path.Path.{Path}
 use Rattle.be_tree.specs.declared.path.Step.{Step}
 use Rattle.be_tree.specs.declared.slot.Slot.{Slot}
@@ -19,7 +19,7 @@ use Rattle.be_tree.specs.Path.{BecomesNode, IsChanged, IsInHand, IsPathTo, IsWay
 use Rattle.be_tree.specs.Slot.{IsReady, pairs_of}
 use Rattle.be_tree.specs.Splicing.{IsSpliced, spliced}
 use Rattle.be_tree.specs.Tree.{BecomesTree, IsBelow, IsTreeAt, least_of_root, pages, pairs, pairs_at, pairs_below}
-use Rattle.be_tree.proofs.Frame.{one_page, start_trans, swaps_since}
+use Rattle.be_tree.proofs.Frame.{one_page, swaps_since}
 use Rattle.be_tree.proofs.Nodes.Slots.{item_get, items_count}
 use Rattle.be_tree.proofs.Order.{key_exact}
 use Rattle.be_tree.proofs.Putting.Puts.{put_at_item}

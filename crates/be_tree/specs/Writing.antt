@@ -62,7 +62,7 @@ ReplacesTree kept_of standing_of words_of level given slots page root old new =
     (pairs_below level (words_of old) (pairs_of (words_of old) given slots)) root old new
 
 -- If a write is refused, what was there when it began is there again once it is undone, and no page
--- was left. It has at most so many pages more in hand then, and fewer if it is refused.
+-- was left. The write has at most so many pages more in hand than before, and fewer if refused.
 abbrev pub Refuses : {S K A : Type 0} → (S → K) → (S → ℕ → Standing) → (S → ℕ → ℕ → ℕ)
     → (full : S → ℕ → Type 0) → (most : ℕ) → Result A Refusal → S → S → Type 0
 Refuses kept_of standing_of words_of full most result old new =

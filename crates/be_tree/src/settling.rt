@@ -298,8 +298,8 @@ pub(crate) fn settle<R: Room>(
         (whole (R.words start) above.now (pairs_below (level_of (R.words start was))
         (R.words room.old) (pairs_of (R.words room.old) pair.now in_hand.items))) new start
         room.new) }
-    ensures refused { Refuses R.kept R.standing R.words R.full (most_taken (length above.now)) result
-        room.old room.new }
+    ensures refused { Refuses R.kept R.standing R.words R.full
+        (most_taken (length above.now)) result room.old room.new }
 {
     let mut slots = in_hand;
     let mut was = was;

@@ -1,12 +1,12 @@
 -- What a call has taken when it returns, and what it leaves if it is refused.
-use Rattle.std.proofs.Common.{◌≡◌, ℕ, ◌+◌, ◌<◌, ◌≤◌, List, [], ◌∷◌, Result, Ok, Err, OnErr, IfErr, OnOk, arith}
+use Rattle.std.proofs.Common.{◌≡◌, ℕ, ◌+◌, ◌<◌, ◌≤◌, List, [], ◌∷◌, Result, Ok, Err, IfErr, arith}
 use Rattle.be_pages.specs.declared.room.Standing.{Standing}
 use Rattle.be_pages.specs.Pages.{IsUnchanged, KeepsStart, Swaps}
 use Rattle.be_pages.specs.Refusal.{IsFullOf}
 use Rattle.be_value.specs.declared.refusals.Refusal.{Refusal}
 use Rattle.be_tree.specs.Counting.{Takes, TakesAtMost, TakesFewer}
 use Rattle.be_tree.specs.Writing.{Refuses}
-use Rattle.be_tree.proofs.Frame.{start_trans, swaps_start, unchanged_start}
+use Rattle.be_tree.proofs.Frame.{start_trans, unchanged_start}
 use Rattle.be_tree.proofs.Sizes.InHand.{fewer_same, fewer_within, takes_fewer_then, takes_same, takes_swaps, takes_then, takes_within}
 
 -- a call that returns has taken fewer

@@ -46,6 +46,9 @@ returns-then-root-eq0-clause-takes g c =
 pub returns-clause-takes : goal.returns-clause-takes
 returns-clause-takes g c =
     takes_since 0 (most_taken (length c.find_path.new.path.above.items)) (most_taken (level_of_root (g.R.Look.words c.args.room.now) c.args.root)) c.put_on.result (g.R.Look.standing c.args.room.now) (g.R.Look.standing c.find_path.new.look) (g.R.Look.standing c.put_on.new.room) (takes_same (g.R.Look.standing c.args.room.now) (g.R.Look.standing c.find_path.new.look) c.find_path.ensures.unchanged.standing)
-    (omega (arith, path_levels (g.R.Look.standing c.args.room.now) (g.R.Look.words c.args.room.now) c.args.root c.new-pair.result.key c.find_path.new.path
-    (subst (λ k. IsPathTo (g.R.Look.standing c.args.room.now) (g.R.Look.words c.args.room.now) c.args.root k c.find_path.new.path) c.key.ensures c.find_path.ensures.path)))
+    (omega (
+      arith,
+      path_levels (g.R.Look.standing c.args.room.now) (g.R.Look.words c.args.room.now) c.args.root c.new-pair.result.key c.find_path.new.path
+          (subst (λ k. IsPathTo (g.R.Look.standing c.args.room.now) (g.R.Look.words c.args.room.now) c.args.root k c.find_path.new.path) c.key.ensures c.find_path.ensures.path),
+    ))
     c.put_on.ensures.refused.2

@@ -113,9 +113,12 @@ loop-i-preserved g c =
     }
 
 pub returns-in_err-page-clause-refused : goal.returns-in_err-page-clause-refused
-returns-in_err-page-clause-refused g c =
-    (on_err _ (start_trans g.R.Look.kept g.R.Look.standing g.R.Look.words c.args.room.now c.loop-i.room c.splice.new.room c.loop-i.invariant.starts c.in_err-page.ensures.refused.0), search rules, takes_on (length c.args.above.now) _ (g.R.Look.standing c.args.room.now) (g.R.Look.standing c.splice.new.room) (fewer_within (c.loop-i.i + 1) (length c.args.above.now) (g.R.Look.standing c.args.room.now) (g.R.Look.standing c.splice.new.room) (omega (arith, c.loop-i-test.true))
-    (takes_fewer_then c.loop-i.i 1 (g.R.Look.standing c.args.room.now) (g.R.Look.standing c.loop-i.room) (g.R.Look.standing c.splice.new.room) c.loop-i.invariant.takes c.in_err-page.ensures.refused.2.1)))
+returns-in_err-page-clause-refused g c = (
+  on_err _ (start_trans g.R.Look.kept g.R.Look.standing g.R.Look.words c.args.room.now c.loop-i.room c.splice.new.room c.loop-i.invariant.starts c.in_err-page.ensures.refused.0),
+  search rules,
+  takes_on (length c.args.above.now) _ (g.R.Look.standing c.args.room.now) (g.R.Look.standing c.splice.new.room) (fewer_within (c.loop-i.i + 1) (length c.args.above.now) (g.R.Look.standing c.args.room.now) (g.R.Look.standing c.splice.new.room) (omega (arith, c.loop-i-test.true))
+      (takes_fewer_then c.loop-i.i 1 (g.R.Look.standing c.args.room.now) (g.R.Look.standing c.loop-i.room) (g.R.Look.standing c.splice.new.room) c.loop-i.invariant.takes c.in_err-page.ensures.refused.2.1)),
+)
 
 pub returns-then-below-2-clause-refused : goal.returns-then-below-2-clause-refused
 returns-then-below-2-clause-refused g c =

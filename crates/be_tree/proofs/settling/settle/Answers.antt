@@ -148,9 +148,15 @@ returns-in_err-turn-clause-refused g c =
     (on_err _ P, search rules, takes_on (most_taken (length c.args.above.now)) _ (g.R.Look.standing c.args.room.now) (g.R.Look.standing c.settle_once.new.room) (last_fewer c.args.above.now c.loop-i.i (g.R.Look.standing c.args.room.now) (g.R.Look.standing c.loop-i.room) (g.R.Look.standing c.settle_once.new.room) c.loop-i-test.true c.loop-i.invariant.takes c.in_err-turn.ensures.refused.2.1))
 
 pub returns-in-Whole-clause-refused : goal.returns-in-Whole-clause-refused
-returns-in-Whole-clause-refused g c =
-    (tt, tt, (last_takes c.args.above.now c.loop-i.i (g.R.Look.standing c.args.room.now) (g.R.Look.standing c.loop-i.room) (g.R.Look.standing c.settle_once.new.room) c.loop-i-test.true c.loop-i.invariant.takes
-    (subst (λ (t : Turn). TakesAtMost (taken_for t (length (left c.args.above.now c.loop-i.i))) (g.R.Look.standing c.loop-i.room) (g.R.Look.standing c.settle_once.new.room)) c.in-Whole.is c.in_ok-turn.ensures.takes), tt))
+returns-in-Whole-clause-refused g c = (
+  tt,
+  tt,
+  (
+    last_takes c.args.above.now c.loop-i.i (g.R.Look.standing c.args.room.now) (g.R.Look.standing c.loop-i.room) (g.R.Look.standing c.settle_once.new.room) c.loop-i-test.true c.loop-i.invariant.takes
+        (subst (λ (t : Turn). TakesAtMost (taken_for t (length (left c.args.above.now c.loop-i.i))) (g.R.Look.standing c.loop-i.room) (g.R.Look.standing c.settle_once.new.room)) c.in-Whole.is c.in_ok-turn.ensures.takes),
+    tt,
+  ),
+)
 
 pub word-level-requires-clause-readable : goal.word-level-requires-clause-readable
 word-level-requires-clause-readable g c =

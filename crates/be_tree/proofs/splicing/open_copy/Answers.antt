@@ -42,10 +42,16 @@ returns-clause-gap g c =
     (last.before 1 (omega arith) ∙ first.before 1 (omega arith) ∙ c.fill-2.ensures.place 1 ∙ filled_word 1 (cut.at + c.args.more + rest) (g.R.Look.words c.fill.new.self copy 1)) front back
 
 pub returns-clause-refused : goal.returns-clause-refused
-returns-clause-refused g c =
-    (tt, tt, (takes_one (g.R.Look.standing c.args.room.now) (g.R.Look.standing c.copy_down-2.new.room) c.in_ok-copy.copy (λ q ne.
+returns-clause-refused g c = (
+  tt,
+  tt,
+  (
+    takes_one (g.R.Look.standing c.args.room.now) (g.R.Look.standing c.copy_down-2.new.room) c.in_ok-copy.copy (λ q ne.
         c.copy_down-2.ensures.only.standing q ∙ c.copy_down.ensures.only.standing q
         ∙ stands_else (g.R.Look.standing c.fill.new.self) (g.R.Look.standing c.fill-2.new.self) c.in_ok-copy.copy Filled c.fill-2.ensures.standing q ne
         ∙ stands_else (g.R.Look.standing c.word-count.new.self) (g.R.Look.standing c.fill.new.self) c.in_ok-copy.copy Filled c.fill.ensures.standing q ne
         ∙ ap (λ s. s q) (c.word-count.ensures.standing ∙ c.word-level.ensures.standing)
-        ∙ stands_else (g.R.Look.standing c.args.room.now) (g.R.Look.standing c.take.new.self) c.in_ok-copy.copy Taken c.in_ok-copy.ensures.ok q ne), tt))
+        ∙ stands_else (g.R.Look.standing c.args.room.now) (g.R.Look.standing c.take.new.self) c.in_ok-copy.copy Taken c.in_ok-copy.ensures.ok q ne),
+    tt,
+  ),
+)

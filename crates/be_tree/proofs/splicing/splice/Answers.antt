@@ -121,6 +121,12 @@ returns-then-is_taken-clause-refused g c =
 
 pub returns-clause-refused : goal.returns-clause-refused
 returns-clause-refused g c =
-    let at = (goal.at.returns-clause-refused g c).After-store_slots-2 in
-    (tt, tt, (takes_then 1 0 (g.R.Look.standing c.args.room.now) (g.R.Look.standing c.store_slots-2.new.room) (g.R.Look.standing c.give_up.new.self) (takes_page g.R.Look.kept g.R.Look.standing g.R.Look.words [] c.in_ok-copy.copy c.args.room.now c.store_slots-2.new.room (copied g at))
-    (takes_given_up (g.R.Look.standing c.store_slots-2.new.room) (g.R.Look.standing c.give_up.new.self) c.args.page c.give_up.ensures.standing), tt))
+    let at = (goal.at.returns-clause-refused g c).After-store_slots-2 in (
+      tt,
+      tt,
+      (
+        takes_then 1 0 (g.R.Look.standing c.args.room.now) (g.R.Look.standing c.store_slots-2.new.room) (g.R.Look.standing c.give_up.new.self) (takes_page g.R.Look.kept g.R.Look.standing g.R.Look.words [] c.in_ok-copy.copy c.args.room.now c.store_slots-2.new.room (copied g at))
+            (takes_given_up (g.R.Look.standing c.store_slots-2.new.room) (g.R.Look.standing c.give_up.new.self) c.args.page c.give_up.ensures.standing),
+        tt,
+      ),
+    )

@@ -48,6 +48,12 @@ returns-clause-ok g c =
     (λ q. swapped q l r before) gone)
 
 pub returns-clause-refused : goal.returns-clause-refused
-returns-clause-refused g c =
-    (tt, tt, (takes_then 2 0 (g.R.Look.standing c.args.room.now) (g.R.Look.standing c.pack.new.room) (g.R.Look.standing c.give_up.new.self) c.in_ok-branches.ensures.refused.2.0
-    (takes_given_up (g.R.Look.standing c.pack.new.room) (g.R.Look.standing c.give_up.new.self) c.args.right c.give_up.ensures.standing), tt))
+returns-clause-refused g c = (
+  tt,
+  tt,
+  (
+    takes_then 2 0 (g.R.Look.standing c.args.room.now) (g.R.Look.standing c.pack.new.room) (g.R.Look.standing c.give_up.new.self) c.in_ok-branches.ensures.refused.2.0
+        (takes_given_up (g.R.Look.standing c.pack.new.room) (g.R.Look.standing c.give_up.new.self) c.args.right c.give_up.ensures.standing),
+    tt,
+  ),
+)

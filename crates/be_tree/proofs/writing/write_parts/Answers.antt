@@ -43,10 +43,13 @@ returns-in_err-right-clause-refused g c =
     (on_err _ (c.in_err-right.ensures.refused.0), search rules, takes_on 2 _ (g.R.Look.standing c.args.room.now) (g.R.Look.standing c.write_node.new.room) (fewer_within 1 2 (g.R.Look.standing c.args.room.now) (g.R.Look.standing c.write_node.new.room) (omega arith) c.in_err-right.ensures.refused.2.1))
 
 pub returns-in_err-left-clause-refused : goal.returns-in_err-left-clause-refused
-returns-in_err-left-clause-refused g c =
-    (on_err _ (start_trans g.R.Look.kept g.R.Look.standing g.R.Look.words c.args.room.now c.write_node.new.room c.write_changed.new.room
-    (swaps_start g.R.Look.kept g.R.Look.standing g.R.Look.words [] (c.in_ok-right.right ∷ []) c.args.room.now c.write_node.new.room c.in_ok-right.ensures.swaps)
-    c.in_err-left.ensures.refused.0), search rules, takes_on 2 _ (g.R.Look.standing c.args.room.now) (g.R.Look.standing c.write_changed.new.room) (takes_fewer_then 1 1 (g.R.Look.standing c.args.room.now) (g.R.Look.standing c.write_node.new.room) (g.R.Look.standing c.write_changed.new.room) c.in_ok-right.ensures.refused.2.0 c.in_err-left.ensures.refused.2.1))
+returns-in_err-left-clause-refused g c = (
+  on_err _ (start_trans g.R.Look.kept g.R.Look.standing g.R.Look.words c.args.room.now c.write_node.new.room c.write_changed.new.room
+      (swaps_start g.R.Look.kept g.R.Look.standing g.R.Look.words [] (c.in_ok-right.right ∷ []) c.args.room.now c.write_node.new.room c.in_ok-right.ensures.swaps)
+      c.in_err-left.ensures.refused.0),
+  search rules,
+  takes_on 2 _ (g.R.Look.standing c.args.room.now) (g.R.Look.standing c.write_changed.new.room) (takes_fewer_then 1 1 (g.R.Look.standing c.args.room.now) (g.R.Look.standing c.write_node.new.room) (g.R.Look.standing c.write_changed.new.room) c.in_ok-right.ensures.refused.2.0 c.in_err-left.ensures.refused.2.1),
+)
 
 pub returns-clause-ok : goal.returns-clause-ok
 returns-clause-ok g c =

@@ -84,6 +84,12 @@ returns-then-slots-eq0-clause-refused g c =
     (tt, tt, (takes_within 0 3 (g.R.Look.standing c.args.room.now) (g.R.Look.standing c.give_up.new.self) (omega arith) (takes_given_up (g.R.Look.standing c.args.room.now) (g.R.Look.standing c.give_up.new.self) c.args.old c.give_up.ensures.standing), tt))
 
 pub returns-then-slots-eq1-clause-refused : goal.returns-then-slots-eq1-clause-refused
-returns-then-slots-eq1-clause-refused g c =
-    (tt, tt, (takes_within 0 3 (g.R.Look.standing c.args.room.now) (g.R.Look.standing c.give_up-then-slots-eq1.new.self) (omega arith) (takes_then 0 0 (g.R.Look.standing c.args.room.now) (g.R.Look.standing c.child_of-child.new.look) (g.R.Look.standing c.give_up-then-slots-eq1.new.self)
-    (takes_same (g.R.Look.standing c.args.room.now) (g.R.Look.standing c.child_of-child.new.look) c.child_of-child.ensures.unchanged.standing) (takes_given_up (g.R.Look.standing c.child_of-child.new.look) (g.R.Look.standing c.give_up-then-slots-eq1.new.self) c.args.old c.give_up-then-slots-eq1.ensures.standing)), tt))
+returns-then-slots-eq1-clause-refused g c = (
+  tt,
+  tt,
+  (
+    takes_within 0 3 (g.R.Look.standing c.args.room.now) (g.R.Look.standing c.give_up-then-slots-eq1.new.self) (omega arith) (takes_then 0 0 (g.R.Look.standing c.args.room.now) (g.R.Look.standing c.child_of-child.new.look) (g.R.Look.standing c.give_up-then-slots-eq1.new.self)
+        (takes_same (g.R.Look.standing c.args.room.now) (g.R.Look.standing c.child_of-child.new.look) c.child_of-child.ensures.unchanged.standing) (takes_given_up (g.R.Look.standing c.child_of-child.new.look) (g.R.Look.standing c.give_up-then-slots-eq1.new.self) c.args.old c.give_up-then-slots-eq1.ensures.standing)),
+    tt,
+  ),
+)

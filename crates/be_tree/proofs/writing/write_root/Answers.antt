@@ -47,10 +47,13 @@ returns-in_err-left-clause-refused g c =
 pub returns-in_err-top-2-clause-refused : goal.returns-in_err-top-2-clause-refused
 returns-in_err-top-2-clause-refused g c =
     let words = g.R.Look.words c.args.room.now in
-    let mid = g.R.Look.words c.write_parts.new.room in
-    (on_err _ (start_trans g.R.Look.kept g.R.Look.standing g.R.Look.words c.args.room.now c.write_parts.new.room c.write_node.new.room
-    (swaps_start g.R.Look.kept g.R.Look.standing g.R.Look.words (c.args.old ∷ pages_below c.args.node.level words (pairs_of words c.args.node.pair.now c.args.node.slots.now)) (pages_below (suc c.args.node.level) mid (branch_to mid c.in_ok-left.left ∷ branch_to mid c.in_ok-left.right ∷ [])) c.args.room.now c.write_parts.new.room c.in_ok-left.ensures.ok.swaps)
-    c.in_err-top-2.ensures.refused.0), search rules, takes_on 3 _ (g.R.Look.standing c.args.room.now) (g.R.Look.standing c.write_node.new.room) (takes_fewer_then 2 1 (g.R.Look.standing c.args.room.now) (g.R.Look.standing c.write_parts.new.room) (g.R.Look.standing c.write_node.new.room) c.in_ok-left.ensures.refused.2.0 c.in_err-top-2.ensures.refused.2.1))
+    let mid = g.R.Look.words c.write_parts.new.room in (
+      on_err _ (start_trans g.R.Look.kept g.R.Look.standing g.R.Look.words c.args.room.now c.write_parts.new.room c.write_node.new.room
+          (swaps_start g.R.Look.kept g.R.Look.standing g.R.Look.words (c.args.old ∷ pages_below c.args.node.level words (pairs_of words c.args.node.pair.now c.args.node.slots.now)) (pages_below (suc c.args.node.level) mid (branch_to mid c.in_ok-left.left ∷ branch_to mid c.in_ok-left.right ∷ [])) c.args.room.now c.write_parts.new.room c.in_ok-left.ensures.ok.swaps)
+          c.in_err-top-2.ensures.refused.0),
+      search rules,
+      takes_on 3 _ (g.R.Look.standing c.args.room.now) (g.R.Look.standing c.write_node.new.room) (takes_fewer_then 2 1 (g.R.Look.standing c.args.room.now) (g.R.Look.standing c.write_parts.new.room) (g.R.Look.standing c.write_node.new.room) c.in_ok-left.ensures.refused.2.0 c.in_err-top-2.ensures.refused.2.1),
+    )
 
 pub returns-clause-ok : goal.returns-clause-ok
 returns-clause-ok g c =
