@@ -1,5 +1,5 @@
 -- What a call has taken when it returns, and what it leaves if it is refused.
-use Rattle.std.proofs.Common.{◌≡◌, ℕ, ◌+◌, ◌<◌, ◌≤◌, List, [], ◌∷◌, Result, Ok, Err, arith}
+use Rattle.std.proofs.Common.{ℕ, ◌+◌, ◌≤◌, List, [], ◌∷◌, Result, Ok, Err, arith}
 use Rattle.be_pages.specs.declared.room.Standing.{Standing}
 use Rattle.be_pages.specs.Pages.{IsUnchanged, KeepsStart, Swaps}
 use Rattle.be_value.specs.declared.refusals.Refusal.{Refusal}
