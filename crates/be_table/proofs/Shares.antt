@@ -1,12 +1,13 @@
 -- The pages of a pool, shared among the versions and an open write.
-use Rattle.std.proofs.Common.{◌≡◌, ℕ, zero, suc, ◌+◌, ◌-◌, ◌<◌, ◌≤◌, ◌==◌, ◌||◌, Bool, true, false, nat_lt, List, [], ◌∷◌, length, ap, sym, subst, ◌∙◌, refl, inl, inr, arith, cond}
+use Rattle.std.proofs.Common.{◌≡◌, ℕ, zero, suc, ◌+◌, ◌-◌, ◌*◌, ◌<◌, ◌≤◌, ◌==◌, ◌||◌, Bool, true, false, nat_lt, List, [], ◌∷◌, length, ap, sym, subst, ◌∙◌, refl, inl, inr, arith, cond}
 use Rattle.std.specs.Prelude.{IsTrue, slice_index_or}
 use Rattle.std.proofs.lemmas.Bool.{cases_eq, cases_lt}
 use Rattle.std.proofs.lemmas.Bool.Decides.{nat_tests}
 use Rattle.std.proofs.lemmas.List.{get_or_default, get_or_past}
 use borrow.Author.Tests.{lt-ltb}
 use Rattle.be_core.specs.Machine.{bit, has}
-use Rattle.be_pages.specs.Pages.{is_taken}
+use Rattle.be_paged.specs.Page.{reach}
+use Rattle.be_pages.specs.Pages.{is_taken, times}
 use Rattle.be_pages.specs.Place.{is_in_hand, place_of}
 use Rattle.be_pages.specs.declared.page_pool.Place.{Place}
 use Rattle.be_pages.specs.declared.page_pool.Place.TheVariants.{Free as Nowhere, Reserved, Filled, Current, GivenUp, Retired}
@@ -17,7 +18,10 @@ use Rattle.be_table.specs.Counts.{count_below, is_reached, reached}
 use Rattle.be_table.specs.Reading.{standing_among, standing_at}
 use Rattle.be_table.specs.Rule.{reach_at}
 use Rattle.be_table.specs.Steps.{NoCommitReaches}
+use Rattle.be_table.specs.Versions.{SpellsVolume}
 use Rattle.be_table.specs.Works.{HoldsStill, IsSpent}
+use Rattle.be_volume.specs.Volume.{State}
+use Rattle.be_tree.proofs.Frame.{times-cons}
 
 bit_cond : (b : Bool) → bit b ≡ cond {A = ℕ} b 1 0
 bit_cond true = refl
@@ -57,7 +61,7 @@ one_more : (n p : ℕ) (ps : List ℕ) → count_below (has (p ∷ ps)) n ≤ co
 one_more zero p ps = omega arith
 one_more (suc n) p ps = omega (arith, one_more n p ps, either (p == n) (has ps n))
 
-pub listed : (ps : List ℕ) (n : ℕ) → count_below (has ps) n ≤ length ps
+listed : (ps : List ℕ) (n : ℕ) → count_below (has ps) n ≤ length ps
 listed [] n = omega (arith, none_of_none n)
 listed (p ∷ ps) n = omega (arith, one_more n p ps, one_of_them n p, listed ps n)
 
@@ -108,7 +112,7 @@ same_tests : (f g : ℕ → Bool) (n : ℕ) → ((p : ℕ) → f p ≡ g p) → 
 same_tests f g zero same = refl
 same_tests f g (suc n) same = omega (arith, ap bit (same n), same_tests f g n same)
 
-pub shared_now : (a : Knowledge) → IsSpent a (length a.seen) → a.limits.pages ≤ length (reach_at a.seen (length a.seen)) + count_below (has a.held) a.limits.pages
+pub shared_now : (a : Knowledge) → IsSpent a (length a.seen) → a.limits.pages ≤ count_below (has (reach_at a.seen (length a.seen))) a.limits.pages + count_below (has a.held) a.limits.pages
 shared_now a spent =
     let now = length a.seen in
     let one : suc now - now ≡ 1 = omega arith in
@@ -118,7 +122,6 @@ shared_now a spent =
       arith,
       shared a now spent,
       same_tests (is_reached a.seen now (suc now - now)) (has (reach_at a.seen now)) a.limits.pages same,
-      listed (reach_at a.seen now) a.limits.pages,
     )
   where
     plus_none : (n : ℕ) → n + 0 ≡ n
@@ -150,3 +153,25 @@ pub still_counted : (a : Knowledge) (n : ℕ) → HoldsStill a → n ≤ 16384 �
 still_counted a zero still small = omega arith
 still_counted a (suc n) still small =
     omega (arith, still_counted a n still (omega (arith, small)), one_of_true (has a.held n) (is_taken (standing_among a.places n)) (λ h. taken_at a.places n (omega (arith, small)) (still n h)))
+
+-- the pages that a version has are those that it reaches
+absent : (q : ℕ) (ps : List ℕ) → has ps q ≡ false → times q ps ≡ 0
+absent q [] h = refl
+absent q (p ∷ ps) h =
+    let here : cond {A = ℕ} (p == q) 1 0 ≡ 0 = ap (λ (b : Bool). cond {A = ℕ} b 1 0) (left_false (p == q) (has ps q) h) in
+    omega (arith, times-cons q p ps, absent q ps (right_false (p == q) (has ps q) h))
+
+present : (pages ps : List ℕ) (q : ℕ) → times q ps ≡ bit (has pages q) → bit (has pages q) ≤ bit (has ps q)
+present pages ps q e = by (has ps q) refl
+  where
+    by : (b : Bool) → has ps q ≡ b → bit (has pages q) ≤ bit b
+    by true h = at_most_one (has pages q)
+    by false h = omega (arith, absent q ps h)
+
+spelt_few : (pages ps : List ℕ) (n : ℕ) → ((q : ℕ) → times q ps ≡ bit (has pages q)) → count_below (has pages) n ≤ count_below (has ps) n
+spelt_few pages ps zero exact = omega arith
+spelt_few pages ps (suc n) exact = omega (arith, spelt_few pages ps n exact, present pages ps n (exact n))
+
+pub spelt_counted : (pages : List ℕ) (words : ℕ → ℕ → ℕ) (page n most : ℕ) (volume : State) → SpellsVolume pages words page volume → 5 * length (reach words page) ≤ most → 5 * count_below (has pages) n ≤ most
+spelt_counted pages words page n most volume s few =
+    omega (arith, spelt_few pages (reach words page) n s.exact, listed (reach words page) n)
