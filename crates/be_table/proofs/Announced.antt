@@ -85,12 +85,21 @@ was_announced old new least h =
 -- a write that gives the lock back knows what it knew
 pub spent_unlocked : (v c : Knowledge) (least : ℕ) → c ≡ without_lock (with_history v c.history) → Makes v.number v.history (Unlock v.number ∷ []) c.history → IsSpent v least → IsSpent c least
 spent_unlocked v c least is moves s =
-    subst (λ (k : Knowledge). IsSpent k least) (sym is) (s.0, s.1, s.2, ⊎_elim inl (λ x. inr (x.0, x.1, record {
-      upto = x.2.upto;
-      front = starts_before c.history v.history x.2.upto (makes_starts v.number v.history (Unlock v.number ∷ []) c.history moves) x.2.front;
-      since = subst (StartsWith x.2.upto) (sym (upto_one v.number v.history c.history (Unlock v.number) refl moves)) x.2.since;
-      words = x.2.words;
-      world = x.2.world;
-      runs = x.2.runs;
-      told = x.2.told;
-    })) s.3)
+    subst (λ (k : Knowledge). IsSpent k least) (sym is) (
+      s.0,
+      s.1,
+      s.2,
+      ⊎_elim inl (λ x. inr (
+        x.0,
+        x.1,
+        record {
+          upto = x.2.upto;
+          front = starts_before c.history v.history x.2.upto (makes_starts v.number v.history (Unlock v.number ∷ []) c.history moves) x.2.front;
+          since = subst (StartsWith x.2.upto) (sym (upto_one v.number v.history c.history (Unlock v.number) refl moves)) x.2.since;
+          words = x.2.words;
+          world = x.2.world;
+          runs = x.2.runs;
+          told = x.2.told;
+        },
+      )) s.3,
+    )

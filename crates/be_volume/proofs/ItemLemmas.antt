@@ -132,7 +132,7 @@ module _ {K X : Type 0} {R : K → K → Ordering} (o : IsTotalOrder R) (f : X �
         by : (found : Option X) → fin.get m k ≡ found → weigh (fin.remove m k) ≤ weigh m
         by (Some x) h =
             let gone : weight f (fin.get (fin.remove m k) k) ≡ 0 =
-              ap (weight f) (get-remove o m k k ∙ ap (λ r. cond (is_eq r) None (fin.get m k)) (tied_itself o k)) in
+            ap (weight f) (get-remove o m k k ∙ ap (λ r. cond (is_eq r) None (fin.get m k)) (tied_itself o k)) in
             let back : weigh (fin.insert (fin.remove m k) k x) ≡ weigh m = ap weigh (put_back m k x h) in
             omega (arith, weigh-insert (fin.remove m k) k x)
         by None h =

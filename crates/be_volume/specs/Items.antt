@@ -30,8 +30,7 @@ most_indices (Unset node name) = 0
 most_indices (MkIndex name kind) = 1
 most_indices (RmIndex name) = 0
 
--- before, between and after these operations the volume has at most so many items, and at most so
--- many indices
+-- before, between and after these operations the volume has no more items and indices than these
 abbrev pub StaysWithin : (most indices : ℕ) → State → List Op → Type 0
 StaysWithin most indices s ops = (i : ℕ) → i ≤ length ops
     → (items (state_after s (take i ops)) ≤ most)
