@@ -99,7 +99,7 @@ unpinning s (Some p) = (ok, with_store s (unpinned s.store))
 
 -- A live query is taken as it is, whatever it rests on; it was answered nothing so far.
 abbrev pub watching : Session → Result Formula Refusal → Reply × Session
-watching s (Ok f) = (ok, with_live s (record { query = f; last = [] }))
+watching s (Ok f) = (ok, with_live s (record { query = f; last = []; table = None }))
 watching s (Err e) = (refused e, s)
 
 -- what came and what went since the last answer, which is now this one

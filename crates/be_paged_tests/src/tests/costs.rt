@@ -304,13 +304,13 @@ again size>=1000 && size<2000 => 100 found, 458 words read"#;
 fn write_costs(rt: HostRuntime) -> Result<(), Fail> {
     let rows =
         "new;set 302 name CSTR 10150-copy.txt;set 302 size LONG 1505;set 302 kind CSTR image/png \
-=> 281 words stored, 11 pages taken, 614 words read
-set 150 size LONG 1505 => 219 words stored, 7 pages taken, 366 words read
-set 150 kind CSTR image/png => 58 words stored, 4 pages taken, 193 words read
-set 150 kind CSTR text/plain => 55 words stored, 4 pages taken, 193 words read
-sizes 64 => 6247 words stored, 144 pages taken, 17529 words read
-names 8 => 141 words stored, 6 pages taken, 616 words read
-names 64 => 643 words stored, 26 pages taken, 4685 words read
-drop 150 => 258 words stored, 10 pages taken, 722 words read";
+=> 281 words stored, 11 pages taken, 615 words read
+set 150 size LONG 1505 => 219 words stored, 7 pages taken, 368 words read
+set 150 kind CSTR image/png => 58 words stored, 4 pages taken, 195 words read
+set 150 kind CSTR text/plain => 55 words stored, 4 pages taken, 195 words read
+sizes 64 => 6247 words stored, 144 pages taken, 17601 words read
+names 8 => 141 words stored, 6 pages taken, 619 words read
+names 64 => 643 words stored, 26 pages taken, 4692 words read
+drop 150 => 258 words stored, 10 pages taken, 724 words read";
     expect_rows(rt.alloc(), rows)
 }

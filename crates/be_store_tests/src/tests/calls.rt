@@ -4,7 +4,7 @@
 //! one of the store, with its number. The helpers ask the pass whether it is pinned.
 ghost use Rattle.std.specs.Prelude.{◌≡◌, ◌≤◌, ℕ, None, IfSome, length};
 ghost use Rattle.be_store.specs.Live.{IsLiveOf};
-ghost use Rattle.be_store.specs.Passes.{IsPassOf, IsPinnedTo};
+ghost use Rattle.be_store.specs.Passes.{HasRead, IsPassOf, IsPinnedTo};
 ghost use Rattle.be_store.specs.Seats.{pinned_number};
 ghost use Rattle.be_store_tests.specs.Staying.{StaysPass};
 
@@ -117,6 +117,22 @@ fn find_into(
     Ok(Answer { pin, nodes })
 }
 
+/// Asks a live query, which stays of the store.
+fn find_once(
+    store: &Store,
+    pass: &mut Pass,
+    live: &mut Live,
+    nodes: &mut Vec<u64>,
+) -> Result<u64, Refusal>
+    requires pass { IsPassOf store.now pass.old }
+    requires pinned { (n : ℕ) × IsPinnedTo pass.old.knows n }
+    requires own { IsLiveOf store.now live.old }
+    ensures pass { IsPassOf store.now pass.new × HasRead pass.old.knows pass.new.knows }
+    ensures own { IsLiveOf store.now live.new }
+{
+    live.query_into(store, pass, nodes)
+}
+
 /// The nodes that a live query finds, asked twice with one list.
 fn find_again(
     store: &Store,
@@ -126,22 +142,44 @@ fn find_again(
 ) -> Result<Answer, Refusal>
     requires pass { IsPassOf store.now pass.old }
     requires pinned { (n : ℕ) × IsPinnedTo pass.old.knows n }
-    ensures { StaysPass store.now pass.old pass.new }
+    requires own { IsLiveOf store.now live.old }
+    ensures pass { StaysPass store.now pass.old pass.new }
+    ensures own { IsLiveOf store.now live.new }
 {
     let mut nodes = Vec::new(alloc);
-    live.query_into(store, pass, &mut nodes)?;
-    let pin = live.query_into(store, pass, &mut nodes)?;
+    find_once(store, pass, live, &mut nodes)?;
+    let pin = find_once(store, pass, live, &mut nodes)?;
     Ok(Answer { pin, nodes })
 }
 
-/// What a live query finds without a refresh.
-pub(crate) fn ask_again(store: &Store, alloc: Global, pass: &mut Pass, live: &mut Live) -> Text
-    requires { IsPassOf store.now pass.old }
-    ensures { StaysPass store.now pass.old pass.new }
+/// What a live query finds without a refresh, at the pin.
+fn found_text(store: &Store, alloc: Global, pass: &mut Pass, live: &mut Live) -> Text
+    requires pass { IsPassOf store.now pass.old }
+    requires own { IsLiveOf store.now live.old }
+    ensures pass { StaysPass store.now pass.old pass.new }
+    ensures own { IsLiveOf store.now live.new }
 {
     match pass.pinned() {
         Some(_) => nodes_text(alloc, find_again(store, alloc, pass, live)),
         None => text_of(alloc, Reply::NotPinned),
+    }
+}
+
+/// The same, if there is a live query; BadLimits if there is none.
+pub(crate) fn ask_again(
+    store: &Store,
+    alloc: Global,
+    pass: &mut Pass,
+    live: &mut Option<Live>,
+) -> Text
+    requires pass { IsPassOf store.now pass.old }
+    requires own { IfSome live.old (λ l. IsLiveOf store.now l) }
+    ensures pass { StaysPass store.now pass.old pass.new }
+    ensures own { IfSome live.new (λ l. IsLiveOf store.now l) }
+{
+    match live {
+        Some(live) => found_text(store, alloc, pass, live),
+        None => Err(Refusal::BadLimits),
     }
 }
 

@@ -2,7 +2,7 @@
 //! refreshes return.
 ghost use Rattle.std.specs.Prelude.{◌≡◌, ◌<◌, ◌≤◌, None, length};
 ghost use Rattle.be_store.specs.Live.{IsLiveOf};
-ghost use Rattle.be_store.specs.Passes.{IsPassOf};
+ghost use Rattle.be_store.specs.Passes.{IsPassOf, IsPinnedTo};
 ghost use Rattle.be_store.specs.Seats.{pinned_number};
 
 use be_store::{Kind, Limits, Live, Name, Op, Pass, Query, Refusal, Store, Updates, Value, parse};
@@ -82,6 +82,18 @@ fn follow(list: &mut Vec<u64>, updates: &Updates) -> Result<bool, Refusal> {
     Ok(true)
 }
 
+/// Pins the pass if it isn't pinned. Returns the pin's number.
+fn pin_if_not(store: &Store, pass: &mut Pass) -> u64
+    requires pass { IsPassOf store.now pass.old }
+    ensures pass { IsPassOf store.now pass.new }
+    ensures pinned { IsPinnedTo pass.new.knows result }
+{
+    match pass.pinned() {
+        Some(number) => number,
+        None => store.pin(pass),
+    }
+}
+
 /// Refreshes at a pin that goes with the read. Whether the list is then what the query finds there.
 fn agrees(
     store: &Store,
@@ -96,14 +108,36 @@ fn agrees(
     ensures pass { IsPassOf store.now pass.new }
     ensures own { IsLiveOf store.now live.new }
 {
-    if pass.pinned().is_none() {
-        store.pin(pass);
-    }
+    pin_if_not(store, pass);
     let updates = live.refresh(store, pass)?;
     let found = store.query(alloc, pass, query)?;
     store.unpin(pass);
     let kept = follow(list, &updates)?;
     Ok(kept && list.as_slice() == found.nodes.as_slice())
+}
+
+/// Refreshes by the one pass or by the other.
+fn agrees_by(
+    store: &Store,
+    alloc: Global,
+    is_writer: bool,
+    writer: &mut Pass,
+    reader: &mut Pass,
+    query: &Query,
+    live: &mut Live,
+    list: &mut Vec<u64>,
+) -> Result<bool, Refusal>
+    requires writer { IsPassOf store.now writer.old }
+    requires reader { IsPassOf store.now reader.old }
+    requires own { IsLiveOf store.now live.old }
+    ensures writer { IsPassOf store.now writer.new }
+    ensures reader { IsPassOf store.now reader.new }
+    ensures own { IsLiveOf store.now live.new }
+{
+    if is_writer {
+        return agrees(store, alloc, writer, query, live, list);
+    }
+    agrees(store, alloc, reader, query, live, list)
 }
 
 /// Writes by one pass and refreshes by another, time after time. Whether the list always was what
@@ -128,12 +162,10 @@ fn agrees_always(
     for round in 0..200 {
         let count = if round % 20 == 19 { 70 } else { number % 6 };
         number = write_some(store, writer, count, number)?;
-        let same = if number % 3 == 0 {
-            agrees(store, alloc, writer, query, live, &mut list)?
-        } else {
-            agrees(store, alloc, reader, query, live, &mut list)?
-        };
-        if !same {
+        let is_writer = number % 3 == 0;
+        if !agrees_by(
+            store, alloc, is_writer, writer, reader, query, live, &mut list,
+        )? {
             return Ok(false);
         }
     }

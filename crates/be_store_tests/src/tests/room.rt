@@ -217,10 +217,7 @@ impl Room {
 
     /// What the live query finds at the pin of pass 0.
     fn again(&mut self, alloc: Global) -> Text {
-        match &mut self.live {
-            Some(live) => ask_again(&self.store, alloc, &mut self.first, live),
-            None => Err(Refusal::BadLimits),
-        }
+        ask_again(&self.store, alloc, &mut self.first, &mut self.live)
     }
 
     /// The reply to a request. Its first word names the pass or what both passes do, as in the
