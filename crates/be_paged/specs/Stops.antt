@@ -55,8 +55,9 @@ StopsNear kept_of standing_of words_of more before old new =
     Stops kept_of standing_of words_of (pair_count (words_of old) before + more)
     (length before.entries) before old new
 
--- A list of operations takes few pages: if it stays within so many items and indices, the pages in
--- hand are a fifth of these, and ten for each tree that changes last.
+-- A list of operations takes few pages, if nothing was in hand before it: one for each five items
+-- that there are at most, one for each index, two for each level of a tree of so many items, and
+-- three.
 abbrev pub TakesFew : State → List Op → (old new : ℕ → Standing) → Type 0
 TakesFew volume ops old new = (most indices high : ℕ) → StaysWithin most indices volume ops
     → most + 1 < 2 * 6 ^ suc high → HasInHand old [] → (n : ℕ)

@@ -4,8 +4,9 @@
 //! encode a volume in which the index and the attribute disagree. So what is kept from one change
 //! to the next is that the trees are well formed, apart from what they say.
 ghost use Rattle.std.specs.Option.{option_copied};
-ghost use Rattle.std.specs.Prelude.{◌≡◌, ℕ, ◌+◌, ◌<◌, ◌≤◌, length, IsTrue, IfOk, IfErr, OnOk, OnErr};
-ghost use Rattle.std.specs.Prelude.{IfSome, IfNone, Some, None, option_map, true, is_some, List};
+ghost use Rattle.std.specs.Prelude.{◌≡◌, ℕ, ◌+◌, ◌<◌, ◌≤◌, length, IsTrue, IfOk, IfErr, OnOk};
+ghost use Rattle.std.specs.Prelude.{OnErr, IfSome, IfNone, Some, None, option_map, true, is_some};
+ghost use Rattle.std.specs.Prelude.{List};
 ghost use Rattle.be_value.specs.Key.{key, IsValue};
 ghost use Rattle.be_value.specs.Value.{kind_of as kind_in, is_indexable};
 ghost use Rattle.be_value.specs.declared.values.Value.{Value as AnyValue};
@@ -183,8 +184,8 @@ fn change_at<R: Room>(
     ensures catalog { OnOk result (version.new.catalog ≡ version.old.catalog) }
     ensures next { OnOk result (version.new.next ≡ version.old.next) }
     ensures err { OnErr result (KeepsStart R.kept R.standing R.words room.old room.new) }
-    ensures gains { OnOk result (Gains (one_of (is_some (option_copied new.entry))) (R.words room.old)
-        (R.words room.new) (contents version.old) (contents version.new)) }
+    ensures gains { OnOk result (Gains (one_of (is_some (option_copied new.entry)))
+        (R.words room.old) (R.words room.new) (contents version.old) (contents version.new)) }
     ensures full { IfErr result (IsFullOf (R.full room.new)) }
     ensures stops { OnErr result (StopsNear R.kept R.standing R.words 0
         (contents version.old) room.old room.new) }
@@ -223,8 +224,8 @@ pub(crate) fn change_entry<R: Room>(
     ensures catalog { OnOk result (version.new.catalog ≡ version.old.catalog) }
     ensures next { OnOk result (version.new.next ≡ version.old.next) }
     ensures err { OnErr result (KeepsStart R.kept R.standing R.words room.old room.new) }
-    ensures gains { OnOk result (Gains (one_of (is_some (option_copied new.entry))) (R.words room.old)
-        (R.words room.new) (contents version.old) (contents version.new)) }
+    ensures gains { OnOk result (Gains (one_of (is_some (option_copied new.entry)))
+        (R.words room.old) (R.words room.new) (contents version.old) (contents version.new)) }
     ensures full { IfErr result (IsFullOf (R.full room.new)) }
     ensures stops { OnErr result (StopsNear R.kept R.standing R.words 0
         (contents version.old) room.old room.new) }

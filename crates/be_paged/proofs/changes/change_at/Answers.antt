@@ -17,6 +17,7 @@ use Rattle.be_paged.proofs.Asking.SourceKeys.{entry_tree}
 use Rattle.be_tree.specs.Counting.{one_of}
 use Rattle.be_paged.specs.Stops.{Gains, StopsTree}
 use Rattle.be_paged.proofs.Sizes.Stopping.{entry_gains, entry_stops}
+use Rattle.be_tree.proofs.Shape.Parts.{on_err}
 use Rattle.be_paged.proofs.changes.change_at.Goals as goal
 
 nowhere : Entry
@@ -96,5 +97,5 @@ returns-clause-gains g c =
 pub returns-in_err-changed-clause-stops : goal.returns-in_err-changed-clause-stops
 returns-in_err-changed-clause-stops g c =
     let root = c.index_at-kind.ensures.root nowhere ∙ ap (λ (xs : List Entry). (get_or xs c.args.at nowhere).root) c.deref.ensures.0 in
-    entry_stops g.R.Look.kept g.R.Look.standing g.R.Look.words c.args.room.now c.change_root.new.room (contents c.args.version.now) c.requires.in_hand c.args.at nowhere c.requires.in_range
-    (subst (λ (r : ℕ). StopsTree g.R.Look.kept g.R.Look.standing g.R.Look.words r c.args.room.now c.change_root.new.room) root c.in_err-changed.ensures.stops)
+    on_err _ (entry_stops g.R.Look.kept g.R.Look.standing g.R.Look.words c.args.room.now c.change_root.new.room (contents c.args.version.now) c.requires.in_hand c.args.at nowhere c.requires.in_range
+    (subst (λ (r : ℕ). StopsTree g.R.Look.kept g.R.Look.standing g.R.Look.words r c.args.room.now c.change_root.new.room) root c.in_err-changed.ensures.stops))

@@ -9,6 +9,7 @@ use Rattle.be_paged.proofs.CatalogPairs.Validity.{values_valid}
 use Rattle.be_paged.specs.Stops.{Gains}
 use Rattle.be_tree.specs.Counting.{one_of}
 use Rattle.be_paged.proofs.Sizes.Stopping.{gains_none, stops_since}
+use Rattle.be_tree.proofs.Shape.Parts.{on_err}
 use Rattle.be_paged.proofs.changes.change_entry.Goals as goal
 
 pub returns-in_default-clause-changes : goal.returns-in_default-clause-changes
@@ -66,4 +67,4 @@ pub returns-in_err-change_at-clause-stops : goal.returns-in_err-change_at-clause
 returns-in_err-change_at-clause-stops g c =
     let before = contents c.args.version.now in
     let read = in_hand_since g.R.Look.kept g.R.Look.standing g.R.Look.words before c.args.room.now c.value_in-old.new.look c.value_in-old.ensures.unchanged c.requires.in_hand in
-    stops_since g.R.Look.kept g.R.Look.standing g.R.Look.words 0 before c.args.room.now c.value_in-old.new.look c.change_at.new.room read c.value_in-old.ensures.unchanged c.in_err-change_at.ensures.stops
+    on_err _ (stops_since g.R.Look.kept g.R.Look.standing g.R.Look.words 0 before c.args.room.now c.value_in-old.new.look c.change_at.new.room read c.value_in-old.ensures.unchanged c.in_err-change_at.ensures.stops)

@@ -9,6 +9,7 @@ use Rattle.be_paged.specs.Version.{Spells}
 use Rattle.be_paged.proofs.Applying.Composing.{changes_none, changes_trans, start_after}
 use Rattle.be_paged.proofs.IndexEntries.Settled.{sets_ok, sets_same}
 use Rattle.be_paged.proofs.Sizes.Stopping.{list_stops}
+use Rattle.be_tree.proofs.Shape.Parts.{on_err}
 use Rattle.be_paged.proofs.edits.edit_all.Goals as goal
 
 pub loop-op-init : goal.loop-op-init
@@ -76,8 +77,8 @@ pub returns-clause-stays : goal.returns-clause-stays
 returns-clause-stays g c = λ volume spells sound stands. (c.loop-op.invariant.stays volume spells sound stands).1
 
 pub returns-in_err-edit-clause-stops : goal.returns-in_err-edit-clause-stops
-returns-in_err-edit-clause-stops g c = λ volume most indices spells sound ok stays.
+returns-in_err-edit-clause-stops g c = on_err _ (λ volume most indices spells sound ok stays.
     let more : c.loop-op.op-index < length c.args.ops.now = c.loop-op-test.true in
     let r = c.loop-op.invariant.steps volume spells sound ok in
     list_stops g.R.Look.kept g.R.Look.standing g.R.Look.words volume r.made c.args.ops.now c.loop-op.op-index most indices c.loop-op.dones.items (contents c.args.version.now) (contents c.loop-op.version) c.args.room.now c.loop-op.room c.edit.new.room
-    c.loop-op.invariant.changes r.spells r.stepped (omega (arith, more)) stays c.in_err-edit.ensures.stops
+    c.loop-op.invariant.changes r.spells r.stepped (omega (arith, more)) stays c.in_err-edit.ensures.stops)

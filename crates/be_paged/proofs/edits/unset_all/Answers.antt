@@ -9,6 +9,7 @@ use Rattle.be_paged.proofs.Applying.Emptying.{first_has, bare_of, unset_ok, thin
 use Rattle.be_paged.proofs.CatalogPairs.Validity.{values_valid}
 use Rattle.be_paged.specs.Stops.{Gains}
 use Rattle.be_paged.proofs.Sizes.Stopping.{gains_none, gains_trans, stops_after, stops_since}
+use Rattle.be_tree.proofs.Shape.Parts.{on_err}
 use Rattle.be_paged.proofs.edits.unset_all.Goals as goal
 
 pub loop-init : goal.loop-init
@@ -97,5 +98,5 @@ returns-in_err-unset_value-clause-stops g c =
     let new = c.unset_value.new.room in
     let same = c.first_attribute.ensures.unchanged in
     let hand = in_hand_since g.R.Look.kept g.R.Look.standing g.R.Look.words v c.loop.room read same c.loop.invariant.changes.in_hand in
-    stops_after g.R.Look.kept g.R.Look.standing g.R.Look.words 0 0 0 (contents c.args.version.now) v c.args.room.now c.loop.room new c.loop.invariant.changes c.loop.invariant.gains (omega arith)
-    (stops_since g.R.Look.kept g.R.Look.standing g.R.Look.words 0 v c.loop.room read new hand same c.in_err-unset_value.ensures.stops)
+    on_err _ (stops_after g.R.Look.kept g.R.Look.standing g.R.Look.words 0 0 0 (contents c.args.version.now) v c.args.room.now c.loop.room new c.loop.invariant.changes c.loop.invariant.gains (omega arith)
+    (stops_since g.R.Look.kept g.R.Look.standing g.R.Look.words 0 v c.loop.room read new hand same c.in_err-unset_value.ensures.stops))

@@ -12,6 +12,7 @@ use Rattle.be_paged.proofs.Applying.Hand.{catalog_changes, catalog_spells}
 use Rattle.be_paged.proofs.CatalogPairs.Items.{catalog_unset}
 use Rattle.be_paged.proofs.Applying.Stepping.{stepped_is}
 use Rattle.be_paged.proofs.Sizes.Stopping.{catalog_stops, stops_after, tree_stops, catalog_gains, gains_trans, without_pairs}
+use Rattle.be_tree.proofs.Shape.Parts.{on_err}
 use Rattle.be_paged.proofs.edits.unset_value.Goals as goal
 
 pub remove-requires-clause-tree : goal.remove-requires-clause-tree
@@ -58,8 +59,8 @@ returns-in_err-version-clause-stops g c =
     let mid = contents c.change_entry.new.version in
     let first = c.in_ok-change_entry.ensures.changes in
     let tree = tree_stops g.R.Look.kept g.R.Look.standing g.R.Look.words mid.catalog c.change_entry.new.room c.remove.new.room (first.in_hand.trees.each 0 0 (omega arith)) c.in_err-version.ensures.takes.1 in
-    stops_after g.R.Look.kept g.R.Look.standing g.R.Look.words 0 0 0 before mid c.args.room.now c.change_entry.new.room c.remove.new.room first c.in_ok-change_entry.ensures.gains (omega arith)
-    (catalog_stops g.R.Look.kept g.R.Look.standing g.R.Look.words c.change_entry.new.room c.remove.new.room mid first.in_hand tree)
+    on_err _ (stops_after g.R.Look.kept g.R.Look.standing g.R.Look.words 0 0 0 before mid c.args.room.now c.change_entry.new.room c.remove.new.room first c.in_ok-change_entry.ensures.gains (omega arith)
+    (catalog_stops g.R.Look.kept g.R.Look.standing g.R.Look.words c.change_entry.new.room c.remove.new.room mid first.in_hand tree))
 
 pub returns-clause-gains : goal.returns-clause-gains
 returns-clause-gains g c =

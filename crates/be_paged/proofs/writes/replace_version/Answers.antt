@@ -2,6 +2,7 @@ use Rattle.std.proofs.Common.{[], ◌∷◌}
 use Rattle.be_tree.proofs.Frame.{swaps_trans}
 use Rattle.be_paged.proofs.Applying.Replacing.{given_swaps}
 use Rattle.be_tree.proofs.Sizes.InHand.{takes_fewer_then, takes_given_up}
+use Rattle.be_tree.proofs.Shape.Parts.{on_err}
 use Rattle.be_paged.proofs.writes.replace_version.Goals as goal
 
 pub returns-clause-swaps : goal.returns-clause-swaps
@@ -13,5 +14,5 @@ returns-clause-swaps g c =
 pub returns-in_err-page-clause-takes : goal.returns-in_err-page-clause-takes
 returns-in_err-page-clause-takes g c =
     let s = g.R.Look.standing in
-    takes_fewer_then 0 1 (s c.args.room.now) (s c.give_up.new.self) (s c.write_version.new.room)
-    (takes_given_up (s c.args.room.now) (s c.give_up.new.self) c.args.old_page c.give_up.ensures.standing) c.in_err-page.ensures.takes
+    on_err _ (takes_fewer_then 0 1 (s c.args.room.now) (s c.give_up.new.self) (s c.write_version.new.room)
+    (takes_given_up (s c.args.room.now) (s c.give_up.new.self) c.args.old_page c.give_up.ensures.standing) c.in_err-page.ensures.takes)
