@@ -33,7 +33,7 @@ TakesAtMost most old new = (n : ℕ) → in_hand n new ≤ in_hand n old + most
 abbrev pub TakesFewer : ℕ → (old new : ℕ → Standing) → Type 0
 TakesFewer most old new = (n : ℕ) → in_hand n new < in_hand n old + most
 
--- a call takes at most so many, and fewer if it is refused
+-- a call takes up to so many, and fewer if it is refused
 abbrev pub Takes : {A : Type 0} → ℕ → Result A Refusal → (old new : ℕ → Standing) → Type 0
 Takes most result old new = OnOk result (TakesAtMost most old new)
     × OnErr result (TakesFewer most old new)

@@ -21,9 +21,6 @@ takes_fewer_then a b s t u first second n = omega (arith, first n, second n)
 pub takes_same : (s t : ℕ → Standing) → t ≡ s → TakesAtMost 0 s t
 takes_same s t e n = omega (arith, ap (in_hand n) e)
 
-pub fewer_same : (s t : ℕ → Standing) → t ≡ s → TakesFewer 1 s t
-fewer_same s t e n = omega (arith, ap (in_hand n) e)
-
 pub takes_within : (a b : ℕ) (s t : ℕ → Standing) → a ≤ b → TakesAtMost a s t → TakesAtMost b s t
 takes_within a b s t le takes n = omega (arith, le, takes n)
 

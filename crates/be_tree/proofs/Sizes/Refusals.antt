@@ -1,13 +1,12 @@
 -- What a call has taken when it returns, and what it leaves if it is refused.
-use Rattle.std.proofs.Common.{◌≡◌, ℕ, ◌+◌, ◌<◌, ◌≤◌, List, [], ◌∷◌, Result, Ok, Err, IfErr, arith}
+use Rattle.std.proofs.Common.{ℕ, ◌+◌, ◌≤◌, List, [], ◌∷◌, Result, Ok, Err, arith}
 use Rattle.be_pages.specs.declared.room.Standing.{Standing}
 use Rattle.be_pages.specs.Pages.{IsUnchanged, KeepsStart, Swaps}
-use Rattle.be_pages.specs.Refusal.{IsFullOf}
 use Rattle.be_value.specs.declared.refusals.Refusal.{Refusal}
 use Rattle.be_tree.specs.Counting.{Takes, TakesAtMost, TakesFewer}
 use Rattle.be_tree.specs.Writing.{Refuses}
 use Rattle.be_tree.proofs.Frame.{start_trans, unchanged_start}
-use Rattle.be_tree.proofs.Sizes.InHand.{fewer_same, fewer_within, takes_fewer_then, takes_same, takes_swaps, takes_then, takes_within}
+use Rattle.be_tree.proofs.Sizes.InHand.{fewer_within, takes_fewer_then, takes_same, takes_swaps, takes_then, takes_within}
 
 -- a call that returns has taken fewer
 pub takes_on : {A : Type 0} (most : ℕ) (r : Result A Refusal) (s t : ℕ → Standing) → TakesFewer most s t → Takes most r s t
@@ -37,20 +36,6 @@ module _ {S K A : Type 0} (kept_of : S → K) (standing_of : S → ℕ → Stand
   pub refuses_within : (b most : ℕ) (r : Result A Refusal) (old new : S) → b ≤ most → Refuses kept_of standing_of words_of full b r old new → Refuses kept_of standing_of words_of full most r old new
   refuses_within b most (Ok x) old new le h = (tt, tt, (takes_within b most (standing_of old) (standing_of new) le h.2.0, tt))
   refuses_within b most (Err e) old new le h = (h.0, h.1, (tt, fewer_within b most (standing_of old) (standing_of new) le h.2.1))
-
-  -- a call that isn't refused
-  pub refuses_none : (a most : ℕ) (x : A) (old new : S) → TakesAtMost a (standing_of old) (standing_of new) → a ≤ most → Refuses kept_of standing_of words_of full most (Ok x) old new
-  refuses_none a most x old new took le = (tt, tt, (takes_within a most (standing_of old) (standing_of new) le took, tt))
-
-  -- a call that is refused: nothing was taken
-  pub refuses_first : (most : ℕ) (r : Result A Refusal) (old new : S) → kept_of new ≡ kept_of old → standing_of new ≡ standing_of old → words_of new ≡ words_of old → IfErr r (IsFullOf (full new)) → 0 < most
-      → Refuses kept_of standing_of words_of full most r old new
-  refuses_first most (Ok x) old new kept standing words told some = (tt, tt, (takes_within 0 most (standing_of old) (standing_of new) (omega arith) (takes_same (standing_of old) (standing_of new) standing), tt))
-  refuses_first most (Err e) old new kept standing words told some = (
-    unchanged_start kept_of standing_of words_of old new (record { kept = kept; standing = standing; words = words }),
-    told,
-    (tt, fewer_within 1 most (standing_of old) (standing_of new) (omega (arith, some)) (fewer_same (standing_of old) (standing_of new) standing)),
-  )
 
 -- a call that puts one page in the place of others
 pub takes_page : {S K : Type 0} (kept_of : S → K) (standing_of : S → ℕ → Standing) (words_of : S → ℕ → ℕ → ℕ) (before : List ℕ) (page : ℕ) (old new : S) → Swaps kept_of standing_of words_of before (page ∷ []) old new
