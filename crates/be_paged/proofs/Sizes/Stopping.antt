@@ -40,20 +40,20 @@ use Rattle.be_paged.proofs.Sizes.Items.{catalog_size, indices_size}
 -- how many pairs there are once a key was put or taken
 put_size : (pair : Pair) (xs : List Pair) → length (put pair xs) ≤ length xs + 1
 put_size pair [] = omega arith
-put_size pair (x ∷ xs) = by (key_cmp x.key pair.key)
+put_size pair (x ∷ xs) = by (key_cmp x.key pair.key) (put_size pair xs)
   where
-    by : (o : Ordering) → length (put_before o pair x xs (put pair xs)) ≤ length (x ∷ xs) + 1
-    by Less = omega (arith, put_size pair xs)
-    by Equal = omega arith
-    by Greater = omega arith
+    by : (o : Ordering) → length (put pair xs) ≤ length xs + 1 → length (put_before o pair x xs (put pair xs)) ≤ length (x ∷ xs) + 1
+    by Less le = omega (arith, le)
+    by Equal le = omega arith
+    by Greater le = omega arith
 
 without_size : (k : List ℕ) (xs : List Pair) → length (without k xs) ≤ length xs
 without_size k [] = omega arith
-without_size k (x ∷ xs) = by (is_eq (key_cmp x.key k))
+without_size k (x ∷ xs) = by (is_eq (key_cmp x.key k)) (without_size k xs)
   where
-    by : (b : Bool) → length (cond b (without k xs) (x ∷ without k xs)) ≤ length (x ∷ xs)
-    by true = omega (arith, without_size k xs)
-    by false = omega (arith, without_size k xs)
+    by : (b : Bool) → length (without k xs) ≤ length xs → length (cond b (without k xs) (x ∷ without k xs)) ≤ length (x ∷ xs)
+    by true le = omega (arith, le)
+    by false le = omega (arith, le)
 
 pub taken_size : (key : Option (List ℕ)) (xs : List Pair) → length (key_taken key xs) ≤ length xs
 taken_size None xs = omega arith
@@ -114,7 +114,7 @@ not_higher level high count (inr enough) lt = by (compare level high)
 
     by : (level ≤ high) ⊎ (suc high ≤ level) → level ≤ high
     by (inl le) = le
-    by (inr le) = absurd (omega (arith, enough, lt, pow-le-pow_right {6} (omega arith) le))
+    by (inr le) = absurd (omega (arith, enough, lt, pow-le-pow_right {n = 6} (omega arith) le))
 
 module _ {S K : Type 0} (kept_of : S → K) (standing_of : S → ℕ → Standing) (words_of : S → ℕ → ℕ → ℕ) where
   replaced_size : (front back : List ℕ) (root new_root more : ℕ) (old new : S) → Replaces kept_of standing_of words_of front back root new_root old new

@@ -58,14 +58,18 @@ returns-in-Some-clause-few g c =
     few_unchanged g.volume c.args.ops.now (g.R.Look.standing c.args.room.now) (g.R.Look.standing c.refusal.new.look) same.standing
 
 pub returns-in_err-edit_all-clause-few : goal.returns-in_err-edit_all-clause-few
-returns-in_err-edit_all-clause-few g c = on_err _ (λ most indices high stays lt none.
+returns-in_err-edit_all-clause-few g c =
     let before = contents c.fill_version.new.version in
     let version = c.requires.1.0 in
     let same = unchanged_trans g.R.Look.kept g.R.Look.standing g.R.Look.words c.args.room.now c.fill_version.new.look c.refusal.new.look c.fill_version.ensures.unchanged c.refusal.ensures.unchanged in
     let ok = is_accepted (steps g.volume c.args.ops.now) (sym c.refusal.ensures.answer ∙ c.in_default.is) in
     let read = subst (λ (w : ℕ → ℕ → ℕ). Spells w before g.volume) (sym same.words) (subst (λ (d : Contents). Spells (g.R.Look.words c.args.room.now) d g.volume) (sym c.fill_version.ensures.contents) version.spells) in
-    few_at_stop g.R.Look.kept g.R.Look.standing g.R.Look.words most indices high before c.refusal.new.look c.edit_all.new.room (c.in_err-edit_all.ensures.stops g.volume most indices read version.sound ok stays) lt
-    (subst (λ (s : ℕ → Standing). HasInHand s []) (sym same.standing) none))
+    let k : TakesFew g.volume c.args.ops.now (g.R.Look.standing c.args.room.now) (g.R.Look.standing c.edit_all.new.room) =
+    λ most indices high stays lt none.
+        few_at_stop g.R.Look.kept g.R.Look.standing g.R.Look.words most indices high before c.refusal.new.look c.edit_all.new.room (c.in_err-edit_all.ensures.stops g.volume most indices read version.sound ok stays) lt
+        (subst (λ (s : ℕ → Standing). HasInHand s []) (sym same.standing) none)
+    in
+    on_err _ k
 
 pub returns-in_err-page-clause-few : goal.returns-in_err-page-clause-few
 returns-in_err-page-clause-few g c =
