@@ -1,7 +1,8 @@
 //! Operations on a version in hand.
 //!
 //! Refusals are found before, so each operation only does its work, and the one error is that no
-//! page is free. The contracts don't say what it leaves after that: the write is undone.
+//! page is free. The write is undone after that, so the contracts don't say what it leaves, but for
+//! the pages that it has in hand, which are few (`Stops`).
 ghost use Rattle.std.specs.Prelude.{◌≡◌, [], ◌+◌, ◌≤◌, ◌<◌, ◌^◌, All, length, IsTrue, IfOk, IfErr};
 ghost use Rattle.std.specs.Prelude.{ℕ, OnOk, OnErr, IsOk};
 ghost use Rattle.be_pages.specs.Pages.{KeepsStart};

@@ -96,8 +96,9 @@ fn replace_version<R: Room>(room: &mut R, old_page: u64, version: &Version) -> R
 ///
 /// The errors are those of the plain volume, NoNode to NotIndexable: they come before a page is
 /// taken, and the room is unchanged. If no page is left, the error is Full, and what was there when
-/// the write began is there again once it is undone. It takes no memory: `version` is a place for
-/// the version's contents, and what it has before and after means nothing.
+/// the write began is there again once it is undone. Until then it has few pages in hand, if it had
+/// none before: about as many as trees of all items have. It takes no memory: `version` is a place
+/// for the version's contents, and what it has before and after means nothing.
 pub fn apply_into<R: Room>(
     room: &mut R,
     version: &mut Version,
