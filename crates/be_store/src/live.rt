@@ -227,10 +227,10 @@ impl Live {
     /// NotCovered and OutOfMemory leave it as it was. It reads the journal's entries since the last
     /// refresh, and asks the query of the nodes that they name. For that it tries the lock once; if
     /// it gets it, other passes' writes are Busy meanwhile. It asks the whole query, which costs
-    /// what `refresh_whole` costs, if the last answer has fewer than 96 nodes, another pass holds the
-    /// lock, the version is older than that of the last refresh, an index was made or removed since
-    /// then, or many nodes were written: more than 4, and one for each 32 of the last answer, or more
-    /// than 64. Memory for what it returns.
+    /// what `refresh_whole` costs, if the last answer has fewer than 96 nodes, another pass holds
+    /// the lock, the version is older than that of the last refresh, an index was made or removed
+    /// since then, or many nodes were written: more than 4, and one for each 32 of the last answer,
+    /// or more than 64. Memory for what it returns.
     pub fn refresh(&mut self, store: &Store, pass: &mut Pass) -> Result<Updates, Refusal>
         requires pass { IsPassOf store.now pass.old }
         requires pinned { (n : ℕ) × IsPinnedTo pass.old.knows n }
