@@ -1,10 +1,10 @@
 -- What a write has in hand where it stops because no page is left.
-use Rattle.std.proofs.Common.{◌≡◌, ◌⊎◌, ℕ, zero, suc, ◌+◌, ◌*◌, ◌<◌, ◌≤◌, ◌^◌, Bool, true, false, cond, List, [], ◌∷◌, ◌++◌, map, take, drop, get_or, length, All, Some, None, is_some, Ok, Err, OnErr, Result, ap, sym, subst, ◌∙◌, refl, inl, inr, arith}
+use Rattle.std.proofs.Common.{◌≡◌, ◌⊎◌, ℕ, zero, suc, ◌+◌, ◌*◌, ◌<◌, ◌≤◌, ◌^◌, Bool, true, false, cond, List, [], ◌∷◌, ◌++◌, map, take, drop, get_or, length, All, Some, None, is_some, Ok, Err, OnErr, Result, ap, ◌∙◌, refl, inl, inr, arith}
 use Rattle.std.proofs.Math.Nat.{pow-le-pow_right}
 use Rattle.std.proofs.lemmas.List.{length-append, length-map}
 use Rattle.std.proofs.lemmas.List.Concat.{flat_map-append}
 use Rattle.std.specs.FinMap as fin
-use Rattle.std.specs.Option.{IfSome, option_map}
+use Rattle.std.specs.Option.{IfSome}
 use Rattle.std.specs.Ordering.{is_eq}
 use Rattle.std.specs.declared.cmp.Ordering.{Ordering}
 use Rattle.std.specs.declared.cmp.Ordering.TheVariants.{Less, Equal, Greater}
@@ -32,7 +32,7 @@ use Rattle.be_paged.specs.Entry.{Entry}
 use Rattle.be_paged.specs.Page.{Contents, roots}
 use Rattle.be_paged.specs.Stops.{Gains, Stops, StopsNear, StopsTree, TakesFew, pair_count}
 use Rattle.be_paged.specs.Version.{IsInHand, Spells}
-use Rattle.be_paged.proofs.Applying.Composing.{changes_none, changes_since, changes_trans, swaps_none, tree_stays}
+use Rattle.be_paged.proofs.Applying.Composing.{changes_none, changes_since, changes_trans, tree_stays}
 use Rattle.be_paged.proofs.Applying.Hand.{catalog_changes, catalog_replaces, entry_changes, entry_replaces, replaced, replaced_len, roots_replaced, roots_split}
 use Rattle.be_paged.proofs.IndexEntries.Repairs.{Leaves}
 use Rattle.be_paged.proofs.Sizes.Items.{catalog_size, indices_size}

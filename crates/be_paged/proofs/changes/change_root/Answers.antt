@@ -11,7 +11,7 @@ use Rattle.be_paged.specs.Changes.{repaired, key_taken, key_put}
 use Rattle.be_paged.proofs.Applying.Composing.{tree_read, start_since}
 use Rattle.be_paged.proofs.IndexEntries.Repairs.{taken, entered, stands, Leaves, HasNone, key_there, seen_some, seen_none, seen_at}
 use Rattle.be_paged.proofs.IndexEntries.Settled.{no_key}
-use Rattle.be_paged.proofs.Sizes.Stopping.{taken_size, entered_size, tree_stops}
+use Rattle.be_paged.proofs.Sizes.Stopping.{taken_size, entered_size}
 use Rattle.be_tree.proofs.Shape.Parts.{on_err}
 use Rattle.be_paged.specs.Stops.{StopsTree}
 use Rattle.be_paged.proofs.changes.change_root.Goals as goal
