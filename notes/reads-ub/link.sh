@@ -1,0 +1,2 @@
+C=/opt/rattle/toolchain/bin/clang
+nice -n 5 $C --target=x86_64-unknown-linux-gnu -march=x86-64 -mllvm -no-trap-after-noreturn -ffunction-sections -fdata-sections -mllvm -trap-unreachable -mllvm -no-x86-call-frame-opt -mllvm -disable-machine-licm -mllvm -disable-postra-machine-licm -mllvm -sink-common-insts=false --no-default-config -c -x ir $1 -o m.o -fPIE -O3 && cc -o $2 m.o /opt/rattle/c/libos_c.a /opt/rattle/c/liblibc_c.a -lm -lpthread
