@@ -17,7 +17,7 @@ use Rattle.std.proofs.Math.ListN.{drop_of_length-le}
 use Rattle.std.proofs.Math.Seq.{take-append_seam, take-append-add}
 use Rattle.be_pages.specs.declared.room.Standing.{Standing}
 use Rattle.be_tree.specs.Cursor.{remaining}
-use Rattle.be_tree.specs.Key.{payload_at, key_cmp, IsRising, AllAbove}
+use Rattle.be_tree.specs.Key.{payload_at, key_cmp, IsRising}
 use Rattle.be_tree.specs.Pair.{Pair}
 use Rattle.be_tree.specs.Page.{item_at}
 use Rattle.be_tree.specs.Range.{is_from, pairs_from}

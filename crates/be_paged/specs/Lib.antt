@@ -7,6 +7,7 @@ pub mod Reading
 pub mod Nodes
 pub mod Facts
 pub mod Changes
+pub mod Stops
 pub mod Source
 pub mod Place
 pub mod Entries

@@ -4,15 +4,17 @@
 //! encode a volume in which the index and the attribute disagree. So what is kept from one change
 //! to the next is that the trees are well formed, apart from what they say.
 ghost use Rattle.std.specs.Option.{option_copied};
-ghost use Rattle.std.specs.Prelude.{◌≡◌, ℕ, ◌<◌, length, IsTrue, IfOk, IfErr, OnOk, OnErr, IfSome};
-ghost use Rattle.std.specs.Prelude.{IfNone, Some, None, option_map, true, is_some, List};
+ghost use Rattle.std.specs.Prelude.{◌≡◌, ℕ, ◌+◌, ◌<◌, ◌≤◌, length, IsTrue, IfOk, IfErr, OnOk};
+ghost use Rattle.std.specs.Prelude.{OnErr, IfSome, IfNone, Some, None, option_map, true, is_some};
+ghost use Rattle.std.specs.Prelude.{List};
 ghost use Rattle.be_value.specs.Key.{key, IsValue};
 ghost use Rattle.be_value.specs.Value.{kind_of as kind_in, is_indexable};
 ghost use Rattle.be_value.specs.declared.values.Value.{Value as AnyValue};
 ghost use Rattle.be_pages.specs.Pages.{IsUnchanged, KeepsStart, Swaps};
 ghost use Rattle.be_pages.specs.Refusal.{IsFullOf};
+ghost use Rattle.be_tree.specs.Counting.{TakesFewer, most_taken, one_of};
 ghost use Rattle.be_tree.specs.Key.{payload_at};
-ghost use Rattle.be_tree.specs.Tree.{BecomesTree, IsTree, pages, pairs};
+ghost use Rattle.be_tree.specs.Tree.{BecomesTree, IsTree, level_of_root, pages, pairs};
 ghost use Rattle.be_volume.specs.Indices.{with_pair};
 ghost use Rattle.be_volume.specs.Reading.{attribute};
 ghost use Rattle.be_volume.specs.Sound.{IsSound};
@@ -22,6 +24,7 @@ ghost use Rattle.be_paged.specs.Catalog.{IsIndexOf};
 ghost use Rattle.be_paged.specs.Changes.{Changes, IsReady, repaired, with_indices, key_turned};
 ghost use Rattle.be_paged.specs.Page.{contents, IsNamedAt};
 ghost use Rattle.be_paged.specs.Place.{IsKnownIn};
+ghost use Rattle.be_paged.specs.Stops.{Gains, StopsNear, StopsTree};
 ghost use Rattle.be_paged.specs.Version.{IsInHand, Spells};
 
 use crate::entries::{index_at, search, set_root};
@@ -95,6 +98,8 @@ fn turn_key<R: Room>(
     ensures none { IfOk result (λ new. option_map (λ k. k.items) key.now ≡ None → new ≡ root) }
     ensures err { OnErr result (KeepsStart R.kept R.standing R.words room.old room.new) }
     ensures full { IfErr result (IsFullOf (R.full room.new)) }
+    ensures takes { OnErr result (TakesFewer (most_taken (level_of_root (R.words room.old) root))
+        (R.standing room.old) (R.standing room.new)) }
 {
     let Some(key) = key else {
         return Ok(root);
@@ -135,6 +140,9 @@ fn change_root<R: Room>(
         option_copied old.entry ≡ Some v → option_copied new.entry ≡ Some v → r ≡ root) }
     ensures err { OnErr result (KeepsStart R.kept R.standing R.words room.old room.new) }
     ensures full { IfErr result (IsFullOf (R.full room.new)) }
+    ensures gains { IfOk result (λ r. length (pairs (R.words room.new) r)
+        ≤ length (pairs (R.words room.old) root) + one_of (is_some (option_copied new.entry))) }
+    ensures stops { OnErr result (StopsTree R.kept R.standing R.words root room.old room.new) }
 {
     let leaves = key_in(kind, old, node);
     let enters = key_in(kind, new, node);
@@ -176,7 +184,11 @@ fn change_at<R: Room>(
     ensures catalog { OnOk result (version.new.catalog ≡ version.old.catalog) }
     ensures next { OnOk result (version.new.next ≡ version.old.next) }
     ensures err { OnErr result (KeepsStart R.kept R.standing R.words room.old room.new) }
+    ensures gains { OnOk result (Gains (one_of (is_some (option_copied new.entry)))
+        (R.words room.old) (R.words room.new) (contents version.old) (contents version.new)) }
     ensures full { IfErr result (IsFullOf (R.full room.new)) }
+    ensures stops { OnErr result (StopsNear R.kept R.standing R.words 0
+        (contents version.old) room.old room.new) }
 {
     let (kind, root) = index_at(&version.entries, at);
     let changed = change_root(room, root, kind, node, old, new)?;
@@ -212,7 +224,11 @@ pub(crate) fn change_entry<R: Room>(
     ensures catalog { OnOk result (version.new.catalog ≡ version.old.catalog) }
     ensures next { OnOk result (version.new.next ≡ version.old.next) }
     ensures err { OnErr result (KeepsStart R.kept R.standing R.words room.old room.new) }
+    ensures gains { OnOk result (Gains (one_of (is_some (option_copied new.entry)))
+        (R.words room.old) (R.words room.new) (contents version.old) (contents version.new)) }
     ensures full { IfErr result (IsFullOf (R.full room.new)) }
+    ensures stops { OnErr result (StopsNear R.kept R.standing R.words 0
+        (contents version.old) room.old room.new) }
 {
     let Ok(at) = search(&version.entries, name) else {
         return Ok(());

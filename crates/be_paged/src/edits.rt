@@ -1,17 +1,20 @@
 //! Operations on a version in hand.
 //!
 //! Refusals are found before, so each operation only does its work, and the one error is that no
-//! page is free. The contracts don't say what it leaves after that: the write is undone.
+//! page is free. The write is undone after that, so the contracts don't say what it leaves, but for
+//! the pages that it has in hand, which are few (`Stops`).
 ghost use Rattle.std.specs.Prelude.{◌≡◌, [], ◌+◌, ◌≤◌, ◌<◌, ◌^◌, All, length, IsTrue, IfOk, IfErr};
-ghost use Rattle.std.specs.Prelude.{OnOk, OnErr, IsOk};
+ghost use Rattle.std.specs.Prelude.{ℕ, OnOk, OnErr, IsOk};
 ghost use Rattle.be_pages.specs.Pages.{KeepsStart};
 ghost use Rattle.be_pages.specs.Refusal.{IsFullOf};
+ghost use Rattle.be_volume.specs.Items.{StaysWithin};
 ghost use Rattle.be_volume.specs.Sound.{IsSound};
 ghost use Rattle.be_volume.specs.Volume.{State, step, steps};
 ghost use Rattle.be_volume.specs.declared.ops.Op.TheVariants as ops;
 ghost use Rattle.be_paged.specs.Changes.{Changes, IsBare, SetsWhatStands, Steps, Reaches};
 ghost use Rattle.be_paged.specs.Page.{contents};
 ghost use Rattle.be_paged.specs.Place.{IsAsked, IsKnownIn};
+ghost use Rattle.be_paged.specs.Stops.{Gains, Stops, StopsNear};
 ghost use Rattle.be_paged.specs.Version.{IsInHand, Spells};
 
 use crate::asked::{Asked, known_of};
@@ -40,6 +43,8 @@ fn add_node<R: Room>(room: &mut R, version: &mut Version) -> Result<Done, Refusa
     ensures next { OnOk result (version.new.next ≡ version.old.next + 1) }
     ensures err { OnErr result (KeepsStart R.kept R.standing R.words room.old room.new) }
     ensures full { IfErr result (IsFullOf (R.full room.new)) }
+    ensures stops { OnErr result (StopsNear R.kept R.standing R.words 0
+        (contents version.old) room.old room.new) }
 {
     let node = version.next;
     version.catalog = insert(room, version.catalog, &node.to_be_bytes(), &[])?;
@@ -73,6 +78,8 @@ fn set_value<R: Room>(
     ensures next { OnOk result (version.new.next ≡ version.old.next) }
     ensures err { OnErr result (KeepsStart R.kept R.standing R.words room.old room.new) }
     ensures full { IfErr result (IsFullOf (R.full room.new)) }
+    ensures stops { OnErr result (StopsNear R.kept R.standing R.words 1
+        (contents version.old) room.old room.new) }
 {
     change_entry(room, version, node, name, known, Some(value))?;
     let key = catalog_key(node, name);
@@ -99,7 +106,11 @@ fn unset_value<R: Room>(
         → Steps (R.words room.new) (contents version.new) volume (ops.Unset node name.now) done) }
     ensures next { OnOk result (version.new.next ≡ version.old.next) }
     ensures err { OnErr result (KeepsStart R.kept R.standing R.words room.old room.new) }
+    ensures gains { OnOk result (Gains 0 (R.words room.old)
+        (R.words room.new) (contents version.old) (contents version.new)) }
     ensures full { IfErr result (IsFullOf (R.full room.new)) }
+    ensures stops { OnErr result (StopsNear R.kept R.standing R.words 0
+        (contents version.old) room.old room.new) }
 {
     change_entry(room, version, node, name, known, None)?;
     let key = catalog_key(node, name);
@@ -158,7 +169,11 @@ fn unset_all<R: Room>(room: &mut R, version: &mut Version, node: u64) -> Result<
         → IsBare (R.words room.new) (contents version.new) volume node) }
     ensures next { OnOk result (version.new.next ≡ version.old.next) }
     ensures err { OnErr result (KeepsStart R.kept R.standing R.words room.old room.new) }
+    ensures gains { OnOk result (Gains 0 (R.words room.old)
+        (R.words room.new) (contents version.old) (contents version.new)) }
     ensures full { IfErr result (IsFullOf (R.full room.new)) }
+    ensures stops { OnErr result (StopsNear R.kept R.standing R.words 0
+        (contents version.old) room.old room.new) }
 {
     for _ in 0..MAX_ATTRIBUTES {
         let Some((name, place)) = first_attribute(room, version.catalog, node) else {
@@ -182,6 +197,8 @@ fn drop_node<R: Room>(room: &mut R, version: &mut Version, node: u64) -> Result<
     ensures next { OnOk result (version.new.next ≡ version.old.next) }
     ensures err { OnErr result (KeepsStart R.kept R.standing R.words room.old room.new) }
     ensures full { IfErr result (IsFullOf (R.full room.new)) }
+    ensures stops { OnErr result (StopsNear R.kept R.standing R.words 0
+        (contents version.old) room.old room.new) }
 {
     unset_all(room, version, node)?;
     version.catalog = remove(room, version.catalog, &node.to_be_bytes())?;
@@ -212,6 +229,8 @@ fn edit<R: Room>(
     ensures next { OnOk result (version.new.next ≤ version.old.next + 1) }
     ensures err { OnErr result (KeepsStart R.kept R.standing R.words room.old room.new) }
     ensures full { IfErr result (IsFullOf (R.full room.new)) }
+    ensures stops { OnErr result (StopsNear R.kept R.standing R.words 1
+        (contents version.old) room.old room.new) }
 {
     match op {
         Op::New => add_node(room, version),
@@ -258,6 +277,11 @@ pub(crate) fn edit_all<R: Room>(
         ≡ version.old.entries.items) }
     ensures err { OnErr result (KeepsStart R.kept R.standing R.words room.old room.new) }
     ensures full { IfErr result (IsFullOf (R.full room.new)) }
+    ensures stops { OnErr result ((volume : State) (most indices : ℕ)
+        → Spells (R.words room.old) (contents version.old) volume → IsSound volume →
+        IsOk (steps volume ops.now) → StaysWithin most indices volume ops.now
+        → Stops R.kept R.standing R.words (most + 1) indices (contents version.old) room.old
+        room.new) }
 {
     let mut first = asked;
     for op in ops {

@@ -5,11 +5,13 @@ ghost use Rattle.std.specs.Result.{result_err};
 ghost use Rattle.be_pages.specs.Pages.{is_kept, IsUnchanged, KeepsStart, Swaps};
 ghost use Rattle.be_pages.specs.Refusal.{IsFullOf};
 ghost use Rattle.be_pages.specs.declared.room.Standing.TheVariants.{Filled};
+ghost use Rattle.be_tree.specs.Counting.{TakesFewer};
 ghost use Rattle.be_volume.specs.Sound.{IsName};
 ghost use Rattle.be_volume.specs.Volume.{State, steps};
 ghost use Rattle.be_paged.specs.Changes.{Applies, IsRefusedList};
 ghost use Rattle.be_paged.specs.Facts.{AnswersFor};
 ghost use Rattle.be_paged.specs.Place.{IsAsked};
+ghost use Rattle.be_paged.specs.Stops.{TakesFew};
 ghost use Rattle.be_paged.specs.Version.{IsVersion};
 ghost use Rattle.be_paged.specs.Page.{contents, contents_of, IsVersionPage};
 
@@ -61,6 +63,7 @@ fn write_version<R: Room>(room: &mut R, version: &Version) -> Result<u64, Refusa
         room.new) }
     ensures err { OnErr result (KeepsStart R.kept R.standing R.words room.old room.new) }
     ensures full { IfErr result (IsFullOf (R.full room.new)) }
+    ensures takes { OnErr result (TakesFewer 1 (R.standing room.old) (R.standing room.new)) }
 {
     let page = room.take()?;
     store_version(room, page, version);
@@ -79,6 +82,7 @@ fn replace_version<R: Room>(room: &mut R, old_page: u64, version: &Version) -> R
         room.old room.new) }
     ensures err { OnErr result (KeepsStart R.kept R.standing R.words room.old room.new) }
     ensures full { IfErr result (IsFullOf (R.full room.new)) }
+    ensures takes { OnErr result (TakesFewer 1 (R.standing room.old) (R.standing room.new)) }
 {
     room.give_up(old_page);
     let page = write_version(room, version)?;
@@ -92,8 +96,9 @@ fn replace_version<R: Room>(room: &mut R, old_page: u64, version: &Version) -> R
 ///
 /// The errors are those of the plain volume, NoNode to NotIndexable: they come before a page is
 /// taken, and the room is unchanged. If no page is left, the error is Full, and what was there when
-/// the write began is there again once it is undone. It takes no memory: `version` is a place for
-/// the version's contents, and what it has before and after means nothing.
+/// the write began is there again once it is undone. Until then it has few pages in hand, if it had
+/// none before: about as many as trees of all items have. It takes no memory: `version` is a place
+/// for the version's contents, and what it has before and after means nothing.
 pub fn apply_into<R: Room>(
     room: &mut R,
     version: &mut Version,
@@ -111,6 +116,8 @@ pub fn apply_into<R: Room>(
         ops.now dones.new.items room.old room.new) }
     ensures err { IfErr result (λ e. IsRefusedList R.kept R.standing R.words R.full volume ops.now e
         room.old room.new) }
+    ensures few { OnErr result (TakesFew volume ops.now (R.standing room.old)
+        (R.standing room.new)) }
 {
     fill_version(room, version_page, version);
     let mut asked = None;
@@ -137,6 +144,8 @@ pub fn apply<R: Room>(
         r.1.items room.old room.new) }
     ensures err { IfErr result (λ e. IsRefusedList R.kept R.standing R.words R.full volume ops.now e
         room.old room.new) }
+    ensures few { OnErr result (TakesFew volume ops.now (R.standing room.old)
+        (R.standing room.new)) }
 {
     let mut version = Version::new();
     let mut dones = ArrayVec::new();

@@ -7,7 +7,7 @@ ghost use Rattle.be_table.specs.Place.{Work};
 ghost use Rattle.be_table.specs.Reading.{open_of, standing_among, standing_in_work, word_of_page};
 ghost use Rattle.be_table.specs.Reading.{words_of};
 ghost use Rattle.be_table.specs.Trace.{upto_lock};
-ghost use Rattle.be_table.specs.Works.{IsSpent, TakesLock};
+ghost use Rattle.be_table.specs.Works.{IsFull, TakesLock};
 ghost use Rattle.be_table.specs.declared.pass.Knowledge.{Knowledge};
 ghost use Rattle.be_store.specs.Conditional.{WritesIf};
 ghost use Rattle.be_store.specs.Writing.{Begins, HasRoomAtFull, ScansEarly, Writes};
@@ -36,8 +36,7 @@ fn apply_to(
     requires empty { dones.old.items ≡ [] }
     ensures ok { IfOk result (λ page. Applies open_of standing_in_work words_of version_page page
         volume ops.now dones.new.items writing.old writing.new) }
-    ensures err { IfErr result (λ e. IsRefusedList open_of standing_in_work words_of
-        (λ w least. IsSpent w.knows least)
+    ensures err { IfErr result (λ e. IsRefusedList open_of standing_in_work words_of IsFull
         volume ops.now e writing.old writing.new) }
 {
     let mut space = writing.take_space();
@@ -63,8 +62,7 @@ fn apply_in(
     requires empty { dones.old.items ≡ [] }
     ensures ok { IfOk result (λ page. Applies open_of standing_in_work words_of version_page page
         volume ops.now dones.new.items writing.old writing.new) }
-    ensures err { IfErr result (λ e. IsRefusedList open_of standing_in_work words_of
-        (λ w least. IsSpent w.knows least)
+    ensures err { IfErr result (λ e. IsRefusedList open_of standing_in_work words_of IsFull
         volume ops.now e writing.old writing.new) }
 {
     match space {
@@ -91,8 +89,7 @@ fn apply_apart(
     requires empty { dones.old.items ≡ [] }
     ensures ok { IfOk result (λ page. Applies open_of standing_in_work words_of version_page page
         volume ops.now dones.new.items writing.old writing.new) }
-    ensures err { IfErr result (λ e. IsRefusedList open_of standing_in_work words_of
-        (λ w least. IsSpent w.knows least)
+    ensures err { IfErr result (λ e. IsRefusedList open_of standing_in_work words_of IsFull
         volume ops.now e writing.old writing.new) }
 {
     let mut version = Version::new();

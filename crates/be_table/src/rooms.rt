@@ -32,9 +32,9 @@ impl<'a> Look for Writing<'a> {
 }
 
 impl<'a> Room for Writing<'a> {
-    ghost use Rattle.be_table.specs.Works.{IsSpent};
+    ghost use Rattle.be_table.specs.Works.{IsFull};
 
-    ghost full = { λ w least. IsSpent w.knows least };
+    ghost full = { IsFull };
 
     #[tactic(auto, using(crate::proofs::Standings::taken))]
     fn is_taken(&self, page: u64) -> bool {

@@ -88,3 +88,9 @@ IsTurned kept_of standing_of words_of root above given all (Whole new) start now
 IsTurned kept_of standing_of words_of root above given all (Above page slots) start now =
     IsAbove kept_of standing_of words_of root (take (length above - 1) above) page given slots.items
     all start now
+
+-- how many pages a node in hand takes until it is settled, at the end of so many steps: two if the
+-- page above is in hand in turn, and otherwise one more for each step
+abbrev pub taken_for : Turn → (steps : ℕ) → ℕ
+taken_for (Whole new) steps = steps + 2
+taken_for (Above page slots) steps = 2

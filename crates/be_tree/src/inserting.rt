@@ -1,5 +1,6 @@
 //! A pair is put where a path leads.
 ghost use Rattle.std.specs.Prelude.{◌≡◌, ◌≤◌, IsTrue, Ok, Err, length};
+ghost use Rattle.be_tree.specs.Counting.{most_taken};
 ghost use Rattle.be_tree.specs.Path.{IsPathFor, IsPathTo, PutsInto};
 ghost use Rattle.be_tree.specs.Writing.{Refuses};
 
@@ -20,7 +21,8 @@ pub(crate) fn put_on<R: Room>(room: &mut R, root: u64, path: &Path, pair: &Item)
     requires key_fits { length pair.now.key ≤ 264 }
     requires open { IsTrue (R.is_open (R.kept room.old)) }
     ensures ok { PutsInto R.kept R.standing R.words root pair.now result room.old room.new }
-    ensures refused { Refuses R.kept R.standing R.words R.full result room.old room.new }
+    ensures refused { Refuses R.kept R.standing R.words R.full
+        (most_taken (length path.now.above.items)) result room.old room.new }
 {
     match path.place {
         Ok(at) => put_over(room, root, path, at, pair),
@@ -33,7 +35,8 @@ fn put_over<R: Room>(room: &mut R, root: u64, path: &Path, at: usize, pair: &Ite
     requires path { IsPathFor R.standing R.words room.old root pair.now path.now (Ok at) }
     requires open { IsTrue (R.is_open (R.kept room.old)) }
     ensures ok { PutsInto R.kept R.standing R.words root pair.now result room.old room.new }
-    ensures refused { Refuses R.kept R.standing R.words R.full result room.old room.new }
+    ensures refused { Refuses R.kept R.standing R.words R.full
+        (most_taken (length path.now.above.items)) result room.old room.new }
 {
     let edit = Edit {
         cut: Cut { at, gone: 1 },
@@ -47,7 +50,8 @@ fn put_in<R: Room>(room: &mut R, root: u64, path: &Path, at: usize, pair: &Item)
     requires path { IsPathFor R.standing R.words room.old root pair.now path.now (Err at) }
     requires open { IsTrue (R.is_open (R.kept room.old)) }
     ensures ok { PutsInto R.kept R.standing R.words root pair.now result room.old room.new }
-    ensures refused { Refuses R.kept R.standing R.words R.full result room.old room.new }
+    ensures refused { Refuses R.kept R.standing R.words R.full
+        (most_taken (length path.now.above.items)) result room.old room.new }
 {
     if count_of(room, path.leaf) == MOST_ITEMS {
         return overflow(room, root, path, at, pair);
@@ -66,7 +70,8 @@ fn overflow<R: Room>(room: &mut R, root: u64, path: &Path, at: usize, pair: &Ite
     requires full { R.words room.old path.now.leaf 1 ≡ 12 }
     requires open { IsTrue (R.is_open (R.kept room.old)) }
     ensures ok { PutsInto R.kept R.standing R.words root pair.now result room.old room.new }
-    ensures refused { Refuses R.kept R.standing R.words R.full result room.old room.new }
+    ensures refused { Refuses R.kept R.standing R.words R.full
+        (most_taken (length path.now.above.items)) result room.old room.new }
 {
     let mut slots = ArrayVec::new();
     fill_slots(room, path.leaf, &mut slots);

@@ -365,6 +365,21 @@ fn store_number<R: Room>(room: &mut R, page: u64, at: usize, first: u64, skip: u
     room.refill(page, at + 1, number << (64 - 8 * skip));
 }
 
+/// A word whose first `bytes` bytes are those of a word of a page. Of no byte, the page isn't read.
+#[inline(always)]
+fn begun_word<L: Look>(look: &mut L, page: u64, at: usize, bytes: usize) -> u64
+    requires readable { IsTrue (is_readable (L.standing look.old page)) }
+    requires in_page { at < 512 }
+    ensures begins { take bytes (to_be_bytes w64 result)
+        ≡ take bytes (to_be_bytes w64 (L.words look.old page at)) }
+    ensures unchanged { IsUnchanged L.kept L.standing L.words look.old look.new }
+{
+    if bytes == 0 {
+        return 0;
+    }
+    look.word(page, at)
+}
+
 /// Writes the branch to another page at a place of a page that has a word filled. The whole words
 /// of its key are copied as words, and the rest of it and the number are written as words too.
 fn store_branch<R: Room>(room: &mut R, page: u64, at: usize, child: u64)
@@ -385,7 +400,7 @@ fn store_branch<R: Room>(room: &mut R, page: u64, at: usize, child: u64)
         let word = room.word(child, 3 + i);
         room.refill(page, at + 1 + i, word);
     }
-    let last = room.word(child, 3 + whole);
+    let last = begun_word(room, child, 3 + whole, key_len % 8);
     store_number(room, page, at + 1 + whole, last, key_len % 8, child);
 }
 

@@ -108,7 +108,7 @@ fn open_copy<R: Room>(room: &mut R, page: u64, cut: Cut, more: usize) -> Result<
     ensures gap { IfOk result (λ copy. HasGap (R.words room.old page) (R.words room.new copy) cut
         more) }
     ensures taken { IfOk result (λ copy. IsTaken R.kept R.standing R.words copy room.old room.new) }
-    ensures refused { Refuses R.kept R.standing R.words R.full result room.old room.new }
+    ensures refused { Refuses R.kept R.standing R.words R.full 1 result room.old room.new }
 {
     let copy = room.take()?;
     let level = room.word(page, 0);
@@ -161,7 +161,7 @@ pub(crate) fn splice<R: Room>(
     requires open { IsTrue (R.is_open (R.kept room.old)) }
     ensures ok { IfOk result (λ to. IsSpliced R.kept R.standing R.words page cut pair.now slots.now
         to room.old room.new) }
-    ensures refused { Refuses R.kept R.standing R.words R.full result room.old room.new }
+    ensures refused { Refuses R.kept R.standing R.words R.full 1 result room.old room.new }
 {
     if room.is_taken(page) {
         open_here(room, page, cut, slots.len());

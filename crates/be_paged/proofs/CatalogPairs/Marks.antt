@@ -1,5 +1,5 @@
 -- The nodes that the marks of a catalog tell are those of the volume.
-use Rattle.std.proofs.Common.{◌≡◌, ℕ, zero, suc, ◌+◌, ◌<◌, ◌≤◌, ◌^◌, Bool, true, false, cond, ◌||◌, List, [], ◌∷◌, ◌++◌, length, drop, filter, nat_le, All, Some, None, Ok, get_or, ap, sym, subst, ◌∙◌, refl, arith, eq-eqb, is_some}
+use Rattle.std.proofs.Common.{◌≡◌, ℕ, zero, suc, ◌+◌, ◌<◌, ◌^◌, Bool, true, false, cond, ◌||◌, List, [], ◌∷◌, length, drop, filter, nat_le, All, Some, None, get_or, ap, sym, subst, ◌∙◌, refl, arith, eq-eqb, is_some}
 use Rattle.std.specs.Prelude.{take}
 use Rattle.std.specs.Int.{from_be_bytes, to_be_bytes, w64}
 use Rattle.std.specs.List.{slice_get, AllByRecursion}
@@ -7,10 +7,9 @@ use Rattle.std.specs.Ordering.{nat_cmp, is_eq, eq_by_cmp, ordering_then}
 use Rattle.std.specs.Cmp.{nat_cmp_is, ranked}
 use Rattle.std.specs.declared.cmp.Ordering.{Ordering}
 use Rattle.std.specs.declared.cmp.Ordering.TheVariants.{Less, Equal, Greater}
-use Rattle.std.specs.declared.option.Option.{Option}
 use Rattle.std.specs.FinMap as fin
 use Rattle.std.proofs.lemmas.Bool.{le-leb, lt-leb}
-use Rattle.std.proofs.lemmas.List.{drop_all, length-append, length-drop}
+use Rattle.std.proofs.lemmas.List.{drop_all, length-append}
 use Rattle.std.proofs.lemmas.Map.Views.{exact_unsigned_eq}
 use Rattle.std.proofs.lemmas.Nat.{from_be_bytes-to_be_bytes_8}
 use Rattle.be_pages.specs.declared.room.Standing.{Standing}
@@ -23,12 +22,11 @@ use Rattle.be_tree.proofs.Bytes.Words.{item_key_length}
 use Rattle.be_tree.proofs.Order.{key_exact}
 use Rattle.be_tree.proofs.Ranges.{from_equal, from_greater, from_less}
 use Rattle.be_tree.proofs.Trees.{tree_rising}
-use Rattle.be_volume.specs.Maps.{Nodes, name_cmp}
+use Rattle.be_volume.specs.Maps.{Nodes}
 use Rattle.be_volume.specs.Volume.{State}
 use Rattle.be_plan.proofs.Rising.{Rises, is_in, the_same, same_rising, in_filter, from_filter, rises_filter, rises_keys}
 use Rattle.be_paged.specs.Catalog.{catalog_key, IsCatalogKey, IsCatalog}
 use Rattle.be_paged.specs.Nodes.{is_mark, marked, nodes_from}
-use Rattle.be_paged.specs.Page.{contents_of}
 use Rattle.be_paged.specs.Version.{IsVersion}
 use Rattle.be_paged.proofs.Asking.Walks.{some_same, none_some}
 use Rattle.be_paged.proofs.CatalogPairs.FactValues.{node_there}

@@ -1,5 +1,5 @@
 -- The values that payloads tell, by their kind and the data after its byte.
-use Rattle.std.proofs.Common.{◌≡◌, ℕ, suc, ◌+◌, ◌<◌, ◌≤◌, ◌^◌, Bool, false, List, ◌∷◌, length, take, drop, get_or, Some, None, Ok, unwrap_or, ap, sym, ◌∙◌, refl, arith}
+use Rattle.std.proofs.Common.{◌≡◌, ℕ, suc, ◌<◌, ◌≤◌, ◌^◌, List, ◌∷◌, length, take, drop, get_or, Some, None, Ok, unwrap_or, ap, sym, ◌∙◌, refl, arith}
 use Rattle.std.specs.Prelude.{IsUtf8}
 use Rattle.std.specs.Int.{cast_signed, cast_unsigned, from_be_bytes, to_be_bytes, w32, w64}
 use Rattle.std.specs.Option.{IfSome, IfNone, option_map, option_map_or}
@@ -9,17 +9,13 @@ use Rattle.std.proofs.lemmas.Bool.Decides.{nat_tests}
 use Rattle.std.proofs.lemmas.Int.{to_z-of_z}
 use Rattle.std.proofs.lemmas.Nat.{from_be_bytes-to_be_bytes_4, from_be_bytes-to_be_bytes_8}
 use Rattle.be_value.specs.Key.{IsValue}
-use Rattle.be_value.specs.Name.{name_from, text_from}
+use Rattle.be_value.specs.Name.{text_from}
 use Rattle.be_value.specs.Value.{kind_number, kind_of}
 use Rattle.be_value.specs.declared.values.Kind.{Kind}
 use Rattle.be_value.specs.declared.values.Kind.TheVariants as kinds
 use Rattle.be_value.specs.declared.values.Value.{Value}
 use Rattle.be_value.specs.declared.values.Value.TheVariants.{Cstr, Long, Llng, Mims, Rawt, Ulng, Ullg}
-use Rattle.be_tree.specs.Key.{payload_at}
-use Rattle.be_tree.specs.Pair.{Pair}
-use Rattle.be_volume.specs.Maps.{Nodes}
-use Rattle.be_paged.specs.Catalog.{catalog_key, payload_of, value_at, IsCatalog}
-use Rattle.be_paged.specs.Reading.{AreValid}
+use Rattle.be_paged.specs.Catalog.{payload_of}
 
 -- numbers read after the first byte
 pub number32 : (payload : List ℕ) (k n r : ℕ) → n < 2 ^ 32 → payload ≡ k ∷ to_be_bytes w32 n → r ≡ from_be_bytes w32 (take 4 (drop 1 payload)) → r ≡ n

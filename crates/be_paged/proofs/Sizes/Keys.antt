@@ -1,6 +1,6 @@
 -- Pairs that rise are no more than the keys among which their keys are.
-use Rattle.std.proofs.Common.{◌≡◌, ℕ, zero, suc, ◌≤◌, Bool, true, false, cond, ◌||◌, List, [], ◌∷◌, map, length, Some, None, is_some, unwrap_or, ap, sym, subst, ◌∙◌, refl}
-use Rattle.std.specs.FinMap.{FinMap, IsAntisymmetric}
+use Rattle.std.proofs.Common.{◌≡◌, ℕ, ◌≤◌, Bool, true, false, cond, ◌||◌, List, [], ◌∷◌, map, length, Some, None, is_some, unwrap_or, ap, sym, subst, ◌∙◌, refl}
+use Rattle.std.specs.FinMap.{IsAntisymmetric}
 use Rattle.std.specs.FinMap.Entries.{find}
 use Rattle.std.specs.Cmp.{IsEquivalence, eq_by_cmp_equiv}
 use Rattle.std.specs.List.{AllByRecursion, IsDistinct, flat_map, list_any}

@@ -1,4 +1,4 @@
-use Rattle.std.proofs.Common.{ℕ, List, [], get_or, ap, sym, subst, ◌∙◌}
+use Rattle.std.proofs.Common.{ℕ, List, [], get_or, ap, sym, subst, ◌∙◌, ◌+◌, ◌≤◌, length, is_some}
 use Rattle.std.specs.Option.{option_copied}
 use Rattle.be_value.specs.declared.values.Kind.{Kind}
 use Rattle.be_value.specs.declared.values.Kind.TheVariants as kinds
@@ -14,6 +14,10 @@ use Rattle.be_paged.proofs.IndexEntries.EntryChange.{indexed}
 use Rattle.be_paged.proofs.Applying.Hand.{entry_changes, entry_spells, replaced}
 use Rattle.be_paged.proofs.IndexEntries.Settled.{by_kinds, paired_same, root_kept}
 use Rattle.be_paged.proofs.Asking.SourceKeys.{entry_tree}
+use Rattle.be_tree.specs.Counting.{one_of}
+use Rattle.be_paged.specs.Stops.{Gains, StopsTree}
+use Rattle.be_paged.proofs.Sizes.Stopping.{entry_gains, entry_stops}
+use Rattle.be_tree.proofs.Shape.Parts.{on_err}
 use Rattle.be_paged.proofs.changes.change_at.Goals as goal
 
 nowhere : Entry
@@ -74,3 +78,24 @@ returns-clause-stays g c = λ volume name at spells sound value v was is same.
     let kept = by_kinds _ ix.index _ node v (option_copied c.args.old) (option_copied c.args.new) _ _ keys ready.kind_is ready.indexable (paired_same volume.indices name ix.index node v ix.there same) was is
     c.in_ok-changed.ensures.stays c.in_ok-changed.ensures.apart in
     c.set_root.ensures nowhere ∙ root_kept es i nowhere c.in_ok-changed.changed c.requires.in_range (kept ∙ root)
+
+pub returns-clause-gains : goal.returns-clause-gains
+returns-clause-gains g c =
+    let before = contents c.args.version.now in
+    let es = c.args.version.now.entries.items in
+    let w = g.R.Look.words in
+    let i = c.args.at in
+    let new = c.change_root.new.room in
+    let more = one_of (is_some (option_copied c.args.new)) in
+    let root = c.index_at-kind.ensures.root nowhere ∙ ap (λ (xs : List Entry). (get_or xs i nowhere).root) c.deref.ensures.0 in
+    let e : Entry = record { name = (get_or es i nowhere).name; kind = (get_or es i nowhere).kind; root = c.in_ok-changed.changed } in
+    let swaps = subst (λ (r : ℕ). Swaps g.R.Look.kept g.R.Look.standing g.R.Look.words (pages (w c.args.room.now) r) (pages (w new) c.in_ok-changed.changed) c.args.room.now new) root c.in_ok-changed.ensures.swaps in
+    let size = subst (λ (r : ℕ). length (pairs (w new) c.in_ok-changed.changed) ≤ length (pairs (w c.args.room.now) r) + more) root c.in_ok-changed.ensures.gains in
+    subst (λ (xs : List Entry). Gains more (w c.args.room.now) (w new) before (record { next = before.next; catalog = before.catalog; entries = xs })) (sym (c.set_root.ensures nowhere))
+    (entry_gains g.R.Look.kept g.R.Look.standing g.R.Look.words c.args.room.now new before c.requires.in_hand i more e nowhere c.requires.in_range c.in_ok-changed.ensures.tree swaps size)
+
+pub returns-in_err-changed-clause-stops : goal.returns-in_err-changed-clause-stops
+returns-in_err-changed-clause-stops g c =
+    let root = c.index_at-kind.ensures.root nowhere ∙ ap (λ (xs : List Entry). (get_or xs c.args.at nowhere).root) c.deref.ensures.0 in
+    on_err _ (entry_stops g.R.Look.kept g.R.Look.standing g.R.Look.words c.args.room.now c.change_root.new.room (contents c.args.version.now) c.requires.in_hand c.args.at nowhere c.requires.in_range
+    (subst (λ (r : ℕ). StopsTree g.R.Look.kept g.R.Look.standing g.R.Look.words r c.args.room.now c.change_root.new.room) root c.in_err-changed.ensures.stops))

@@ -1,4 +1,4 @@
-use Rattle.std.proofs.Common.{ℕ, List, sym, subst, ◌∙◌, rules, arith}
+use Rattle.std.proofs.Common.{ℕ, List, sym, subst, ◌∙◌, rules, arith, is_some}
 use Rattle.std.specs.Option.{option_copied}
 use Rattle.be_paged.specs.Entry.{Entry}
 use Rattle.be_paged.specs.Page.{IsNamedAt, IsGapAt, contents}
@@ -6,6 +6,10 @@ use Rattle.be_paged.specs.Version.{Spells}
 use Rattle.be_paged.proofs.Applying.Composing.{changes_none, changes_since, start_since, in_hand_since}
 use Rattle.be_paged.proofs.IndexEntries.EntryChange.{spells_unindexed}
 use Rattle.be_paged.proofs.CatalogPairs.Validity.{values_valid}
+use Rattle.be_paged.specs.Stops.{Gains}
+use Rattle.be_tree.specs.Counting.{one_of}
+use Rattle.be_paged.proofs.Sizes.Stopping.{gains_none, stops_since}
+use Rattle.be_tree.proofs.Shape.Parts.{on_err}
 use Rattle.be_paged.proofs.changes.change_entry.Goals as goal
 
 pub returns-in_default-clause-changes : goal.returns-in_default-clause-changes
@@ -50,3 +54,17 @@ returns-clause-stays g c = λ volume spells sound v has is same.
     let old = c.value_in-old.ensures.value volume.nodes spells.catalog (values_valid volume sound) in
     let read = subst (λ (w : ℕ → ℕ → ℕ). Spells w (contents c.args.version.now) volume) (sym c.value_in-old.ensures.unchanged.words) spells in
     c.in_ok-change_at.ensures.stays volume c.args.name.now at read sound (c.as_ref.ensures.value ∙ old) v (c.as_ref.ensures.value ∙ old ∙ has) is same
+
+pub returns-in_default-clause-gains : goal.returns-in_default-clause-gains
+returns-in_default-clause-gains g c = gains_none (g.R.Look.words c.args.room.now) (one_of (is_some (option_copied c.args.new))) (contents c.args.version.now)
+
+pub returns-clause-gains : goal.returns-clause-gains
+returns-clause-gains g c =
+    subst (λ (w : ℕ → ℕ → ℕ). Gains (one_of (is_some (option_copied c.args.new))) w (g.R.Look.words c.change_at.new.room) (contents c.args.version.now) (contents c.change_at.new.version)) c.value_in-old.ensures.unchanged.words
+    c.in_ok-change_at.ensures.gains
+
+pub returns-in_err-change_at-clause-stops : goal.returns-in_err-change_at-clause-stops
+returns-in_err-change_at-clause-stops g c =
+    let before = contents c.args.version.now in
+    let read = in_hand_since g.R.Look.kept g.R.Look.standing g.R.Look.words before c.args.room.now c.value_in-old.new.look c.value_in-old.ensures.unchanged c.requires.in_hand in
+    on_err _ (stops_since g.R.Look.kept g.R.Look.standing g.R.Look.words 0 before c.args.room.now c.value_in-old.new.look c.change_at.new.room read c.value_in-old.ensures.unchanged c.in_err-change_at.ensures.stops)

@@ -1,4 +1,4 @@
-use Rattle.std.proofs.Common.{◌≡◌, ℕ, List, None, refl, subst, sym}
+use Rattle.std.proofs.Common.{◌≡◌, List, None, refl, subst, sym}
 use Rattle.be_tree.specs.Pair.{Pair}
 use Rattle.be_tree.specs.Tree.{BecomesTree, pages, pairs}
 use Rattle.be_paged.specs.Changes.{key_turned}

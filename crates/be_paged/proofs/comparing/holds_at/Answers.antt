@@ -1,11 +1,10 @@
-use Rattle.std.proofs.Common.{ℕ, List, false, Some, None, ap, sym, ◌∙◌}
+use Rattle.std.proofs.Common.{ℕ, false, Some, None, ap, sym, ◌∙◌}
 use Rattle.std.specs.Int.{cast_signed, w32, w64, w128}
 use Rattle.std.proofs.lemmas.Int.{to_z-of_z}
 use Rattle.std.specs.Option.{option_map}
 use lib.IntN.{ℤ}
 use Rattle.be_tree.specs.Page.{item_at}
 use Rattle.be_query.specs.View.{literal}
-use Rattle.be_value.specs.declared.values.Kind.TheVariants as kinds
 use Rattle.be_value.specs.declared.values.Value.{Value}
 use Rattle.be_value.specs.declared.values.Value.TheVariants.{Long, Llng, Ulng, Ullg}
 use Rattle.be_volume.specs.Query.{holds, holds_of_number, literal_number}

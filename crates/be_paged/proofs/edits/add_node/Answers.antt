@@ -12,6 +12,8 @@ use Rattle.be_paged.specs.Catalog.{IsCatalog, catalog_key}
 use Rattle.be_paged.proofs.Applying.Hand.{catalog_changes, catalog_spells}
 use Rattle.be_paged.proofs.CatalogPairs.Items.{catalog_new}
 use Rattle.be_paged.proofs.CatalogPairs.Validity.{none_at_next}
+use Rattle.be_paged.proofs.Sizes.Stopping.{catalog_stops, tree_stops}
+use Rattle.be_tree.proofs.Shape.Parts.{on_err}
 use Rattle.be_paged.proofs.edits.add_node.Goals as goal
 
 pub insert-requires-clause-tree : goal.insert-requires-clause-tree
@@ -37,3 +39,10 @@ returns-clause-steps g c = λ volume spells sound.
           c.in_ok-version.ensures.ok.tree c.in_ok-version.ensures.ok.swaps volume (next + 1) (volume.next + 1) (fin.insert volume.nodes volume.next fin.empty) (ap (λ (n : ℕ). n + 1) spells.next) spells
           (subst (λ xs. IsCatalog xs (fin.insert volume.nodes volume.next fin.empty)) (sym c.in_ok-version.ensures.ok.has_pairs) catalog);
     }
+
+pub returns-in_err-version-clause-stops : goal.returns-in_err-version-clause-stops
+returns-in_err-version-clause-stops g c =
+    let before = contents c.args.version.now in
+    let h = c.requires.in_hand in
+    on_err _ (catalog_stops g.R.Look.kept g.R.Look.standing g.R.Look.words c.args.room.now c.insert.new.room before h
+    (tree_stops g.R.Look.kept g.R.Look.standing g.R.Look.words before.catalog c.args.room.now c.insert.new.room (h.trees.each 0 0 (omega arith)) c.in_err-version.ensures.takes.1))

@@ -16,6 +16,8 @@ use Rattle.be_paged.proofs.Applying.Dropping.{no_values, indices_bare}
 use Rattle.be_paged.proofs.Applying.Hand.{catalog_changes, catalog_spells}
 use Rattle.be_paged.proofs.CatalogPairs.Items.{catalog_dropped}
 use Rattle.be_paged.proofs.Applying.Stepping.{stepped_is}
+use Rattle.be_paged.proofs.Sizes.Stopping.{catalog_stops, stops_after, tree_stops}
+use Rattle.be_tree.proofs.Shape.Parts.{on_err}
 use Rattle.be_paged.proofs.edits.drop_node.Goals as goal
 
 same_state : {m n : ℕ} {a b : Nodes} {k l : Indices} → m ≡ n → a ≡ b → k ≡ l → ◌≡◌ {A = State} (record { next = m; nodes = a; indices = k }) (record { next = n; nodes = b; indices = l })
@@ -55,3 +57,12 @@ returns-in_err-version-clause-err g c =
     let k = start_after g.R.Look.kept g.R.Look.standing g.R.Look.words (contents c.args.version.now) (contents c.unset_all.new.version) c.args.room.now c.unset_all.new.room c.remove.new.room
     c.in_ok-unset_all.ensures.changes c.in_err-version.ensures.err in
     search (rules, k)
+
+pub returns-in_err-version-clause-stops : goal.returns-in_err-version-clause-stops
+returns-in_err-version-clause-stops g c =
+    let before = contents c.args.version.now in
+    let mid = contents c.unset_all.new.version in
+    let first = c.in_ok-unset_all.ensures.changes in
+    let tree = tree_stops g.R.Look.kept g.R.Look.standing g.R.Look.words mid.catalog c.unset_all.new.room c.remove.new.room (first.in_hand.trees.each 0 0 (omega arith)) c.in_err-version.ensures.takes.1 in
+    on_err _ (stops_after g.R.Look.kept g.R.Look.standing g.R.Look.words 0 0 0 before mid c.args.room.now c.unset_all.new.room c.remove.new.room first c.in_ok-unset_all.ensures.gains (omega arith)
+    (catalog_stops g.R.Look.kept g.R.Look.standing g.R.Look.words c.unset_all.new.room c.remove.new.room mid first.in_hand tree))

@@ -1,4 +1,4 @@
-use Rattle.std.proofs.Common.{sym, subst, IsOk}
+use Rattle.std.proofs.Common.{sym, subst, IsOk, arith}
 use Rattle.std.proofs.lemmas.Result.{IfOk-weaker}
 use Rattle.be_volume.specs.Volume.{step}
 use Rattle.be_volume.specs.declared.ops.Op.{Op}
@@ -6,6 +6,7 @@ use Rattle.be_volume.specs.declared.ops.Op.TheVariants.{MkIndex}
 use Rattle.be_paged.specs.Changes.{SetsWhatStands, Steps}
 use Rattle.be_paged.specs.Page.{contents}
 use Rattle.be_paged.proofs.IndexEntries.Settled.{if_ok}
+use Rattle.be_paged.proofs.Sizes.Stopping.{result_stops}
 use Rattle.be_paged.proofs.edits.edit.Goals as goal
 
 pub returns-in-New-clause-steps : goal.returns-in-New-clause-steps
@@ -58,3 +59,12 @@ set_value-requires-clause-known g c = c.known_of-known.ensures (g.R.Look.standin
 
 pub unset_value-requires-clause-known : goal.unset_value-requires-clause-known
 unset_value-requires-clause-known g c = c.known_of-known-in-Unset.ensures (g.R.Look.standing c.args.room.now) (g.R.Look.words c.args.room.now) c.args.version.now.catalog c.requires.asked
+
+pub returns-in-New-clause-stops : goal.returns-in-New-clause-stops
+returns-in-New-clause-stops g c = result_stops g.R.Look.kept g.R.Look.standing g.R.Look.words 0 1 (contents c.args.version.now) c.args.room.now c.add_node.new.room c.add_node.result (omega arith) c.add_node.ensures.stops
+
+pub returns-in-Drop-clause-stops : goal.returns-in-Drop-clause-stops
+returns-in-Drop-clause-stops g c = result_stops g.R.Look.kept g.R.Look.standing g.R.Look.words 0 1 (contents c.args.version.now) c.args.room.now c.drop_node.new.room c.drop_node.result (omega arith) c.drop_node.ensures.stops
+
+pub returns-in-Unset-clause-stops : goal.returns-in-Unset-clause-stops
+returns-in-Unset-clause-stops g c = result_stops g.R.Look.kept g.R.Look.standing g.R.Look.words 0 1 (contents c.args.version.now) c.args.room.now c.unset_value.new.room c.unset_value.result (omega arith) c.unset_value.ensures.stops

@@ -1,5 +1,5 @@
 use Rattle.std.proofs.Common.{◌≡◌, ℕ, ◌≤◌, ◌<◌, ◌+◌, ◌^◌, IsOk, Ok, zero, suc, List, [], ◌∷◌, take, length, subst, sym, ap, ◌∙◌, refl, rules, arith, length-append}
-use Rattle.be_volume.specs.Volume.{State, step}
+use Rattle.be_volume.specs.Volume.{State, step, steps}
 use Rattle.be_volume.specs.Ahead.{reached}
 use Rattle.be_volume.proofs.StepLemmas.{turn, performed}
 use Rattle.be_volume.proofs.Soundness.{step_sound}
@@ -8,6 +8,11 @@ use Rattle.be_paged.specs.Page.{contents}
 use Rattle.be_paged.specs.Version.{Spells}
 use Rattle.be_paged.proofs.Applying.Composing.{changes_none, changes_trans, start_after}
 use Rattle.be_paged.proofs.IndexEntries.Settled.{sets_ok, sets_same}
+use Rattle.be_paged.proofs.Sizes.Stopping.{list_stops}
+use Rattle.be_tree.proofs.Shape.Parts.{on_err}
+use Rattle.be_volume.specs.Sound.{IsSound}
+use Rattle.be_volume.specs.Items.{StaysWithin}
+use Rattle.be_paged.specs.Stops.{Stops}
 use Rattle.be_paged.proofs.edits.edit_all.Goals as goal
 
 pub loop-op-init : goal.loop-op-init
@@ -73,3 +78,18 @@ returns-clause-steps g c = λ volume spells sound ok.
 
 pub returns-clause-stays : goal.returns-clause-stays
 returns-clause-stays g c = λ volume spells sound stands. (c.loop-op.invariant.stays volume spells sound stands).1
+
+pub returns-in_err-edit-clause-stops : goal.returns-in_err-edit-clause-stops
+returns-in_err-edit-clause-stops g c =
+    let before = contents c.args.version.now in
+    let start = c.args.room.now in
+    let new = c.edit.new.room in
+    let more : c.loop-op.op-index < length c.args.ops.now = c.loop-op-test.true in
+    let k : (volume : State) (most indices : ℕ) → Spells (g.R.Look.words start) before volume → IsSound volume → IsOk (steps volume c.args.ops.now) → StaysWithin most indices volume c.args.ops.now
+        → Stops g.R.Look.kept g.R.Look.standing g.R.Look.words (most + 1) indices before start new =
+        λ volume most indices spells sound ok stays.
+            let r = c.loop-op.invariant.steps volume spells sound ok in
+            list_stops g.R.Look.kept g.R.Look.standing g.R.Look.words volume r.made c.args.ops.now c.loop-op.op-index most indices c.loop-op.dones.items before (contents c.loop-op.version) start c.loop-op.room new
+            c.loop-op.invariant.changes r.spells r.stepped (omega (arith, more)) stays c.in_err-edit.ensures.stops
+    in
+    on_err _ k

@@ -12,6 +12,8 @@ use Rattle.be_paged.proofs.Applying.Hand.{catalog_changes, catalog_spells}
 use Rattle.be_paged.proofs.CatalogPairs.Items.{catalog_set}
 use Rattle.be_paged.proofs.IndexEntries.Settled.{settled}
 use Rattle.be_paged.proofs.Applying.Stepping.{stepped_is}
+use Rattle.be_paged.proofs.Sizes.Stopping.{stops_more, catalog_stops, stops_after, tree_stops}
+use Rattle.be_tree.proofs.Shape.Parts.{on_err}
 use Rattle.be_paged.proofs.edits.set_value.Goals as goal
 
 pub insert-requires-clause-tree : goal.insert-requires-clause-tree
@@ -58,3 +60,15 @@ pub returns-clause-stays : goal.returns-clause-stays
 returns-clause-stays g c = λ volume spells sound stands.
     let s = settled volume c.args.node c.args.name.now c.args.value.now stands in
     c.in_ok-change_entry.ensures.stays volume spells sound c.args.value.now s.has refl s.indices
+
+pub returns-in_err-change_entry-clause-stops : goal.returns-in_err-change_entry-clause-stops
+returns-in_err-change_entry-clause-stops g c = on_err _ (stops_more g.R.Look.kept g.R.Look.standing g.R.Look.words 0 1 (contents c.args.version.now) c.args.room.now c.change_entry.new.room (omega arith) c.in_err-change_entry.ensures.stops)
+
+pub returns-in_err-version-clause-stops : goal.returns-in_err-version-clause-stops
+returns-in_err-version-clause-stops g c =
+    let before = contents c.args.version.now in
+    let mid = contents c.change_entry.new.version in
+    let first = c.in_ok-change_entry.ensures.changes in
+    let tree = tree_stops g.R.Look.kept g.R.Look.standing g.R.Look.words mid.catalog c.change_entry.new.room c.insert.new.room (first.in_hand.trees.each 0 0 (omega arith)) c.in_err-version.ensures.takes.1 in
+    on_err _ (stops_after g.R.Look.kept g.R.Look.standing g.R.Look.words 1 0 1 before mid c.args.room.now c.change_entry.new.room c.insert.new.room first c.in_ok-change_entry.ensures.gains (omega arith)
+    (catalog_stops g.R.Look.kept g.R.Look.standing g.R.Look.words c.change_entry.new.room c.insert.new.room mid first.in_hand tree))

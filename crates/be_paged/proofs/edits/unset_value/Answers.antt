@@ -11,6 +11,8 @@ use Rattle.be_paged.proofs.Applying.Composing.{changes_trans, start_after}
 use Rattle.be_paged.proofs.Applying.Hand.{catalog_changes, catalog_spells}
 use Rattle.be_paged.proofs.CatalogPairs.Items.{catalog_unset}
 use Rattle.be_paged.proofs.Applying.Stepping.{stepped_is}
+use Rattle.be_paged.proofs.Sizes.Stopping.{catalog_stops, stops_after, tree_stops, catalog_gains, gains_trans, without_pairs}
+use Rattle.be_tree.proofs.Shape.Parts.{on_err}
 use Rattle.be_paged.proofs.edits.unset_value.Goals as goal
 
 pub remove-requires-clause-tree : goal.remove-requires-clause-tree
@@ -50,3 +52,24 @@ returns-in_err-version-clause-err g c =
     let new = c.remove.new.room in
     let k = start_after g.R.Look.kept g.R.Look.standing g.R.Look.words (contents c.args.version.now) (contents c.change_entry.new.version) c.args.room.now c.change_entry.new.room new c.in_ok-change_entry.ensures.changes c.in_err-version.ensures.err in
     search (rules, k)
+
+pub returns-in_err-version-clause-stops : goal.returns-in_err-version-clause-stops
+returns-in_err-version-clause-stops g c =
+    let before = contents c.args.version.now in
+    let mid = contents c.change_entry.new.version in
+    let first = c.in_ok-change_entry.ensures.changes in
+    let tree = tree_stops g.R.Look.kept g.R.Look.standing g.R.Look.words mid.catalog c.change_entry.new.room c.remove.new.room (first.in_hand.trees.each 0 0 (omega arith)) c.in_err-version.ensures.takes.1 in
+    on_err _ (stops_after g.R.Look.kept g.R.Look.standing g.R.Look.words 0 0 0 before mid c.args.room.now c.change_entry.new.room c.remove.new.room first c.in_ok-change_entry.ensures.gains (omega arith)
+    (catalog_stops g.R.Look.kept g.R.Look.standing g.R.Look.words c.change_entry.new.room c.remove.new.room mid first.in_hand tree))
+
+pub returns-clause-gains : goal.returns-clause-gains
+returns-clause-gains g c =
+    let w = g.R.Look.words in
+    let before = contents c.args.version.now in
+    let mid = contents c.change_entry.new.version in
+    let after : Contents = record { next = mid.next; catalog = c.in_ok-version.field-0; entries = mid.entries } in
+    let first = c.in_ok-change_entry.ensures.changes in
+    let ok = c.in_ok-version.ensures.ok in
+    let last = catalog_gains g.R.Look.kept g.R.Look.standing g.R.Look.words c.change_entry.new.room c.remove.new.room mid first.in_hand c.in_ok-version.field-0 0 mid.next ok.tree ok.swaps
+    (without_pairs c.deref.result.now (pairs (w c.change_entry.new.room) mid.catalog) (pairs (w c.remove.new.room) c.in_ok-version.field-0) ok.has_pairs) in
+    gains_trans 0 0 0 (w c.args.room.now) (w c.change_entry.new.room) (w c.remove.new.room) before mid after c.in_ok-change_entry.ensures.gains last (omega arith)

@@ -3,7 +3,6 @@ use Rattle.std.specs.Int.{cast_signed, to_be_bytes, w64}
 use Rattle.std.specs.Option.{option_map}
 use Rattle.std.proofs.lemmas.Int.{to_z-of_z}
 use Rattle.be_value.specs.Key.{counted, key}
-use Rattle.be_value.specs.declared.values.Value.{Value}
 use Rattle.be_value.specs.declared.values.Value.TheVariants.{Llng}
 use Rattle.be_tree.specs.Key.{payload_at}
 use Rattle.be_pages.specs.Pages.{is_readable}

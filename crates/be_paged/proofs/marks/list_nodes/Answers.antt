@@ -1,10 +1,7 @@
-use Rattle.std.proofs.Common.{◌≡◌, ◌∙◌, ◌∷◌, ◌++◌, ◌≤◌, ℕ, List, [], false, length, take, ap, sym, arith}
-use Rattle.std.specs.Int.{to_be_bytes, w64}
+use Rattle.std.proofs.Common.{◌≡◌, ◌∙◌, ◌∷◌, ◌++◌, ◌≤◌, ℕ, List, [], length, take, ap, sym, arith}
 use Rattle.std.proofs.Math.Seq.{take-append_seam}
 use Rattle.std.proofs.lemmas.List.{append-nil, append_assoc, length-append, take_all}
 use Rattle.be_tree.specs.Cursor.{remaining}
-use Rattle.be_tree.specs.Range.{pairs_from}
-use Rattle.be_tree.specs.Tree.{pairs}
 use Rattle.be_tree.proofs.Frame.{unchanged_trans}
 use Rattle.be_paged.specs.Nodes.{marked}
 use Rattle.be_paged.proofs.Asking.Walks.{cursor_since}

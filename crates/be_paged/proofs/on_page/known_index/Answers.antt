@@ -1,6 +1,6 @@
-use Rattle.std.proofs.Common.{◌≡◌, ℕ, Some, ap, sym, subst, ◌∙◌}
+use Rattle.std.proofs.Common.{ℕ, Some, sym, subst}
 use Rattle.be_pages.specs.declared.room.Standing.{Standing}
-use Rattle.be_paged.specs.Page.{contents_of, IsNamedAt}
+use Rattle.be_paged.specs.Page.{contents_of}
 use Rattle.be_paged.specs.Source.{IsFound, IsKnown, IsIndexOf}
 use Rattle.be_paged.specs.Version.{IsVersion}
 use Rattle.be_paged.proofs.Stored.PageIndices.{of_known}

@@ -1,5 +1,5 @@
-use Rattle.std.proofs.Common.{◌≡◌, ℕ, Bool, true, false, [], List, Some, None, ap, sym, subst, ◌∙◌, refl, is_some, IsTrue}
-use Rattle.std.specs.Option.{option_map, option_map_or}
+use Rattle.std.proofs.Common.{◌≡◌, ℕ, false, [], Some, None, ap, sym, subst, ◌∙◌, refl, is_some, IsTrue}
+use Rattle.std.specs.Option.{option_map_or}
 use Rattle.std.specs.declared.option.Option.{Option}
 use Rattle.std.specs.FinMap as fin
 use Rattle.be_query.specs.View.{literal}

@@ -1,4 +1,4 @@
-use Rattle.std.proofs.Common.{ℕ, List, false, take, ◌∙◌, ap, sym, Ok}
+use Rattle.std.proofs.Common.{ℕ, false, take, ◌∙◌, ap, sym, Ok}
 use Rattle.std.specs.Int.{to_be_bytes, w64}
 use Rattle.be_tree.specs.Range.{pairs_from}
 use Rattle.be_tree.specs.Tree.{pairs}

@@ -1,9 +1,8 @@
-use Rattle.std.proofs.Common.{◌≡◌, ◌++◌, ◌+◌, ◌*◌, suc, ℕ, List, map, length, refl, sym, subst, ap, arith, ◌∙◌}
-use Rattle.std.proofs.lemmas.Grind.{common_steps}
+use Rattle.std.proofs.Common.{◌≡◌, ◌+◌, ◌*◌, ℕ, List, map, length, sym, subst, ap, arith, ◌∙◌}
 use Rattle.be_tree.specs.Tree.{IsTree, pairs}
 use Rattle.be_tree.proofs.Frame.{unchanged_trans}
 use Rattle.be_paged.specs.Catalog.{IsCatalog}
-use Rattle.be_paged.specs.Cells.{AreTold, found_in, name_in}
+use Rattle.be_paged.specs.Cells.{AreTold, name_in}
 use Rattle.be_paged.proofs.CatalogPairs.Validity.{values_valid}
 use Rattle.be_paged.proofs.Told.{Found, table_more, tree_since}
 use Rattle.be_paged.proofs.rows.columns.Goals as goal

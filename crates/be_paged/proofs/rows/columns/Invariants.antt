@@ -1,4 +1,4 @@
-use Rattle.std.proofs.Common.{◌≡◌, ◌*◌, ℕ, List, length, map, take}
+use Rattle.std.proofs.Common.{◌≡◌, ◌*◌, length, map, take}
 use Rattle.be_pages.specs.Pages.{IsUnchanged}
 use Rattle.be_volume.specs.Volume.{State}
 use Rattle.be_paged.specs.Cells.{AreTold, IsFew, found_in, name_in}

@@ -1,4 +1,4 @@
-use Rattle.std.proofs.Common.{◌≡◌, ℕ, List, Some, sym, subst}
+use Rattle.std.proofs.Common.{ℕ, sym, subst}
 use Rattle.std.specs.declared.option.Option.{Option}
 use Rattle.be_tree.specs.Tree.{pairs}
 use Rattle.be_value.specs.declared.values.Value.{Value}

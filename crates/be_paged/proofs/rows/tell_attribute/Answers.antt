@@ -1,5 +1,4 @@
-use Rattle.std.proofs.Common.{◌≡◌, ◌∷◌, ◌++◌, [], ℕ, true, List, Err, sym, subst, refl, ◌∙◌}
-use Rattle.std.specs.FinMap as fin
+use Rattle.std.proofs.Common.{◌∷◌, ◌++◌, [], ℕ, Err, sym, subst, refl, ◌∙◌}
 use Rattle.be_tree.specs.Tree.{pairs}
 use Rattle.be_paged.specs.Catalog.{IsCatalog}
 use Rattle.be_paged.specs.Cells.{AreTold, IsAmong, name_in, why_none}

@@ -1,4 +1,4 @@
-use Rattle.std.proofs.Common.{◌≡◌, ◌++◌, ℕ, List, inl, map, length, refl, sym, subst, ap, arith}
+use Rattle.std.proofs.Common.{◌++◌, ℕ, List, inl, map, refl, sym, subst, arith}
 use Rattle.std.proofs.lemmas.List.{append-nil, take_all}
 use Rattle.be_tree.specs.Tree.{pairs}
 use Rattle.be_tree.proofs.Frame.{unchanged_trans}

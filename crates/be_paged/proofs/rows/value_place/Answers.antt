@@ -1,7 +1,6 @@
-use Rattle.std.proofs.Common.{◌≡◌, ◌<◌, ◌∙◌, ℕ, List, length, ap, subst, arith}
+use Rattle.std.proofs.Common.{◌∙◌, arith}
 use Rattle.be_paged.specs.Cells.{name_in}
-use Rattle.be_paged.specs.Place.{IsFoundAt}
-use Rattle.be_paged.proofs.Told.{item_of_place, key_length, payload_had, value_missing, value_unnamed}
+use Rattle.be_paged.proofs.Told.{item_of_place, key_length, payload_had, value_missing}
 use Rattle.be_paged.proofs.rows.value_place.Goals as goal
 
 pub returns-clause-item : goal.returns-clause-item

@@ -1,4 +1,4 @@
-use Rattle.std.proofs.Common.{ℕ, ◌+◌, ◌-◌, ◌≤◌, ◌∙◌, ap, sym, take, arith}
+use Rattle.std.proofs.Common.{ℕ, ◌+◌, ◌≤◌, ◌∙◌, ap, sym, take, arith}
 use Rattle.be_tree.specs.Page.{bytes_at, item_at, key_len}
 use Rattle.be_tree.proofs.Codec.{bytes_at_prefix, key_at}
 use Rattle.be_tree.proofs.Bytes.Words.{item_key_length}

@@ -10,7 +10,7 @@ use Rattle.be_table.specs.declared.pass.Knowledge.{Knowledge}
 use Rattle.be_table.specs.Place.{Work}
 use Rattle.be_table.specs.Reading.{standing_among, word_of_page, StaysOpen}
 use Rattle.be_table.specs.Rule.{entries}
-use Rattle.be_table.specs.Works.{IsSpent}
+use Rattle.be_table.specs.Works.{IsFull}
 use Rattle.be_table.proofs.Keeping.{begun_version, keeps_exactly}
 use Rattle.be_store.proofs.Writes.{current_spelt, full_unroomed, passed_up, published, unroomed_passed_up}
 use Rattle.be_store.proofs.writing.write_current.Goals as goal
@@ -61,7 +61,7 @@ returns-in_err-reserve-in-Err-Full-clause-answer c =
     let none = c.in_err-reserve-in-Err-Full.ensures in
     let refused = c.in-Err-Full.ensures.err in
     passed_up c.from_residual-in_err-reserve-in-Err-Full.result c.in_err-reserve-in-Err-Full.field-0.0 _ _ c.from_residual-in_err-reserve-in-Err-Full.ensures.1
-    (full_unroomed c.args.writing.now c.apply_to.new.writing c.reserve-in-Err-Full.new.self (λ (w : Work) least. IsSpent w.knows least) c.args.ops.now c.in-Err-Full.least c.in-Err-Full.field-0 _ c.requires.begins.unpublished c.in-Err-Full.field-0-is refused none.0 none.1)
+    (full_unroomed c.args.writing.now c.apply_to.new.writing c.reserve-in-Err-Full.new.self IsFull c.args.ops.now c.in-Err-Full.least c.in-Err-Full.field-0 _ c.requires.begins.unpublished c.in-Err-Full.field-0-is refused none.0 none.1)
 
 pub returns-in_err-reserve-in-Err-Full-clause-room : goal.returns-in_err-reserve-in-Err-Full-clause-room
 returns-in_err-reserve-in-Err-Full-clause-room c =

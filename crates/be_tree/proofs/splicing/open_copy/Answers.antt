@@ -2,7 +2,10 @@ use Rattle.std.proofs.Common.{◌≡◌, ◌≢◌, ◌+◌, ◌-◌, ◌∙◌,
 use Rattle.be_tree.specs.Page.{item_place}
 use Rattle.be_tree.specs.Splicing.{AreCopies, IsCopy}
 use Rattle.be_tree.proofs.Nodes.Writes.{free_other}
+use Rattle.be_tree.proofs.Nodes.Stands.{stands_else}
 use Rattle.be_tree.proofs.Splices.{filled_word, gap_of, other_word, there}
+use Rattle.be_tree.proofs.Sizes.InHand.{takes_one}
+use Rattle.be_pages.specs.declared.room.Standing.TheVariants.{Filled, Taken}
 use Rattle.be_tree.proofs.splicing.open_copy.Given.{Over}
 use Rattle.be_tree.proofs.splicing.open_copy.Goals as goal
 use Rattle.be_tree.proofs.splicing.open_copy.Goals.{After-copy_down-2}
@@ -37,3 +40,18 @@ returns-clause-gap g c =
     gap_of u v cut c.args.more rest c.requires.in_range (ap (λ n. n - (cut.at + cut.gone)) value)
     (last.before 0 (omega arith) ∙ first.before 0 (omega arith) ∙ c.fill-2.ensures.place 0 ∙ other_word 0 1 (λ e. absurd (omega (arith, e))) (cut.at + c.args.more + rest) (g.R.Look.words c.fill.new.self copy 0) ∙ c.fill.ensures.place 0 ∙ filled_word 0 c.word-level.result (g.R.Look.words c.word-count.new.self copy 0) ∙ c.word-level.ensures.value ∙ ap (λ w. w c.args.page 0) c.in_ok-copy.ensures.words)
     (last.before 1 (omega arith) ∙ first.before 1 (omega arith) ∙ c.fill-2.ensures.place 1 ∙ filled_word 1 (cut.at + c.args.more + rest) (g.R.Look.words c.fill.new.self copy 1)) front back
+
+pub returns-clause-refused : goal.returns-clause-refused
+returns-clause-refused g c = (
+  tt,
+  tt,
+  (
+    takes_one (g.R.Look.standing c.args.room.now) (g.R.Look.standing c.copy_down-2.new.room) c.in_ok-copy.copy (λ q ne.
+        c.copy_down-2.ensures.only.standing q ∙ c.copy_down.ensures.only.standing q
+        ∙ stands_else (g.R.Look.standing c.fill.new.self) (g.R.Look.standing c.fill-2.new.self) c.in_ok-copy.copy Filled c.fill-2.ensures.standing q ne
+        ∙ stands_else (g.R.Look.standing c.word-count.new.self) (g.R.Look.standing c.fill.new.self) c.in_ok-copy.copy Filled c.fill.ensures.standing q ne
+        ∙ ap (λ s. s q) (c.word-count.ensures.standing ∙ c.word-level.ensures.standing)
+        ∙ stands_else (g.R.Look.standing c.args.room.now) (g.R.Look.standing c.take.new.self) c.in_ok-copy.copy Taken c.in_ok-copy.ensures.ok q ne),
+    tt,
+  ),
+)

@@ -10,6 +10,7 @@ use Rattle.be_tree.proofs.Frame.{written_swaps}
 use Rattle.be_tree.proofs.Nodes.Slots.{stored_map, written_at}
 use Rattle.be_tree.proofs.Nodes.Stands.{stands_at, stands_else}
 use Rattle.be_tree.proofs.Splices.{filled_word, off_free, off_pair, off_ready, other_word}
+use Rattle.be_tree.proofs.Sizes.InHand.{takes_one}
 use Rattle.be_tree.proofs.writing.write_node.Given.{Over}
 use Rattle.be_tree.proofs.writing.write_node.Goals as goal
 use Rattle.be_tree.proofs.writing.write_node.Goals.{After-fill-2}
@@ -88,3 +89,8 @@ returns-clause-swaps g c =
     (only.standing page ∙ stands_at (g.R.Look.standing c.fill.new.self) (g.R.Look.standing c.fill-2.new.self) page Filled c.fill-2.ensures.standing)
     (λ q ne. only.standing q ∙ stands g at q ne)
     (λ q ne. only.others q ne ∙ others g at q ne)
+
+pub returns-clause-refused : goal.returns-clause-refused
+returns-clause-refused g c =
+    let at = (goal.at.returns-clause-refused g c).After-fill-2 in
+    (tt, tt, (takes_one (g.R.Look.standing c.args.room.now) (g.R.Look.standing c.store_slots.new.room) c.in_ok-page.page (λ q ne. c.store_slots.ensures.only.standing q ∙ stands g at q ne), tt))
