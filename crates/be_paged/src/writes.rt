@@ -52,8 +52,12 @@ fn refusal<L: Look>(
     first_refusal(&mut facts, ops)
 }
 
-/// Writes a version page.
-fn write_version<R: Room>(room: &mut R, version: &Version) -> Result<u64, Refusal>
+/// Writes a version page in the place of an old one.
+fn write_version<R: Room>(
+    room: &mut R,
+    old_page: u64,
+    version: &Version,
+) -> Result<u64, Refusal>
     requires named { All (λ e. IsName e.name) version.now.entries.items }
     requires open { IsTrue (R.is_open (R.kept room.old)) }
     ensures contents { IfOk result (λ p. contents_of (R.words room.new p) ≡ contents version.now) }
@@ -65,7 +69,7 @@ fn write_version<R: Room>(room: &mut R, version: &Version) -> Result<u64, Refusa
     ensures full { IfErr result (IsFullOf (R.full room.new)) }
     ensures takes { OnErr result (TakesFewer 1 (R.standing room.old) (R.standing room.new)) }
 {
-    let page = room.take()?;
+    let page = room.take_like(old_page)?;
     store_version(room, page, version);
     Ok(page)
 }
@@ -85,7 +89,7 @@ fn replace_version<R: Room>(room: &mut R, old_page: u64, version: &Version) -> R
     ensures takes { OnErr result (TakesFewer 1 (R.standing room.old) (R.standing room.new)) }
 {
     room.give_up(old_page);
-    let page = write_version(room, version)?;
+    let page = write_version(room, old_page, version)?;
     Ok(page)
 }
 

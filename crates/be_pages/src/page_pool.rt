@@ -62,6 +62,12 @@ pub(crate) enum Ending {
 pub struct PagePool {
     places: Vec<Place>,
     free: PageSet,
+    /// Free pages that are spared: each for the next copy of the page that was copied from it.
+    spare: PageSet,
+    /// Of each page, the one that it was copied from last.
+    earlier: Vec<u64>,
+    /// Whether a page is spared once it is free.
+    spared: Vec<bool>,
     touched: PageSet,
     retired: VecDeque<u64>,
     ghost free_pages: { length free.has.items ≡ vec_len places },
@@ -91,11 +97,17 @@ impl PagePool {
     {
         let places = new_places(alloc, pages, used)?;
         let free = PageSet::from(alloc, used, pages)?;
+        let spare = PageSet::new(alloc, pages)?;
+        let earlier = vec![in alloc; 0; pages]?;
+        let spared = vec![in alloc; false; pages]?;
         let touched = PageSet::new(alloc, pages)?;
         let retired = VecDeque::with_capacity(alloc, pages)?;
         Ok(PagePool {
             places,
             free,
+            spare,
+            earlier,
+            spared,
             touched,
             retired,
         })
@@ -134,10 +146,53 @@ impl PagePool {
             → place_of (places self.old) q ≢ Free) }
         ensures same { IfNone result (places self.new ≡ places self.old) }
     {
-        let page = self.free.pop()?;
+        let page = self.pick()?;
+        self.reserve(page);
+        Some(page)
+    }
+
+    /// Takes a free page for a copy of a page: the one that this page was copied from, if it is
+    /// spared for that, and has most of its words. Otherwise it takes the page that `take` does.
+    pub fn take_like(&mut self, page: u64) -> Option<u64> {
+        let Some(&earlier) = self.earlier.get(page as usize) else {
+            return self.take();
+        };
+        let copy = if self.spare.has(earlier) {
+            self.spare.remove(earlier);
+            earlier
+        } else {
+            self.pick()?
+        };
+        self.earlier[copy as usize] = page;
+        self.spared[page as usize] = true;
+        self.reserve(copy);
+        Some(copy)
+    }
+
+    /// Takes a page out of the free ones, and a spared one only if there is no other.
+    fn pick(&mut self) -> Option<u64> {
+        if let Some(page) = self.free.pop() {
+            return Some(page);
+        }
+        let page = self.spare.pop()?;
+        self.spared[page as usize] = false;
+        Some(page)
+    }
+
+    /// Marks a page that was free as taken.
+    fn reserve(&mut self, page: u64) {
         self.touched.insert(page);
         self.places[page as usize] = Place::Reserved;
-        Some(page)
+    }
+
+    /// Makes a page free.
+    fn release(&mut self, page: u64) {
+        if self.spared[page as usize] {
+            self.spare.insert(page);
+        } else {
+            self.free.insert(page);
+        }
+        self.places[page as usize] = Place::Free;
     }
 
     /// Marks a page that was taken as one with a word filled. Most calls find it marked, and then
@@ -165,10 +220,7 @@ impl PagePool {
                 self.touched.insert(page);
                 self.places[at] = Place::GivenUp;
             }
-            _ => {
-                self.free.insert(page);
-                self.places[at] = Place::Free;
-            }
+            _ => self.release(page),
         }
     }
 
@@ -209,10 +261,7 @@ impl PagePool {
             }
             let place = settled(ending, old);
             match place {
-                Place::Free => {
-                    self.free.insert(page);
-                    self.places[at] = place;
-                }
+                Place::Free => self.release(page),
                 Place::Retired(_) => {
                     self.retired.push_back_reserved(page);
                     self.places[at] = place;
@@ -228,8 +277,7 @@ impl PagePool {
     {
         while let Some(page) = self.expired(least) {
             let _ = self.retired.pop_front();
-            self.free.insert(page);
-            self.places[page as usize] = Place::Free;
+            self.release(page);
         }
     }
 
@@ -266,7 +314,7 @@ impl PagePool {
     pub fn free(&self) -> usize
         ensures { result ≡ count_by is_free (places self.now) }
     {
-        self.free.len()
+        self.free.len() + self.spare.len()
     }
 
     /// How many pages are retired.

@@ -11,7 +11,8 @@ use std::alloc::{AllocError, Global};
 pub(crate) struct PageSet {
     list: Vec<u64>,
     len: usize,
-    has: Vec<bool>,
+    /// Of each page 0, or one more than its place in the list.
+    places: Vec<usize>,
     ghost same: { vec_len list ≡ vec_len has },
     ghost counted: { len ≡ count_by is_true has.items },
     ghost once: { (q : ℕ) → times q (take len list.items) ≡ one_if (has_page has.items q) },
@@ -26,8 +27,12 @@ impl PageSet {
         ensures pages { IfOk result (λ s. length s.has.items ≡ pages) }
     {
         let list = vec![in alloc; 0; pages]?;
-        let has = vec![in alloc; false; pages]?;
-        Ok(PageSet { list, len: 0, has })
+        let places = vec![in alloc; 0; pages]?;
+        Ok(PageSet {
+            list,
+            len: 0,
+            places,
+        })
     }
 
     /// The pages from one on that are below `pages`. The lowest is the first to go out.
@@ -53,12 +58,12 @@ impl PageSet {
         ensures pages { length self.new.has.items ≡ length self.old.has.items }
     {
         let at = page as usize;
-        if self.has[at] {
+        if self.places[at] > 0 {
             return;
         }
         self.list[self.len] = page;
-        self.has[at] = true;
         self.len += 1;
+        self.places[at] = self.len;
     }
 
     /// Takes the last page that came in.
@@ -76,8 +81,23 @@ impl PageSet {
         }
         let page = self.list[self.len - 1];
         self.len -= 1;
-        self.has[page as usize] = false;
+        self.places[page as usize] = 0;
         Some(page)
+    }
+
+    /// Whether a page is in the set.
+    pub(crate) fn has(&self, page: u64) -> bool {
+        self.places[page as usize] > 0
+    }
+
+    /// Takes a page out that is in the set. The last one that came in gets its place.
+    pub(crate) fn remove(&mut self, page: u64) {
+        let place = self.places[page as usize];
+        let last = self.list[self.len - 1];
+        self.list[place - 1] = last;
+        self.places[last as usize] = place;
+        self.places[page as usize] = 0;
+        self.len -= 1;
     }
 
     /// How many pages there are.

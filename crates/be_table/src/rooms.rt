@@ -45,6 +45,10 @@ impl<'a> Room for Writing<'a> {
         Writing::take(self)
     }
 
+    fn take_like(&mut self, page: u64) -> Result<u64, Refusal> {
+        Writing::take_like(self, page)
+    }
+
     fn fill(&mut self, page: u64, i: usize, word: u64) {
         Writing::fill(self, page, i, word)
     }

@@ -272,6 +272,26 @@ impl<'a> Writing<'a> {
         }
     }
 
+    /// Takes a free page for a copy of a page: the one that this page was copied from, if that is
+    /// free, since it has most of the words already. While readers keep pages, a page that was
+    /// given up isn't free at the next write, and the page is taken that was freed last.
+    pub fn take_like(&mut self, page: u64) -> Result<u64, Refusal>
+        requires open { self.old.knows.published ≡ false }
+        ensures ok { IfOk result (λ page. TakesPage self.old self.new page) }
+        ensures full { IfErr result (IsFullOf (FindsNone self.old self.new)) }
+    {
+        if self.ledger.left > 0 {
+            return self.take();
+        }
+        match self.ledger.pool.take_like(page) {
+            Some(copy) => {
+                tell_taken(self.table, &mut self.base, copy);
+                Ok(copy)
+            }
+            None => self.take(),
+        }
+    }
+
     /// Whether a scan pays though pages may be free: 32 or more pages are retired beyond those that
     /// the last whole scan had to leave for readers, which are no more than are retired now. No
     /// step.
@@ -282,7 +302,9 @@ impl<'a> Writing<'a> {
             + 32 }
         ensures left { self.now.left ≤ count_by is_retired self.now.knows.places }
     {
-        self.ledger.pool.retired().saturating_sub(self.ledger.left) >= EARLY
+        let left = self.ledger.left;
+        let more = self.ledger.pool.retired().saturating_sub(left);
+        more >= if left == 0 { 1 } else { EARLY }
     }
 
     /// Reads every announcement once. Returns the least of them and of the current number; the

@@ -97,6 +97,15 @@ fn open_here<R: Room>(room: &mut R, page: u64, cut: Cut, more: usize)
     move_items(room, page, next, cut.at + more, rest);
 }
 
+/// Takes a page for a copy of one of a level. From level 2 on a page is copied by so many writes
+/// that its earlier copy is near; below that a page that was freed last is nearer.
+fn take_copy<R: Room>(room: &mut R, page: u64, level: u64) -> Result<u64, Refusal> {
+    if level < 2 {
+        return room.take();
+    }
+    room.take_like(page)
+}
+
 /// Copies a page to one that is taken for it, with room for `more` items in the place of a cut, and
 /// gives the copy.
 fn open_copy<R: Room>(room: &mut R, page: u64, cut: Cut, more: usize) -> Result<u64, Refusal>
@@ -110,8 +119,8 @@ fn open_copy<R: Room>(room: &mut R, page: u64, cut: Cut, more: usize) -> Result<
     ensures taken { IfOk result (λ copy. IsTaken R.kept R.standing R.words copy room.old room.new) }
     ensures refused { Refuses R.kept R.standing R.words R.full 1 result room.old room.new }
 {
-    let copy = room.take()?;
     let level = room.word(page, 0);
+    let copy = take_copy(room, page, level)?;
     let count = room.word(page, 1) as usize;
     let next = cut.at + cut.gone;
     let rest = count - next;
