@@ -16,9 +16,7 @@ loop-i-init g c = record {
   answers = c.requires.1.1.0;
   keeps = λ n h. h;
   only = λ n h. inl h;
-  end = c.whole_front-front.ensures.end;
-  few = c.whole_front-front.ensures.few;
-  under = c.whole_front-front.ensures.under;
+  front = c.whole_front-front.ensures;
   reached = λ k lt. absurd (omega (arith, lt));
 }
 
@@ -46,8 +44,17 @@ walk_pick-requires g c κs within =
     let place : length picks - 1 - c.loop-i.i < length picks = omega (arith, c.loop-i-test.true) in
     let rests : rests_on (has_index g.volume) f pick ≡ true =
     subst R (sym c.from_last-pick.ensures) (at_place (rests_on (has_index g.volume) f) picks (length picks - 1 - c.loop-i.i) parts.0 place) in
-    let stands : StandsIn f pick from part = c.front_for-front.ensures.stands in
-    (within, (omega (arith, c.front_for-front.ensures.side, c.front_for-front.ensures.few), (stands.first, (inv.answers, (rests_in (has_index g.volume) f part pick from stands rests, stands)))))
+    let stands : StandsIn f pick from part = c.front_for-front.ensures.stands in (
+      within,
+      (
+        inv.answers,
+        record {
+          few = omega (arith, c.front_for-front.ensures.side, c.front_for-front.ensures.front.few);
+          rests = rests_in (has_index g.volume) f part pick from stands rests;
+          stands = stands;
+        },
+      ),
+    )
 
 pub loop-i-preserved : goal.loop-i-preserved
 loop-i-preserved g c =
@@ -62,9 +69,7 @@ loop-i-preserved g c =
       answers = c.walk_pick.ensures.answers;
       keeps = λ n h. c.walk_pick.ensures.keeps n (inv.keeps n h);
       only = λ n h. elim (c.walk_pick.ensures.only n h) [ inl old ↦ inv.only n old | inr is ↦ inr is ];
-      end = c.front_for-front.ensures.end;
-      few = c.front_for-front.ensures.few;
-      under = c.front_for-front.ensures.under;
+      front = c.front_for-front.ensures.front;
       reached = below_more Q c.loop-i.i
           (λ k lt node r holds. c.walk_pick.ensures.keeps node (inv.reached k lt node r holds))
           (subst P c.from_last-pick.ensures c.in_ok-walk_pick.ensures.has);

@@ -3,7 +3,7 @@ use Rattle.std.specs.List.{Contains}
 use Rattle.be_query.specs.Grammar.{comparisons}
 use Rattle.be_query.specs.View.{formula}
 use Rattle.be_volume.specs.Query.{sat}
-use Rattle.be_plan.specs.Spine.{IsUnderOr}
+use Rattle.be_plan.specs.Spine.{IsFrontOf}
 use Rattle.be_plan.specs.Walk.{Keeps, HasReached}
 use Rattle.be_plan.proofs.running.walk_picks.Given as goal
 
@@ -16,8 +16,6 @@ invariant-loop-i g l = record {
   answers : g.S.Source.answers_for l.source g.volume;
   keeps : Keeps l.initial.found.items l.found.items;
   only : (n : ℕ) → Contains l.found.items n → Contains l.initial.found.items n ⊎ (sat g.volume (formula l.tree) n ≡ true);
-  end : l.front.end ≡ comparisons (formula l.front.tree.now);
-  few : l.front.end ≤ 256;
-  under : IsUnderOr (formula l.tree) 0 (formula l.front.tree.now);
+  front : IsFrontOf (formula l.tree) (formula l.front.tree.now) l.front.end;
   reached : (k : ℕ) → k < l.i → HasReached g.volume (formula l.tree) (slice_index l.picks (length l.picks - 1 - k)) l.found.items;
 }
