@@ -5,8 +5,8 @@
 //! on one name whose index is not much larger than they are many, the nodes of the part are
 //! collected too, by a walk over that index, and those that are in both lists are the answer. Such
 //! a walk passes several keys in the time of one question about a node.
-ghost use Rattle.std.specs.Prelude.{◌≡◌, ◌⊎◌, ◌<◌, ◌≤◌, ℕ, true, Some, OnOk, IfErr, IfSome};
-ghost use Rattle.std.specs.Prelude.{length, slice_index};
+ghost use Rattle.std.specs.Prelude.{◌≡◌, ◌⊎◌, ◌<◌, ◌≤◌, ℕ, true, Some, OnOk, IfErr, IfOk};
+ghost use Rattle.std.specs.Prelude.{IfSome, length, slice_index};
 ghost use Rattle.std.specs.Option.{option_copied, option_map};
 ghost use Rattle.std.specs.List.{Contains};
 ghost use Rattle.std.specs.List.Sorted.{IsStrictlyIncreasing};
@@ -15,9 +15,10 @@ ghost use Rattle.be_query.specs.View.{formula};
 ghost use Rattle.be_volume.specs.Query.{sat};
 ghost use Rattle.be_volume.specs.Reading.{index_kind};
 ghost use Rattle.be_volume.specs.Volume.{State};
-ghost use Rattle.be_plan.specs.Narrow.{LeavesRest, high_of};
-ghost use Rattle.be_plan.specs.Walk.{AddsTrue, AddsTrueOf, AreAllOn, HasAllTrue, HasTrueOf};
-ghost use Rattle.be_plan.specs.Walk.{HasWithin, IsNodeWithin, Keeps};
+ghost use Rattle.be_plan.specs.Narrow.{high_of};
+ghost use Rattle.be_plan.specs.Walk.{AddsTrue, AddsTrueOf, AreAllOn, AreOnIndex};
+ghost use Rattle.be_plan.specs.Walk.{HasAllTrue, HasTrueOf, HasWithin, IsNodeWithin, Keeps};
+ghost use Rattle.be_plan.specs.Walk.{LeavesInIndex};
 
 use crate::evaluating::{asks_name, is_true};
 use crate::names::only_name;
@@ -169,8 +170,7 @@ pub(crate) fn walk_index<S: Source>(
 ) -> Result<(), Refusal>
     ghost volume: { State }
     requires answers { S.answers_for source.old volume }
-    requires named { AreAllOn (formula tree.now) index.name.now }
-    requires kind { index_kind volume index.name.now ≡ Some index.kind }
+    requires index { AreOnIndex volume (formula tree.now) index.name.now index.kind }
     ensures stays { S.kept source.new ≡ S.kept source.old }
     ensures answers { S.answers_for source.new volume }
     ensures memory { IfErr result (λ e. e ≡ OutOfMemory) }
@@ -185,34 +185,30 @@ pub(crate) fn walk_index<S: Source>(
     )
 }
 
-/// Adds those of the nodes of which a part is true whose comparisons are all on the name of this
-/// index: the nodes of the part are collected by a walk over the index.
-fn add_from_index<S: Source>(
+/// The nodes, in order, of which a part is true whose comparisons are all on the name of this
+/// index.
+fn nodes_of_index<S: Source>(
     alloc: Global,
     source: &mut S,
     tree: &Tree,
     index: Index<'_>,
-    nodes: &[u64],
-    found: &mut Vec<u64>,
-) -> Result<(), Refusal>
+) -> Result<Vec<u64>, Refusal>
     ghost volume: { State }
     requires answers { S.answers_for source.old volume }
-    requires named { AreAllOn (formula tree.now) index.name.now }
-    requires kind { index_kind volume index.name.now ≡ Some index.kind }
-    requires rising { IsStrictlyIncreasing nodes.now }
+    requires index { AreOnIndex volume (formula tree.now) index.name.now index.kind }
     ensures stays { S.kept source.new ≡ S.kept source.old }
     ensures answers { S.answers_for source.new volume }
     ensures memory { IfErr result (λ e. e ≡ OutOfMemory) }
-    ensures keeps { Keeps found.old.items found.new.items }
-    ensures only { AddsTrueOf volume (formula tree.now) nodes.now found.old.items found.new.items }
-    ensures has { OnOk result (HasTrueOf volume (formula tree.now) nodes.now found.new.items) }
+    ensures rising { IfOk result (λ nodes. IsStrictlyIncreasing nodes.items) }
+    ensures only { IfOk result (λ nodes. (n : ℕ) → Contains nodes.items n
+        → sat volume (formula tree.now) n ≡ true) }
+    ensures has { IfOk result (λ nodes. HasAllTrue volume (formula tree.now) nodes.items) }
 {
-    let mut others = Vec::with_capacity(alloc, ROOM)?;
+    let mut nodes = Vec::with_capacity(alloc, ROOM)?;
     let mut range = Range::whole();
-    walk_index(alloc, source, &mut range, tree, index, &mut others)?;
-    put_in_order(alloc, &mut others)?;
-    add_common(nodes, &others, found)?;
-    Ok(())
+    walk_index(alloc, source, &mut range, tree, index, &mut nodes)?;
+    put_in_order(alloc, &mut nodes)?;
+    Ok(nodes)
 }
 
 /// Adds those of the nodes, in order, of which the tree is true.
@@ -234,7 +230,11 @@ fn add_true<S: Source>(
     ensures has { OnOk result (HasTrueOf volume (formula tree.now) nodes.now found.new.items) }
 {
     match index_to_walk(source, tree, nodes.len()) {
-        Some(index) => add_from_index(alloc, source, tree, index, nodes, found),
+        Some(index) => {
+            let others = nodes_of_index(alloc, source, tree, index)?;
+            add_common(nodes, &others, found)?;
+            Ok(())
+        }
         None => ask_all(source, tree, nodes, found),
     }
 }
@@ -302,8 +302,7 @@ pub(crate) fn walk<S: Source>(
 ) -> Result<(), Refusal>
     ghost volume: { State }
     requires answers { S.answers_for source.old volume }
-    requires kind { index_kind volume name.now ≡ Some kind }
-    requires leaves { LeavesRest (formula tree.now) name.now kind range.now.low.items
+    requires leaves { LeavesInIndex volume (formula tree.now) name.now kind range.now.low.items
         (high_of range.now) (option_map formula (option_copied rest)) }
     ensures stays { S.kept source.new ≡ S.kept source.old }
     ensures answers { S.answers_for source.new volume }

@@ -21,9 +21,10 @@ ghost use Rattle.be_volume.specs.Query.{sat};
 ghost use Rattle.be_volume.specs.Reading.{index_kind};
 ghost use Rattle.be_volume.specs.Sound.{IsSound};
 ghost use Rattle.be_volume.specs.Volume.{State};
-ghost use Rattle.be_plan.specs.Narrow.{LeavesRest, high_of};
+ghost use Rattle.be_plan.specs.Narrow.{high_of};
 ghost use Rattle.be_plan.specs.Texts.{IsKeyOf};
-ghost use Rattle.be_plan.specs.Walk.{AddsTrue, HasOnlyTrue, HasWithin, IsNodeWithin, Keeps};
+ghost use Rattle.be_plan.specs.Walk.{AddsTrue, HasOnlyTrue, HasWithin, IsKeyOfKind, IsNodeWithin};
+ghost use Rattle.be_plan.specs.Walk.{Keeps, LeavesInIndex};
 
 use crate::evaluating::{asks_name, is_true, satisfies};
 use crate::ranges::Range;
@@ -49,8 +50,7 @@ fn visit<S: Source>(
 ) -> Result<(), Refusal>
     ghost volume: { State }
     requires answers { S.answers_for source.old volume }
-    requires kind { index_kind volume name.now ≡ Some kind }
-    requires is_key { IsKey volume name.now key.now }
+    requires is_key { IsKeyOfKind volume name.now kind key.now }
     ensures stays { S.kept source.new ≡ S.kept source.old }
     ensures answers { S.answers_for source.new volume }
     ensures memory { IfErr result (λ e. e ≡ OutOfMemory) }
@@ -225,8 +225,7 @@ fn pass_keys<S: Source>(
 ) -> Result<(), Refusal>
     ghost volume: { State }
     requires answers { S.answers_for source.old volume }
-    requires kind { index_kind volume name.now ≡ Some kind }
-    requires leaves { LeavesRest (formula tree.now) name.now kind range.now.low.items
+    requires leaves { LeavesInIndex volume (formula tree.now) name.now kind range.now.low.items
         (high_of range.now) (Some (formula rest.now)) }
     ensures stays { S.kept source.new ≡ S.kept source.old }
     ensures answers { S.answers_for source.new volume }
@@ -258,8 +257,7 @@ pub(crate) fn walk_alone<S: Source>(
 ) -> Result<(), Refusal>
     ghost volume: { State }
     requires answers { S.answers_for source.old volume }
-    requires kind { index_kind volume name.now ≡ Some kind }
-    requires leaves { LeavesRest (formula tree.now) name.now kind range.now.low.items
+    requires leaves { LeavesInIndex volume (formula tree.now) name.now kind range.now.low.items
         (high_of range.now) (option_map formula (option_copied rest)) }
     ensures stays { S.kept source.new ≡ S.kept source.old }
     ensures answers { S.answers_for source.new volume }

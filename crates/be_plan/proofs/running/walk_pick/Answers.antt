@@ -16,10 +16,10 @@ walk-requires g c κs within = (
   within,
   (
     c.kind_of.ensures.answers g.volume c.requires.1.0,
-    (
-      sym (c.in-Some-kind_of.ensures.answer g.volume c.requires.1.0),
-      λ s v n p inside seen. c.rest_of_whole-rest.ensures c.args.from (formula c.args.part.now) s n c.requires.1.1.stands.under (c.in-Ok.ensures.leaves s v n p inside seen),
-    ),
+    record {
+      kind_is = sym (c.in-Some-kind_of.ensures.answer g.volume c.requires.1.0);
+      leaves = λ s v n p inside seen. c.rest_of_whole-rest.ensures c.args.from (formula c.args.part.now) s n c.requires.1.1.stands.under (c.in-Ok.ensures.leaves s v n p inside seen);
+    },
   ),
 )
 

@@ -40,7 +40,7 @@ visit-requires g c κs within =
     let C : Option (List ℕ) → Type 0 = λ o. HasCome g.volume (wanted g.volume f) name low high o c.keys.found.items in
     let come : HasCome g.volume (wanted g.volume f) name low high (Some next) c.keys.found.items = subst C (ap (λ o. option_map (λ b. b.items) o) c.in-Some.is) c.keys.invariant.come in
     let P : List ℕ → Type 0 = λ k. IsKey g.volume name k in
-    (within, (c.keys.invariant.answers, (c.requires.1.1, subst P (sym c.as_slice-in-Some.ensures.value) come.is_next.0)))
+    (within, (c.keys.invariant.answers, record { kind_is = c.requires.1.1; is_key = subst P (sym c.as_slice-in-Some.ensures.value) come.is_next.0 }))
 
 pub keys-smaller : goal.keys-smaller
 keys-smaller g c =

@@ -16,8 +16,16 @@ nodes_within-requires g c = (g.volume, c.requires.1.0)
 
 pub pass_keys-requires : goal.pass_keys-requires
 pass_keys-requires g c κs within =
-    let R : Option Formula → Type 0 = λ r. LeavesRest (formula c.args.tree.now) c.args.name.now c.args.kind c.args.range.now.low.items (high_of c.args.range.now) r in
-    (within, (c.requires.1.0, (c.requires.1.1.0, subst R (ap (λ r. option_map formula (option_copied r)) c.in-Some.is) c.requires.1.1.1)))
+    let R : Option Formula → Type 0 = λ r. LeavesRest (formula c.args.tree.now) c.args.name.now c.args.kind c.args.range.now.low.items (high_of c.args.range.now) r in (
+      within,
+      (
+        c.requires.1.0,
+        record {
+          kind_is = c.requires.1.1.kind_is;
+          leaves = subst R (ap (λ r. option_map formula (option_copied r)) c.in-Some.is) c.requires.1.1.leaves;
+        },
+      ),
+    )
 
 pub returns-in-None-clause-only : goal.returns-in-None-clause-only
 returns-in-None-clause-only g c = λ n h.
@@ -31,11 +39,11 @@ returns-in-None-clause-only g c = λ n h.
     let only : HasOnly g.volume name low high c.args.found.now.items c.nodes_within.new.found.items =
     subst H c.high.ensures (subst L c.low.ensures (c.nodes_within.ensures.only g.volume c.requires.1.0)) in
     let R : Option Formula → Type 0 = λ r. LeavesRest f name c.args.kind low high r in
-    let leaves : LeavesRest f name c.args.kind low high None = subst R (ap (λ r. option_map formula (option_copied r)) c.in-None.is) c.requires.1.1.1 in
+    let leaves : LeavesRest f name c.args.kind low high None = subst R (ap (λ r. option_map formula (option_copied r)) c.in-None.is) c.requires.1.1.leaves in
     let P : ℕ → Type 0 = λ m. sat g.volume f m ≡ true in
     elim (only n h) [
       | inl there ↦ inl there
-      | inr w ↦ inr (subst P w.node_is (left_key g.volume sound name w.key w.is_key c.args.kind c.requires.1.1.0 f low high None leaves w.within))
+      | inr w ↦ inr (subst P w.node_is (left_key g.volume sound name w.key w.is_key c.args.kind c.requires.1.1.kind_is f low high None leaves w.within))
     ]
 
 pub returns-in-None-clause-has : goal.returns-in-None-clause-has
