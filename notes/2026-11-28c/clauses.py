@@ -1,6 +1,6 @@
 import re,sys,glob
 root=sys.argv[1]
-for c in ['be_tree','be_paged','be_plan']:
+for c in ['be_tree','be_tree_reading','be_paged','be_paged_reading','be_plan']:
     out=[]
     for f in sorted(glob.glob(f'{root}/crates/{c}/src/**/*.rt',recursive=True)):
         lines=open(f).read().split('\n')
