@@ -1,6 +1,4 @@
-use Rattle.std.proofs.Common.{refl, sym, subst, inl}
-use Rattle.be_table.specs.Place.{Work}
-use Rattle.be_table.specs.Works.{FindsNone, TakesPage}
+use Rattle.std.proofs.Common.{refl, inl}
 use Rattle.be_table.proofs.writing.Writing.take_like.Goals as goal
 
 pub returns-in-Some-clause-ok : goal.returns-in-Some-clause-ok
