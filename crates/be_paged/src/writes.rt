@@ -53,7 +53,11 @@ fn refusal<L: Look>(
 }
 
 /// Writes a version page in the place of an old one.
-fn write_version<R: Room>(room: &mut R, old_page: u64, version: &Version) -> Result<u64, Refusal>
+fn write_version<R: Room>(
+    room: &mut R,
+    old_page: u64,
+    version: &Version,
+) -> Result<u64, Refusal>
     requires named { All (λ e. IsName e.name) version.now.entries.items }
     requires open { IsTrue (R.is_open (R.kept room.old)) }
     ensures contents { IfOk result (λ p. contents_of (R.words room.new p) ≡ contents version.now) }

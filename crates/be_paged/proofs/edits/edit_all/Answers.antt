@@ -86,10 +86,10 @@ returns-in_err-edit-clause-stops g c =
     let new = c.edit.new.room in
     let more : c.loop-op.op-index < length c.args.ops.now = c.loop-op-test.true in
     let k : (volume : State) (most indices : ℕ) → Spells (g.R.Look.words start) before volume → IsSound volume → IsOk (steps volume c.args.ops.now) → StaysWithin most indices volume c.args.ops.now
-    → Stops g.R.Look.kept g.R.Look.standing g.R.Look.words (most + 1) indices before start new =
-    λ volume most indices spells sound ok stays.
-    let r = c.loop-op.invariant.steps volume spells sound ok in
-    list_stops g.R.Look.kept g.R.Look.standing g.R.Look.words volume r.made c.args.ops.now c.loop-op.op-index most indices c.loop-op.dones.items before (contents c.loop-op.version) start c.loop-op.room new
-    c.loop-op.invariant.changes r.spells r.stepped (omega (arith, more)) stays c.in_err-edit.ensures.stops
+        → Stops g.R.Look.kept g.R.Look.standing g.R.Look.words (most + 1) indices before start new =
+        λ volume most indices spells sound ok stays.
+            let r = c.loop-op.invariant.steps volume spells sound ok in
+            list_stops g.R.Look.kept g.R.Look.standing g.R.Look.words volume r.made c.args.ops.now c.loop-op.op-index most indices c.loop-op.dones.items before (contents c.loop-op.version) start c.loop-op.room new
+            c.loop-op.invariant.changes r.spells r.stepped (omega (arith, more)) stays c.in_err-edit.ensures.stops
     in
     on_err _ k

@@ -66,8 +66,8 @@ returns-in_err-edit_all-clause-few g c =
     let read = subst (λ (w : ℕ → ℕ → ℕ). Spells w before g.volume) (sym same.words) (subst (λ (d : Contents). Spells (g.R.Look.words c.args.room.now) d g.volume) (sym c.fill_version.ensures.contents) version.spells) in
     let k : TakesFew g.volume c.args.ops.now (g.R.Look.standing c.args.room.now) (g.R.Look.standing c.edit_all.new.room) =
     λ most indices high stays lt none.
-    few_at_stop g.R.Look.kept g.R.Look.standing g.R.Look.words most indices high before c.refusal.new.look c.edit_all.new.room (c.in_err-edit_all.ensures.stops g.volume most indices read version.sound ok stays) lt
-    (subst (λ (s : ℕ → Standing). HasInHand s []) (sym same.standing) none)
+        few_at_stop g.R.Look.kept g.R.Look.standing g.R.Look.words most indices high before c.refusal.new.look c.edit_all.new.room (c.in_err-edit_all.ensures.stops g.volume most indices read version.sound ok stays) lt
+        (subst (λ (s : ℕ → Standing). HasInHand s []) (sym same.standing) none)
     in
     on_err _ k
 
