@@ -48,6 +48,20 @@ fn has_texts(kind: Kind) -> bool
     kind == Kind::Cstr
 }
 
+/// About how many keys a tree has. A page has 6 to 12 items, so it takes eight for each page below
+/// the root.
+fn about_keys<L: Look>(look: &mut L, root: u64) -> u64
+    requires tree { IsTree (L.standing look.old) (L.words look.old) root }
+    ensures unchanged { IsUnchanged L.kept L.standing L.words look.old look.new }
+{
+    if root == 0 {
+        return 0;
+    }
+    let level = look.word(root - 1, 0);
+    let count = look.word(root - 1, 1);
+    count.saturating_mul(8u64.saturating_pow(level.min(32) as u32))
+}
+
 /// The version of a page as a source. It reads nothing yet, and keeps the look until `into_look`.
 pub fn source<L: Look>(look: L, version_page: u64) -> PagedSource<L>
     requires version { HasVersion L.standing L.words look version_page }
@@ -178,5 +192,12 @@ impl<L: Look> Source for PagedSource<L> {
 
     fn holds(&mut self, node: u64, comparison: &Comparison) -> bool {
         holds_in(&mut self.look, self.page, node, comparison, &mut self.known)
+    }
+
+    fn estimate(&mut self, name: &Name) -> u64 {
+        match known_index(&mut self.look, self.page, name, &mut self.known) {
+            Some(index) => about_keys(&mut self.look, index.root),
+            None => 0,
+        }
     }
 }

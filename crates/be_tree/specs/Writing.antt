@@ -12,13 +12,17 @@ use Rattle.be_tree.specs.Pair.{Pair}
 use Rattle.be_tree.specs.Slot.{IsReady, pairs_of}
 use Rattle.be_tree.specs.Tree.{Becomes, BecomesTree, IsBelow, pages_below, pairs_below}
 
--- what is below the node's items is well formed, and each item can be read, also the pair that
--- is put among them
+-- each of a node's items can be read, also the pair that is put among them
+abbrev pub AreReady : (standing : ℕ → Standing) (words : ℕ → ℕ → ℕ) (given : Pair) → List Slot
+    → Type 0
+AreReady standing words given slots = All (IsReady standing words) slots × (length given.key ≤ 264)
+
+-- and what is below the items is well formed
 abbrev pub IsWritable : {S : Type 0} → (S → ℕ → Standing) → (S → ℕ → ℕ → ℕ) → (now : S)
     → (level : ℕ) (given : Pair) → List Slot → Type 0
 IsWritable standing_of words_of now level given slots =
     IsBelow level (standing_of now) (words_of now) (pairs_of (words_of now) given slots)
-    × (All (IsReady (standing_of now) (words_of now)) slots × (length given.key ≤ 264))
+    × AreReady (standing_of now) (words_of now) given slots
 
 -- a page that is in use, and not below the node
 abbrev pub IsApart : {S : Type 0} → (S → ℕ → Standing) → (S → ℕ → ℕ → ℕ) → (now : S)

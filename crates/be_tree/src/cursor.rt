@@ -9,12 +9,12 @@
 //!
 //! No page may have more than 12 items, and each but the root has at least 6. So a tree of fewer
 //! than 2^32 pages has no level above 13, and the way down has at most 14 places.
-ghost use Rattle.std.specs.Prelude.{◌≡◌, ℕ, [], ◌+◌, ◌<◌, ◌≤◌, ◌++◌, IsTrue, length};
+ghost use Rattle.std.specs.Prelude.{◌≡◌, ℕ, [], ◌+◌, ◌<◌, ◌≤◌, ◌++◌, length};
 ghost use Rattle.std.specs.Prelude.{option_map, drop, IfNone, IfSome, Some, slice_get};
 ghost use Rattle.be_pages.specs.declared.room.Standing.{Standing as Stands};
-ghost use Rattle.be_pages.specs.Pages.{IsUnchanged, is_readable};
-ghost use Rattle.be_tree.specs.Cursor.{IsCursor, IsPlace, IsSplit, remaining};
-ghost use Rattle.be_tree.specs.Page.{IsItem, item_at, items_of};
+ghost use Rattle.be_pages.specs.Pages.{IsUnchanged};
+ghost use Rattle.be_tree.specs.Cursor.{IsCursor, IsNextPlace, IsSplit, remaining};
+ghost use Rattle.be_tree.specs.Page.{IsReadableAt, item_at, items_of};
 ghost use Rattle.be_tree.specs.Range.{pair_in, pairs_from};
 ghost use Rattle.be_tree.specs.Tree.{IsTree, IsTreeAt, pairs};
 ghost use Rattle.be_tree.specs.Words.{IsFirst};
@@ -167,9 +167,8 @@ impl Cursor {
         requires cursor { IsCursor (L.standing look.old) (L.words look.old) self.old }
         ensures none { IfNone result (remaining (L.words look.old) self.old ≡ []) }
         ensures empty { IfNone result (remaining (L.words look.old) self.new ≡ []) }
-        ensures place { IfSome result (IsPlace (L.standing look.old) (L.words look.old)) }
-        ensures left { IfSome result (λ place. place.next < L.words look.old place.page 1) }
-        ensures short { IfSome result (λ place. place.level + length self.new.path.items ≤ 13) }
+        ensures place { IfSome result (λ place. IsNextPlace (L.standing look.old) (L.words look.old)
+            place self.new) }
         ensures parts { IfSome result (λ at. IsSplit (L.words look.old) self.old at self.new) }
         ensures cursor { IsCursor (L.standing look.old) (L.words look.old) self.new }
         ensures unchanged { IsUnchanged L.kept L.standing L.words look.old look.new }
@@ -188,10 +187,9 @@ impl Cursor {
         requires cursor { IsCursor (L.standing look.old) (L.words look.old) self.old }
         ensures none { IfNone result (remaining (L.words look.old) self.old ≡ []) }
         ensures empty { IfNone result (remaining (L.words look.old) self.new ≡ []) }
-        ensures place { IfSome result (IsPlace (L.standing look.old) (L.words look.old)) }
+        ensures place { IfSome result (λ place. IsNextPlace (L.standing look.old) (L.words look.old)
+            place self.new) }
         ensures leaf { IfSome result (λ place. place.level ≡ 0) }
-        ensures left { IfSome result (λ place. place.next < L.words look.old place.page 1) }
-        ensures short { IfSome result (λ place. place.level + length self.new.path.items ≤ 13) }
         ensures parts { IfSome result (λ at. IsSplit (L.words look.old) self.old at self.new) }
         ensures cursor { IsCursor (L.standing look.old) (L.words look.old) self.new }
         ensures unchanged { IsUnchanged L.kept L.standing L.words look.old look.new }
@@ -223,9 +221,8 @@ impl Cursor {
         ensures none { IfNone result (remaining (L.words look.old) self.old ≡ []) }
         ensures item { IfSome result (λ at. slice_get (remaining (L.words look.old) self.old) 0
             ≡ Some (item_at (L.words look.old at.0) at.1)) }
-        ensures readable { IfSome result (λ at. IsTrue (is_readable (L.standing look.old at.0))) }
-        ensures in_page { IfSome result (λ at. at.1 + 42 ≤ 512) }
-        ensures fits { IfSome result (λ at. IsItem (L.words look.old at.0) at.1) }
+        ensures here { IfSome result (λ at. IsReadableAt (L.standing look.old) (L.words look.old)
+            at.0 at.1) }
         ensures cursor { IsCursor (L.standing look.old) (L.words look.old) self.new }
         ensures remaining { remaining (L.words look.old) self.new
             ≡ drop 1 (remaining (L.words look.old) self.old) }

@@ -5,7 +5,8 @@ ghost use Rattle.std.specs.List.{range_with_len};
 ghost use Rattle.std.specs.Int.{from_be_bytes, to_be_bytes, w64};
 ghost use Rattle.be_pages.specs.Pages.{is_readable, IsUnchanged, OnlyWrites};
 ghost use Rattle.be_pages.specs.declared.room.Standing.TheVariants.{Filled};
-ghost use Rattle.be_tree.specs.Page.{IsItem, IsPadded, IsPage, item_at, bytes_at, bytes_past};
+ghost use Rattle.be_tree.specs.Page.{IsReadableAt, IsItem, IsPadded, IsPage, IsPairAt, item_at};
+ghost use Rattle.be_tree.specs.Page.{bytes_at, bytes_past};
 ghost use Rattle.be_tree.specs.Page.{key_len, words_for};
 ghost use Rattle.be_tree.specs.Page.{item_place};
 ghost use Rattle.std.specs.Prelude.{◌^◌, ◌⊎◌};
@@ -292,8 +293,7 @@ pub(crate) fn store_item<R: Room>(room: &mut R, page: u64, at: usize, item: &Ite
     requires in_page { at + 42 ≤ 512 }
     requires key_fits { length item.now.key ≤ 264 }
     requires open { IsTrue (R.is_open (R.kept room.old)) }
-    ensures item { item_at (R.words room.new page) at ≡ item.now }
-    ensures fits { IsItem (R.words room.new page) at }
+    ensures stored { IsPairAt (R.words room.new page) at item.now }
     ensures only { OnlyWrites R.kept R.standing R.words page at (at + 42) room.old room.new }
 {
     let bytes = item.bytes();
@@ -312,13 +312,10 @@ pub(crate) fn store_item<R: Room>(room: &mut R, page: u64, at: usize, item: &Ite
 pub(crate) fn copy_item<R: Room>(room: &mut R, page: u64, at: usize, from: u64, place: usize)
     requires filled { R.standing room.old page ≡ Filled }
     requires in_page { at + 42 ≤ 512 }
-    requires readable { IsTrue (is_readable (R.standing room.old from)) }
+    requires source { IsReadableAt (R.standing room.old) (R.words room.old) from place }
     requires may_move { from ≡ page → (at ≤ place) ⊎ (place + 42 ≤ at) }
-    requires place { place + 42 ≤ 512 }
-    requires item { IsItem (R.words room.old from) place }
     requires open { IsTrue (R.is_open (R.kept room.old)) }
-    ensures item { item_at (R.words room.new page) at ≡ item_at (R.words room.old from) place }
-    ensures fits { IsItem (R.words room.new page) at }
+    ensures stored { IsPairAt (R.words room.new page) at (item_at (R.words room.old from) place) }
     ensures only { OnlyWrites R.kept R.standing R.words page at (at + 42) room.old room.new }
 {
     if from == page && place == at {
@@ -389,8 +386,7 @@ fn store_branch<R: Room>(room: &mut R, page: u64, at: usize, child: u64)
     requires beside { child ≢ page }
     requires item { IsItem (R.words room.old child) 2 }
     requires open { IsTrue (R.is_open (R.kept room.old)) }
-    ensures item { item_at (R.words room.new page) at ≡ branch_to (R.words room.old) child }
-    ensures fits { IsItem (R.words room.new page) at }
+    ensures stored { IsPairAt (R.words room.new page) at (branch_to (R.words room.old) child) }
     ensures only { OnlyWrites R.kept R.standing R.words page at (at + 42) room.old room.new }
 {
     let key_len = (room.word(child, 2) >> LENGTH_BITS) as usize;
@@ -412,8 +408,8 @@ pub(crate) fn store_slot<R: Room>(room: &mut R, page: u64, at: usize, slot: Slot
     requires off { IsOff page slot }
     requires key_fits { length pair.now.key ≤ 264 }
     requires open { IsTrue (R.is_open (R.kept room.old)) }
-    ensures item { item_at (R.words room.new page) at ≡ pair_of (R.words room.old) pair.now slot }
-    ensures fits { IsItem (R.words room.new page) at }
+    ensures stored { IsPairAt (R.words room.new page) at
+        (pair_of (R.words room.old) pair.now slot) }
     ensures only { OnlyWrites R.kept R.standing R.words page at (at + 42) room.old room.new }
 {
     match slot {

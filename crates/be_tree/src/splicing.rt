@@ -3,10 +3,11 @@
 //! A page that this write has taken is changed where it is: the items after the place are moved up
 //! or down, and the others stay. A page that was there when the write began keeps its words: its
 //! items are copied to a page that is taken for them, each to the place that it has then.
-ghost use Rattle.std.specs.Prelude.{◌≡◌, ℕ, ◌+◌, ◌<◌, ◌≤◌, All, IfOk, IsTrue, length};
-ghost use Rattle.std.specs.Prelude.{slice_index_or};
-ghost use Rattle.be_pages.specs.declared.room.Standing.TheVariants.{Filled};
-ghost use Rattle.be_pages.specs.Pages.{OnlyWrites, is_kept, is_readable};
+ghost use Rattle.std.specs.Prelude.{◌≡◌, ℕ, ◌+◌, ◌^◌, ◌<◌, ◌≤◌, All, IsTrue, length};
+ghost use Rattle.std.specs.Prelude.{IfErr, IfOk, OnErr, slice_index_or};
+ghost use Rattle.be_pages.specs.declared.room.Standing.TheVariants.{Free, Taken, Filled};
+ghost use Rattle.be_pages.specs.Pages.{OnlyWrites, StandsAt, is_kept, is_readable};
+ghost use Rattle.be_pages.specs.Refusal.{IsFullOf};
 ghost use Rattle.be_tree.specs.declared.slot.Slot.{Slot as Slots};
 ghost use Rattle.be_tree.specs.Page.{IsItem, IsPage, item_place};
 ghost use Rattle.be_tree.specs.Slot.{IsOff, IsReady, pair_of};
@@ -99,7 +100,16 @@ fn open_here<R: Room>(room: &mut R, page: u64, cut: Cut, more: usize)
 
 /// Takes a page for a copy of one of a level. From level 2 on a page is copied by so many writes
 /// that its earlier copy is near; below that a page that was freed last is nearer.
-fn take_copy<R: Room>(room: &mut R, page: u64, level: u64) -> Result<u64, Refusal> {
+fn take_copy<R: Room>(room: &mut R, page: u64, level: u64) -> Result<u64, Refusal>
+    requires open { IsTrue (R.is_open (R.kept room.old)) }
+    ensures page { IfOk result (λ copy. (copy < 2 ^ 32) × (R.standing room.old copy ≡ Free)) }
+    ensures ok { IfOk result (λ copy. StandsAt (R.standing room.old) (R.standing room.new) copy
+        Taken) }
+    ensures err { OnErr result (R.standing room.new ≡ R.standing room.old) }
+    ensures full { IfErr result (IsFullOf (R.full room.new)) }
+    ensures words { R.words room.new ≡ R.words room.old }
+    ensures kept { R.kept room.new ≡ R.kept room.old }
+{
     if level < 2 {
         return room.take();
     }

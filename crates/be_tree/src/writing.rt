@@ -9,7 +9,7 @@ ghost use Rattle.be_pages.specs.Pages.{is_kept, IsUnchanged};
 ghost use Rattle.be_pages.specs.Pages.{Swaps};
 ghost use Rattle.be_tree.specs.Slot.{IsBranchSlot, IsReady, branch_to, pair_of, pairs_of};
 ghost use Rattle.be_tree.specs.Tree.{IsBelow, IsWritten, BecomesTree, child, least_of_root};
-ghost use Rattle.be_tree.specs.Writing.{AreApart, IsApart, IsWritable, Packs, Replaces};
+ghost use Rattle.be_tree.specs.Writing.{AreApart, AreReady, IsApart, IsWritable, Packs, Replaces};
 ghost use Rattle.be_tree.specs.Writing.{Refuses, ReplacesTree};
 
 use crate::item::Item;
@@ -22,10 +22,9 @@ use be_value::Refusal;
 
 /// Writes a node to a page of its own, and returns the page.
 fn write_node<R: Room>(room: &mut R, node: Node<'_>) -> Result<u64, Refusal>
-    requires some { 0 < length node.slots.now }
-    requires few { length node.slots.now ≤ 12 }
-    requires ready { All (IsReady (R.standing room.old) (R.words room.old)) node.slots.now }
-    requires key_fits { length node.pair.now.key ≤ 264 }
+    requires size { (0 < length node.slots.now) × (length node.slots.now ≤ 12) }
+    requires ready { AreReady (R.standing room.old) (R.words room.old) node.pair.now
+        node.slots.now }
     requires open { IsTrue (R.is_open (R.kept room.old)) }
     ensures ok { IfOk result (λ page. IsWritten node.entry.level (R.words room.new)
         (pairs_of (R.words room.old) node.entry.pair.now node.entry.slots.now)
@@ -44,11 +43,10 @@ fn write_node<R: Room>(room: &mut R, node: Node<'_>) -> Result<u64, Refusal>
 
 /// Writes a node that is changed to a page of its own, and gives the old one up. Gives the page.
 fn write_changed<R: Room>(room: &mut R, old: u64, node: Node<'_>) -> Result<u64, Refusal>
-    requires some { 0 < length node.slots.now }
-    requires few { length node.slots.now ≤ 12 }
-    requires ready { All (IsReady (R.standing room.old) (R.words room.old)) node.slots.now }
+    requires size { (0 < length node.slots.now) × (length node.slots.now ≤ 12) }
+    requires ready { AreReady (R.standing room.old) (R.words room.old) node.pair.now
+        node.slots.now }
     requires kept { IsTrue (is_kept (R.standing room.old old)) }
-    requires key_fits { length node.pair.now.key ≤ 264 }
     requires open { IsTrue (R.is_open (R.kept room.old)) }
     ensures ok { IfOk result (λ page. IsWritten node.entry.level (R.words room.new)
         (pairs_of (R.words room.old) node.entry.pair.now node.entry.slots.now)

@@ -44,12 +44,12 @@ store_slots-requires-clause-ready g c = λ i d lt.
     let s = g.R.Look.standing c.args.room.now in
     let v = g.R.Look.words c.args.room.now in
     let slot = get_or c.args.node.slots.now i d in
-    let ready = c.requires.ready i d lt in
+    let ready = c.requires.ready.0 i d lt in
     off_ready page s (g.R.Look.standing c.fill-2.new.self) v (g.R.Look.words c.fill-2.new.self) (stands g at) (others g at) slot (off_free page s v slot c.in_ok-page.ensures.page.1 ready) ready
 
 pub store_slots-requires-clause-off : goal.store_slots-requires-clause-off
 store_slots-requires-clause-off g c = λ i d lt.
-    off_free c.in_ok-page.page (g.R.Look.standing c.args.room.now) (g.R.Look.words c.args.room.now) (get_or c.args.node.slots.now i d) c.in_ok-page.ensures.page.1 (c.requires.ready i d lt)
+    off_free c.in_ok-page.page (g.R.Look.standing c.args.room.now) (g.R.Look.words c.args.room.now) (get_or c.args.node.slots.now i d) c.in_ok-page.ensures.page.1 (c.requires.ready.0 i d lt)
 
 pub store_slots-requires-clause-open : goal.store_slots-requires-clause-open
 store_slots-requires-clause-open g c =
@@ -71,12 +71,12 @@ returns-clause-ok g c =
     let less : k < length slots = omega (arith, lt, counted) in
     let this = subst (λ (n : ℕ). IsStored w n (pair_of (g.R.Look.words c.fill-2.new.self) given (get_or slots k d))) (zero-add k) (c.store_slots.ensures.items k d less) in (
       this.0 ∙ off_pair page s (g.R.Look.standing c.fill-2.new.self) v (g.R.Look.words c.fill-2.new.self) (stands g at) (others g at) given (get_or slots k d)
-          (off_free page s v (get_or slots k d) c.in_ok-page.ensures.page.1 (c.requires.ready k d less)),
+          (off_free page s v (get_or slots k d) c.in_ok-page.ensures.page.1 (c.requires.ready.0 k d less)),
       this.1,
     ) in
-    let is_page : IsPage w = record { few = omega (arith, counted, c.requires.few); each = λ j lt. (stored j New lt).1 } in
+    let is_page : IsPage w = record { few = omega (arith, counted, c.requires.size.1); each = λ j lt. (stored j New lt).1 } in
     written_at c.args.node.level (g.R.Look.words c.store_slots.new.room) (pairs_of v given slots) page c.in_ok-page.ensures.page.0 is_page (only.before 0 (omega arith) ∙ level g at)
-    (stored_map f (λ (k : ℕ). item_at w (item_place k)) slots (w 1) counted (λ k d lt. (stored k d lt).0)) (omega (arith, length-map slots f, c.requires.some))
+    (stored_map f (λ (k : ℕ). item_at w (item_place k)) slots (w 1) counted (λ k d lt. (stored k d lt).0)) (omega (arith, length-map slots f, c.requires.size.0))
 
 pub returns-clause-swaps : goal.returns-clause-swaps
 returns-clause-swaps g c =

@@ -20,14 +20,18 @@ front_ready : (g : Over) (c : After-split_at g) → All (IsReady (g.R.Look.stand
 front_ready g c = all_left (IsReady (g.R.Look.standing c.args.room.now) (g.R.Look.words c.args.room.now)) c.split_at.result.0.now c.split_at.result.1.now (ready g c)
 
 pub write_node-requires-clause-ready : goal.write_node-requires-clause-ready
-write_node-requires-clause-ready g c =
-    all_right (IsReady (g.R.Look.standing c.args.room.now) (g.R.Look.words c.args.room.now)) c.split_at.result.0.now c.split_at.result.1.now
-    (ready g (goal.at.write_node-requires-clause-ready g c).After-split_at)
+write_node-requires-clause-ready g c = (
+  all_right (IsReady (g.R.Look.standing c.args.room.now) (g.R.Look.words c.args.room.now)) c.split_at.result.0.now c.split_at.result.1.now
+      (ready g (goal.at.write_node-requires-clause-ready g c).After-split_at),
+  c.requires.node.1.1,
+)
 
 pub write_changed-requires-clause-ready : goal.write_changed-requires-clause-ready
-write_changed-requires-clause-ready g c =
-    all_ready_swaps g.R.Look.kept g.R.Look.standing g.R.Look.words [] (c.in_ok-right.right ∷ []) c.args.room.now c.write_node.new.room c.in_ok-right.ensures.swaps c.split_at.result.0.now (all_apart_nil c.split_at.result.0.now)
-    (front_ready g (goal.at.write_changed-requires-clause-ready g c).After-split_at)
+write_changed-requires-clause-ready g c = (
+  all_ready_swaps g.R.Look.kept g.R.Look.standing g.R.Look.words [] (c.in_ok-right.right ∷ []) c.args.room.now c.write_node.new.room c.in_ok-right.ensures.swaps c.split_at.result.0.now (all_apart_nil c.split_at.result.0.now)
+      (front_ready g (goal.at.write_changed-requires-clause-ready g c).After-split_at),
+  c.requires.node.1.1,
+)
 
 pub write_changed-requires-clause-kept : goal.write_changed-requires-clause-kept
 write_changed-requires-clause-kept g c =

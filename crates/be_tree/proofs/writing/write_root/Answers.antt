@@ -27,10 +27,12 @@ returns-then-node-le-MOST_ITEMS-clause-ok g c =
     (one_beside c.args.old (pages_below c.args.node.level words items) c.requires.old.1 c.requires.node.0.once))
 
 pub write_node-requires-clause-ready : goal.write_node-requires-clause-ready
-write_node-requires-clause-ready g c =
-    branches_ready c.args.node.level (g.R.Look.standing c.write_parts.new.room) (g.R.Look.words c.write_parts.new.room) c.args.node.pair.now (Branch c.in_ok-left.left ∷ Branch c.in_ok-left.right ∷ [])
-    (All-cons IsBranchSlot (Branch c.in_ok-left.left) (Branch c.in_ok-left.right ∷ []) c.in_ok-left.ensures.small.0 (All-cons IsBranchSlot (Branch c.in_ok-left.right) [] c.in_ok-left.ensures.small.1 (All-nil IsBranchSlot)))
-    c.in_ok-left.ensures.ok.below
+write_node-requires-clause-ready g c = (
+  branches_ready c.args.node.level (g.R.Look.standing c.write_parts.new.room) (g.R.Look.words c.write_parts.new.room) c.args.node.pair.now (Branch c.in_ok-left.left ∷ Branch c.in_ok-left.right ∷ [])
+      (All-cons IsBranchSlot (Branch c.in_ok-left.left) (Branch c.in_ok-left.right ∷ []) c.in_ok-left.ensures.small.0 (All-cons IsBranchSlot (Branch c.in_ok-left.right) [] c.in_ok-left.ensures.small.1 (All-nil IsBranchSlot)))
+      c.in_ok-left.ensures.ok.below,
+  c.requires.node.1.1,
+)
 
 pub returns-in_err-top-clause-refused : goal.returns-in_err-top-clause-refused
 returns-in_err-top-clause-refused g c =
