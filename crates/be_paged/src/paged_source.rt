@@ -5,7 +5,7 @@
 //! asked from that very key, it goes on from there and makes no descent. The nodes of a range are
 //! read leaf by leaf, and texts are tested so: no key is unpacked. A query asks for the same index
 //! again and again, so the source keeps what it found last.
-ghost use Rattle.std.specs.Prelude.{◌≡◌, ◌<◌, ℕ, true, length, slice_index_or};
+ghost use Rattle.std.specs.Prelude.{◌≡◌, true};
 ghost use Rattle.be_pages.specs.Pages.{IsUnchanged};
 ghost use Rattle.be_tree.specs.Cursor.{IsCursor, remaining};
 ghost use Rattle.be_tree.specs.Range.{pairs_from};
@@ -13,9 +13,8 @@ ghost use Rattle.be_tree.specs.Tree.{IsTree, pairs};
 ghost use Rattle.be_value.specs.declared.values.Kind.TheVariants.{Cstr};
 ghost use Rattle.be_volume.specs.Volume.{State};
 ghost use Rattle.be_paged.specs.Page.{contents_of};
-ghost use Rattle.be_paged.specs.Source.{StandsAfter};
+ghost use Rattle.be_paged.specs.Source.{IsIndexOf, StandsAfter};
 ghost use Rattle.be_paged.specs.Version.{HasVersion, IsVersion};
-ghost use Rattle.be_paged.specs.Entry.{Entry as AnyEntry};
 
 use crate::on_page::{FoundIndex, known_index};
 use crate::reading::{get, holds_in};
@@ -93,11 +92,8 @@ impl<L: Look> PagedSource<L> {
     /// Brings the cursor before the least key of an index at `from` or after it, or strictly after
     /// it. If it is just after that very key, nothing moves.
     fn walk_to(&mut self, index: FoundIndex, from: &[u8], after: bool)
-        requires in_range { index.place < length
-            (contents_of (L.words self.old.look self.old.page)).entries }
-        requires root { (d : AnyEntry) → index.root
-            ≡ (slice_index_or (contents_of (L.words self.old.look self.old.page)).entries
-            index.place d).root }
+        requires index { IsIndexOf (contents_of (L.words self.old.look self.old.page)).entries
+            index }
         requires tree { IsTree (L.standing self.old.look) (L.words self.old.look) index.root }
         requires beyond { StandsAfter (L.standing self.old.look) (L.words self.old.look)
             (contents_of (L.words self.old.look self.old.page)).entries self.old.cursor
