@@ -1,4 +1,3 @@
-use Rattle.std.proofs.Common.{sym}
 use Rattle.be_plan.proofs.sifting.index_to_walk.Goals as goal
 
 pub estimate-requires : goal.estimate-requires

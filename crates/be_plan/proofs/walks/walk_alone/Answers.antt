@@ -1,7 +1,7 @@
-use Rattle.std.proofs.Common.{◌≡◌, ◌∙◌, List, ℕ, true, sym, ap, subst, inl, inr}
+use Rattle.std.proofs.Common.{◌≡◌, List, ℕ, true, ap, subst, inl, inr}
 use Rattle.std.specs.Option.{option_copied, option_map}
 use Rattle.std.specs.declared.option.Option.{Option}
-use Rattle.std.specs.declared.option.Option.TheVariants.{Some, None}
+use Rattle.std.specs.declared.option.Option.TheVariants.{None}
 use Rattle.be_query.specs.Grammar.{Formula}
 use Rattle.be_query.specs.View.{formula}
 use Rattle.be_volume.specs.Query.{sat}
