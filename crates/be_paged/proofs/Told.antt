@@ -31,7 +31,7 @@ use Rattle.be_value.specs.declared.values.Value.{Value}
 use Rattle.be_value.specs.declared.values.Value.TheVariants.{Cstr, Long, Llng, Mims, Rawt, Ulng, Ullg}
 use Rattle.be_volume.specs.Maps.{Nodes, Attributes}
 use Rattle.be_paged.specs.Catalog.{IsCatalog, catalog_key, payload_of, stored, value_at}
-use Rattle.be_paged.specs.Cells.{AreTold, HasPayload, IsAmong, StartsElsewhere, all_data, cell_of, cells_from, data_in, data_of, found_at, found_in, name_in, over, why_none}
+use Rattle.be_paged.specs.Cells.{AreTold, HasPayload, IsAmong, StartsElsewhere, WalksIn, all_data, cell_of, cells_from, data_in, data_of, found_at, found_in, name_in, over, why_none}
 use Rattle.be_paged.specs.Place.{IsFoundAt, IsPlaceOf}
 use Rattle.be_paged.specs.Reading.{AreValid}
 use Rattle.be_paged.specs.Source.{IsItemAt}
@@ -281,6 +281,16 @@ pub table_more : (nodes : Nodes) (ns : List ℕ) (i d : ℕ) (names : List (List
     → found_in nodes (take i ns) names ++ map (found_at nodes (get_or ns i d)) names ≡ found_in nodes (take (i + 1) ns) names
 table_more nodes ns i d names lt = sym (ap (λ (l : List ℕ). found_in nodes l names) (take_more ns i d lt) ∙ found_more nodes (take i ns) (get_or ns i d) names)
 
+-- what is told of a node is told of the same one
+pub told_of : (nodes : Nodes) (m n : ℕ) (name : List ℕ) (xs : List Found) (cp cs : List Cell) (bp bs : List ℕ) (f : Filled) → m ≡ n → AreTold (xs ++ found_at nodes m name ∷ []) cp cs bp bs f
+    → AreTold (xs ++ found_at nodes n name ∷ []) cp cs bp bs f
+told_of nodes m n name xs cp cs bp bs f same told = subst (λ (k : ℕ). AreTold (xs ++ found_at nodes k name ∷ []) cp cs bp bs f) same told
+
 -- a tree in pages that were only read since
 pub tree_since : (s t : ℕ → Standing) (v w : ℕ → ℕ → ℕ) (root : ℕ) → t ≡ s → w ≡ v → IsTree s v root → IsTree t w root
 tree_since s t v w root standing words h = subst (λ (u : ℕ → Standing). IsTree u w root) (sym standing) (subst (λ (x : ℕ → ℕ → ℕ). IsTree s x root) (sym words) h)
+
+-- and a walk in it
+pub walks_since : (s t : ℕ → Standing) (v w : ℕ → ℕ → ℕ) (root : ℕ) (cursor : Cursor) → t ≡ s → w ≡ v → WalksIn s v root cursor → WalksIn t w root cursor
+walks_since s t v w root cursor standing words h =
+    subst (λ (u : ℕ → Standing). WalksIn u w root cursor) (sym standing) (subst (λ (x : ℕ → ℕ → ℕ). WalksIn s x root cursor) (sym words) h)

@@ -12,7 +12,7 @@ use Rattle.be_tree.specs.Cursor.{IsCursor, remaining}
 use Rattle.be_tree.specs.Page.{item_at}
 use Rattle.be_tree.specs.Pair.{Pair}
 use Rattle.be_tree.specs.Range.{pairs_from}
-use Rattle.be_tree.specs.Tree.{pairs}
+use Rattle.be_tree.specs.Tree.{IsTree, pairs}
 use Rattle.be_tree.specs.declared.cursor.Cursor.{Cursor}
 use Rattle.be_value.specs.Key.{IsValue}
 use Rattle.be_value.specs.Refusal.{refusal_number}
@@ -29,6 +29,7 @@ use Rattle.be_paged.specs.Reading.{AreValid}
 use Rattle.be_paged.specs.declared.cells.Cell.{Cell}
 use Rattle.be_paged.specs.declared.cells.Filled.{Filled}
 use Rattle.be_paged.specs.declared.cells.HeldName.{HeldName}
+use Rattle.be_paged.specs.declared.rows.Row.{Row}
 
 -- The first places, as many as there are places, have these; the others are as they were.
 abbrev pub over : {X : Type 0} → List X → List X → List X
@@ -129,13 +130,25 @@ abbrev pub StartsElsewhere : List ℕ → List Pair → Type 0
 StartsElsewhere key [] = Unit {0}
 StartsElsewhere key (x ∷ xs) = x.key ≢ key
 
--- What is known in a row: where the cursor is, and whether the node is there, if that was asked.
-pub record IsInRow (standing : ℕ → Standing) (words : ℕ → ℕ → ℕ) (root node : ℕ) (cursor : Cursor)
-    (known : Option Bool) : Type 0 where
+-- the cursor can go on, and it is there
+pub record WalksIn (standing : ℕ → Standing) (words : ℕ → ℕ → ℕ) (root : ℕ) (cursor : Cursor) :
+    Type 0 where
   pub walks : IsCursor standing words cursor
   pub among : IsAmong words root cursor
-  pub is_known : (nodes : Nodes) → IsCatalog (pairs words root) nodes → AreValid nodes
-      → IfSome known (λ there. there ≡ map.contains_key nodes node)
+
+-- What is known in a row of the catalog's tree: where the cursor is, and whether the node is there,
+-- if that was asked.
+pub record IsInRow (standing : ℕ → Standing) (words : ℕ → ℕ → ℕ) (row : Row) : Type 0 where
+  pub tree : IsTree standing words row.catalog
+  pub cursor : WalksIn standing words row.catalog row.cursor
+  pub is_known : (nodes : Nodes) → IsCatalog (pairs words row.catalog) nodes → AreValid nodes
+      → IfSome row.known (λ there. there ≡ map.contains_key nodes row.node)
+
+-- a row goes on: it is of the same node
+pub record GoesOn (standing : ℕ → Standing) (words : ℕ → ℕ → ℕ) (old new : Row) : Type 0 where
+  pub in_row : IsInRow standing words new
+  pub same_catalog : new.catalog ≡ old.catalog
+  pub same_node : new.node ≡ old.node
 
 -- The cells of nodes at names in a volume are written, one for each node and name, and the bytes of
 -- all texts: of both as many as there are places, and how many bytes these are.

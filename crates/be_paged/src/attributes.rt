@@ -18,6 +18,7 @@ ghost use Rattle.be_paged.specs.Catalog.{IsCatalog, catalog_key};
 ghost use Rattle.be_paged.specs.Facts.{count_of};
 ghost use Rattle.be_paged.specs.Place.{IsPlaceOf};
 ghost use Rattle.be_paged.specs.Reading.{AreValid, attribute_pair, front_of_node, is_of};
+ghost use Rattle.be_paged.specs.Source.{HasItem, IsItemAt};
 
 use crate::catalog::value_at;
 use be_pages::Look;
@@ -51,9 +52,7 @@ fn next_attribute<L: Look>(look: &mut L, cursor: &mut Cursor, node: u64) -> Opti
     ensures item { IfSome result (λ at. slice_get
         (front_of_node node (remaining (L.words look.old) cursor.old)) 0
         ≡ Some (item_at (L.words look.old at.0) at.1)) }
-    ensures readable { IfSome result (λ at. IsTrue (is_readable (L.standing look.old at.0))) }
-    ensures in_page { IfSome result (λ at. at.1 + 42 ≤ 512) }
-    ensures fits { IfSome result (λ at. IsItem (L.words look.old at.0) at.1) }
+    ensures fits { HasItem (L.standing look.old) (L.words look.old) result }
     ensures cursor { IsCursor (L.standing look.old) (L.words look.old) cursor.new }
     ensures rest { IfSome result (λ _. front_of_node node (remaining (L.words look.old) cursor.new)
         ≡ drop 1 (front_of_node node (remaining (L.words look.old) cursor.old))) }
@@ -202,10 +201,8 @@ fn next_name<L: Look>(look: &mut L, cursor: &mut Cursor, node: u64) -> Option<(N
     ensures item { IfSome result (λ found. slice_get
         (front_of_node node (remaining (L.words look.old) cursor.old)) 0
         ≡ Some (item_at (L.words look.old found.1.0) found.1.1)) }
-    ensures readable { IfSome result (λ found. IsTrue
-        (is_readable (L.standing look.old found.1.0))) }
-    ensures in_page { IfSome result (λ found. found.1.1 + 42 ≤ 512) }
-    ensures fits { IfSome result (λ found. IsItem (L.words look.old found.1.0) found.1.1) }
+    ensures fits { IfSome result (λ found. IsItemAt (L.standing look.old) (L.words look.old)
+        found.1.0 found.1.1) }
     ensures beyond { IfSome result (λ found. found.0
         ≡ drop 8 (item_at (L.words look.old found.1.0) found.1.1).key) }
     ensures unchanged { IsUnchanged L.kept L.standing L.words look.old look.new }

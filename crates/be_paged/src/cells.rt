@@ -1,18 +1,19 @@
 //! Values written into a caller's room: a cell for each, and the bytes of texts one after the
 //! other.
 ghost use Rattle.std.specs.Prelude.{◌≡◌, ◌+◌, ◌-◌, ◌*◌, ◌^◌, ◌<◌, ◌≤◌, ℕ, ℤ, List, [], ◌∷◌, ◌++◌};
-ghost use Rattle.std.specs.Prelude.{Ok, Err, Some, IsTrue, drop, length};
+ghost use Rattle.std.specs.Prelude.{Ok, Err, Some, drop, length};
 ghost use Rattle.std.specs.Int.{cast_unsigned, w32, w64};
 ghost use Rattle.std.specs.Int.RustNames.{FitsSigned};
 ghost use Rattle.std.specs.declared.result.Result.{Result as AnyResult};
-ghost use Rattle.be_pages.specs.Pages.{IsUnchanged, is_readable};
-ghost use Rattle.be_tree.specs.Page.{IsItem, item_at};
+ghost use Rattle.be_pages.specs.Pages.{IsUnchanged};
+ghost use Rattle.be_tree.specs.Page.{item_at};
 ghost use Rattle.be_value.specs.Key.{IsValue};
 ghost use Rattle.be_value.specs.Value.{code_of};
 ghost use Rattle.be_value.specs.declared.refusals.Refusal.{Refusal as AnyRefusal};
 ghost use Rattle.be_value.specs.declared.values.Value.{Value as AnyValue};
 ghost use Rattle.be_paged.specs.Catalog.{catalog_key as key_in_catalog, payload_of as payload};
 ghost use Rattle.be_paged.specs.Cells.{AreTold, IsFew, cell_of, data_in, data_of, name_in, over};
+ghost use Rattle.be_paged.specs.Source.{IsItemAt};
 ghost use Rattle.be_paged.specs.declared.cells.Cell.{Cell as AnyCell};
 
 use crate::catalog::{kind_at, number32_at, number64_at};
@@ -183,9 +184,7 @@ fn widened(number: u32) -> u64
 /// The cell of the value at a place of the catalog, if its payload encodes a value. The value's
 /// bytes begin at this offset.
 fn value_cell<L: Look>(look: &mut L, page: u64, at: usize, offset: usize) -> Option<Cell>
-    requires readable { IsTrue (is_readable (L.standing look.old page)) }
-    requires in_page { at + 42 ≤ 512 }
-    requires item { IsItem (L.words look.old page) at }
+    requires item { IsItemAt (L.standing look.old) (L.words look.old) page at }
     ensures cell { (v : AnyValue) → IsValue v → (item_at (L.words look.old page) at).payload
         ≡ payload v → result ≡ Some (cell_of offset (Ok v)) }
     ensures unchanged { IsUnchanged L.kept L.standing L.words look.old look.new }
@@ -222,28 +221,27 @@ fn after_first(payload: &[u8]) -> &[u8]
 /// Tells the bytes of the text at a place of the catalog, by its cell.
 fn tell_data<L: Look>(
     look: &mut L,
-    page: u64,
-    at: usize,
+    item: (u64, usize),
     cell: Cell,
     cells: &mut [Cell],
     bytes: &mut [u8],
     filled: &mut Filled,
 )
-    requires readable { IsTrue (is_readable (L.standing look.old page)) }
-    requires in_page { at + 42 ≤ 512 }
-    requires item { IsItem (L.words look.old page) at }
+    requires item { IsItemAt (L.standing look.old) (L.words look.old) item.0 item.1 }
     requires cells { filled.old.cells < 2 ^ 32 }
     requires few { IsFew filled.old }
     ensures told { (x : AnyResult AnyValue AnyRefusal)
         (found : List (AnyResult AnyValue AnyRefusal)) (cell_places : List AnyCell)
         (byte_places : List ℕ)
-        → cell ≡ cell_of filled.old.bytes x → drop 1 (item_at (L.words look.old page) at).payload
-        ≡ data_in x → AreTold found cell_places cells.old byte_places bytes.old filled.old
+        → cell ≡ cell_of filled.old.bytes x
+        → drop 1 (item_at (L.words look.old item.0) item.1).payload ≡ data_in x
+        → AreTold found cell_places cells.old byte_places bytes.old filled.old
         → AreTold (found ++ x ∷ []) cell_places cells.new byte_places bytes.new filled.new }
     ensures one { filled.new.cells ≡ filled.old.cells + 1 }
     ensures few { IsFew filled.new }
     ensures unchanged { IsUnchanged L.kept L.standing L.words look.old look.new }
 {
+    let (page, at) = item;
     let mut payload = ArrayVec::new();
     fill_payload(look, page, at, &mut payload);
     let content = after_first(payload.as_slice());
@@ -260,9 +258,7 @@ pub(crate) fn tell_value<L: Look>(
     bytes: &mut [u8],
     filled: &mut Filled,
 )
-    requires readable { IsTrue (is_readable (L.standing look.old page)) }
-    requires in_page { at + 42 ≤ 512 }
-    requires item { IsItem (L.words look.old page) at }
+    requires item { IsItemAt (L.standing look.old) (L.words look.old) page at }
     requires cells { filled.old.cells < 2 ^ 32 }
     requires few { IsFew filled.old }
     ensures told { (v : AnyValue) (found : List (AnyResult AnyValue AnyRefusal))
@@ -289,7 +285,7 @@ pub(crate) fn tell_value<L: Look>(
         tell(cells, bytes, filled, cell, b"");
         return;
     }
-    tell_data(look, page, at, cell, cells, bytes, filled);
+    tell_data(look, (page, at), cell, cells, bytes, filled);
 }
 
 /// The cell of the value at a place of the catalog, if its payload encodes one. The value's bytes
@@ -300,9 +296,7 @@ pub(crate) fn read_into<L: Look>(
     at: usize,
     bytes: &mut [u8],
 ) -> Option<Cell>
-    requires readable { IsTrue (is_readable (L.standing look.old page)) }
-    requires in_page { at + 42 ≤ 512 }
-    requires item { IsItem (L.words look.old page) at }
+    requires item { IsItemAt (L.standing look.old) (L.words look.old) page at }
     ensures cell { (v : AnyValue) → IsValue v → (item_at (L.words look.old page) at).payload
         ≡ payload v → result ≡ Some (cell_of 0 (Ok v)) }
     ensures bytes { (v : AnyValue) → IsValue v → (item_at (L.words look.old page) at).payload
@@ -318,9 +312,7 @@ pub(crate) fn read_into<L: Look>(
 
 /// Puts the bytes of the text at a place of the catalog to the front of the places.
 fn put_payload<L: Look>(look: &mut L, page: u64, at: usize, bytes: &mut [u8])
-    requires readable { IsTrue (is_readable (L.standing look.old page)) }
-    requires in_page { at + 42 ≤ 512 }
-    requires item { IsItem (L.words look.old page) at }
+    requires item { IsItemAt (L.standing look.old) (L.words look.old) page at }
     ensures bytes { bytes.new ≡ over (drop 1 (item_at (L.words look.old page) at).payload)
         bytes.old }
     ensures unchanged { IsUnchanged L.kept L.standing L.words look.old look.new }

@@ -5,7 +5,7 @@
 //! asked from that very key, it goes on from there and makes no descent. The nodes of a range are
 //! read leaf by leaf, and texts are tested so: no key is unpacked. A query asks for the same index
 //! again and again, so the source keeps what it found last.
-ghost use Rattle.std.specs.Prelude.{◌≡◌, ◌<◌, ℕ, true, length, slice_index_or};
+ghost use Rattle.std.specs.Prelude.{◌≡◌, true};
 ghost use Rattle.be_pages.specs.Pages.{IsUnchanged};
 ghost use Rattle.be_tree.specs.Cursor.{IsCursor, remaining};
 ghost use Rattle.be_tree.specs.Range.{pairs_from};
@@ -13,9 +13,8 @@ ghost use Rattle.be_tree.specs.Tree.{IsTree, pairs};
 ghost use Rattle.be_value.specs.declared.values.Kind.TheVariants.{Cstr};
 ghost use Rattle.be_volume.specs.Volume.{State};
 ghost use Rattle.be_paged.specs.Page.{contents_of};
-ghost use Rattle.be_paged.specs.Source.{StandsAfter};
+ghost use Rattle.be_paged.specs.Source.{IsIndexOf, StandsAfter};
 ghost use Rattle.be_paged.specs.Version.{HasVersion, IsVersion};
-ghost use Rattle.be_paged.specs.Entry.{Entry as AnyEntry};
 
 use crate::on_page::{FoundIndex, known_index};
 use crate::reading::{get, holds_in};
@@ -46,6 +45,20 @@ fn has_texts(kind: Kind) -> bool
     ensures { result ≡ true → kind ≡ Cstr }
 {
     kind == Kind::Cstr
+}
+
+/// About how many keys a tree has. A page has 6 to 12 items, so it takes eight for each page below
+/// the root.
+fn about_keys<L: Look>(look: &mut L, root: u64) -> u64
+    requires tree { IsTree (L.standing look.old) (L.words look.old) root }
+    ensures unchanged { IsUnchanged L.kept L.standing L.words look.old look.new }
+{
+    if root == 0 {
+        return 0;
+    }
+    let level = look.word(root - 1, 0);
+    let count = look.word(root - 1, 1);
+    count.saturating_mul(8u64.saturating_pow(level.min(32) as u32))
 }
 
 /// The version of a page as a source. It reads nothing yet, and keeps the look until `into_look`.
@@ -79,11 +92,8 @@ impl<L: Look> PagedSource<L> {
     /// Brings the cursor before the least key of an index at `from` or after it, or strictly after
     /// it. If it is just after that very key, nothing moves.
     fn walk_to(&mut self, index: FoundIndex, from: &[u8], after: bool)
-        requires in_range { index.place < length
-            (contents_of (L.words self.old.look self.old.page)).entries }
-        requires root { (d : AnyEntry) → index.root
-            ≡ (slice_index_or (contents_of (L.words self.old.look self.old.page)).entries
-            index.place d).root }
+        requires index { IsIndexOf (contents_of (L.words self.old.look self.old.page)).entries
+            index }
         requires tree { IsTree (L.standing self.old.look) (L.words self.old.look) index.root }
         requires beyond { StandsAfter (L.standing self.old.look) (L.words self.old.look)
             (contents_of (L.words self.old.look self.old.page)).entries self.old.cursor
@@ -178,5 +188,12 @@ impl<L: Look> Source for PagedSource<L> {
 
     fn holds(&mut self, node: u64, comparison: &Comparison) -> bool {
         holds_in(&mut self.look, self.page, node, comparison, &mut self.known)
+    }
+
+    fn estimate(&mut self, name: &Name) -> u64 {
+        match known_index(&mut self.look, self.page, name, &mut self.known) {
+            Some(index) => about_keys(&mut self.look, index.root),
+            None => 0,
+        }
     }
 }

@@ -3,11 +3,12 @@
 //! A row is what one node has at the names. One descent leads to the first of its attributes. A
 //! cursor steps to the next name's as long as the names lie side by side, by ascending bytes. Any
 //! other name costs a descent. If a node has none of the names, the node itself is looked up.
-ghost use Rattle.std.specs.Prelude.{◌≡◌, ◌+◌, ◌*◌, ◌^◌, ◌<◌, ◌≤◌, [], ◌∷◌, Err};
+ghost use Rattle.std.specs.Prelude.{◌≡◌, ◌+◌, ◌*◌, ◌^◌, ◌<◌, ◌≤◌, ℕ, [], ◌∷◌, Err};
 ghost use Rattle.std.specs.Prelude.{None, Some, IfSome, IfNone, drop, length, map as each};
 ghost use Rattle.std.specs.Prelude.{slice_get};
 ghost use Rattle.std.specs.FinMap as map;
 ghost use Rattle.be_pages.specs.Pages.{IsUnchanged};
+ghost use Rattle.be_pages.specs.declared.room.Standing.{Standing as Stands};
 ghost use Rattle.be_tree.specs.Cursor.{IsCursor, remaining};
 ghost use Rattle.be_tree.specs.Page.{item_at};
 ghost use Rattle.be_tree.specs.Tree.{IsTree, pairs};
@@ -15,9 +16,9 @@ ghost use Rattle.be_volume.specs.Maps.{Nodes as AllNodes};
 ghost use Rattle.be_volume.specs.Reading.{attribute};
 ghost use Rattle.be_volume.specs.Volume.{State};
 ghost use Rattle.be_paged.specs.Catalog.{IsCatalog};
-ghost use Rattle.be_paged.specs.Cells.{IsAmong, IsFew, IsInRow, IsReadInto, IsValueAbsent};
+ghost use Rattle.be_paged.specs.Cells.{GoesOn, IsFew, IsInRow, IsReadInto, IsValueAbsent};
 ghost use Rattle.be_paged.specs.Cells.{IsValuePlace, StartsElsewhere, Tells, TellsColumns};
-ghost use Rattle.be_paged.specs.Cells.{cell_of, found_at, name_in, why_none};
+ghost use Rattle.be_paged.specs.Cells.{WalksIn, cell_of, found_at, name_in, why_none};
 ghost use Rattle.be_paged.specs.Place.{IsFoundAt};
 ghost use Rattle.be_paged.specs.Reading.{AreValid};
 ghost use Rattle.be_paged.specs.Source.{HasItem, IsItemAt};
@@ -30,6 +31,33 @@ use be_value::Refusal;
 
 /// The page and the place of an item, if there is one.
 type FoundItem = Option<(u64, usize)>;
+
+/// A node of the catalog whose attributes are read one after the other: where the cursor is, and
+/// whether the node is there, if that was asked.
+#[derive(Drop)]
+struct Row {
+    catalog: u64,
+    node: u64,
+    cursor: Cursor,
+    known: Option<bool>,
+}
+
+impl Row {
+    /// A row of which nothing is read yet.
+    fn new(catalog: u64, node: u64) -> Row
+        ensures row { (standing : ℕ → Stands) (words : ℕ → ℕ → ℕ) → IsTree standing words catalog
+            → IsInRow standing words result }
+        ensures catalog { result.catalog ≡ catalog }
+        ensures node { result.node ≡ node }
+    {
+        Row {
+            catalog,
+            node,
+            cursor: Cursor::new(),
+            known: None,
+        }
+    }
+}
 
 /// A step of the cursor, and the place of the item that it passed, if that has the key.
 fn step_to<L: Look>(look: &mut L, cursor: &mut Cursor, key: &[u8]) -> Option<(u64, usize)>
@@ -62,11 +90,9 @@ fn next_place<L: Look>(
     key: &[u8],
 ) -> Option<(u64, usize)>
     requires tree { IsTree (L.standing look.old) (L.words look.old) catalog }
-    requires cursor { IsCursor (L.standing look.old) (L.words look.old) cursor.old }
-    requires among { IsAmong (L.words look.old) catalog cursor.old }
+    requires cursor { WalksIn (L.standing look.old) (L.words look.old) catalog cursor.old }
     ensures found { IsFoundAt (L.standing look.new) (L.words look.new) catalog key.now result }
-    ensures cursor { IsCursor (L.standing look.new) (L.words look.new) cursor.new }
-    ensures among { IsAmong (L.words look.new) catalog cursor.new }
+    ensures cursor { WalksIn (L.standing look.new) (L.words look.new) catalog cursor.new }
     ensures unchanged { IsUnchanged L.kept L.standing L.words look.old look.new }
 {
     if let Some(place) = step_to(look, cursor, key) {
@@ -85,14 +111,12 @@ fn value_place<L: Look>(
     cursor: &mut Cursor,
 ) -> Option<(u64, usize)>
     requires tree { IsTree (L.standing look.old) (L.words look.old) catalog }
-    requires cursor { IsCursor (L.standing look.old) (L.words look.old) cursor.old }
-    requires among { IsAmong (L.words look.old) catalog cursor.old }
+    requires cursor { WalksIn (L.standing look.old) (L.words look.old) catalog cursor.old }
     ensures item { HasItem (L.standing look.new) (L.words look.new) result }
     ensures some { IsValuePlace (L.words look.old) (L.words look.new) catalog node
         (name_in name.now) result }
     ensures none { IsValueAbsent (L.words look.old) catalog node (name_in name.now) result }
-    ensures cursor { IsCursor (L.standing look.new) (L.words look.new) cursor.new }
-    ensures among { IsAmong (L.words look.new) catalog cursor.new }
+    ensures cursor { WalksIn (L.standing look.new) (L.words look.new) catalog cursor.new }
     ensures unchanged { IsUnchanged L.kept L.standing L.words look.old look.new }
 {
     let key = held_key(node, name);
@@ -132,75 +156,58 @@ fn none_cell(there: bool, offset: usize) -> Cell
     }
 }
 
-/// Tells what the node has at a name.
+/// Tells what the node of a row has at a name.
 fn tell_attribute<L: Look>(
     look: &mut L,
-    catalog: u64,
-    node: u64,
+    row: &mut Row,
     name: &HeldName,
-    cursor: &mut Cursor,
-    known: &mut Option<bool>,
     cells: &mut [Cell],
     bytes: &mut [u8],
     filled: &mut Filled,
 )
-    requires tree { IsTree (L.standing look.old) (L.words look.old) catalog }
-    requires row { IsInRow (L.standing look.old) (L.words look.old) catalog node cursor.old
-        known.old }
+    requires row { IsInRow (L.standing look.old) (L.words look.old) row.old }
     requires cells { filled.old.cells < 2 ^ 32 }
     requires few { IsFew filled.old }
-    ensures told { Tells (L.words look.old) catalog
-        (λ nodes. found_at nodes node (name_in name.now) ∷ []) cells.old cells.new bytes.old
-        bytes.new filled.old filled.new }
-    ensures row { IsInRow (L.standing look.new) (L.words look.new) catalog node cursor.new
-        known.new }
+    ensures told { Tells (L.words look.old) row.old.catalog
+        (λ nodes. found_at nodes row.old.node (name_in name.now) ∷ []) cells.old cells.new
+        bytes.old bytes.new filled.old filled.new }
+    ensures row { GoesOn (L.standing look.new) (L.words look.new) row.old row.new }
     ensures one { filled.new.cells ≡ filled.old.cells + 1 }
     ensures few { IsFew filled.new }
     ensures unchanged { IsUnchanged L.kept L.standing L.words look.old look.new }
 {
-    if let Some((page, at)) = value_place(look, catalog, node, name, cursor) {
-        *known = Some(true);
+    let place = value_place(look, row.catalog, row.node, name, &mut row.cursor);
+    if let Some((page, at)) = place {
+        row.known = Some(true);
         tell_value(look, page, at, cells, bytes, filled);
         return;
     }
-    let cell = none_cell(is_there(look, catalog, node, known), filled.bytes);
+    let there = is_there(look, row.catalog, row.node, &mut row.known);
+    let cell = none_cell(there, filled.bytes);
     tell(cells, bytes, filled, cell, b"");
 }
 
-/// Tells what the node has at each of the names.
+/// Tells what the node of a row has at each of the names.
 fn tell_row<L: Look>(
     look: &mut L,
-    catalog: u64,
-    node: u64,
+    row: &mut Row,
     names: &[HeldName],
     cells: &mut [Cell],
     bytes: &mut [u8],
     filled: &mut Filled,
 )
-    requires tree { IsTree (L.standing look.old) (L.words look.old) catalog }
+    requires row { IsInRow (L.standing look.old) (L.words look.old) row.old }
     requires cells { filled.old.cells + length names.now ≤ 2 ^ 32 }
     requires few { IsFew filled.old }
-    ensures told { Tells (L.words look.old) catalog
-        (λ nodes. each (found_at nodes node) (each name_in names.now)) cells.old cells.new
+    ensures told { Tells (L.words look.old) row.old.catalog
+        (λ nodes. each (found_at nodes row.old.node) (each name_in names.now)) cells.old cells.new
         bytes.old bytes.new filled.old filled.new }
     ensures count { filled.new.cells ≡ filled.old.cells + length names.now }
     ensures few { IsFew filled.new }
     ensures unchanged { IsUnchanged L.kept L.standing L.words look.old look.new }
 {
-    let mut cursor = Cursor::new();
-    let mut known = None;
     for name in names {
-        tell_attribute(
-            look,
-            catalog,
-            node,
-            name,
-            &mut cursor,
-            &mut known,
-            cells,
-            bytes,
-            filled,
-        );
+        tell_attribute(look, row, name, cells, bytes, filled);
     }
 }
 
@@ -229,7 +236,8 @@ pub fn columns<L: Look>(
     let catalog = look.word(version_page, 3);
     let mut filled = Filled { cells: 0, bytes: 0 };
     for node in nodes {
-        tell_row(look, catalog, *node, names, cells, bytes, &mut filled);
+        let mut row = Row::new(catalog, *node);
+        tell_row(look, &mut row, names, cells, bytes, &mut filled);
     }
     filled.bytes as u64
 }

@@ -119,31 +119,32 @@ fn test_item<L: Look>(
 }
 
 /// Adds the nodes of a leaf's keys, from the item of a number on, up to the bound, whose texts
-/// pass the test, and returns whether a key is above the bound.
+/// pass the test, and returns whether a key is above the bound. The leaf is named by its page and
+/// that number.
 fn test_leaf<L: Look>(
     look: &mut L,
-    page: u64,
-    from: usize,
+    leaf: (u64, usize),
     high: Option<&[u8]>,
     test: &TextTest<'_>,
     room: &mut [u8],
     found: &mut Vec<u64>,
 ) -> Result<bool, AllocError>
-    requires leaf { IsTreeAt 0 1 (L.standing look.old) (L.words look.old) page }
-    requires left { from < L.words look.old page 1 }
-    requires texts { AreTexts (drop from (items_of (L.words look.old page))) }
+    requires leaf { IsTreeAt 0 1 (L.standing look.old) (L.words look.old) leaf.0 }
+    requires left { leaf.1 < L.words look.old leaf.0 1 }
+    requires texts { AreTexts (drop leaf.1 (items_of (L.words look.old leaf.0))) }
     requires fits { length room.old ≡ 256 }
     ensures first { HasFirst found.old.items (nodes_passing_to test.now.0 test.now.1
-        (drop from (items_of (L.words look.old page))) (option_copied high.entry))
+        (drop leaf.1 (items_of (L.words look.old leaf.0))) (option_copied high.entry))
         found.new.items }
     ensures found { OnOk result (found.new.items ≡ found.old.items
         ++ nodes_passing_to test.now.0 test.now.1
-        (drop from (items_of (L.words look.old page))) (option_copied high.entry)) }
+        (drop leaf.1 (items_of (L.words look.old leaf.0))) (option_copied high.entry)) }
     ensures past { IfOk result (λ past. past
         ≡ list_any (λ x. is_past (option_copied high.entry) x.key)
-        (drop from (items_of (L.words look.old page)))) }
+        (drop leaf.1 (items_of (L.words look.old leaf.0)))) }
     ensures unchanged { IsUnchanged L.kept L.standing L.words look.old look.new }
 {
+    let (page, from) = leaf;
     let first = first_of(high);
     let count = look.word(page, 1) as usize;
     for i in from..count {
@@ -177,7 +178,7 @@ fn test_rest<L: Look>(
 {
     let mut room = [0u8; ROOM];
     'leaves: while let Some((page, from)) = cursor.step_leaf(look) {
-        let is_last = test_leaf(look, page, from, high, test, &mut room, found)?;
+        let is_last = test_leaf(look, (page, from), high, test, &mut room, found)?;
         if is_last {
             return Ok(());
         }

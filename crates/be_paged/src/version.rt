@@ -21,7 +21,9 @@ pub struct Version {
 impl Version {
     /// Contents that have no index yet.
     pub fn new() -> Version
-        ensures { result.entries.items ≡ [] }
+        ensures next { result.next ≡ 0 }
+        ensures catalog { result.catalog ≡ 0 }
+        ensures indices { result.entries.items ≡ [] }
     {
         Version {
             next: 0,

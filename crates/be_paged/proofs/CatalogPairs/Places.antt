@@ -22,6 +22,7 @@ use Rattle.be_volume.specs.Maps.{name_cmp}
 use Rattle.be_paged.specs.Catalog.{catalog_key}
 use Rattle.be_paged.specs.Place.{IsPlaceOf, IsFoundAt, IsAsked}
 use Rattle.be_paged.specs.Reading.{is_of, front_of_node}
+use Rattle.be_paged.specs.Source.{IsItemAt}
 use Rattle.be_paged.specs.declared.asked.Asked.{Asked}
 use Rattle.be_paged.proofs.CatalogPairs.Segments.{is_node, payload_from}
 
@@ -103,13 +104,13 @@ first_front node (y ∷ ys) x e = by (is_of node y.key) refl e
 -- what a walk over a node's attributes meets first stands at the node's name
 pub place_walked : (s t : ℕ → Standing) (v w : ℕ → ℕ → ℕ) (root node : ℕ) (from : List ℕ) (after : Bool) (now : List Pair) (found : Option (List ℕ × (ℕ × ℕ))) → t ≡ s → w ≡ v → now ≡ pairs_from (pairs v root) from after
     → IfSome found (λ f. slice_get (front_of_node node now) 0 ≡ Some (item_at (v f.1.0) f.1.1)) → IfSome found (λ f. f.0 ≡ drop 8 (item_at (v f.1.0) f.1.1).key)
-    → IfSome found (λ f. IsTrue (is_readable (s f.1.0))) → IfSome found (λ f. f.1.1 + 42 ≤ 512) → IfSome found (λ f. IsItem (v f.1.0) f.1.1) → IfSome found (λ f. IsPlaceOf t w root (catalog_key node f.0) f.1.0 f.1.1)
-place_walked s t v w root node from after now None standing words stands met beyond readable in_page fits = tt
-place_walked s t v w root node from after now (Some f) standing words stands met beyond readable in_page fits =
+    → IfSome found (λ f. IsItemAt s v f.1.0 f.1.1) → IfSome found (λ f. IsPlaceOf t w root (catalog_key node f.0) f.1.0 f.1.1)
+place_walked s t v w root node from after now None standing words stands met beyond fits = tt
+place_walked s t v w root node from after now (Some f) standing words stands met beyond fits =
     let item = item_at (v f.1.0) f.1.1 in
     let front = first_front node now item met in
     let key = is_node node item.key front.1 ∙ ap (catalog_key node) (sym beyond) in
     found_since s t v w root (catalog_key node f.0) (Some f.1) standing words (record {
-      item = record { readable = readable; in_page = in_page; fits = fits };
+      item = fits;
       there = ap (payload_at (pairs v root)) (sym key) ∙ first_stands (pairs v root) from after now item stands front.0;
     })

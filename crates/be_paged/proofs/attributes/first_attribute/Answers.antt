@@ -26,4 +26,4 @@ returns-clause-place g c =
     let start = ap (λ (w : ℕ → ℕ → ℕ). remaining w c.seek.new.self) c.seek.ensures.unchanged.words ∙ c.seek.ensures.remaining
     ∙ ap (λ (w : ℕ → ℕ → ℕ). pairs_from (pairs w c.args.catalog) c.to_be_bytes.result true) (sym c.seek.ensures.unchanged.words) in
     place_walked s (g.L.Look.standing c.next_name.new.look) v (g.L.Look.words c.next_name.new.look) c.args.catalog c.args.node c.to_be_bytes.result true (remaining v c.seek.new.self) c.next_name.result
-    c.next_name.ensures.unchanged.standing c.next_name.ensures.unchanged.words start c.next_name.ensures.item c.next_name.ensures.beyond c.next_name.ensures.readable c.next_name.ensures.in_page c.next_name.ensures.fits
+    c.next_name.ensures.unchanged.standing c.next_name.ensures.unchanged.words start c.next_name.ensures.item c.next_name.ensures.beyond c.next_name.ensures.fits

@@ -3,7 +3,7 @@ use Rattle.be_pages.specs.Pages.{IsUnchanged}
 use Rattle.be_tree.specs.Tree.{pairs}
 use Rattle.be_volume.specs.Maps.{Nodes}
 use Rattle.be_paged.specs.Catalog.{IsCatalog}
-use Rattle.be_paged.specs.Cells.{AreTold, IsFew, IsInRow, found_at, name_in}
+use Rattle.be_paged.specs.Cells.{AreTold, GoesOn, IsFew, found_at, name_in}
 use Rattle.be_paged.specs.Reading.{AreValid}
 use Rattle.be_paged.specs.declared.cells.Cell.{Cell}
 use Rattle.be_paged.proofs.Told.{Found}
@@ -12,10 +12,10 @@ use Rattle.be_paged.proofs.rows.tell_row.Given as goal
 -- what the node has at the names so far is told
 abbrev pub invariant-loop-name : goal.invariant-loop-name
 invariant-loop-name g l = record {
-  row : IsInRow (g.L.Look.standing l.look) (g.L.Look.words l.look) l.catalog l.node l.cursor l.known;
-  told : (nodes : Nodes) → IsCatalog (pairs (g.L.Look.words l.fn.look) l.catalog) nodes → AreValid nodes → (found : List Found) (cell_places : List Cell) (byte_places : List ℕ)
+  row : GoesOn (g.L.Look.standing l.look) (g.L.Look.words l.look) l.fn.row l.row;
+  told : (nodes : Nodes) → IsCatalog (pairs (g.L.Look.words l.fn.look) l.fn.row.catalog) nodes → AreValid nodes → (found : List Found) (cell_places : List Cell) (byte_places : List ℕ)
       → AreTold found cell_places l.fn.cells byte_places l.fn.bytes l.fn.filled
-      → AreTold (found ++ map (found_at nodes l.node) (map name_in (take l.name-index l.names))) cell_places l.cells byte_places l.bytes l.filled;
+      → AreTold (found ++ map (found_at nodes l.fn.row.node) (map name_in (take l.name-index l.names))) cell_places l.cells byte_places l.bytes l.filled;
   count : l.filled.cells ≡ l.fn.filled.cells + l.name-index;
   few : IsFew l.filled;
   unchanged : IsUnchanged g.L.Look.kept g.L.Look.standing g.L.Look.words l.fn.look l.look;

@@ -23,9 +23,9 @@ returns-then-is_key_at-clause-rest g c =
     let same : c.args.index.place ≡ self.place = c.if-index-self.true in
     let key : last ≡ c.args.from.now = key_same last c.args.from.now (sym c.is_key_at.ensures.same ∙ c.if-is_key_at.true) in
     ap (λ (u : ℕ → ℕ → ℕ). remaining u self.cursor) c.is_key_at.ensures.unchanged.words
-    ∙ c.requires.beyond.rest nowhere (subst (λ (p : ℕ). p < length es) same c.requires.in_range)
+    ∙ c.requires.beyond.rest nowhere (subst (λ (p : ℕ). p < length es) same c.requires.index.in_range)
     ∙ ap (λ (p : ℕ). pairs_from (pairs w (get_or es p nowhere).root) last true) (sym same)
-    ∙ ap (λ (r : ℕ). pairs_from (pairs w r) last true) (sym (c.requires.root nowhere))
+    ∙ ap (λ (r : ℕ). pairs_from (pairs w r) last true) (sym (c.requires.index.root nowhere))
     ∙ ap (λ (k : List ℕ). pairs_from (pairs w root) k true) key
     ∙ ap (λ (b : Bool). pairs_from (pairs w root) c.args.from.now b) (sym c.if-after.true)
     ∙ ap (λ (u : ℕ → ℕ → ℕ). pairs_from (pairs u root) c.args.from.now c.args.after) (sym c.is_key_at.ensures.unchanged.words)

@@ -38,11 +38,10 @@ returns-in_default-clause-answers g c = λ volume of.
     let since = c.in_default.ensures.unchanged in
     source_since (g.L.Look.standing self.look) (g.L.Look.standing c.known_index.new.look) (g.L.Look.words self.look) (g.L.Look.words c.known_index.new.look) self.page self.known c.known_index.new.known self.cursor self.place self.last.0 self.last.1 volume since.standing since.words c.in_default.ensures.known of
 
-pub walk_to-requires-clause-in_range : goal.walk_to-requires-clause-in_range
-walk_to-requires-clause-in_range g c = c.in-Some.ensures.found.named.in_range
-
-pub walk_to-requires-clause-root : goal.walk_to-requires-clause-root
-walk_to-requires-clause-root g c = c.in-Some.ensures.found.root
+pub walk_to-requires-clause-index : goal.walk_to-requires-clause-index
+walk_to-requires-clause-index g c =
+    let found = c.in-Some.ensures.found in
+    record { in_range = found.named.in_range; kind = found.kind; root = found.root }
 
 pub walk_to-requires-clause-tree : goal.walk_to-requires-clause-tree
 walk_to-requires-clause-tree g c =
@@ -164,9 +163,9 @@ returns-clause-answers g c = λ volume of.
       beyond = record {
         can_go_on = λ lt. subst (λ (u : ℕ → Standing). IsCursor u w3 c.step.new.self) (sym standing) (subst (λ (u : ℕ → ℕ → ℕ). IsCursor s2 u c.step.new.self) (sym words) c.in_ok-page.ensures.cursor);
         last = λ lt. record {
-          readable = subst (λ (u : ℕ → Standing). IsTrue (is_readable (u p))) (sym standing) c.in_ok-page.ensures.readable;
-          in_page = c.in_ok-page.ensures.in_page;
-          fits = subst (λ (u : ℕ → ℕ → ℕ). IsItem (u p) at) (sym words) c.in_ok-page.ensures.fits;
+          readable = subst (λ (u : ℕ → Standing). IsTrue (is_readable (u p))) (sym standing) c.in_ok-page.ensures.here.0;
+          in_page = c.in_ok-page.ensures.here.1.0;
+          fits = subst (λ (u : ℕ → ℕ → ℕ). IsItem (u p) at) (sym words) c.in_ok-page.ensures.here.1.1;
         };
         rest = λ d lt.
             let root : c.in-Some.index.root ≡ (get_or contents.entries place d).root = c.in-Some.ensures.found.root d ∙ ap (λ (u : ℕ → ℕ → ℕ). (get_or (contents_of (u page)).entries place d).root) (sym step.words) in
