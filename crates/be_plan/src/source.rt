@@ -149,8 +149,8 @@ pub trait Source {
         value.kind().indexable() && self.has_key(name, key_of(&value, node).as_slice())
     }
 
-    /// About how many keys the index of that name has, 0 without an index. It decides only which way
-    /// a query goes, so any number is right.
+    /// About how many keys the index of that name has, 0 without an index. It decides only which
+    /// way a query goes, so any number is right.
     fn estimate(&mut self, _name: &Name) -> u64
         requires { (volume : State) × answers_for self.old volume }
         ensures stays { kept self.new ≡ kept self.old }

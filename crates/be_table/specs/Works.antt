@@ -1,6 +1,6 @@
 -- What is true of each table and of each open write, and what calls promise.
 use Rattle.std.specs.Prelude.{◌≡◌, ◌≢◌, ◌⊎◌, ℕ, suc, ◌+◌, ◌<◌, false, List, [], ◌∷◌, length, map}
-use Rattle.std.specs.Prelude.{count_by, IsTrue}
+use Rattle.std.specs.Prelude.{count_by, zero, IsTrue}
 use Rattle.atomic_table.specs.Seated.{TableId}
 use Rattle.be_journal.specs.declared.entries.Entry.{Entry}
 use Rattle.be_table.specs.declared.limits.Limits.{Limits}
@@ -126,6 +126,11 @@ pub record MakesScan (old new : Work) (least : ℕ) : Type 0 where
     };
     left = new.left;
   }
+
+-- how many more pages are retired than the last whole scan left, if a scan is due
+abbrev pub due_after : ℕ → ℕ
+due_after zero = 1
+due_after (suc n) = 32
 
 -- no page is free
 abbrev pub HasNoFree : Work → Type 0

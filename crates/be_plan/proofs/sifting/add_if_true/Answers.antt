@@ -3,7 +3,7 @@ use Rattle.std.specs.List.{Contains}
 use Rattle.std.proofs.lemmas.List.Elements.{Contains-push, Contains-push_cases}
 use Rattle.be_query.specs.View.{formula}
 use Rattle.be_volume.specs.Query.{sat}
-use Rattle.be_plan.proofs.walks.add_if_true.Goals as goal
+use Rattle.be_plan.proofs.sifting.add_if_true.Goals as goal
 
 pub returns-in_ok-push-clause-only : goal.returns-in_ok-push-clause-only
 returns-in_ok-push-clause-only g c = λ n h.

@@ -1,7 +1,7 @@
-use Rattle.std.proofs.Common.{◌≡◌, ◌∙◌, List, ℕ, true, sym, ap, subst, inl, inr}
+use Rattle.std.proofs.Common.{◌≡◌, List, ℕ, true, ap, subst, inl, inr}
 use Rattle.std.specs.Option.{option_copied, option_map}
 use Rattle.std.specs.declared.option.Option.{Option}
-use Rattle.std.specs.declared.option.Option.TheVariants.{Some, None}
+use Rattle.std.specs.declared.option.Option.TheVariants.{None}
 use Rattle.be_query.specs.Grammar.{Formula}
 use Rattle.be_query.specs.View.{formula}
 use Rattle.be_volume.specs.Query.{sat}
@@ -9,13 +9,13 @@ use Rattle.be_plan.specs.Narrow.{LeavesRest, high_of}
 use Rattle.be_plan.specs.Walk.{HasNodes, HasOnly}
 use Rattle.be_plan.proofs.Reaching.{on_ok}
 use Rattle.be_plan.proofs.Seen.{left_key}
-use Rattle.be_plan.proofs.walks.walk.Goals as goal
+use Rattle.be_plan.proofs.walks.walk_alone.Goals as goal
 
 pub nodes_within-requires : goal.nodes_within-requires
 nodes_within-requires g c = (g.volume, c.requires.1.0)
 
-pub walk_rest-requires : goal.walk_rest-requires
-walk_rest-requires g c κs within =
+pub pass_keys-requires : goal.pass_keys-requires
+pass_keys-requires g c κs within =
     let R : Option Formula → Type 0 = λ r. LeavesRest (formula c.args.tree.now) c.args.name.now c.args.kind c.args.range.now.low.items (high_of c.args.range.now) r in
     (within, (c.requires.1.0, (c.requires.1.1.0, subst R (ap (λ r. option_map formula (option_copied r)) c.in-Some.is) c.requires.1.1.1)))
 
