@@ -1,5 +1,5 @@
 use Rattle.std.proofs.Common.{◌≡◌, ℕ, ◌≤◌, ◌<◌, ◌+◌, ◌^◌, IsOk, Ok, zero, suc, List, [], ◌∷◌, take, length, subst, sym, ap, ◌∙◌, refl, rules, arith, length-append}
-use Rattle.be_volume.specs.Volume.{State, step, steps}
+use Rattle.be_volume.specs.Volume.{State, step}
 use Rattle.be_volume.specs.Ahead.{reached}
 use Rattle.be_volume.proofs.StepLemmas.{turn, performed}
 use Rattle.be_volume.proofs.Soundness.{step_sound}
