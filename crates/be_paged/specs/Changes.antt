@@ -82,6 +82,11 @@ pub record IsReady (index : Index) (kind : Kind) (node : ℕ) (old : Option Valu
       × (kind_of value ≡ kind)
   pub own : (value : Value) → map.get index.pairs node ≡ Some value → old ≡ Some value
 
+-- contents in hand, with numbers left for so many nodes
+abbrev pub IsInHandFor : (standing : ℕ → Standing) (words : ℕ → ℕ → ℕ) (more : ℕ) → Contents
+    → Type 0
+IsInHandFor standing words more c = IsInHand standing words c × (c.next + more < 2 ^ 64)
+
 -- the contents in hand have become others, and the pages of their trees those of the others' trees
 pub record Changes {S K : Type 0} (kept_of : S → K) (standing_of : S → ℕ → Standing)
     (words_of : S → ℕ → ℕ → ℕ)

@@ -2,8 +2,7 @@
 ghost use Rattle.std.specs.Prelude.{◌≡◌, ◌+◌, ◌≤◌, ◌<◌, ◌^◌, [], ◌∷◌, length, All, IsTrue, IfOk};
 ghost use Rattle.std.specs.Prelude.{IfErr, OnErr};
 ghost use Rattle.std.specs.Result.{result_err};
-ghost use Rattle.be_pages.specs.Pages.{is_kept, IsUnchanged, KeepsStart, Swaps};
-ghost use Rattle.be_pages.specs.Refusal.{IsFullOf};
+ghost use Rattle.be_pages.specs.Pages.{is_kept, IsUnchanged, Swaps};
 ghost use Rattle.be_pages.specs.declared.room.Standing.TheVariants.{Filled};
 ghost use Rattle.be_tree.specs.Counting.{TakesFewer};
 ghost use Rattle.be_volume.specs.Sound.{IsName};
@@ -11,7 +10,7 @@ ghost use Rattle.be_volume.specs.Volume.{State, steps};
 ghost use Rattle.be_paged.specs.Changes.{Applies, IsRefusedList};
 ghost use Rattle.be_paged.specs.Facts.{AnswersFor};
 ghost use Rattle.be_paged.specs.Place.{IsAsked};
-ghost use Rattle.be_paged.specs.Stops.{TakesFew};
+ghost use Rattle.be_paged.specs.Stops.{Refuses, TakesFew};
 ghost use Rattle.be_paged.specs.Version.{IsVersion};
 ghost use Rattle.be_paged.specs.Page.{contents, contents_of, IsVersionPage};
 
@@ -53,11 +52,7 @@ fn refusal<L: Look>(
 }
 
 /// Writes a version page in the place of an old one.
-fn write_version<R: Room>(
-    room: &mut R,
-    old_page: u64,
-    version: &Version,
-) -> Result<u64, Refusal>
+fn write_version<R: Room>(room: &mut R, old_page: u64, version: &Version) -> Result<u64, Refusal>
     requires named { All (λ e. IsName e.name) version.now.entries.items }
     requires open { IsTrue (R.is_open (R.kept room.old)) }
     ensures contents { IfOk result (λ p. contents_of (R.words room.new p) ≡ contents version.now) }
@@ -65,9 +60,8 @@ fn write_version<R: Room>(
     ensures taken { IfOk result (λ page. R.standing room.new page ≡ Filled) }
     ensures swaps { IfOk result (λ page. Swaps R.kept R.standing R.words [] (page ∷ []) room.old
         room.new) }
-    ensures err { OnErr result (KeepsStart R.kept R.standing R.words room.old room.new) }
-    ensures full { IfErr result (IsFullOf (R.full room.new)) }
-    ensures takes { OnErr result (TakesFewer 1 (R.standing room.old) (R.standing room.new)) }
+    ensures refused { Refuses R.kept R.standing R.words R.full
+        (λ old new. TakesFewer 1 (R.standing old) (R.standing new)) result room.old room.new }
 {
     let page = room.take_like(old_page)?;
     store_version(room, page, version);
@@ -84,9 +78,8 @@ fn replace_version<R: Room>(room: &mut R, old_page: u64, version: &Version) -> R
     ensures taken { IfOk result (λ page. R.standing room.new page ≡ Filled) }
     ensures swaps { IfOk result (λ page. Swaps R.kept R.standing R.words (old_page ∷ []) (page ∷ [])
         room.old room.new) }
-    ensures err { OnErr result (KeepsStart R.kept R.standing R.words room.old room.new) }
-    ensures full { IfErr result (IsFullOf (R.full room.new)) }
-    ensures takes { OnErr result (TakesFewer 1 (R.standing room.old) (R.standing room.new)) }
+    ensures refused { Refuses R.kept R.standing R.words R.full
+        (λ old new. TakesFewer 1 (R.standing old) (R.standing new)) result room.old room.new }
 {
     room.give_up(old_page);
     let page = write_version(room, old_page, version)?;

@@ -16,8 +16,10 @@ use Rattle.be_tree.proofs.Shape.Parts.{on_err}
 use Rattle.be_paged.specs.Stops.{StopsTree}
 use Rattle.be_paged.proofs.changes.change_root.Goals as goal
 
-pub returns-then-holds_both-clause-swaps : goal.returns-then-holds_both-clause-swaps
-returns-then-holds_both-clause-swaps g c = (tree_read g.R.Look.kept g.R.Look.standing g.R.Look.words c.args.root c.args.room.now c.holds_both.new.look c.holds_both.ensures.unchanged c.requires.tree).swaps
+pub returns-then-holds_both-clause-grows : goal.returns-then-holds_both-clause-grows
+returns-then-holds_both-clause-grows g c =
+    let read = tree_read g.R.Look.kept g.R.Look.standing g.R.Look.words c.args.root c.args.room.now c.holds_both.new.look c.holds_both.ensures.unchanged c.requires.tree in
+    (read.tree, read.swaps, omega (arith, ap (λ (w : ℕ → ℕ → ℕ). length (pairs w c.args.root)) c.holds_both.ensures.unchanged.words))
 
 pub returns-then-holds_both-clause-keys : goal.returns-then-holds_both-clause-keys
 returns-then-holds_both-clause-keys g c = λ index h ready.
@@ -26,16 +28,31 @@ returns-then-holds_both-clause-keys g c = λ index h ready.
     subst (λ (w : ℕ → ℕ → ℕ). IsIndexOf (pairs w c.args.root) (repaired index c.args.node (option_copied c.args.new))) (sym c.holds_both.ensures.unchanged.words)
     (stands index c.args.kind c.args.node (option_copied c.args.old) c.ranges.node.fits ready (pairs (g.R.Look.words c.args.room.now) c.args.root) found.0 (option_copied c.args.new) leaves ready.indexable found.2 h)
 
-pub returns-clause-swaps : goal.returns-clause-swaps
-returns-clause-swaps g c =
+pub returns-clause-grows : goal.returns-clause-grows
+returns-clause-grows g c =
     let w = g.R.Look.words in
     let read = c.holds_both.new.look in
     let mid = c.turn_key.new.room in
     let new = c.turn_key-2.new.room in
     let first = swaps_since g.R.Look.kept g.R.Look.standing g.R.Look.words (pages (w read) c.args.root) (pages (w mid) c.in_ok-rest.rest) c.args.room.now read mid c.holds_both.ensures.unchanged c.in_ok-rest.ensures.ok.swaps in
-    swaps_trans g.R.Look.kept g.R.Look.standing g.R.Look.words (pages (w c.args.room.now) c.args.root) (pages (w mid) c.in_ok-rest.rest) (pages (w new) c.in_ok-last.last) c.args.room.now mid new
-    (subst (λ (v : ℕ → ℕ → ℕ). Swaps g.R.Look.kept g.R.Look.standing g.R.Look.words (pages v c.args.root) (pages (w mid) c.in_ok-rest.rest) c.args.room.now mid) c.holds_both.ensures.unchanged.words first)
-    c.in_ok-last.ensures.ok.swaps
+    let leaves = option_map (λ k. k.items) c.key_in-leaves.result in
+    let enters = option_map (λ k. k.items) c.key_in-enters.result in
+    let out : pairs (w mid) c.in_ok-rest.rest ≡ key_taken leaves (pairs (w read) c.args.root) = c.in_ok-rest.ensures.ok.has_pairs in
+    let back : pairs (w new) c.in_ok-last.last ≡ key_put enters (pairs (w mid) c.in_ok-rest.rest) = c.in_ok-last.ensures.ok.has_pairs in (
+      c.in_ok-last.ensures.ok.tree,
+      swaps_trans g.R.Look.kept g.R.Look.standing g.R.Look.words (pages (w c.args.room.now) c.args.root) (pages (w mid) c.in_ok-rest.rest) (pages (w new) c.in_ok-last.last) c.args.room.now mid new
+          (subst (λ (v : ℕ → ℕ → ℕ). Swaps g.R.Look.kept g.R.Look.standing g.R.Look.words (pages v c.args.root) (pages (w mid) c.in_ok-rest.rest) c.args.room.now mid) c.holds_both.ensures.unchanged.words first)
+          c.in_ok-last.ensures.ok.swaps,
+      omega (
+        arith,
+        ap (λ (v : ℕ → ℕ → ℕ). length (pairs v c.args.root)) c.holds_both.ensures.unchanged.words,
+        ap (length {A = Pair}) out,
+        taken_size leaves (pairs (w read) c.args.root),
+        ap (length {A = Pair}) back,
+        entered_size c.args.kind c.args.node (option_copied c.args.new) enters (pairs (w mid) c.in_ok-rest.rest)
+            (seen_some (λ k. k.items) (Leaves c.args.kind c.args.node (option_copied c.args.new)) c.key_in-enters.result c.key_in-enters.ensures.some),
+      ),
+    )
 
 pub returns-clause-keys : goal.returns-clause-keys
 returns-clause-keys g c = λ index h ready.
@@ -69,19 +86,6 @@ returns-clause-stays g c = λ v of_kind indexable was is found.
     (seen_none (λ k. k.items) (HasNone kind (option_copied c.args.new)) c.key_in-enters.result c.key_in-enters.ensures.none) v is of_kind indexable in
     absurd (clash (sym c.if-holds_both.false ∙ c.holds_both.ensures.finds (key v node) leaves enters found))
 
-pub returns-in_err-rest-clause-err : goal.returns-in_err-rest-clause-err
-returns-in_err-rest-clause-err g c =
-    let k = start_since g.R.Look.kept g.R.Look.standing g.R.Look.words c.args.room.now c.holds_both.new.look c.turn_key.new.room c.holds_both.ensures.unchanged c.in_err-rest.ensures.err in
-    search (rules, k)
-
-pub returns-in_err-last-clause-err : goal.returns-in_err-last-clause-err
-returns-in_err-last-clause-err g c =
-    let mid = c.turn_key.new.room in
-    let more = start_trans g.R.Look.kept g.R.Look.standing g.R.Look.words c.holds_both.new.look mid c.turn_key-2.new.room
-    (swaps_start g.R.Look.kept g.R.Look.standing g.R.Look.words _ _ c.holds_both.new.look mid c.in_ok-rest.ensures.ok.swaps) c.in_err-last.ensures.err in
-    let k = start_since g.R.Look.kept g.R.Look.standing g.R.Look.words c.args.room.now c.holds_both.new.look c.turn_key-2.new.room c.holds_both.ensures.unchanged more in
-    search (rules, k)
-
 pub returns-clause-apart : goal.returns-clause-apart
 returns-clause-apart g c = λ v ne was is.
     let kind = c.args.kind in
@@ -92,28 +96,9 @@ returns-clause-apart g c = λ v ne was is.
     (seen_some (λ k. k.items) (Leaves kind node (option_copied c.args.new)) c.key_in-enters.result c.key_in-enters.ensures.some) v is ne in
     c.in_ok-last.ensures.none enters ∙ c.in_ok-rest.ensures.none leaves
 
-pub returns-then-holds_both-clause-gains : goal.returns-then-holds_both-clause-gains
-returns-then-holds_both-clause-gains g c = omega (arith, ap (λ (w : ℕ → ℕ → ℕ). length (pairs w c.args.root)) c.holds_both.ensures.unchanged.words)
-
-pub returns-clause-gains : goal.returns-clause-gains
-returns-clause-gains g c =
-    let w = g.R.Look.words in
-    let leaves = option_map (λ k. k.items) c.key_in-leaves.result in
-    let enters = option_map (λ k. k.items) c.key_in-enters.result in
-    let out : pairs (w c.turn_key.new.room) c.in_ok-rest.rest ≡ key_taken leaves (pairs (w c.holds_both.new.look) c.args.root) = c.in_ok-rest.ensures.ok.has_pairs in
-    let back : pairs (w c.turn_key-2.new.room) c.in_ok-last.last ≡ key_put enters (pairs (w c.turn_key.new.room) c.in_ok-rest.rest) = c.in_ok-last.ensures.ok.has_pairs in
-    omega (
-      arith,
-      ap (λ (v : ℕ → ℕ → ℕ). length (pairs v c.args.root)) c.holds_both.ensures.unchanged.words,
-      ap (length {A = Pair}) out,
-      taken_size leaves (pairs (w c.holds_both.new.look) c.args.root),
-      ap (length {A = Pair}) back,
-      entered_size c.args.kind c.args.node (option_copied c.args.new) enters (pairs (w c.turn_key.new.room) c.in_ok-rest.rest)
-          (seen_some (λ k. k.items) (Leaves c.args.kind c.args.node (option_copied c.args.new)) c.key_in-enters.result c.key_in-enters.ensures.some),
-    )
-
-pub returns-in_err-rest-clause-stops : goal.returns-in_err-rest-clause-stops
-returns-in_err-rest-clause-stops g c =
+pub returns-in_err-rest-clause-refused : goal.returns-in_err-rest-clause-refused
+returns-in_err-rest-clause-refused g c =
+    let back = start_since g.R.Look.kept g.R.Look.standing g.R.Look.words c.args.room.now c.holds_both.new.look c.turn_key.new.room c.holds_both.ensures.unchanged c.in_err-rest.ensures.err in
     let read = tree_read g.R.Look.kept g.R.Look.standing g.R.Look.words c.args.root c.args.room.now c.holds_both.new.look c.holds_both.ensures.unchanged c.requires.tree in
     let k : StopsTree g.R.Look.kept g.R.Look.standing g.R.Look.words c.args.root c.args.room.now c.turn_key.new.room = record {
       between = c.holds_both.new.look;
@@ -123,13 +108,16 @@ returns-in_err-rest-clause-stops g c =
       few = omega (arith, ap (length {A = Pair}) read.has_pairs);
       takes = c.in_err-rest.ensures.takes;
     } in
-    on_err _ k
+    (on_err _ back, search rules, on_err _ k)
 
-pub returns-in_err-last-clause-stops : goal.returns-in_err-last-clause-stops
-returns-in_err-last-clause-stops g c =
+pub returns-in_err-last-clause-refused : goal.returns-in_err-last-clause-refused
+returns-in_err-last-clause-refused g c =
+    let mid = c.turn_key.new.room in
+    let more = start_trans g.R.Look.kept g.R.Look.standing g.R.Look.words c.holds_both.new.look mid c.turn_key-2.new.room
+    (swaps_start g.R.Look.kept g.R.Look.standing g.R.Look.words _ _ c.holds_both.new.look mid c.in_ok-rest.ensures.ok.swaps) c.in_err-last.ensures.err in
+    let back = start_since g.R.Look.kept g.R.Look.standing g.R.Look.words c.args.room.now c.holds_both.new.look c.turn_key-2.new.room c.holds_both.ensures.unchanged more in
     let w = g.R.Look.words in
     let read = c.holds_both.new.look in
-    let mid = c.turn_key.new.room in
     let leaves = option_map (λ k. k.items) c.key_in-leaves.result in
     let first = swaps_since g.R.Look.kept g.R.Look.standing g.R.Look.words (pages (w read) c.args.root) (pages (w mid) c.in_ok-rest.rest) c.args.room.now read mid c.holds_both.ensures.unchanged c.in_ok-rest.ensures.ok.swaps in
     let out : pairs (w mid) c.in_ok-rest.rest ≡ key_taken leaves (pairs (w read) c.args.root) = c.in_ok-rest.ensures.ok.has_pairs in
@@ -146,4 +134,4 @@ returns-in_err-last-clause-stops g c =
       );
       takes = c.in_err-last.ensures.takes;
     } in
-    on_err _ k
+    (on_err _ back, search rules, on_err _ k)

@@ -24,13 +24,13 @@ same_state : {m n : ℕ} {a b : Nodes} {k l : Indices} → m ≡ n → a ≡ b �
 same_state p q r = λ i. record { next = p i; nodes = q i; indices = r i }
 
 pub remove-requires-clause-tree : goal.remove-requires-clause-tree
-remove-requires-clause-tree g c = c.in_ok-unset_all.ensures.changes.in_hand.trees.each 0 0 (omega arith)
+remove-requires-clause-tree g c = c.in_ok-unset_all.ensures.changes.0.in_hand.trees.each 0 0 (omega arith)
 
 pub returns-clause-changes : goal.returns-clause-changes
 returns-clause-changes g c =
     let mid = contents c.unset_all.new.version in
     let after : Contents = record { next = mid.next; catalog = c.in_ok-version.field-0; entries = mid.entries } in
-    let first = c.in_ok-unset_all.ensures.changes in
+    let first = c.in_ok-unset_all.ensures.changes.0 in
     changes_trans g.R.Look.kept g.R.Look.standing g.R.Look.words (contents c.args.version.now) mid after c.args.room.now c.unset_all.new.room c.remove.new.room first
     (catalog_changes g.R.Look.kept g.R.Look.standing g.R.Look.words c.unset_all.new.room c.remove.new.room mid first.in_hand c.in_ok-version.field-0
     c.in_ok-version.ensures.ok.tree c.in_ok-version.ensures.ok.swaps mid.next first.in_hand.fits)
@@ -43,7 +43,7 @@ returns-clause-steps g c = λ volume spells sound fits ok.
     let nodes = fin.remove b.left.nodes node in
     let catalog = catalog_dropped (pairs (g.R.Look.words c.unset_all.new.room) mid.catalog) b.left.nodes node c.to_be_bytes.result c.ranges.node.fits (no_values volume b.left node b.leaves b.bare)
     (c.to_be_bytes.ensures ∙ sym (append-nil (to_be_bytes w64 node))) b.spells.catalog in
-    let told = catalog_spells g.R.Look.kept g.R.Look.standing g.R.Look.words c.unset_all.new.room c.remove.new.room mid c.in_ok-unset_all.ensures.changes.in_hand c.in_ok-version.field-0
+    let told = catalog_spells g.R.Look.kept g.R.Look.standing g.R.Look.words c.unset_all.new.room c.remove.new.room mid c.in_ok-unset_all.ensures.changes.0.in_hand c.in_ok-version.field-0
     c.in_ok-version.ensures.ok.tree c.in_ok-version.ensures.ok.swaps b.left mid.next b.left.next nodes b.spells.next b.spells
     (subst (λ xs. IsCatalog xs nodes) (sym c.in_ok-version.ensures.ok.has_pairs) catalog) in
     record {
@@ -52,17 +52,14 @@ returns-clause-steps g c = λ volume spells sound fits ok.
       spells = subst (Spells (g.R.Look.words c.remove.new.room) _) (same_state b.leaves.next b.leaves.nodes (indices_bare volume b.left node b.leaves b.bare)) told;
     }
 
-pub returns-in_err-version-clause-err : goal.returns-in_err-version-clause-err
-returns-in_err-version-clause-err g c =
-    let k = start_after g.R.Look.kept g.R.Look.standing g.R.Look.words (contents c.args.version.now) (contents c.unset_all.new.version) c.args.room.now c.unset_all.new.room c.remove.new.room
-    c.in_ok-unset_all.ensures.changes c.in_err-version.ensures.err in
-    search (rules, k)
-
-pub returns-in_err-version-clause-stops : goal.returns-in_err-version-clause-stops
-returns-in_err-version-clause-stops g c =
+pub returns-in_err-version-clause-refused : goal.returns-in_err-version-clause-refused
+returns-in_err-version-clause-refused g c =
+    let back = start_after g.R.Look.kept g.R.Look.standing g.R.Look.words (contents c.args.version.now) (contents c.unset_all.new.version) c.args.room.now c.unset_all.new.room c.remove.new.room
+    c.in_ok-unset_all.ensures.changes.0 c.in_err-version.ensures.err in
     let before = contents c.args.version.now in
     let mid = contents c.unset_all.new.version in
-    let first = c.in_ok-unset_all.ensures.changes in
+    let first = c.in_ok-unset_all.ensures.changes.0 in
     let tree = tree_stops g.R.Look.kept g.R.Look.standing g.R.Look.words mid.catalog c.unset_all.new.room c.remove.new.room (first.in_hand.trees.each 0 0 (omega arith)) c.in_err-version.ensures.takes.1 in
-    on_err _ (stops_after g.R.Look.kept g.R.Look.standing g.R.Look.words 0 0 0 before mid c.args.room.now c.unset_all.new.room c.remove.new.room first c.in_ok-unset_all.ensures.gains (omega arith)
-    (catalog_stops g.R.Look.kept g.R.Look.standing g.R.Look.words c.unset_all.new.room c.remove.new.room mid first.in_hand tree))
+    let k = stops_after g.R.Look.kept g.R.Look.standing g.R.Look.words 0 0 0 before mid c.args.room.now c.unset_all.new.room c.remove.new.room first c.in_ok-unset_all.ensures.changes.1 (omega arith)
+    (catalog_stops g.R.Look.kept g.R.Look.standing g.R.Look.words c.unset_all.new.room c.remove.new.room mid first.in_hand tree) in
+    (on_err _ back, search rules, on_err _ k)

@@ -1,4 +1,4 @@
-use Rattle.std.proofs.Common.{[], ◌∷◌}
+use Rattle.std.proofs.Common.{[], ◌∷◌, rules}
 use Rattle.be_tree.proofs.Frame.{swaps_trans}
 use Rattle.be_paged.proofs.Applying.Replacing.{given_swaps}
 use Rattle.be_tree.proofs.Sizes.InHand.{takes_fewer_then, takes_given_up}
@@ -11,8 +11,9 @@ returns-clause-swaps g c =
     (given_swaps g.R.Look.kept g.R.Look.standing g.R.Look.words c.args.old_page c.args.room.now c.give_up.new.self c.give_up.ensures.kept c.requires.in_use c.give_up.ensures.words c.give_up.ensures.standing)
     c.in_ok-page.ensures.swaps
 
-pub returns-in_err-page-clause-takes : goal.returns-in_err-page-clause-takes
-returns-in_err-page-clause-takes g c =
+pub returns-in_err-page-clause-refused : goal.returns-in_err-page-clause-refused
+returns-in_err-page-clause-refused g c =
     let s = g.R.Look.standing in
-    on_err _ (takes_fewer_then 0 1 (s c.args.room.now) (s c.give_up.new.self) (s c.write_version.new.room)
-    (takes_given_up (s c.args.room.now) (s c.give_up.new.self) c.args.old_page c.give_up.ensures.standing) c.in_err-page.ensures.takes)
+    let k = takes_fewer_then 0 1 (s c.args.room.now) (s c.give_up.new.self) (s c.write_version.new.room)
+    (takes_given_up (s c.args.room.now) (s c.give_up.new.self) c.args.old_page c.give_up.ensures.standing) c.in_err-page.ensures.refused.2 in
+    (search rules, search rules, on_err _ k)
