@@ -102,7 +102,7 @@ fn told(alloc: Global, volume: &Volume, text: &str, keys: u64) -> Result<String,
     Ok(format!(in alloc; "{first} {last} {} asks {}", nodes.len(), source.values)?)
 }
 
-/// Whether it is told so, at the second try if memory is refused.
+/// Whether it is this text, at the second try if memory is refused.
 fn tells(
     alloc: Global,
     volume: &Volume,
@@ -117,7 +117,7 @@ fn tells(
     Ok(told.as_str() == wanted)
 }
 
-/// The query, the estimate of an index, and what is told.
+/// The query, the estimate of an index, and the text.
 const CASES: &[(&str, u64, &str)] = &[
     // 64 hits are asked one by one, and of 65 the other index is walked.
     ("k<=64 && m>=70", 130, "1 61 61 asks 64"),
