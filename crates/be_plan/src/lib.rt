@@ -32,6 +32,7 @@ mod walks;
 pub use asking::{answer, answer_into};
 pub use choosing::choose_from;
 pub use coverage::covers;
+pub use evaluating::is_true;
 pub use explaining::explain;
 pub use listing::choose;
 pub use plain::{VolumeSource, volume_source};
