@@ -1,4 +1,5 @@
-//! What a pass of a store knows, and what holds for the only pass of a store.
+//! What a pass of a store knows, what holds for the only pass of a store, and which pool is large
+//! enough.
 //!
 //! Each law does nothing; its contract is the law, for the crates above. The laws of the only pass
 //! speak of what a pass knows before and after a call: `alone` says that a given pass is the only
