@@ -1,6 +1,6 @@
 -- Why a write finds no page, and when it can't be so.
 use Rattle.std.proofs.Common.{◌≡◌, ℕ, suc, zero, ◌<◌, ◌≤◌, Bool, true, false, inl, inr, List, [], ◌∷◌, length, refl, sym, ap, ◌∙◌, subst, arith}
-use Rattle.std.specs.Prelude.{IsOk, Err}
+use Rattle.std.specs.Prelude.{IsOk, OnErr, Result, Err}
 use Rattle.be_core.specs.Machine.{has}
 use Rattle.be_core.specs.declared.event.Phase.{Phase}
 use Rattle.be_core.specs.declared.event.Phase.TheVariants.{Idle, Looked, Announced, Pinned}
@@ -27,7 +27,7 @@ use Rattle.be_table.proofs.Shares.{shared_now, spelt_counted, still_counted}
 use Rattle.be_value.specs.declared.refusals.Refusal.{Refusal}
 use Rattle.be_value.specs.declared.refusals.Refusal.TheVariants.{Full}
 use Rattle.be_volume.specs.Items.{StaysWithin}
-use Rattle.be_volume.specs.Volume.{steps}
+use Rattle.be_volume.specs.Volume.{State, steps}
 use Rattle.be_volume.specs.declared.ops.Op.{Op}
 use Rattle.be_store.specs.Alone.{IsAlone}
 use Rattle.be_store.specs.Capacity.{AreFewFor, AreFewToHold, HasLargePool, IsAtCurrent, IsShort, NoneIsEarlier, current_pages, held_pages}
@@ -52,6 +52,12 @@ few_current k b =
     let page = page_at k.seen (length k.seen) in
     let volume = volume_seen k in
     spelt_counted pages words page k.limits.pages _ volume b.spelt (version_size (λ q. at_start (has pages q)) words page volume b.spelt.version)
+
+-- what a write has in hand, told from before a call that changes nothing, to after one
+pub few_between : {T E : Type 0} (r : Result T E) (volume : State) (ops : List Op) (w v : Work) (old new : Work) → v ≡ w → new ≡ old
+    → OnErr r (TakesFew volume ops (standing_in_work v) (standing_in_work old)) → OnErr r (TakesFew volume ops (standing_in_work w) (standing_in_work new))
+few_between r volume ops w v old new before after few =
+    subst (λ (x : Work × Work). OnErr r (TakesFew volume ops (standing_in_work x.0) (standing_in_work x.1))) (λ i. (before i, sym after i)) few
 
 -- where a write that began finds no page, this is why
 pub is_short : (w v : Work) (ops : List Op) (least : ℕ) → Begins w.knows → open_of v ≡ open_of w → IsFull v least

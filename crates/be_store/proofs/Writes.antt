@@ -1,5 +1,5 @@
 -- What a write makes of the pass that holds the lock.
-use Rattle.std.proofs.Common.{arith, false, ◌≡◌, inl, inr, ℕ, List, [], ◌∷◌, ◌++◌, length, Ok, Err, sym, ap, ◌∙◌, subst}
+use Rattle.std.proofs.Common.{arith, false, ◌≡◌, ◌≤◌, inl, inr, ℕ, List, [], ◌∷◌, ◌++◌, length, Ok, Err, sym, ap, ◌∙◌, subst}
 use Rattle.std.specs.Prelude.{IfErr, IsOk, Result, MatchResult}
 use Rattle.std.specs.Result.{IsErrAnd}
 use Rattle.be_journal.specs.Journal.{replay}
