@@ -14,7 +14,6 @@ use Rattle.be_table.specs.Steps.{IsPass, entry_by, without_lock, with_history}
 use Rattle.be_table.specs.Trace.{Makes, upto_lock}
 use Rattle.be_table.specs.Working.{HasWorked, WorksOn}
 use Rattle.be_table.specs.Works.{HasNoRoom, Moves, TakesLock}
-use Rattle.be_table.proofs.Announced.{spent_unlocked}
 use Rattle.be_table.proofs.Histories.{by_pass-append, by_pass-own}
 use Rattle.be_table.proofs.Traces.{makes_more}
 use Rattle.be_table.proofs.Worked.{upto_now, works_none}
@@ -25,6 +24,7 @@ use Rattle.be_volume.specs.declared.ops.Op.{Op}
 use Rattle.be_store.specs.History.{Accepts, Learns, LocksAndUnlocks, LocksOnly, IsReason, IsRefusedAt, text_seen}
 use Rattle.be_store.specs.Passes.{volume_seen}
 use Rattle.be_store.specs.Writing.{Publishes, IsHeldBack, IsSame}
+use Rattle.be_store.proofs.Capacity.{short_unlocked}
 
 pub entries_append : (log more : List Commit) → entries (log ++ more) ≡ entries log ++ entries more
 entries_append log more = map-append (λ (c : Commit). c.entry) log more
@@ -149,7 +149,7 @@ refused_unlocked v c ops e is unlocked (inr (inl h)) = inr (inl (subst (λ (k : 
 refused_unlocked v c ops e is unlocked (inr (inr h)) = inr (inr (
   subst (λ (k : Knowledge). IsOk (steps (volume_seen k) ops)) (sym is) h.0,
   subst (λ (k : Knowledge). length k.seen < k.limits.commits) (sym is) h.1,
-  (h.2.0, h.2.1, spent_unlocked v c h.2.0 is unlocked.made h.2.2),
+  (h.2.0, h.2.1, short_unlocked v c ops h.2.0 is unlocked h.2.2),
 ))
 
 pub reasons : (a w v c : Knowledge) (ops : List Op) (e : Refusal) → IsHeldBack w v ops e → c ≡ without_lock (with_history v c.history) → Moves v (Unlock v.number ∷ []) c → IsReason a c ops e

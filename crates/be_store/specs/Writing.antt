@@ -27,6 +27,7 @@ use Rattle.be_store.specs.Passes.{volume_seen}
 -- an open write in which no page is taken yet: the states of its pages, and their words, are those
 -- of the current version
 pub record Begins (k : Knowledge) : Type 0 where
+  pub small : k.limits.pages ≤ 16384
   pub unpublished : k.published ≡ false
   pub begun : (q : ℕ) → standing_among k.places q
       ≡ at_start (has (reach_at k.seen (length k.seen)) q)

@@ -1,7 +1,9 @@
 //! One write, while the lock is held.
-ghost use Rattle.std.specs.Prelude.{◌≡◌, [], ◌+◌, ◌^◌, ◌<◌, ◌≤◌, IfOk, IfErr, false, length};
+ghost use Rattle.std.specs.Prelude.{◌≡◌, [], ◌+◌, ◌^◌, ◌<◌, ◌≤◌, IfOk, IfErr, OnErr, false};
+ghost use Rattle.std.specs.Prelude.{length};
 ghost use Rattle.be_volume.specs.Volume.{State};
 ghost use Rattle.be_paged.specs.Changes.{Applies, IsRefusedList};
+ghost use Rattle.be_paged.specs.Stops.{TakesFew};
 ghost use Rattle.be_paged.specs.Version.{IsVersion};
 ghost use Rattle.be_table.specs.Place.{Work};
 ghost use Rattle.be_table.specs.Reading.{open_of, standing_among, standing_in_work, word_of_page};
@@ -38,6 +40,8 @@ fn apply_to(
         volume ops.now dones.new.items writing.old writing.new) }
     ensures err { IfErr result (λ e. IsRefusedList open_of standing_in_work words_of IsFull
         volume ops.now e writing.old writing.new) }
+    ensures few { OnErr result (TakesFew volume ops.now (standing_in_work writing.old)
+        (standing_in_work writing.new)) }
 {
     let mut space = writing.take_space();
     let answer = apply_in(writing, &mut space, version_page, ops, dones);
@@ -64,6 +68,8 @@ fn apply_in(
         volume ops.now dones.new.items writing.old writing.new) }
     ensures err { IfErr result (λ e. IsRefusedList open_of standing_in_work words_of IsFull
         volume ops.now e writing.old writing.new) }
+    ensures few { OnErr result (TakesFew volume ops.now (standing_in_work writing.old)
+        (standing_in_work writing.new)) }
 {
     match space {
         Some(version) => apply_into(writing, version, version_page, ops, dones),
@@ -91,6 +97,8 @@ fn apply_apart(
         volume ops.now dones.new.items writing.old writing.new) }
     ensures err { IfErr result (λ e. IsRefusedList open_of standing_in_work words_of IsFull
         volume ops.now e writing.old writing.new) }
+    ensures few { OnErr result (TakesFew volume ops.now (standing_in_work writing.old)
+        (standing_in_work writing.new)) }
 {
     let mut version = Version::new();
     apply_into(writing, &mut version, version_page, ops, dones)
