@@ -239,7 +239,7 @@ impl<'a> Writing<'a> {
         self.ledger.pool.give_up(page);
     }
 
-    /// Takes the page that was freed last, if one is free, and one that is spared for a copy only if
+    /// Takes the page that was freed last, if one is free; one that is spared for a copy only if
     /// there is no other.
     fn take_free(&mut self) -> Option<u64>
         requires open { self.old.knows.published ≡ false }
