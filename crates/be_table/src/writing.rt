@@ -239,7 +239,8 @@ impl<'a> Writing<'a> {
         self.ledger.pool.give_up(page);
     }
 
-    /// Takes the page that was freed last, if one is free.
+    /// Takes the page that was freed last, if one is free; one that is spared for a copy only if
+    /// there is no other.
     fn take_free(&mut self) -> Option<u64>
         requires open { self.old.knows.published ≡ false }
         ensures some { IfSome result (λ page. (page < length self.old.knows.places)
@@ -287,10 +288,10 @@ impl<'a> Writing<'a> {
         Some(copy)
     }
 
-    /// Takes a free page, the one that was freed last. If none is free, it scans. If none is free
-    /// after the scan either, the error is Full with the least number that the scan found: this
-    /// write then holds each page that no version from that number on has. One load; with a scan,
-    /// the scan's loads too.
+    /// Takes a free page, the one that was freed last; one that is spared for a copy only if there
+    /// is no other. If none is free, it scans. If none is free after the scan either, the error is
+    /// Full with the least number that the scan found: this write then holds each page that no
+    /// version from that number on has. One load; with a scan, the scan's loads too.
     pub fn take(&mut self) -> Result<u64, Refusal>
         requires open { self.old.knows.published ≡ false }
         ensures ok { IfOk result (λ page. TakesPage self.old self.new page) }
