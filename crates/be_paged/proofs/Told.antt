@@ -16,15 +16,15 @@ use Rattle.std.proofs.lemmas.List.{append-nil, append_assoc, length-append, leng
 use Rattle.std.proofs.Math.ListN.{drop_of_length-le}
 use Rattle.std.proofs.Math.Seq.{take-append_seam, take-append-add}
 use Rattle.be_pages.specs.declared.room.Standing.{Standing}
-use Rattle.be_tree.specs.Cursor.{remaining}
-use Rattle.be_tree.specs.Key.{payload_at, key_cmp, IsRising}
-use Rattle.be_tree.specs.Pair.{Pair}
-use Rattle.be_tree.specs.Page.{item_at}
-use Rattle.be_tree.specs.Range.{is_from, pairs_from}
-use Rattle.be_tree.specs.Tree.{IsTree, pairs}
-use Rattle.be_tree.specs.declared.cursor.Cursor.{Cursor}
-use Rattle.be_tree.proofs.Order.{key_total, key_same, payload_at_above, AllAbove_trans}
-use Rattle.be_tree.proofs.Ranges.{from_less, next_from}
+use Rattle.be_tree_reading.specs.Cursor.{remaining}
+use Rattle.be_tree_reading.specs.Key.{payload_at, key_cmp, IsRising}
+use Rattle.be_tree_reading.specs.Pair.{Pair}
+use Rattle.be_tree_reading.specs.Page.{item_at}
+use Rattle.be_tree_reading.specs.Range.{is_from, pairs_from}
+use Rattle.be_tree_reading.specs.Tree.{IsTree, pairs}
+use Rattle.be_tree_reading.specs.declared.cursor.Cursor.{Cursor}
+use Rattle.be_tree_reading.proofs.Order.{key_total, key_same, payload_at_above, AllAbove_trans}
+use Rattle.be_tree_reading.proofs.Ranges.{from_less, next_from}
 use Rattle.be_value.specs.Key.{IsValue}
 use Rattle.be_value.specs.declared.refusals.Refusal.{Refusal}
 use Rattle.be_value.specs.declared.values.Value.{Value}

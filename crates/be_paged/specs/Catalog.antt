@@ -10,8 +10,8 @@ use Rattle.be_value.specs.declared.values.Value.TheVariants.{Cstr, Long, Llng, M
 use Rattle.be_value.specs.declared.values.Value.TheVariants.{Ullg}
 use Rattle.be_volume.specs.Maps.{Nodes}
 use Rattle.be_volume.specs.declared.maps.Index.{Index}
-use Rattle.be_tree.specs.Pair.{Pair}
-use Rattle.be_tree.specs.Key.{payload_at}
+use Rattle.be_tree_reading.specs.Pair.{Pair}
+use Rattle.be_tree_reading.specs.Key.{payload_at}
 
 -- the key of a node's attribute; with no name it is that of the node's mark
 abbrev pub catalog_key : ℕ → List ℕ → List ℕ

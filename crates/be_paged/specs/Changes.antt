@@ -12,9 +12,9 @@ use Rattle.be_pages.specs.declared.room.Standing.{Standing}
 use Rattle.be_pages.specs.declared.room.Standing.TheVariants.{Filled}
 use Rattle.be_pages.specs.Pages.{Swaps, KeepsStart, IsUnchanged}
 use Rattle.be_pages.specs.Refusal.{IsFullOf}
-use Rattle.be_tree.specs.Forest.{pages_of}
-use Rattle.be_tree.specs.Key.{put, without}
-use Rattle.be_tree.specs.Pair.{Pair}
+use Rattle.be_tree_reading.specs.Forest.{pages_of}
+use Rattle.be_tree_reading.specs.Key.{put, without}
+use Rattle.be_tree_reading.specs.Pair.{Pair}
 use Rattle.be_value.specs.Key.{IsValue}
 use Rattle.be_volume.specs.Indices.{Indices, paired, unpaired, with_pair, without_node}
 use Rattle.be_volume.specs.Indices.{without_pair}

@@ -3,7 +3,7 @@ use Rattle.std.specs.Prelude.{ℕ, Bool, List, [], ◌∷◌, length, take, filt
 use Rattle.std.specs.Prelude.{if◌then◌else◌}
 use Rattle.std.specs.Int.{from_be_bytes, w64}
 use Rattle.std.specs.FinMap as map
-use Rattle.be_tree.specs.Pair.{Pair}
+use Rattle.be_tree_reading.specs.Pair.{Pair}
 use Rattle.be_volume.specs.Volume.{State}
 
 -- the nodes of the volume from a number on, ascending, and no more of them than so many

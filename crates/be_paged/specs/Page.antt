@@ -7,8 +7,8 @@ use Rattle.be_value.specs.Coded.{kind_at}
 use Rattle.be_value.specs.declared.values.Kind.{Kind}
 use Rattle.be_volume.specs.Maps.{name_cmp}
 use Rattle.be_volume.specs.Sound.{IsName}
-use Rattle.be_tree.specs.Page.{bytes_at}
-use Rattle.be_tree.specs.Forest.{pages_of}
+use Rattle.be_tree_reading.specs.Page.{bytes_at}
+use Rattle.be_tree_reading.specs.Forest.{pages_of}
 use Rattle.be_paged.specs.Entry.{Entry, HaveText}
 use Rattle.be_paged.specs.declared.version.Version.{Version}
 

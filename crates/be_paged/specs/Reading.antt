@@ -5,7 +5,7 @@ use Rattle.std.specs.Int.{to_be_bytes, w64}
 use Rattle.std.specs.List.{starts_with}
 use Rattle.be_value.specs.Key.{IsValue}
 use Rattle.be_value.specs.declared.values.Value.{Value}
-use Rattle.be_tree.specs.Pair.{Pair}
+use Rattle.be_tree_reading.specs.Pair.{Pair}
 use Rattle.be_volume.specs.Maps.{Attributes, Nodes}
 use Rattle.be_volume.specs.Sound.{IsName}
 use Rattle.be_paged.specs.Catalog.{catalog_key, payload_of, value_at}

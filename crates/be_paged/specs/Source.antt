@@ -4,13 +4,13 @@ use Rattle.std.specs.Prelude.{is_some, length, slice_index_or}
 use Rattle.std.specs.declared.option.Option.{Option}
 use Rattle.be_pages.specs.declared.room.Standing.{Standing}
 use Rattle.be_pages.specs.Pages.{is_readable}
-use Rattle.be_tree.specs.Page.{IsItem, item_at}
-use Rattle.be_tree.specs.Cursor.{IsCursor, remaining}
-use Rattle.be_tree.specs.Key.{payload_at}
-use Rattle.be_tree.specs.Pair.{Pair}
-use Rattle.be_tree.specs.Range.{pairs_from}
-use Rattle.be_tree.specs.Tree.{pairs}
-use Rattle.be_tree.specs.declared.cursor.Cursor.{Cursor}
+use Rattle.be_tree_reading.specs.Page.{IsItem, item_at}
+use Rattle.be_tree_reading.specs.Cursor.{IsCursor, remaining}
+use Rattle.be_tree_reading.specs.Key.{payload_at}
+use Rattle.be_tree_reading.specs.Pair.{Pair}
+use Rattle.be_tree_reading.specs.Range.{pairs_from}
+use Rattle.be_tree_reading.specs.Tree.{pairs}
+use Rattle.be_tree_reading.specs.declared.cursor.Cursor.{Cursor}
 use Rattle.be_value.specs.Key.{IsValue, key}
 use Rattle.be_value.specs.Value.{kind_of, is_indexable}
 use Rattle.be_value.specs.declared.values.Value.{Value}

@@ -7,7 +7,7 @@ use Rattle.be_pages.specs.Pages.{KeepsStart, Swaps}
 use Rattle.be_pages.specs.Refusal.{IsFullOf}
 use Rattle.be_tree.specs.Counting.{CanBeHigh, HasInHand, TakesFewer, in_hand, most_taken}
 use Rattle.be_tree.specs.Counting.{pairs_of_all}
-use Rattle.be_tree.specs.Tree.{IsTree, level_of_root, pages, pairs}
+use Rattle.be_tree_reading.specs.Tree.{IsTree, level_of_root, pages, pairs}
 use Rattle.be_volume.specs.Items.{StaysWithin}
 use Rattle.be_volume.specs.Sound.{IsSound}
 use Rattle.be_volume.specs.Volume.{State, steps}

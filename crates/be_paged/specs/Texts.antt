@@ -5,8 +5,8 @@ use Rattle.std.specs.declared.option.Option.{Option}
 use Rattle.be_plan.specs.Texts.{text_in}
 use Rattle.be_query.specs.Grammar.{Literal}
 use Rattle.be_query.specs.declared.tree.Cmp.{Cmp}
-use Rattle.be_tree.specs.Pair.{Pair}
-use Rattle.be_tree.specs.Range.{number_of, pairs_to}
+use Rattle.be_tree_reading.specs.Pair.{Pair}
+use Rattle.be_tree_reading.specs.Range.{number_of, pairs_to}
 use Rattle.be_volume.specs.Query.{holds_of_text}
 
 -- the key has a text and the bytes of a node

@@ -3,8 +3,8 @@ use Rattle.std.specs.Prelude.{◌≡◌, ℕ, ◌^◌, ◌<◌, ◌≤◌, List,
 use Rattle.std.specs.FinMap as map
 use Rattle.be_pages.specs.declared.room.Standing.{Standing}
 use Rattle.be_pages.specs.Pages.{is_kept, times}
-use Rattle.be_tree.specs.Tree.{pairs}
-use Rattle.be_tree.specs.Forest.{pages_of, AreTrees}
+use Rattle.be_tree_reading.specs.Tree.{pairs}
+use Rattle.be_tree_reading.specs.Forest.{pages_of, AreTrees}
 use Rattle.be_volume.specs.Sound.{IsName, IsSound}
 use Rattle.be_volume.specs.Volume.{State}
 use Rattle.be_volume.specs.declared.maps.Index.{Index}

@@ -3,7 +3,7 @@ ghost use Rattle.std.specs.Prelude.{◌≡◌, ◌+◌, ◌≤◌, ◌<◌, ◌^
 ghost use Rattle.std.specs.Prelude.{IsTrue, IsUtf8};
 ghost use Rattle.std.specs.Int.{to_be_bytes, w32, w64};
 ghost use Rattle.be_pages.specs.Pages.{IsUnchanged, is_readable};
-ghost use Rattle.be_tree.specs.Page.{IsItem, item_at};
+ghost use Rattle.be_tree_reading.specs.Page.{IsItem, item_at};
 ghost use Rattle.be_value.specs.Key.{IsValue};
 ghost use Rattle.be_value.specs.Name.{name_from, text_from};
 ghost use Rattle.be_value.specs.Value.{kind_of};

@@ -6,7 +6,7 @@ ghost use Rattle.std.specs.Int.{cast_unsigned, w32, w64};
 ghost use Rattle.std.specs.Int.RustNames.{FitsSigned};
 ghost use Rattle.std.specs.declared.result.Result.{Result as AnyResult};
 ghost use Rattle.be_pages.specs.Pages.{IsUnchanged};
-ghost use Rattle.be_tree.specs.Page.{item_at};
+ghost use Rattle.be_tree_reading.specs.Page.{item_at};
 ghost use Rattle.be_value.specs.Key.{IsValue};
 ghost use Rattle.be_value.specs.Value.{code_of};
 ghost use Rattle.be_value.specs.declared.refusals.Refusal.{Refusal as AnyRefusal};

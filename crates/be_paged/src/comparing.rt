@@ -6,7 +6,7 @@
 ghost use Rattle.std.specs.Prelude.{◌≡◌, ◌+◌, ◌≤◌, ℕ, List, ◌∷◌, Ok, IsTrue, IsUtf8};
 ghost use Rattle.be_pages.specs.Pages.{IsUnchanged, is_readable};
 ghost use Rattle.be_query.specs.View.{literal as literal_of};
-ghost use Rattle.be_tree.specs.Page.{IsItem, item_at};
+ghost use Rattle.be_tree_reading.specs.Page.{IsItem, item_at};
 ghost use Rattle.be_value.specs.Key.{IsValue};
 ghost use Rattle.be_value.specs.Name.{text_from};
 ghost use Rattle.be_value.specs.declared.values.Value.{Value as AnyValue};

@@ -27,7 +27,7 @@ pub(crate) struct Entry {
 
 impl Model for Entry {
     ghost use Rattle.std.specs.Prelude.{◌≤◌, slice_index};
-    ghost use Rattle.be_tree.specs.Page.{bytes_at};
+    ghost use Rattle.be_tree_reading.specs.Page.{bytes_at};
     ghost use Rattle.be_paged.specs.Entry.{Entry as AnyEntry, HaveText};
 
     ghost Value = { AnyEntry };

@@ -6,8 +6,8 @@
 ghost use Rattle.std.specs.Prelude.{◌≡◌, ◌≤◌, ◌++◌, is_some, length};
 ghost use Rattle.std.specs.Int.{to_be_bytes, w64};
 ghost use Rattle.be_pages.specs.Pages.{IsUnchanged};
-ghost use Rattle.be_tree.specs.Key.{payload_at};
-ghost use Rattle.be_tree.specs.Tree.{IsTree, pairs};
+ghost use Rattle.be_tree_reading.specs.Key.{payload_at};
+ghost use Rattle.be_tree_reading.specs.Tree.{IsTree, pairs};
 ghost use Rattle.be_paged.specs.Source.{DecidesPair, IsItemAt};
 
 use crate::catalog::{kind_at, number64_at, value_at};

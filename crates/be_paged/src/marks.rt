@@ -8,10 +8,10 @@ ghost use Rattle.std.specs.Prelude.{◌≡◌, ◌∷◌, ◌+◌, ◌≤◌, []
 ghost use Rattle.std.specs.Prelude.{take, true};
 ghost use Rattle.std.specs.Int.{from_be_bytes, to_be_bytes, w64};
 ghost use Rattle.be_pages.specs.Pages.{IsUnchanged, is_readable};
-ghost use Rattle.be_tree.specs.Cursor.{IsCursor, remaining};
-ghost use Rattle.be_tree.specs.Page.{IsItem, item_at};
-ghost use Rattle.be_tree.specs.Range.{pairs_from};
-ghost use Rattle.be_tree.specs.Tree.{IsTree, pairs};
+ghost use Rattle.be_tree_reading.specs.Cursor.{IsCursor, remaining};
+ghost use Rattle.be_tree_reading.specs.Page.{IsItem, item_at};
+ghost use Rattle.be_tree_reading.specs.Range.{pairs_from};
+ghost use Rattle.be_tree_reading.specs.Tree.{IsTree, pairs};
 ghost use Rattle.be_paged.specs.Nodes.{is_mark, marked};
 
 use be_pages::Look;

@@ -7,9 +7,9 @@
 //! again and again, so the source keeps what it found last.
 ghost use Rattle.std.specs.Prelude.{◌≡◌, true};
 ghost use Rattle.be_pages.specs.Pages.{IsUnchanged};
-ghost use Rattle.be_tree.specs.Cursor.{IsCursor, remaining};
-ghost use Rattle.be_tree.specs.Range.{pairs_from};
-ghost use Rattle.be_tree.specs.Tree.{IsTree, pairs};
+ghost use Rattle.be_tree_reading.specs.Cursor.{IsCursor, remaining};
+ghost use Rattle.be_tree_reading.specs.Range.{pairs_from};
+ghost use Rattle.be_tree_reading.specs.Tree.{IsTree, pairs};
 ghost use Rattle.be_value.specs.declared.values.Kind.TheVariants.{Cstr};
 ghost use Rattle.be_volume.specs.Volume.{State};
 ghost use Rattle.be_paged.specs.Page.{contents_of};

@@ -4,7 +4,7 @@ ghost use Rattle.std.specs.FinMap as map;
 ghost use Rattle.be_pages.specs.Pages.{IsUnchanged};
 ghost use Rattle.be_query.specs.Grammar.{Leaf};
 ghost use Rattle.be_query.specs.View.{literal};
-ghost use Rattle.be_tree.specs.Tree.{IsTree, pairs};
+ghost use Rattle.be_tree_reading.specs.Tree.{IsTree, pairs};
 ghost use Rattle.be_volume.specs.Maps.{Nodes as AllNodes, attributes_of};
 ghost use Rattle.be_value.specs.Refusal.{Answers};
 ghost use Rattle.be_value.specs.declared.refusals.Refusal.TheVariants.{OutOfMemory};

@@ -10,10 +10,10 @@ ghost use Rattle.std.specs.List.{list_any};
 ghost use Rattle.std.specs.Option.{option_copied};
 ghost use Rattle.be_pages.specs.Pages.{IsUnchanged, is_readable};
 ghost use Rattle.be_plan.specs.Texts.{text_in};
-ghost use Rattle.be_tree.specs.Cursor.{IsCursor, remaining};
-ghost use Rattle.be_tree.specs.Page.{IsItem, bytes_at, item_at, items_of, words_for};
-ghost use Rattle.be_tree.specs.Range.{HasFirst, is_past, pairs_from};
-ghost use Rattle.be_tree.specs.Tree.{IsTree, IsTreeAt, pairs};
+ghost use Rattle.be_tree_reading.specs.Cursor.{IsCursor, remaining};
+ghost use Rattle.be_tree_reading.specs.Page.{IsItem, bytes_at, item_at, items_of, words_for};
+ghost use Rattle.be_tree_reading.specs.Range.{HasFirst, is_past, pairs_from};
+ghost use Rattle.be_tree_reading.specs.Tree.{IsTree, IsTreeAt, pairs};
 ghost use Rattle.be_paged.specs.Texts.{AreTexts, IsTextKey, node_if_passing, nodes_passing_to};
 
 use be_pages::Look;

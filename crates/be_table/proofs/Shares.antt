@@ -21,7 +21,7 @@ use Rattle.be_table.specs.Steps.{NoCommitReaches}
 use Rattle.be_table.specs.Versions.{SpellsVolume}
 use Rattle.be_table.specs.Works.{HoldsStill, IsSpent}
 use Rattle.be_volume.specs.Volume.{State}
-use Rattle.be_tree.proofs.Frame.{times-cons}
+use Rattle.be_tree_reading.proofs.Frame.{times-cons}
 
 bit_cond : (b : Bool) → bit b ≡ cond {A = ℕ} b 1 0
 bit_cond true = refl

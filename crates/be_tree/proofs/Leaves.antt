@@ -12,25 +12,25 @@ use Rattle.be_tree.specs.declared.path.Path.{Path}
 use Rattle.be_tree.specs.declared.path.Step.{Step}
 use Rattle.be_tree.specs.declared.slot.Slot.{Slot}
 use Rattle.be_tree.specs.declared.splicing.Cut.{Cut}
-use Rattle.be_tree.specs.Pair.{Pair}
-use Rattle.be_tree.specs.Key.{IsBranchFor, IsGap, IsRising, key_cmp, payload_at, put, put_before, without}
-use Rattle.be_tree.specs.Page.{item_at, item_place, items_of, level_of}
+use Rattle.be_tree_reading.specs.Pair.{Pair}
+use Rattle.be_tree_reading.specs.Key.{IsBranchFor, IsGap, IsRising, key_cmp, payload_at, put, put_before, without}
+use Rattle.be_tree_reading.specs.Page.{item_at, item_place, items_of, level_of}
 use Rattle.be_tree.specs.Path.{BecomesNode, IsChanged, IsInHand, IsPathTo, IsWayIn, KeepsLeast, least_at, whole}
 use Rattle.be_tree.specs.Slot.{IsReady, pairs_of}
 use Rattle.be_tree.specs.Splicing.{IsSpliced, spliced}
-use Rattle.be_tree.specs.Tree.{BecomesTree, IsBelow, IsTreeAt, least_of_root, pages, pairs, pairs_at, pairs_below}
-use Rattle.be_tree.proofs.Frame.{one_page, swaps_since}
-use Rattle.be_tree.proofs.Nodes.Slots.{item_get, items_count}
-use Rattle.be_tree.proofs.Order.{key_exact}
-use Rattle.be_tree.proofs.Putting.Puts.{put_at_item}
+use Rattle.be_tree_reading.specs.Tree.{BecomesTree, IsBelow, IsTreeAt, least_of_root, pages, pairs, pairs_at, pairs_below}
+use Rattle.be_tree_reading.proofs.Frame.{one_page, swaps_since}
+use Rattle.be_tree_reading.proofs.Items.{item_get, items_count}
+use Rattle.be_tree_reading.proofs.Order.{key_exact}
+use Rattle.be_tree_reading.proofs.Putting.Puts.{put_at_item}
 use Rattle.be_tree.proofs.Raises.{top, tree_on_way}
-use Rattle.be_tree.proofs.Reading.Cursors.{root_pairs}
+use Rattle.be_tree_reading.proofs.Reading.Cursors.{root_pairs}
 use Rattle.be_tree.proofs.Removing.Clears.{swaps_none}
 use Rattle.be_tree.proofs.Removing.Removes.{without_split}
 use Rattle.be_tree.proofs.Rises.{node_written}
-use Rattle.be_tree.proofs.Searching.{found_equal, found_gap, rank_of_equal, rank_of_gap}
-use Rattle.be_tree.proofs.Shape.Roots.{root_some}
-use Rattle.be_tree.proofs.TreeFacts.{IsSplit, as_branches, leaf_split, page_keys}
+use Rattle.be_tree_reading.proofs.Searching.{found_equal, found_gap, rank_of_equal, rank_of_gap}
+use Rattle.be_tree_reading.proofs.Shape.Roots.{root_some}
+use Rattle.be_tree_reading.proofs.TreeFacts.{IsSplit, as_branches, leaf_split, page_keys}
 use Rattle.be_tree.proofs.Ways.{change_down, payload_down, put_goes, rising_inside, without_goes}
 
 put_first : (pair : Pair) (items : List Pair) → ((d : Pair) → 0 < length items → key_cmp (get_or items 0 d).key pair.key ≡ Greater) → put pair items ≡ pair ∷ items

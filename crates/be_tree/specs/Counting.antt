@@ -5,8 +5,8 @@ use Rattle.std.specs.List.{flat_map}
 use Rattle.be_pages.specs.declared.room.Standing.{Standing}
 use Rattle.be_pages.specs.Pages.{is_taken, times}
 use Rattle.be_value.specs.declared.refusals.Refusal.{Refusal}
-use Rattle.be_tree.specs.Pair.{Pair}
-use Rattle.be_tree.specs.Tree.{pairs}
+use Rattle.be_tree_reading.specs.Pair.{Pair}
+use Rattle.be_tree_reading.specs.Tree.{pairs}
 
 -- the pairs of several trees
 abbrev pub pairs_of_all : (words : ℕ → ℕ → ℕ) (roots : List ℕ) → List Pair

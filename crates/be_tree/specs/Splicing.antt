@@ -6,8 +6,8 @@ use Rattle.be_pages.specs.declared.room.Standing.TheVariants.{Free, Filled}
 use Rattle.be_pages.specs.Pages.{is_kept, OnlyWrites, StandsAt, Swaps}
 use Rattle.be_tree.specs.declared.slot.Slot.{Slot}
 use Rattle.be_tree.specs.declared.splicing.Cut.{Cut}
-use Rattle.be_tree.specs.Pair.{Pair}
-use Rattle.be_tree.specs.Page.{IsPage, IsPairAt, item_at, item_place, items_of, level_of}
+use Rattle.be_tree_reading.specs.Pair.{Pair}
+use Rattle.be_tree_reading.specs.Page.{IsPage, IsPairAt, item_at, item_place, items_of, level_of}
 use Rattle.be_tree.specs.Slot.{IsOff, IsReady, pairs_of}
 
 -- a list with others in the place of a cut

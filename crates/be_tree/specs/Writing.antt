@@ -8,9 +8,9 @@ use Rattle.be_pages.specs.Refusal.{IsFullOf}
 use Rattle.be_value.specs.declared.refusals.Refusal.{Refusal}
 use Rattle.be_tree.specs.declared.slot.Slot.{Slot}
 use Rattle.be_tree.specs.Counting.{Takes}
-use Rattle.be_tree.specs.Pair.{Pair}
+use Rattle.be_tree_reading.specs.Pair.{Pair}
 use Rattle.be_tree.specs.Slot.{IsReady, pairs_of}
-use Rattle.be_tree.specs.Tree.{Becomes, BecomesTree, IsBelow, pages_below, pairs_below}
+use Rattle.be_tree_reading.specs.Tree.{Becomes, BecomesTree, IsBelow, pages_below, pairs_below}
 
 -- each of a node's items can be read, also the pair that is put among them
 abbrev pub AreReady : (standing : ℕ → Standing) (words : ℕ → ℕ → ℕ) (given : Pair) → List Slot

@@ -9,8 +9,8 @@ ghost use Rattle.std.specs.Prelude.{◌+◌, ◌≤◌, length, IfOk, OnErr, IfE
 ghost use Rattle.be_pages.specs.Pages.{KeepsStart};
 ghost use Rattle.be_pages.specs.Refusal.{IsFullOf};
 ghost use Rattle.be_tree.specs.Counting.{Takes, most_taken};
-ghost use Rattle.be_tree.specs.Key.{put};
-ghost use Rattle.be_tree.specs.Tree.{BecomesTree, IsTree, level_of_root, pairs, pages};
+ghost use Rattle.be_tree_reading.specs.Key.{put};
+ghost use Rattle.be_tree_reading.specs.Tree.{BecomesTree, IsTree, level_of_root, pairs, pages};
 
 use crate::inserting::put_on;
 use crate::item::Item;

@@ -5,7 +5,8 @@ ghost use Rattle.be_tree.specs.Path.{IsPathFor, IsPathTo, PutsInto};
 ghost use Rattle.be_tree.specs.Writing.{Refuses};
 
 use crate::item::Item;
-use crate::page::{MOST_ITEMS, fill_slots};
+use crate::storing::fill_slots;
+use be_tree_reading::MOST_ITEMS;
 use crate::path::{NewRoot, Path};
 use crate::rising::{Edit, change_leaf};
 use crate::settling::settle;

@@ -12,8 +12,8 @@ ghost use Rattle.std.specs.Prelude.{◌≡◌, IfOk, OnErr, IfErr, IsTrue, None,
 ghost use Rattle.be_pages.specs.Pages.{IsUnchanged, KeepsStart};
 ghost use Rattle.be_pages.specs.Refusal.{IsFullOf};
 ghost use Rattle.be_tree.specs.Counting.{Takes, most_taken};
-ghost use Rattle.be_tree.specs.Key.{payload_at, without};
-ghost use Rattle.be_tree.specs.Tree.{BecomesTree, IsTree, level_of_root, pages, pairs};
+ghost use Rattle.be_tree_reading.specs.Key.{payload_at, without};
+ghost use Rattle.be_tree_reading.specs.Tree.{BecomesTree, IsTree, level_of_root, pages, pairs};
 
 use crate::path::{Path, find_path};
 use crate::taking::take_out;

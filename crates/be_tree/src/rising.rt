@@ -4,11 +4,11 @@
 //! least key is another one is named by it above. If neither is so, the pages above stay as they
 //! are.
 ghost use Rattle.std.specs.Prelude.{◌≡◌, ◌+◌, ◌<◌, ◌⊎◌, IfOk, IsTrue, length, true};
-ghost use Rattle.be_tree.specs.Page.{items_of, level_of};
+ghost use Rattle.be_tree_reading.specs.Page.{items_of, level_of};
 ghost use Rattle.be_tree.specs.Path.{IsChanged, IsEdit, IsWayIn, whole};
 ghost use Rattle.be_tree.specs.Slot.{pairs_of};
 ghost use Rattle.be_tree.specs.Splicing.{CanBeSpliced, spliced};
-ghost use Rattle.be_tree.specs.Tree.{BecomesTree, pages, pairs_at};
+ghost use Rattle.be_tree_reading.specs.Tree.{BecomesTree, pages, pairs_at};
 ghost use Rattle.be_tree.specs.Writing.{Refuses};
 
 use crate::item::Item;

@@ -10,16 +10,17 @@ ghost use Rattle.std.specs.Prelude.{◌≡◌, ◌≤◌, ◌+◌, ◌-◌, ◌<
 ghost use Rattle.std.specs.Prelude.{length, true, IfOk, IsTrue};
 ghost use Rattle.be_pages.specs.Pages.{IsUnchanged, is_readable};
 ghost use Rattle.be_tree.specs.Counting.{TakesAtMost, most_taken};
-ghost use Rattle.be_tree.specs.Page.{IsPage, item_at, item_place, level_of};
+ghost use Rattle.be_tree_reading.specs.Page.{IsPage, item_at, item_place, level_of};
 ghost use Rattle.be_tree.specs.Path.{IsInHand, whole};
 ghost use Rattle.be_tree.specs.Settling.{IsChildInHand, IsTurned, Settles, taken_for};
 ghost use Rattle.be_tree.specs.Slot.{loaded, pairs_of};
 ghost use Rattle.be_tree.specs.Splicing.{spliced};
-ghost use Rattle.be_tree.specs.Tree.{BecomesTree, child, pages, pairs_below};
+ghost use Rattle.be_tree_reading.specs.Tree.{BecomesTree, child, pages, pairs_below};
 ghost use Rattle.be_tree.specs.Writing.{Refuses};
 
 use crate::item::Item;
-use crate::page::{HEADER_WORDS, ITEM_WORDS, LEAST_ITEMS, MOST_ITEMS, child_at, fill_slots};
+use crate::storing::fill_slots;
+use be_tree_reading::{HEADER_WORDS, ITEM_WORDS, LEAST_ITEMS, MOST_ITEMS, child_at};
 use crate::path::Step;
 use crate::rising::{Changed, rise};
 use crate::siblings::{append, count_of};

@@ -9,14 +9,15 @@ ghost use Rattle.be_pages.specs.declared.room.Standing.TheVariants.{Free, Taken,
 ghost use Rattle.be_pages.specs.Pages.{OnlyWrites, StandsAt, is_kept, is_readable};
 ghost use Rattle.be_pages.specs.Refusal.{IsFullOf};
 ghost use Rattle.be_tree.specs.declared.slot.Slot.{Slot as Slots};
-ghost use Rattle.be_tree.specs.Page.{IsItem, IsPage, item_place};
+ghost use Rattle.be_tree_reading.specs.Page.{IsItem, IsPage, item_place};
 ghost use Rattle.be_tree.specs.Slot.{IsOff, IsReady, pair_of};
 ghost use Rattle.be_tree.specs.Splicing.{AreCopies, CanBeSpliced, HasGap, IsSpliced};
 ghost use Rattle.be_tree.specs.Splicing.{IsStored, IsTaken, WritesItems};
 ghost use Rattle.be_tree.specs.Writing.{Refuses};
 
 use crate::item::Item;
-use crate::page::{HEADER_WORDS, ITEM_WORDS, copy_item, store_slot};
+use crate::storing::{copy_item, store_slot};
+use be_tree_reading::{HEADER_WORDS, ITEM_WORDS};
 use crate::slot::Slot;
 use be_pages::Room;
 use be_value::Refusal;

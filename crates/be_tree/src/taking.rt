@@ -5,7 +5,8 @@ ghost use Rattle.be_tree.specs.Path.{IsPathAt, TakesOut, least_at};
 ghost use Rattle.be_tree.specs.Writing.{Refuses};
 
 use crate::item::Item;
-use crate::page::{LEAST_ITEMS, fill_slots};
+use crate::storing::fill_slots;
+use be_tree_reading::LEAST_ITEMS;
 use crate::path::{NewRoot, Path, Step};
 use crate::rising::{Edit, change_leaf};
 use crate::settling::settle;

@@ -8,12 +8,12 @@ ghost use Rattle.std.specs.Prelude.{IsTrue};
 ghost use Rattle.be_pages.specs.Pages.{is_kept, IsUnchanged};
 ghost use Rattle.be_pages.specs.Pages.{Swaps};
 ghost use Rattle.be_tree.specs.Slot.{IsBranchSlot, IsReady, branch_to, pair_of, pairs_of};
-ghost use Rattle.be_tree.specs.Tree.{IsBelow, IsWritten, BecomesTree, child, least_of_root};
+ghost use Rattle.be_tree_reading.specs.Tree.{IsBelow, IsWritten, BecomesTree, child, least_of_root};
 ghost use Rattle.be_tree.specs.Writing.{AreApart, AreReady, IsApart, IsWritable, Packs, Replaces};
 ghost use Rattle.be_tree.specs.Writing.{Refuses, ReplacesTree};
 
 use crate::item::Item;
-use crate::page::{LEAST_ITEMS, MOST_ITEMS, child_at};
+use be_tree_reading::{LEAST_ITEMS, MOST_ITEMS, child_at};
 use crate::slot::{Node, Slot};
 use crate::splicing::store_slots;
 use arrayvec::ArrayVec;

@@ -5,9 +5,9 @@ use Rattle.std.proofs.lemmas.Bool.{cases_eq}
 use Rattle.be_pages.specs.declared.room.Standing.{Standing}
 use Rattle.be_pages.specs.declared.room.Standing.TheVariants.{Free, Filled}
 use Rattle.be_pages.specs.Pages.{is_kept, times, Swaps}
-use Rattle.be_tree.proofs.Frame.{times-cons, times_itself, times_other, same_page, swaps_trans, swaps_frame, swaps_fresh, swaps_stands, readable_kept}
-use Rattle.be_tree.proofs.Trees.{AreBeside, trees_beside, trees_in_use}
-use Rattle.be_tree.specs.Forest.{pages_of}
+use Rattle.be_tree_reading.proofs.Frame.{times-cons, times_itself, times_other, same_page, swaps_trans, swaps_frame, swaps_fresh, swaps_stands, readable_kept}
+use Rattle.be_tree_reading.proofs.Trees.{AreBeside, trees_beside, trees_in_use}
+use Rattle.be_tree_reading.specs.Forest.{pages_of}
 use Rattle.be_volume.specs.Sound.{IsSound}
 use Rattle.be_volume.specs.Volume.{State, steps}
 use Rattle.be_volume.specs.declared.ops.Done.{Done}

@@ -9,10 +9,10 @@ use Rattle.std.specs.FinMap as fin
 use Rattle.std.specs.FinMap.Entries.{put, by_order}
 use Rattle.be_pages.specs.declared.room.Standing.{Standing}
 use Rattle.be_pages.specs.Pages.{Swaps}
-use Rattle.be_tree.specs.Tree.{IsTree, pairs, pages}
-use Rattle.be_tree.specs.Forest.{pages_of, AreTrees, Replaces}
-use Rattle.be_tree.proofs.TreeFacts.{in_three}
-use Rattle.be_tree.proofs.Trees.{all_cons, replaces}
+use Rattle.be_tree_reading.specs.Tree.{IsTree, pairs, pages}
+use Rattle.be_tree_reading.specs.Forest.{pages_of, AreTrees, Replaces}
+use Rattle.be_tree_reading.proofs.TreeFacts.{in_three}
+use Rattle.be_tree_reading.proofs.Trees.{all_cons, replaces}
 use Rattle.be_volume.specs.Maps.{name_cmp, Nodes}
 use Rattle.be_volume.specs.Sound.{IsName}
 use Rattle.be_volume.specs.Volume.{State}

@@ -9,11 +9,11 @@ use Rattle.std.specs.declared.cmp.Ordering.{Ordering}
 use Rattle.std.specs.declared.cmp.Ordering.TheVariants.{Less, Equal, Greater}
 use Rattle.std.specs.declared.option.Option.{Option}
 use Rattle.std.specs.FinMap as fin
-use Rattle.be_tree.specs.Pair.{Pair}
-use Rattle.be_tree.specs.Key.{key_cmp, payload_at, IsRising}
-use Rattle.be_tree.specs.Range.{is_from, pairs_from}
-use Rattle.be_tree.proofs.Order.{key_exact, key_total, AllAbove_trans, payload_at_above}
-use Rattle.be_tree.proofs.Ranges.{from_equal, from_less}
+use Rattle.be_tree_reading.specs.Pair.{Pair}
+use Rattle.be_tree_reading.specs.Key.{key_cmp, payload_at, IsRising}
+use Rattle.be_tree_reading.specs.Range.{is_from, pairs_from}
+use Rattle.be_tree_reading.proofs.Order.{key_exact, key_total, AllAbove_trans, payload_at_above}
+use Rattle.be_tree_reading.proofs.Ranges.{from_equal, from_less}
 use Rattle.be_volume.specs.Maps.{Nodes, Attributes, attributes_of, name_cmp}
 use Rattle.be_volume.specs.Sound.{IsSound}
 use Rattle.be_volume.specs.Volume.{State}

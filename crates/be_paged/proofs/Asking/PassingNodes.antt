@@ -14,14 +14,14 @@ use Rattle.be_value.specs.Key.{value_key}
 use Rattle.be_value.specs.declared.values.Kind.TheVariants as kinds
 use Rattle.be_query.specs.Grammar.{Leaf, Literal}
 use Rattle.be_query.specs.declared.tree.Cmp.{Cmp}
-use Rattle.be_tree.specs.Pair.{Pair}
-use Rattle.be_tree.specs.Key.{key_cmp, payload_at, IsRising}
-use Rattle.be_tree.specs.Page.{item_at, item_place, items_of}
-use Rattle.be_tree.specs.Range.{HasFirst, HasGot, is_from, is_past, number_of, pairs_from, pairs_to}
-use Rattle.be_tree.specs.Tree.{pairs}
-use Rattle.be_tree.proofs.Nodes.Slots.{item_get, items_count}
-use Rattle.be_tree.proofs.Order.{AllAbove_trans, payload_at_above, key_exact}
-use Rattle.be_tree.proofs.Reading.Leaves.{any_past, got_rest}
+use Rattle.be_tree_reading.specs.Pair.{Pair}
+use Rattle.be_tree_reading.specs.Key.{key_cmp, payload_at, IsRising}
+use Rattle.be_tree_reading.specs.Page.{item_at, item_place, items_of}
+use Rattle.be_tree_reading.specs.Range.{HasFirst, HasGot, is_from, is_past, number_of, pairs_from, pairs_to}
+use Rattle.be_tree_reading.specs.Tree.{pairs}
+use Rattle.be_tree_reading.proofs.Items.{item_get, items_count}
+use Rattle.be_tree_reading.proofs.Order.{AllAbove_trans, payload_at_above, key_exact}
+use Rattle.be_tree_reading.proofs.Reading.Leaves.{any_past, got_rest}
 use Rattle.be_volume.specs.Keys.{IsKey}
 use Rattle.be_volume.specs.Query.{sat}
 use Rattle.be_volume.specs.Reading.{index_kind}

@@ -13,11 +13,11 @@ use Rattle.std.proofs.lemmas.List.Elements.{Contains-append_cases, Contains-appe
 use Rattle.std.proofs.lemmas.Nat.{from_be_bytes-to_be_bytes_8}
 use Rattle.be_value.specs.Key.{key, value_key}
 use Rattle.be_value.specs.declared.values.Value.{Value}
-use Rattle.be_tree.specs.Pair.{Pair}
-use Rattle.be_tree.specs.Key.{key_cmp, payload_at, IsRising}
-use Rattle.be_tree.specs.Range.{AreLong, HasFirst, is_from, is_past, number_of, numbers_to, pairs_from, pairs_to}
-use Rattle.be_tree.specs.Tree.{pairs}
-use Rattle.be_tree.proofs.Order.{key_total, key_cmp_flip, key_cmp_flip_less, AllAbove_trans, payload_at_above, key_exact}
+use Rattle.be_tree_reading.specs.Pair.{Pair}
+use Rattle.be_tree_reading.specs.Key.{key_cmp, payload_at, IsRising}
+use Rattle.be_tree_reading.specs.Range.{AreLong, HasFirst, is_from, is_past, number_of, numbers_to, pairs_from, pairs_to}
+use Rattle.be_tree_reading.specs.Tree.{pairs}
+use Rattle.be_tree_reading.proofs.Order.{key_total, key_cmp_flip, key_cmp_flip_less, AllAbove_trans, payload_at_above, key_exact}
 use Rattle.be_volume.specs.Keys.{IsKey}
 use Rattle.be_volume.specs.Sound.{IsSound}
 use Rattle.be_volume.specs.Volume.{State}

@@ -7,8 +7,8 @@ use Rattle.be_value.specs.Key.{key}
 use Rattle.be_value.specs.Value.{kind_of, is_indexable}
 use Rattle.be_value.specs.declared.values.Kind.{Kind}
 use Rattle.be_value.specs.declared.values.Value.{Value}
-use Rattle.be_tree.specs.Key.{payload_at}
-use Rattle.be_tree.specs.Pair.{Pair}
+use Rattle.be_tree_reading.specs.Key.{payload_at}
+use Rattle.be_tree_reading.specs.Pair.{Pair}
 use Rattle.be_volume.specs.Keys.{IsKey}
 use Rattle.be_volume.specs.Query.{sees, seen_in}
 use Rattle.be_volume.specs.Reading.{attribute, index_kind}

@@ -9,12 +9,12 @@ use Rattle.std.specs.declared.cmp.Ordering.TheVariants.{Less, Equal, Greater}
 use Rattle.std.specs.declared.option.Option.{Option}
 use Rattle.std.specs.FinMap as fin
 use Rattle.be_pages.specs.declared.room.Standing.{Standing}
-use Rattle.be_tree.specs.Pair.{Pair}
-use Rattle.be_tree.specs.Key.{key_cmp, payload_at, IsRising}
-use Rattle.be_tree.specs.Range.{is_from, pairs_from}
-use Rattle.be_tree.specs.Tree.{IsTree, pairs}
-use Rattle.be_tree.proofs.Order.{key_total, key_cmp_flip_less, AllAbove_trans, payload_at_above}
-use Rattle.be_tree.proofs.Ranges.{next_from}
+use Rattle.be_tree_reading.specs.Pair.{Pair}
+use Rattle.be_tree_reading.specs.Key.{key_cmp, payload_at, IsRising}
+use Rattle.be_tree_reading.specs.Range.{is_from, pairs_from}
+use Rattle.be_tree_reading.specs.Tree.{IsTree, pairs}
+use Rattle.be_tree_reading.proofs.Order.{key_total, key_cmp_flip_less, AllAbove_trans, payload_at_above}
+use Rattle.be_tree_reading.proofs.Ranges.{next_from}
 use Rattle.be_volume.specs.Keys.{IsKey, IsNextKey}
 use Rattle.be_volume.specs.PairKeys.{IsNext}
 use Rattle.be_volume.specs.PairKeys as pair_keys

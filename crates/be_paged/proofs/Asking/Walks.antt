@@ -17,11 +17,11 @@ use Rattle.be_value.specs.declared.values.Value.{Value}
 use Rattle.be_value.specs.declared.values.Value.TheVariants.{Rawt}
 use Rattle.be_value.specs.Key.{IsValue}
 use Rattle.be_pages.specs.declared.room.Standing.{Standing}
-use Rattle.be_tree.specs.Cursor.{IsCursor}
-use Rattle.be_tree.specs.declared.cursor.Cursor.{Cursor}
-use Rattle.be_tree.specs.Pair.{Pair}
-use Rattle.be_tree.specs.Key.{IsRising}
-use Rattle.be_tree.specs.Range.{pairs_from}
+use Rattle.be_tree_reading.specs.Cursor.{IsCursor}
+use Rattle.be_tree_reading.specs.declared.cursor.Cursor.{Cursor}
+use Rattle.be_tree_reading.specs.Pair.{Pair}
+use Rattle.be_tree_reading.specs.Key.{IsRising}
+use Rattle.be_tree_reading.specs.Range.{pairs_from}
 use Rattle.be_volume.specs.Maps.{name_cmp, Nodes, attributes_of}
 use Rattle.be_volume.specs.Sound.{IsName}
 use Rattle.be_volume.proofs.MapLemmas.{names_total}

@@ -11,8 +11,8 @@ use Rattle.be_value.specs.Name.{name_from}
 use Rattle.be_value.specs.Key.{IsValue}
 use Rattle.be_value.specs.declared.values.Value.{Value}
 use Rattle.be_pages.specs.declared.room.Standing.{Standing}
-use Rattle.be_tree.specs.Pair.{Pair}
-use Rattle.be_tree.specs.Key.{payload_at}
+use Rattle.be_tree_reading.specs.Pair.{Pair}
+use Rattle.be_tree_reading.specs.Key.{payload_at}
 use Rattle.be_value.specs.declared.refusals.Refusal.TheVariants.{NoNode}
 use Rattle.be_volume.specs.Maps.{Nodes, Attributes, attributes_of, name_cmp}
 use Rattle.be_volume.specs.Reading.{attributes_at}

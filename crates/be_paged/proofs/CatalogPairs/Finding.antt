@@ -3,9 +3,9 @@ use Rattle.std.proofs.Common.{◌≡◌, ℕ, suc, zero, true, false, cond, List
 use Rattle.std.specs.Ordering.{is_eq}
 use Rattle.std.specs.declared.cmp.Ordering.{Ordering}
 use Rattle.std.specs.declared.cmp.Ordering.TheVariants.{Less, Equal, Greater}
-use Rattle.be_tree.specs.Pair.{Pair}
-use Rattle.be_tree.specs.Key.{key_cmp, payload_at}
-use Rattle.be_tree.proofs.Order.{key_exact}
+use Rattle.be_tree_reading.specs.Pair.{Pair}
+use Rattle.be_tree_reading.specs.Key.{key_cmp, payload_at}
+use Rattle.be_tree_reading.proofs.Order.{key_exact}
 
 -- a key that is found is that of a pair
 pub found_pair : (P : Pair → Type 0) (k : List ℕ) (xs : List Pair) → All P xs → is_some (payload_at xs k) ≡ true → (x : Pair) × P x × (x.key ≡ k)

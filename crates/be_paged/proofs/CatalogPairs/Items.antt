@@ -13,10 +13,10 @@ use Rattle.std.proofs.lemmas.Bool.{cases_eq}
 use Rattle.std.proofs.lemmas.Nat.{from_be_bytes-to_be_bytes_8}
 use Rattle.be_value.specs.Name.{name_from}
 use Rattle.be_value.specs.declared.values.Value.{Value}
-use Rattle.be_tree.specs.Pair.{Pair}
-use Rattle.be_tree.specs.Key.{key_cmp, payload_at, put, put_before, without}
-use Rattle.be_tree.proofs.Order.{key_total, key_exact}
-use Rattle.be_tree.proofs.Trees.{all_cons}
+use Rattle.be_tree_reading.specs.Pair.{Pair}
+use Rattle.be_tree_reading.specs.Key.{key_cmp, payload_at, put, put_before, without}
+use Rattle.be_tree_reading.proofs.Order.{key_total, key_exact}
+use Rattle.be_tree_reading.proofs.Trees.{all_cons}
 use Rattle.be_volume.specs.Maps.{name_cmp, Nodes, Attributes, attributes_of, with_attribute}
 use Rattle.be_volume.proofs.MapLemmas.{names_total, exact_names}
 use Rattle.be_paged.specs.Catalog.{catalog_key, payload_of, value_at, stored, IsCatalogKey, IsCatalog}

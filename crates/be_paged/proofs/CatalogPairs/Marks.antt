@@ -13,15 +13,15 @@ use Rattle.std.proofs.lemmas.List.{drop_all, length-append}
 use Rattle.std.proofs.lemmas.Map.Views.{exact_unsigned_eq}
 use Rattle.std.proofs.lemmas.Nat.{from_be_bytes-to_be_bytes_8}
 use Rattle.be_pages.specs.declared.room.Standing.{Standing}
-use Rattle.be_tree.specs.Pair.{Pair}
-use Rattle.be_tree.specs.Key.{key_cmp, payload_at, AllAbove, IsRising}
-use Rattle.be_tree.specs.Page.{item_at, key_len}
-use Rattle.be_tree.specs.Range.{is_from, pairs_from}
-use Rattle.be_tree.specs.Tree.{pairs}
-use Rattle.be_tree.proofs.Bytes.Words.{item_key_length}
-use Rattle.be_tree.proofs.Order.{key_exact}
-use Rattle.be_tree.proofs.Ranges.{from_equal, from_greater, from_less}
-use Rattle.be_tree.proofs.Trees.{tree_rising}
+use Rattle.be_tree_reading.specs.Pair.{Pair}
+use Rattle.be_tree_reading.specs.Key.{key_cmp, payload_at, AllAbove, IsRising}
+use Rattle.be_tree_reading.specs.Page.{item_at, key_len}
+use Rattle.be_tree_reading.specs.Range.{is_from, pairs_from}
+use Rattle.be_tree_reading.specs.Tree.{pairs}
+use Rattle.be_tree_reading.proofs.Bytes.Words.{item_key_length}
+use Rattle.be_tree_reading.proofs.Order.{key_exact}
+use Rattle.be_tree_reading.proofs.Ranges.{from_equal, from_greater, from_less}
+use Rattle.be_tree_reading.proofs.Trees.{tree_rising}
 use Rattle.be_volume.specs.Maps.{Nodes}
 use Rattle.be_volume.specs.Volume.{State}
 use Rattle.be_plan.proofs.Rising.{Rises, is_in, the_same, same_rising, in_filter, from_filter, rises_filter, rises_keys}

@@ -6,8 +6,8 @@ use Rattle.std.specs.List.{range_with_len}
 use Rattle.std.proofs.lemmas.List.{take-append-drop}
 use Rattle.std.proofs.lemmas.Map.Views.{exact_unsigned_eq}
 use Rattle.std.proofs.lemmas.Nat.{from_be_bytes-to_be_bytes_8}
-use Rattle.be_tree.specs.Page.{item_at, key_len}
-use Rattle.be_tree.proofs.Bytes.Words.{first_bytes, item_key_length}
+use Rattle.be_tree_reading.specs.Page.{item_at, key_len}
+use Rattle.be_tree_reading.proofs.Bytes.Words.{first_bytes, item_key_length}
 use Rattle.be_paged.specs.Catalog.{catalog_key}
 use Rattle.be_paged.specs.Reading.{is_of}
 use Rattle.be_paged.proofs.CatalogPairs.Segments.{of_node, is_node}

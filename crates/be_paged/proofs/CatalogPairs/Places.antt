@@ -12,12 +12,12 @@ use Rattle.std.specs.Prelude.{nat_eq}
 use Rattle.std.proofs.lemmas.Map.Lookups.{exact_bytes}
 use Rattle.be_pages.specs.declared.room.Standing.{Standing}
 use Rattle.be_pages.specs.Pages.{is_readable}
-use Rattle.be_tree.specs.Key.{payload_at}
-use Rattle.be_tree.specs.Page.{IsItem, item_at}
-use Rattle.be_tree.specs.Pair.{Pair}
-use Rattle.be_tree.specs.Range.{is_from, pairs_from}
-use Rattle.be_tree.specs.Tree.{pairs}
-use Rattle.be_tree.proofs.Order.{key_total}
+use Rattle.be_tree_reading.specs.Key.{payload_at}
+use Rattle.be_tree_reading.specs.Page.{IsItem, item_at}
+use Rattle.be_tree_reading.specs.Pair.{Pair}
+use Rattle.be_tree_reading.specs.Range.{is_from, pairs_from}
+use Rattle.be_tree_reading.specs.Tree.{pairs}
+use Rattle.be_tree_reading.proofs.Order.{key_total}
 use Rattle.be_volume.specs.Maps.{name_cmp}
 use Rattle.be_paged.specs.Catalog.{catalog_key}
 use Rattle.be_paged.specs.Place.{IsPlaceOf, IsFoundAt, IsAsked}

@@ -15,11 +15,11 @@ use Rattle.std.proofs.lemmas.Slice.Eq.{starts_is}
 use Rattle.be_value.specs.declared.values.Value.{Value}
 use Rattle.be_value.specs.Name.{name_from}
 use Rattle.be_value.proofs.KeyOrder.{bytes_order}
-use Rattle.be_tree.specs.Pair.{Pair}
-use Rattle.be_tree.specs.Key.{key_cmp, payload_at, AllAbove, IsRising}
-use Rattle.be_tree.specs.Range.{is_from, pairs_from}
-use Rattle.be_tree.proofs.Order.{key_total, key_exact, key_cmp_flip_less, AllAbove_trans, payload_at_above}
-use Rattle.be_tree.proofs.Ranges.{from_greater, from_less, from_equal}
+use Rattle.be_tree_reading.specs.Pair.{Pair}
+use Rattle.be_tree_reading.specs.Key.{key_cmp, payload_at, AllAbove, IsRising}
+use Rattle.be_tree_reading.specs.Range.{is_from, pairs_from}
+use Rattle.be_tree_reading.proofs.Order.{key_total, key_exact, key_cmp_flip_less, AllAbove_trans, payload_at_above}
+use Rattle.be_tree_reading.proofs.Ranges.{from_greater, from_less, from_equal}
 use Rattle.be_volume.specs.Maps.{name_cmp, Nodes, Attributes, attributes_of}
 use Rattle.be_volume.proofs.MapLemmas.{names_total}
 use Rattle.be_paged.specs.Catalog.{catalog_key, payload_of, value_at, stored, IsCatalogKey, IsCatalog}

@@ -4,7 +4,7 @@ use Rattle.std.specs.declared.option.Option.{Option}
 use Rattle.std.specs.FinMap as fin
 use Rattle.be_value.specs.Value.{kind_of}
 use Rattle.be_value.specs.declared.values.Value.{Value}
-use Rattle.be_tree.specs.Tree.{pairs}
+use Rattle.be_tree_reading.specs.Tree.{pairs}
 use Rattle.be_volume.specs.Indices.{Indices, paired_at, unpaired_at, same_kind}
 use Rattle.be_volume.specs.Reading.{attribute}
 use Rattle.be_volume.specs.Sound.{IsSound}

@@ -8,8 +8,8 @@ use Rattle.std.specs.FinMap.{FinMap, nat_cmp-IsAntisymmetric, same_map}
 use Rattle.be_value.specs.Key.{key, value_key}
 use Rattle.be_value.specs.declared.values.Value.{Value}
 use Rattle.be_value.proofs.KeyOrder.{same_node}
-use Rattle.be_tree.specs.Pair.{Pair}
-use Rattle.be_tree.specs.Key.{payload_at, put, without}
+use Rattle.be_tree_reading.specs.Pair.{Pair}
+use Rattle.be_tree_reading.specs.Key.{payload_at, put, without}
 use Rattle.be_volume.specs.Indices.{unpaired}
 use Rattle.be_volume.specs.declared.maps.Index.{Index}
 use Rattle.be_paged.specs.Catalog.{IsPairOf, IsIndexOf}

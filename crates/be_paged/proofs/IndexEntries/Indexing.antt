@@ -12,15 +12,15 @@ use Rattle.std.specs.Option.{option_map}
 use Rattle.std.specs.FinMap as fin
 use Rattle.std.specs.FinMap.{FinMap, IsAntisymmetric, nat_cmp-IsAntisymmetric, slice_cmp-IsAntisymmetric, is_sorted}
 use Rattle.std.specs.FinMap.Entries.{find, put, by_order, below_all}
-use Rattle.be_tree.specs.Tree.{pages}
+use Rattle.be_tree_reading.specs.Tree.{pages}
 use Rattle.be_value.specs.declared.values.Kind.{Kind}
 use Rattle.be_volume.specs.Maps.{name_cmp}
 use Rattle.be_volume.specs.declared.maps.Index.{Index}
 use Rattle.be_paged.specs.Entry.{Entry}
 use Rattle.be_paged.specs.Page.{IsNamedAt, IsGapAt}
-use Rattle.be_tree.specs.Forest.{pages_of}
+use Rattle.be_tree_reading.specs.Forest.{pages_of}
 use Rattle.be_paged.specs.Version.{IsEntryOf, AreEntriesOf}
-use Rattle.be_tree.proofs.Trees.{all_cons}
+use Rattle.be_tree_reading.proofs.Trees.{all_cons}
 
 pub names_exact : IsAntisymmetric name_cmp
 names_exact = slice_cmp-IsAntisymmetric nat_cmp-IsAntisymmetric

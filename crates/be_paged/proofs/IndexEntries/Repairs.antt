@@ -9,8 +9,8 @@ use Rattle.be_value.specs.declared.values.Kind.{Kind}
 use Rattle.be_value.specs.declared.values.Kind.TheVariants as kinds
 use Rattle.be_value.specs.declared.values.Value.{Value}
 use Rattle.be_value.proofs.KeyPairs.{one_pair_of}
-use Rattle.be_tree.specs.Pair.{Pair}
-use Rattle.be_tree.specs.Key.{payload_at, put}
+use Rattle.be_tree_reading.specs.Pair.{Pair}
+use Rattle.be_tree_reading.specs.Key.{payload_at, put}
 use Rattle.be_volume.specs.Indices.{paired, unpaired, same_kind}
 use Rattle.be_volume.specs.Sound.{IsSound}
 use Rattle.be_volume.specs.Reading.{attribute}

@@ -14,9 +14,9 @@ use Rattle.be_value.specs.Value.{kind_of, is_indexable}
 use Rattle.be_value.specs.declared.refusals.Refusal.{Refusal}
 use Rattle.be_value.specs.declared.values.Kind.{Kind}
 use Rattle.be_value.specs.declared.values.Value.{Value}
-use Rattle.be_tree.specs.Key.{payload_at}
-use Rattle.be_tree.specs.Pair.{Pair}
-use Rattle.be_tree.proofs.TreeFacts.{in_three}
+use Rattle.be_tree_reading.specs.Key.{payload_at}
+use Rattle.be_tree_reading.specs.Pair.{Pair}
+use Rattle.be_tree_reading.proofs.TreeFacts.{in_three}
 use Rattle.be_volume.specs.Ahead.{reached}
 use Rattle.be_volume.specs.Indices.{Indices, paired, paired_at, same_kind, with_pair}
 use Rattle.be_volume.specs.Maps.{attributes_of, Attributes}

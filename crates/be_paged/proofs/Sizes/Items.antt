@@ -12,11 +12,11 @@ use Rattle.be_value.specs.Key.{key}
 use Rattle.be_value.specs.declared.values.Value.{Value}
 use Rattle.be_pages.specs.declared.room.Standing.{Standing}
 use Rattle.be_tree.specs.Counting.{pairs_of_all}
-use Rattle.be_tree.specs.Key.{IsRising, key_cmp, payload_at}
-use Rattle.be_tree.specs.Pair.{Pair}
-use Rattle.be_tree.specs.Tree.{IsTree, pairs}
+use Rattle.be_tree_reading.specs.Key.{IsRising, key_cmp, payload_at}
+use Rattle.be_tree_reading.specs.Pair.{Pair}
+use Rattle.be_tree_reading.specs.Tree.{IsTree, pairs}
 use Rattle.be_tree.proofs.Sizes.Trees.{forest_size}
-use Rattle.be_tree.proofs.Trees.{tree_rising}
+use Rattle.be_tree_reading.proofs.Trees.{tree_rising}
 use Rattle.be_volume.specs.Items.{items}
 use Rattle.be_volume.specs.Maps.{Attributes, Nodes, name_cmp}
 use Rattle.be_volume.specs.Volume.{State}

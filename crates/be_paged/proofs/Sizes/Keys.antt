@@ -10,9 +10,9 @@ use Rattle.std.specs.declared.cmp.Ordering.TheVariants.{Less, Equal, Greater}
 use Rattle.std.proofs.lemmas.List.{length-map}
 use Rattle.std.proofs.lemmas.List.Folds.{list_any-append}
 use Rattle.std.proofs.lemmas.Map.Made.{length-le_from_is_member}
-use Rattle.be_tree.specs.Pair.{Pair}
-use Rattle.be_tree.specs.Key.{AllAbove, IsRising, key_cmp, payload_at}
-use Rattle.be_tree.proofs.Order.{key_total, key_cmp_flip}
+use Rattle.be_tree_reading.specs.Pair.{Pair}
+use Rattle.be_tree_reading.specs.Key.{AllAbove, IsRising, key_cmp, payload_at}
+use Rattle.be_tree_reading.proofs.Order.{key_total, key_cmp_flip}
 
 pub same_key : IsEquivalence (eq_by_cmp key_cmp)
 same_key = eq_by_cmp_equiv key_total

@@ -14,13 +14,13 @@ use Rattle.be_value.specs.declared.values.Value.{Value}
 use Rattle.be_pages.specs.declared.room.Standing.{Standing}
 use Rattle.be_pages.specs.Pages.{IsUnchanged, Swaps}
 use Rattle.be_tree.specs.Counting.{CanBeHigh, HasInHand, TakesFewer, in_hand, most_taken, one_of, pairs_of_all}
-use Rattle.be_tree.specs.Forest.{pages_of, Replaces}
-use Rattle.be_tree.specs.Key.{key_cmp, put, put_before, without}
-use Rattle.be_tree.specs.Pair.{Pair}
-use Rattle.be_tree.specs.Tree.{IsTree, level_of_root, pages, pairs}
+use Rattle.be_tree_reading.specs.Forest.{pages_of, Replaces}
+use Rattle.be_tree_reading.specs.Key.{key_cmp, put, put_before, without}
+use Rattle.be_tree_reading.specs.Pair.{Pair}
+use Rattle.be_tree_reading.specs.Tree.{IsTree, level_of_root, pages, pairs}
 use Rattle.be_tree.proofs.Sizes.InHand.{hand_size, hand_swaps}
 use Rattle.be_tree.proofs.Sizes.Trees.{forest_size, tree_high}
-use Rattle.be_tree.proofs.Trees.{tree_rising}
+use Rattle.be_tree_reading.proofs.Trees.{tree_rising}
 use Rattle.be_value.specs.declared.refusals.Refusal.{Refusal}
 use Rattle.be_volume.specs.Ahead.{reached, state_after}
 use Rattle.be_volume.specs.Items.{StaysWithin, items}

@@ -5,8 +5,8 @@ use Rattle.be_value.specs.Name.{name_from}
 use Rattle.std.specs.Int.{to_be_bytes, w64}
 use Rattle.std.specs.List.{flat_map, range_with_len}
 use Rattle.be_value.specs.declared.values.Kind.{Kind}
-use Rattle.be_tree.specs.Page.{bytes_at, words_for}
-use Rattle.be_tree.proofs.Codec.{map_same, bytes_at_stored}
+use Rattle.be_tree_reading.specs.Page.{bytes_at, words_for}
+use Rattle.be_tree_reading.proofs.Codec.{map_same, bytes_at_stored}
 use Rattle.be_paged.specs.Entry.{Entry, HaveText}
 use Rattle.be_volume.specs.Sound.{IsName}
 use Rattle.be_paged.specs.Page.{Contents, entry_at, kind_numbered, IsEntry}

@@ -7,8 +7,8 @@ use Rattle.std.specs.FinMap as fin
 use Rattle.std.specs.FinMap.{get-empty, len-empty, len-entries}
 use Rattle.be_pages.specs.declared.room.Standing.{Standing}
 use Rattle.be_pages.specs.Pages.{is_kept, times}
-use Rattle.be_tree.specs.Tree.{IsTree}
-use Rattle.be_tree.specs.Forest.{pages_of}
+use Rattle.be_tree_reading.specs.Tree.{IsTree}
+use Rattle.be_tree_reading.specs.Forest.{pages_of}
 use Rattle.be_volume.specs.Volume.{empty}
 use Rattle.be_volume.specs.Maps.{name_cmp, Attributes}
 use Rattle.be_volume.specs.declared.maps.Index.{Index}

@@ -21,7 +21,7 @@ use Rattle.be_value.specs.declared.values.Value.{Value}
 use Rattle.be_value.specs.declared.values.Value.TheVariants.{Cstr, Long, Llng, Mims, Rawt, Ulng, Ullg}
 use Rattle.be_value.proofs.KeyPairs.{one_pair_of}
 use Rattle.be_pages.specs.declared.room.Standing.{Standing}
-use Rattle.be_tree.specs.Pair.{Pair}
+use Rattle.be_tree_reading.specs.Pair.{Pair}
 use Rattle.be_volume.specs.Maps.{Nodes, Attributes, name_cmp}
 use Rattle.be_volume.specs.Indices.{Indices}
 use Rattle.be_volume.specs.Sound.{IsSound}

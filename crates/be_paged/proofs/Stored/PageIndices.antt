@@ -7,7 +7,7 @@ use Rattle.std.specs.declared.option.Option.{Option}
 use Rattle.std.specs.declared.option.Option.TheVariants.{Some, None}
 use Rattle.std.specs.declared.cmp.Ordering.TheVariants.{Less, Equal, Greater}
 use Rattle.be_pages.specs.declared.room.Standing.{Standing}
-use Rattle.be_tree.specs.declared.cursor.Cursor.{Cursor}
+use Rattle.be_tree_reading.specs.declared.cursor.Cursor.{Cursor}
 use Rattle.be_volume.specs.Maps.{name_cmp}
 use Rattle.be_volume.specs.Volume.{State}
 use Rattle.be_paged.specs.Entry.{Entry}

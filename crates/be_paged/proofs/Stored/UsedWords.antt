@@ -9,8 +9,8 @@ use Rattle.std.proofs.lemmas.Bool.{cases_lt}
 use Rattle.be_value.specs.Coded.{place}
 use Rattle.be_value.specs.declared.values.Kind.{Kind}
 use Rattle.be_value.specs.declared.values.Kind.TheVariants as kinds
-use Rattle.be_tree.specs.Page.{bytes_at, words_for}
-use Rattle.be_tree.proofs.Codec.{flat_map_length}
+use Rattle.be_tree_reading.specs.Page.{bytes_at, words_for}
+use Rattle.be_tree_reading.proofs.Codec.{flat_map_length}
 use Rattle.be_paged.specs.Entry.{Entry, HaveText}
 use Rattle.be_paged.specs.Page.{Contents, contents_of, entry_at, kind_numbered, entry_place, IsEntry, IsVersionPage}
 

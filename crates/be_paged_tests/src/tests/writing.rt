@@ -4,7 +4,7 @@
 //! refused.
 ghost use Rattle.std.specs.Prelude.{◌≡◌, ◌<◌, ◌≤◌, ◌+◌, ◌^◌, Ok, IfOk, OnOk, IfErr, List, length};
 ghost use Rattle.be_pages.specs.Pages.{after_undo};
-ghost use Rattle.be_tree.specs.Forest.{IsWriteStart};
+ghost use Rattle.be_tree_reading.specs.Forest.{IsWriteStart};
 ghost use Rattle.be_volume.specs.Volume.{State, Writes, steps, empty};
 ghost use Rattle.be_volume.specs.declared.ops.Done.{Done as AnyDone};
 ghost use Rattle.be_paged.specs.Changes.{Applies, IsRefusedList};

@@ -7,7 +7,7 @@ use Rattle.be_pages.specs.declared.room.Standing.{Standing}
 use Rattle.be_pages.specs.declared.room.Standing.TheVariants.{Free, Old, GivenUp, Taken, Filled}
 use Rattle.be_pages.specs.Pages.{is_taken, after_give_up, times, StandsAt, PageStep, untouched, unused, fresh, given_old, given_new, stays_old, stays_new, Swaps}
 use Rattle.be_tree.specs.Counting.{one_of, in_hand, TakesAtMost, TakesFewer, HasInHand}
-use Rattle.be_tree.proofs.Frame.{times-cons, times_itself}
+use Rattle.be_tree_reading.proofs.Frame.{times-cons, times_itself}
 use Rattle.be_tree.proofs.Nodes.Stands.{stands_at, stands_else}
 
 -- one change after another

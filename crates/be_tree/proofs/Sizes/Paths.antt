@@ -3,9 +3,9 @@ use Rattle.std.proofs.Common.{◌≡◌, ℕ, zero, suc, ◌+◌, ◌-◌, List,
 use Rattle.be_pages.specs.declared.room.Standing.{Standing}
 use Rattle.be_tree.specs.declared.path.Path.{Path}
 use Rattle.be_tree.specs.declared.path.Step.{Step}
-use Rattle.be_tree.specs.Page.{item_at, item_place, level_of}
+use Rattle.be_tree_reading.specs.Page.{item_at, item_place, level_of}
 use Rattle.be_tree.specs.Path.{IsPathTo, IsWay}
-use Rattle.be_tree.specs.Tree.{IsTreeAt, child, least_of_root, level_of_root}
+use Rattle.be_tree_reading.specs.Tree.{IsTreeAt, child, least_of_root, level_of_root}
 use Rattle.be_tree.proofs.Ways.{step_leads}
 
 way_levels : (standing : ℕ → Standing) (words : ℕ → ℕ → ℕ) (page least : ℕ) (above : List Step) (last : ℕ) → IsWay words page above last → IsTreeAt (level_of (words page)) least standing words page

@@ -5,7 +5,7 @@ use Rattle.be_pages.specs.Pages.{IsUnchanged, KeepsStart, Swaps}
 use Rattle.be_value.specs.declared.refusals.Refusal.{Refusal}
 use Rattle.be_tree.specs.Counting.{Takes, TakesAtMost, TakesFewer}
 use Rattle.be_tree.specs.Writing.{Refuses}
-use Rattle.be_tree.proofs.Frame.{start_trans, unchanged_start}
+use Rattle.be_tree_reading.proofs.Frame.{start_trans, unchanged_start}
 use Rattle.be_tree.proofs.Sizes.InHand.{fewer_within, takes_fewer_then, takes_same, takes_swaps, takes_then, takes_within}
 
 -- a call that returns has taken fewer

@@ -1,10 +1,10 @@
 use Rattle.std.proofs.Common.{ℕ, ◌∙◌, ap}
 use Rattle.std.specs.Ordering.{is_eq}
-use Rattle.be_tree.specs.Cursor.{remaining}
-use Rattle.be_tree.specs.Page.{item_at}
-use Rattle.be_tree.specs.Key.{key_cmp}
-use Rattle.be_tree.specs.Tree.{pairs}
-use Rattle.be_tree.proofs.Trees.{tree_rising}
+use Rattle.be_tree_reading.specs.Cursor.{remaining}
+use Rattle.be_tree_reading.specs.Page.{item_at}
+use Rattle.be_tree_reading.specs.Key.{key_cmp}
+use Rattle.be_tree_reading.specs.Tree.{pairs}
+use Rattle.be_tree_reading.proofs.Trees.{tree_rising}
 use Rattle.be_paged.proofs.Asking.Counting.{counted_after, none_at_end, none_elsewhere}
 use Rattle.be_paged.proofs.Asking.Walks.{cursor_since}
 use Rattle.be_paged.proofs.attributes.attribute_count.Goals as goal

@@ -1,8 +1,8 @@
 use Rattle.std.proofs.Common.{◌≡◌, ℕ, ◌∙◌, ap, sym, drop, List, true, is_some, arith}
 use Rattle.std.specs.List.{slice_get}
-use Rattle.be_tree.specs.Cursor.{remaining}
-use Rattle.be_tree.specs.Pair.{Pair}
-use Rattle.be_tree.proofs.Frame.{unchanged_trans}
+use Rattle.be_tree_reading.specs.Cursor.{remaining}
+use Rattle.be_tree_reading.specs.Pair.{Pair}
+use Rattle.be_tree_reading.proofs.Frame.{unchanged_trans}
 use Rattle.be_paged.specs.Reading.{front_of_node}
 use Rattle.be_paged.proofs.Asking.Walks.{none_left, one_left, drop_next, cursor_since}
 use Rattle.be_paged.proofs.attributes.count_rest.Goals as goal

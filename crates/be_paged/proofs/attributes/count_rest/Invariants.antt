@@ -1,6 +1,6 @@
 use Rattle.std.proofs.Common.{◌≡◌, ◌≤◌, length, drop}
 use Rattle.be_pages.specs.Pages.{IsUnchanged}
-use Rattle.be_tree.specs.Cursor.{IsCursor, remaining}
+use Rattle.be_tree_reading.specs.Cursor.{IsCursor, remaining}
 use Rattle.be_paged.specs.Reading.{front_of_node}
 use Rattle.be_paged.proofs.attributes.count_rest.Given as goal
 

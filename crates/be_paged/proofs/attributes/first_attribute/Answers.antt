@@ -1,9 +1,9 @@
 use Rattle.std.proofs.Common.{ℕ, ◌∙◌, ap, sym, List, true}
 use Rattle.std.specs.Option.{option_map}
-use Rattle.be_tree.specs.Cursor.{remaining}
-use Rattle.be_tree.specs.Range.{pairs_from}
-use Rattle.be_tree.specs.Tree.{pairs}
-use Rattle.be_tree.proofs.Trees.{tree_rising}
+use Rattle.be_tree_reading.specs.Cursor.{remaining}
+use Rattle.be_tree_reading.specs.Range.{pairs_from}
+use Rattle.be_tree_reading.specs.Tree.{pairs}
+use Rattle.be_tree_reading.proofs.Trees.{tree_rising}
 use Rattle.be_paged.specs.Reading.{front_of_node}
 use Rattle.be_paged.proofs.Asking.Walks.{first_name}
 use Rattle.be_paged.proofs.CatalogPairs.Places.{place_walked}

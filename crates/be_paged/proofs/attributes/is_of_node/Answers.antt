@@ -1,5 +1,5 @@
 use Rattle.std.proofs.Common.{◌≡◌, ℕ, ◌+◌, ◌/◌, ◌^◌, ap, ◌∙◌, arith}
-use Rattle.be_tree.specs.Page.{key_len}
+use Rattle.be_tree_reading.specs.Page.{key_len}
 use Rattle.be_paged.proofs.CatalogPairs.NodeKeys.{short_key, word_tells}
 use Rattle.be_paged.proofs.attributes.is_of_node.Goals as goal
 

@@ -1,12 +1,12 @@
 use Rattle.std.proofs.Common.{ℕ, ◌≤◌, ◌∙◌, ap, drop, length, Some, None, List, true, arith}
 use Rattle.std.specs.FinMap as fin
 use Rattle.std.specs.Int.{to_be_bytes, w64}
-use Rattle.be_tree.specs.Cursor.{remaining}
-use Rattle.be_tree.specs.Pair.{Pair}
-use Rattle.be_tree.specs.Range.{pairs_from}
-use Rattle.be_tree.specs.Tree.{pairs}
-use Rattle.be_tree.proofs.Frame.{unchanged_trans}
-use Rattle.be_tree.proofs.Trees.{tree_rising}
+use Rattle.be_tree_reading.specs.Cursor.{remaining}
+use Rattle.be_tree_reading.specs.Pair.{Pair}
+use Rattle.be_tree_reading.specs.Range.{pairs_from}
+use Rattle.be_tree_reading.specs.Tree.{pairs}
+use Rattle.be_tree_reading.proofs.Frame.{unchanged_trans}
+use Rattle.be_tree_reading.proofs.Trees.{tree_rising}
 use Rattle.be_volume.specs.Maps.{attributes_of}
 use Rattle.be_paged.specs.Reading.{front_of_node}
 use Rattle.be_paged.proofs.Asking.Walks.{more_left, drop_next, counted, cursor_since, next_is, all_listed, all_passed, one_listed}

@@ -2,9 +2,9 @@ use Rattle.std.proofs.Common.{◌≡◌, ◌≤◌, true, length, drop, take}
 use Rattle.std.specs.Int.{to_be_bytes, w64}
 use Rattle.std.specs.FinMap as map
 use Rattle.be_pages.specs.Pages.{IsUnchanged}
-use Rattle.be_tree.specs.Cursor.{IsCursor, remaining}
-use Rattle.be_tree.specs.Range.{pairs_from}
-use Rattle.be_tree.specs.Tree.{pairs}
+use Rattle.be_tree_reading.specs.Cursor.{IsCursor, remaining}
+use Rattle.be_tree_reading.specs.Range.{pairs_from}
+use Rattle.be_tree_reading.specs.Tree.{pairs}
 use Rattle.be_volume.specs.Maps.{Nodes, attributes_of}
 use Rattle.be_paged.specs.Catalog.{IsCatalog}
 use Rattle.be_paged.specs.Reading.{AreValid, front_of_node}

@@ -1,8 +1,8 @@
 use Rattle.std.proofs.Common.{◌≡◌, ℕ, List, drop, Some, None, ap, sym, ◌∙◌}
 use Rattle.std.specs.declared.option.Option.{Option}
 use Rattle.be_value.specs.declared.values.Value.{Value}
-use Rattle.be_tree.specs.Page.{item_at}
-use Rattle.be_tree.specs.Pair.{Pair}
+use Rattle.be_tree_reading.specs.Page.{item_at}
+use Rattle.be_tree_reading.specs.Pair.{Pair}
 use Rattle.be_paged.specs.Catalog.{catalog_key}
 use Rattle.be_paged.specs.Reading.{attribute_pair}
 use Rattle.be_paged.proofs.Asking.Walks.{some_same, none_some}

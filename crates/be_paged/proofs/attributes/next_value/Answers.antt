@@ -1,6 +1,6 @@
 use Rattle.std.proofs.Common.{ℕ, ap, sym, ◌∙◌}
-use Rattle.be_tree.specs.Cursor.{remaining}
-use Rattle.be_tree.specs.Page.{item_at}
+use Rattle.be_tree_reading.specs.Cursor.{remaining}
+use Rattle.be_tree_reading.specs.Page.{item_at}
 use Rattle.be_paged.specs.Reading.{front_of_node, attribute_pair}
 use Rattle.be_paged.proofs.Asking.Walks.{always, some_same, none_some, not_end}
 use Rattle.be_paged.proofs.attributes.next_value.Goals as goal

@@ -1,5 +1,5 @@
 use Rattle.std.proofs.Common.{ℕ, ◌<◌, length, ap, sym, subst, ◌∙◌, get_or, arith}
-use Rattle.be_tree.specs.Page.{item_at}
+use Rattle.be_tree_reading.specs.Page.{item_at}
 use Rattle.be_paged.proofs.CatalogPairs.Payloads.{kind_told, some_of}
 use Rattle.be_paged.proofs.catalog.kind_at.Goals as goal
 

@@ -1,5 +1,5 @@
 use Rattle.std.proofs.Common.{ℕ, ◌+◌, ◌≤◌, length, Some, ap, sym, subst, ◌∙◌, arith}
-use Rattle.be_tree.specs.Page.{item_at}
+use Rattle.be_tree_reading.specs.Page.{item_at}
 use Rattle.be_paged.proofs.CatalogPairs.Payloads.{length64, number64}
 use Rattle.be_paged.proofs.catalog.number64_at.Goals as goal
 

@@ -1,6 +1,6 @@
 use Rattle.std.proofs.Common.{ℕ, List, Ok, ap, drop, sym, ◌∙◌}
 use Rattle.std.proofs.lemmas.List.{nil_from_length}
-use Rattle.be_tree.specs.Page.{item_at}
+use Rattle.be_tree_reading.specs.Page.{item_at}
 use Rattle.be_paged.specs.Cells.{cell_of, data_of}
 use Rattle.be_paged.specs.declared.cells.Cell.{Cell}
 use Rattle.be_paged.proofs.Told.{data_past, same_cell}

@@ -3,7 +3,7 @@ use Rattle.std.specs.Option.{option_copied}
 use Rattle.be_value.specs.declared.values.Kind.{Kind}
 use Rattle.be_value.specs.declared.values.Kind.TheVariants as kinds
 use Rattle.be_pages.specs.Pages.{Swaps}
-use Rattle.be_tree.specs.Tree.{IsTree, pairs, pages}
+use Rattle.be_tree_reading.specs.Tree.{IsTree, pairs, pages}
 use Rattle.be_paged.specs.Entry.{Entry}
 use Rattle.be_paged.specs.Catalog.{IsIndexOf}
 use Rattle.be_paged.specs.Changes.{Changes, IsReady, repaired, with_change}

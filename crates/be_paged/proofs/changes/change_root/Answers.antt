@@ -2,9 +2,9 @@ use Rattle.std.proofs.Common.{◌≡◌, ℕ, List, true, false, ap, sym, subst,
 use Rattle.be_value.specs.Key.{key}
 use Rattle.std.specs.Option.{option_map, option_copied}
 use Rattle.be_pages.specs.Pages.{Swaps}
-use Rattle.be_tree.specs.Pair.{Pair}
-use Rattle.be_tree.specs.Tree.{pairs, pages}
-use Rattle.be_tree.proofs.Frame.{swaps_trans, swaps_since, swaps_start, start_trans}
+use Rattle.be_tree_reading.specs.Pair.{Pair}
+use Rattle.be_tree_reading.specs.Tree.{pairs, pages}
+use Rattle.be_tree_reading.proofs.Frame.{swaps_trans, swaps_since, swaps_start, start_trans}
 use Rattle.be_volume.specs.Indices.{unpaired}
 use Rattle.be_paged.specs.Catalog.{IsIndexOf}
 use Rattle.be_paged.specs.Changes.{repaired, key_taken, key_put}

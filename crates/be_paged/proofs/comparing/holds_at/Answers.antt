@@ -3,7 +3,7 @@ use Rattle.std.specs.Int.{cast_signed, w32, w64, w128}
 use Rattle.std.proofs.lemmas.Int.{to_z-of_z}
 use Rattle.std.specs.Option.{option_map}
 use lib.IntN.{ℤ}
-use Rattle.be_tree.specs.Page.{item_at}
+use Rattle.be_tree_reading.specs.Page.{item_at}
 use Rattle.be_query.specs.View.{literal}
 use Rattle.be_value.specs.declared.values.Value.{Value}
 use Rattle.be_value.specs.declared.values.Value.TheVariants.{Long, Llng, Ulng, Ullg}

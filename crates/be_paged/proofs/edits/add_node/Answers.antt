@@ -2,8 +2,8 @@ use Rattle.std.proofs.Common.{ℕ, ◌+◌, ◌<◌, ◌^◌, [], ap, sym, refl,
 use Rattle.std.specs.Int.{to_be_bytes, w64}
 use Rattle.std.specs.FinMap as fin
 use Rattle.std.proofs.lemmas.List.{append-nil}
-use Rattle.be_tree.specs.Pair.{Pair}
-use Rattle.be_tree.specs.Tree.{pairs}
+use Rattle.be_tree_reading.specs.Pair.{Pair}
+use Rattle.be_tree_reading.specs.Tree.{pairs}
 use Rattle.be_volume.specs.declared.ops.Op.TheVariants.{New}
 use Rattle.be_volume.specs.declared.ops.Done.TheVariants.{Node}
 use Rattle.be_volume.proofs.StepLemmas.{made}

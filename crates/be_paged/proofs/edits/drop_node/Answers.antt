@@ -2,7 +2,7 @@ use Rattle.std.proofs.Common.{◌≡◌, ℕ, sym, subst, ◌∙◌, rules, arit
 use Rattle.std.specs.FinMap as fin
 use Rattle.std.specs.Int.{to_be_bytes, w64}
 use Rattle.std.proofs.lemmas.List.{append-nil}
-use Rattle.be_tree.specs.Tree.{pairs}
+use Rattle.be_tree_reading.specs.Tree.{pairs}
 use Rattle.be_volume.specs.Indices.{Indices}
 use Rattle.be_volume.specs.Maps.{Nodes}
 use Rattle.be_volume.specs.Volume.{State}

@@ -1,6 +1,6 @@
 use Rattle.std.proofs.Common.{ℕ, suc, [], List, take, drop, get_or, ap, sym, subst, ◌∙◌, refl}
 use Rattle.be_pages.specs.Pages.{Swaps}
-use Rattle.be_tree.specs.Tree.{IsTree, pages}
+use Rattle.be_tree_reading.specs.Tree.{IsTree, pages}
 use Rattle.be_volume.specs.declared.ops.Op.TheVariants.{RmIndex}
 use Rattle.be_volume.specs.declared.ops.Done.TheVariants.{Unit as Nothing}
 use Rattle.be_paged.specs.Entry.{Entry}

@@ -1,6 +1,6 @@
 use Rattle.std.proofs.Common.{sym, ◌∙◌, subst, Some, refl, rules, arith}
-use Rattle.be_tree.specs.Pair.{Pair}
-use Rattle.be_tree.specs.Tree.{pairs}
+use Rattle.be_tree_reading.specs.Pair.{Pair}
+use Rattle.be_tree_reading.specs.Tree.{pairs}
 use Rattle.be_volume.specs.Maps.{with_attribute}
 use Rattle.be_volume.specs.declared.ops.Op.TheVariants.{Set}
 use Rattle.be_volume.proofs.StepLemmas.{made, accepted}

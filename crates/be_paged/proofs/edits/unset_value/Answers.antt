@@ -1,6 +1,6 @@
 use Rattle.std.proofs.Common.{sym, ◌∙◌, subst, None, rules, arith}
 use Rattle.std.specs.FinMap as fin
-use Rattle.be_tree.specs.Tree.{pairs}
+use Rattle.be_tree_reading.specs.Tree.{pairs}
 use Rattle.be_volume.specs.Maps.{attributes_of}
 use Rattle.be_volume.specs.declared.ops.Op.TheVariants.{Unset}
 use Rattle.be_volume.proofs.StepLemmas.{made, accepted}

@@ -3,8 +3,8 @@ use Rattle.std.proofs.lemmas.Option.{same_Some}
 use Rattle.be_value.specs.Key.{key}
 use Rattle.be_value.specs.Value.{kind_of, is_indexable}
 use Rattle.be_value.specs.declared.values.Value.{Value}
-use Rattle.be_tree.specs.Key.{payload_at}
-use Rattle.be_tree.specs.Tree.{pairs}
+use Rattle.be_tree_reading.specs.Key.{payload_at}
+use Rattle.be_tree_reading.specs.Tree.{pairs}
 use Rattle.be_paged.proofs.indexed.any_is_indexed_at.Goals as goal
 
 pub returns-in-None-clause-has : goal.returns-in-None-clause-has

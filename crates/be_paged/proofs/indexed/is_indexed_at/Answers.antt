@@ -4,11 +4,11 @@ use Rattle.std.specs.Option.{option_map}
 use Rattle.std.proofs.lemmas.Int.{to_z-of_z}
 use Rattle.be_value.specs.Key.{counted, key}
 use Rattle.be_value.specs.declared.values.Value.TheVariants.{Llng}
-use Rattle.be_tree.specs.Key.{payload_at}
+use Rattle.be_tree_reading.specs.Key.{payload_at}
 use Rattle.be_pages.specs.Pages.{is_readable}
 use Rattle.be_pages.specs.declared.room.Standing.{Standing}
-use Rattle.be_tree.specs.Page.{IsItem, item_at}
-use Rattle.be_tree.specs.Tree.{pairs}
+use Rattle.be_tree_reading.specs.Page.{IsItem, item_at}
+use Rattle.be_tree_reading.specs.Tree.{pairs}
 use Rattle.be_paged.specs.Source.{has_pair}
 use Rattle.be_paged.proofs.CatalogPairs.Payloads.{llng, seen, some_kind}
 use Rattle.be_paged.proofs.indexed.is_indexed_at.Goals as goal

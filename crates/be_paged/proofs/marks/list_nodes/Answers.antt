@@ -1,8 +1,8 @@
 use Rattle.std.proofs.Common.{◌≡◌, ◌∙◌, ◌∷◌, ◌++◌, ◌≤◌, ℕ, List, [], length, take, ap, sym, arith}
 use Rattle.std.proofs.Math.Seq.{take-append_seam}
 use Rattle.std.proofs.lemmas.List.{append-nil, append_assoc, length-append, take_all}
-use Rattle.be_tree.specs.Cursor.{remaining}
-use Rattle.be_tree.proofs.Frame.{unchanged_trans}
+use Rattle.be_tree_reading.specs.Cursor.{remaining}
+use Rattle.be_tree_reading.proofs.Frame.{unchanged_trans}
 use Rattle.be_paged.specs.Nodes.{marked}
 use Rattle.be_paged.proofs.Asking.Walks.{cursor_since}
 use Rattle.be_paged.proofs.marks.list_nodes.Goals as goal

@@ -1,9 +1,9 @@
 use Rattle.std.proofs.Common.{◌≡◌, ◌≤◌, ◌++◌, false, length}
 use Rattle.std.specs.Int.{to_be_bytes, w64}
 use Rattle.be_pages.specs.Pages.{IsUnchanged}
-use Rattle.be_tree.specs.Cursor.{IsCursor, remaining}
-use Rattle.be_tree.specs.Range.{pairs_from}
-use Rattle.be_tree.specs.Tree.{pairs}
+use Rattle.be_tree_reading.specs.Cursor.{IsCursor, remaining}
+use Rattle.be_tree_reading.specs.Range.{pairs_from}
+use Rattle.be_tree_reading.specs.Tree.{pairs}
 use Rattle.be_paged.specs.Nodes.{marked}
 use Rattle.be_paged.proofs.marks.list_nodes.Given as goal
 

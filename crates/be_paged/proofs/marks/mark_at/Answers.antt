@@ -1,5 +1,5 @@
 use Rattle.std.proofs.Common.{◌≡◌, ℕ, ◌+◌, ◌/◌, ◌^◌, ap, ◌∙◌, arith}
-use Rattle.be_tree.specs.Page.{key_len}
+use Rattle.be_tree_reading.specs.Page.{key_len}
 use Rattle.be_paged.proofs.CatalogPairs.Marks.{long_mark, mark_number, no_mark}
 use Rattle.be_paged.proofs.marks.mark_at.Goals as goal
 

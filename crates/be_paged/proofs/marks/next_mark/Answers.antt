@@ -1,11 +1,11 @@
 use Rattle.std.proofs.Common.{◌≡◌, ◌∙◌, ◌∷◌, ◌<◌, ℕ, List, Some, true, false, length, drop, ap, sym, subst}
 use Rattle.std.specs.Int.{from_be_bytes, w64}
 use Rattle.std.specs.List.{slice_get}
-use Rattle.be_tree.specs.Cursor.{IsCursor, remaining}
-use Rattle.be_tree.specs.Page.{item_at}
+use Rattle.be_tree_reading.specs.Cursor.{IsCursor, remaining}
+use Rattle.be_tree_reading.specs.Page.{item_at}
 use Rattle.be_pages.specs.declared.room.Standing.{Standing}
-use Rattle.be_tree.specs.Pair.{Pair}
-use Rattle.be_tree.proofs.Frame.{unchanged_trans}
+use Rattle.be_tree_reading.specs.Pair.{Pair}
+use Rattle.be_tree_reading.proofs.Frame.{unchanged_trans}
 use Rattle.be_paged.specs.Nodes.{is_mark, marked}
 use Rattle.be_paged.proofs.CatalogPairs.Marks.{fewer, met, passed}
 use Rattle.be_paged.proofs.marks.next_mark.Given.{Over}

@@ -1,6 +1,6 @@
 use Rattle.std.proofs.Common.{◌≡◌, length}
 use Rattle.be_pages.specs.Pages.{IsUnchanged}
-use Rattle.be_tree.specs.Cursor.{IsCursor, remaining}
+use Rattle.be_tree_reading.specs.Cursor.{IsCursor, remaining}
 use Rattle.be_paged.specs.Nodes.{marked}
 use Rattle.be_paged.proofs.marks.next_mark.Given as goal
 

@@ -2,7 +2,7 @@ use Rattle.std.proofs.Common.{◌≡◌, ℕ, ◌+◌, ◌*◌, ap, sym, ◌∙�
 use Rattle.std.specs.Int.{to_be_bytes, w64}
 use Rattle.std.specs.Ordering.{nat_cmp}
 use Rattle.be_paged.specs.Page.{entry_at}
-use Rattle.be_tree.proofs.Padded.{alike_differ, alike_end, alike_first, alike_next, padded}
+use Rattle.be_tree_reading.proofs.Padded.{alike_differ, alike_end, alike_first, alike_next, padded}
 use Rattle.be_paged.proofs.Stored.UsedWords.{name_len}
 use Rattle.be_paged.proofs.on_page.compare_at.Given.{Over}
 use Rattle.be_paged.proofs.on_page.compare_at.Goals as goal

@@ -1,6 +1,6 @@
 use Rattle.be_pages.specs.Pages.{IsUnchanged}
 use Rattle.be_paged.specs.Page.{entry_at}
-use Rattle.be_tree.proofs.Padded.{AreAlike}
+use Rattle.be_tree_reading.proofs.Padded.{AreAlike}
 use Rattle.be_paged.proofs.on_page.compare_at.Given as goal
 
 -- the words so far are the same

@@ -1,6 +1,6 @@
 use Rattle.std.proofs.Common.{ℕ, [], ap, sym, ◌∙◌, subst, is_some}
-use Rattle.be_tree.specs.Key.{payload_at}
-use Rattle.be_tree.specs.Tree.{IsTree, pairs}
+use Rattle.be_tree_reading.specs.Key.{payload_at}
+use Rattle.be_tree_reading.specs.Tree.{IsTree, pairs}
 use Rattle.be_value.specs.declared.values.Kind.TheVariants as kinds
 use Rattle.be_paged.specs.Entry.{Entry}
 use Rattle.be_paged.specs.Page.{contents_of}

@@ -1,7 +1,7 @@
 use Rattle.std.proofs.Common.{◌∙◌, ℕ, List, subst}
-use Rattle.be_tree.specs.Key.{payload_at}
-use Rattle.be_tree.specs.Page.{item_at}
-use Rattle.be_tree.specs.Tree.{pairs}
+use Rattle.be_tree_reading.specs.Key.{payload_at}
+use Rattle.be_tree_reading.specs.Page.{item_at}
+use Rattle.be_tree_reading.specs.Tree.{pairs}
 use Rattle.be_paged.specs.Place.{IsFoundAt}
 use Rattle.be_paged.proofs.CatalogPairs.FactValues.{attribute_there}
 use Rattle.be_paged.proofs.CatalogPairs.Places.{found_there, place_found}

@@ -4,7 +4,7 @@ use Rattle.std.specs.declared.result.Result.{Result}
 use Rattle.be_value.specs.declared.refusals.Refusal.{Refusal}
 use Rattle.be_value.specs.declared.refusals.Refusal.TheVariants.{OutOfMemory}
 use Rattle.be_value.specs.declared.values.Value.{Value}
-use Rattle.be_tree.specs.Tree.{pairs}
+use Rattle.be_tree_reading.specs.Tree.{pairs}
 use Rattle.be_paged.specs.Catalog.{IsCatalog}
 use Rattle.be_paged.proofs.CatalogPairs.FactValues.{attributes_none, attributes_some, node_there}
 use Rattle.be_paged.proofs.CatalogPairs.Validity.{values_valid}

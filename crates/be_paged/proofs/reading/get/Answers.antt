@@ -1,5 +1,5 @@
 use Rattle.std.proofs.Common.{ℕ, sym, subst}
-use Rattle.be_tree.specs.Tree.{pairs}
+use Rattle.be_tree_reading.specs.Tree.{pairs}
 use Rattle.be_paged.specs.Catalog.{IsCatalog}
 use Rattle.be_paged.proofs.CatalogPairs.Validity.{values_valid}
 use Rattle.be_paged.proofs.reading.get.Goals as goal

@@ -7,10 +7,10 @@ use Rattle.be_value.specs.declared.values.Kind.{Kind}
 use Rattle.be_value.specs.declared.values.Kind.TheVariants as kinds
 use Rattle.be_value.specs.declared.values.Value.{Value}
 use Rattle.be_pages.specs.declared.room.Standing.{Standing}
-use Rattle.be_tree.specs.Key.{payload_at}
+use Rattle.be_tree_reading.specs.Key.{payload_at}
 use Rattle.be_pages.specs.Pages.{is_readable}
-use Rattle.be_tree.specs.Page.{IsItem, item_at}
-use Rattle.be_tree.specs.Tree.{IsTree, pairs}
+use Rattle.be_tree_reading.specs.Page.{IsItem, item_at}
+use Rattle.be_tree_reading.specs.Tree.{IsTree, pairs}
 use Rattle.be_volume.specs.Query.{holds}
 use Rattle.be_volume.specs.Reading.{attribute}
 use Rattle.be_paged.specs.Catalog.{IsCatalog}

@@ -1,7 +1,7 @@
 use Rattle.std.proofs.Common.{ℕ, false, take, ◌∙◌, ap, sym, Ok}
 use Rattle.std.specs.Int.{to_be_bytes, w64}
-use Rattle.be_tree.specs.Range.{pairs_from}
-use Rattle.be_tree.specs.Tree.{pairs}
+use Rattle.be_tree_reading.specs.Range.{pairs_from}
+use Rattle.be_tree_reading.specs.Tree.{pairs}
 use Rattle.be_paged.specs.Nodes.{marked}
 use Rattle.be_paged.proofs.CatalogPairs.Marks.{nodes_marked}
 use Rattle.be_paged.proofs.reading.nodes.Goals as goal

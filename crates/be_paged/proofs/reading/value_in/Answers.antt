@@ -1,8 +1,8 @@
 use Rattle.std.proofs.Common.{◌≡◌, ℕ, List, Some, None, ap, sym, subst, ◌∙◌}
 use Rattle.std.specs.Option.{IfSome}
-use Rattle.be_tree.specs.Key.{payload_at}
-use Rattle.be_tree.specs.Page.{item_at}
-use Rattle.be_tree.specs.Tree.{pairs}
+use Rattle.be_tree_reading.specs.Key.{payload_at}
+use Rattle.be_tree_reading.specs.Page.{item_at}
+use Rattle.be_tree_reading.specs.Tree.{pairs}
 use Rattle.be_paged.specs.Place.{IsFoundAt}
 use Rattle.be_paged.proofs.CatalogPairs.FactValues.{value_absent, value_read}
 use Rattle.be_paged.proofs.reading.value_in.Goals as goal

@@ -1,6 +1,6 @@
 use Rattle.std.proofs.Common.{◌≡◌, ◌+◌, ◌*◌, ◌++◌, ℕ, take, List, map, length, sym, subst, ap, arith, ◌∙◌}
-use Rattle.be_tree.specs.Tree.{IsTree, pairs}
-use Rattle.be_tree.proofs.Frame.{unchanged_trans}
+use Rattle.be_tree_reading.specs.Tree.{IsTree, pairs}
+use Rattle.be_tree_reading.proofs.Frame.{unchanged_trans}
 use Rattle.be_paged.specs.Catalog.{IsCatalog}
 use Rattle.be_paged.specs.Cells.{AreTold, found_at, found_in, name_in}
 use Rattle.be_paged.proofs.CatalogPairs.Validity.{values_valid}

@@ -1,9 +1,9 @@
 use Rattle.std.proofs.Common.{◌≡◌, ℕ, false, inr, ap, sym, subst, ◌∙◌}
-use Rattle.be_tree.specs.Cursor.{remaining}
-use Rattle.be_tree.specs.Key.{IsRising}
-use Rattle.be_tree.specs.Range.{pairs_from}
-use Rattle.be_tree.specs.Tree.{pairs}
-use Rattle.be_tree.proofs.Trees.{tree_rising}
+use Rattle.be_tree_reading.specs.Cursor.{remaining}
+use Rattle.be_tree_reading.specs.Key.{IsRising}
+use Rattle.be_tree_reading.specs.Range.{pairs_from}
+use Rattle.be_tree_reading.specs.Tree.{pairs}
+use Rattle.be_tree_reading.proofs.Trees.{tree_rising}
 use Rattle.be_paged.proofs.Told.{among_next, place_met, place_sought, walks_since}
 use Rattle.be_paged.proofs.rows.next_place.Goals as goal
 

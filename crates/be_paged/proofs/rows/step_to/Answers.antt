@@ -1,9 +1,9 @@
 use Rattle.std.proofs.Common.{ℕ, ap, sym, ◌∙◌}
 use Rattle.std.specs.Ordering.{is_eq}
-use Rattle.be_tree.specs.Cursor.{remaining}
-use Rattle.be_tree.specs.Key.{key_cmp}
-use Rattle.be_tree.specs.Page.{item_at}
-use Rattle.be_tree.proofs.Order.{key_same}
+use Rattle.be_tree_reading.specs.Cursor.{remaining}
+use Rattle.be_tree_reading.specs.Key.{key_cmp}
+use Rattle.be_tree_reading.specs.Page.{item_at}
+use Rattle.be_tree_reading.proofs.Order.{key_same}
 use Rattle.be_paged.proofs.Told.{elsewhere}
 use Rattle.be_paged.proofs.rows.step_to.Goals as goal
 

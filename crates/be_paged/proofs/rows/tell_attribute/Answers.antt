@@ -1,5 +1,5 @@
 use Rattle.std.proofs.Common.{◌∷◌, ◌++◌, [], ℕ, Err, sym, subst, refl, ◌∙◌}
-use Rattle.be_tree.specs.Tree.{pairs}
+use Rattle.be_tree_reading.specs.Tree.{pairs}
 use Rattle.be_paged.specs.Catalog.{IsCatalog}
 use Rattle.be_paged.specs.Cells.{AreTold, name_in, why_none}
 use Rattle.be_paged.proofs.Told.{Found, found_none, found_some, tree_since, value_there, walks_since}

@@ -1,7 +1,7 @@
 use Rattle.std.proofs.Common.{◌++◌, ◌∙◌, ℕ, List, map, refl, sym, subst, arith}
 use Rattle.std.proofs.lemmas.List.{append-nil, take_all}
-use Rattle.be_tree.specs.Tree.{pairs}
-use Rattle.be_tree.proofs.Frame.{unchanged_trans}
+use Rattle.be_tree_reading.specs.Tree.{pairs}
+use Rattle.be_tree_reading.proofs.Frame.{unchanged_trans}
 use Rattle.be_paged.specs.Catalog.{IsCatalog}
 use Rattle.be_paged.specs.Cells.{AreTold, found_at, name_in}
 use Rattle.be_paged.specs.declared.cells.HeldName.{HeldName}

@@ -1,6 +1,6 @@
 use Rattle.std.proofs.Common.{◌≡◌, ◌+◌, ◌++◌, ℕ, List, map, take}
 use Rattle.be_pages.specs.Pages.{IsUnchanged}
-use Rattle.be_tree.specs.Tree.{pairs}
+use Rattle.be_tree_reading.specs.Tree.{pairs}
 use Rattle.be_volume.specs.Maps.{Nodes}
 use Rattle.be_paged.specs.Catalog.{IsCatalog}
 use Rattle.be_paged.specs.Cells.{AreTold, GoesOn, IsFew, found_at, name_in}

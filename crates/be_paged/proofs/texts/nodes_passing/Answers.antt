@@ -3,10 +3,10 @@ use Rattle.std.specs.Option.{option_copied}
 use Rattle.std.proofs.lemmas.List.Elements.{All-filter}
 use Rattle.std.proofs.lemmas.Result.{IfOk-weaker}
 use Rattle.be_pages.specs.declared.room.Standing.{Standing}
-use Rattle.be_tree.specs.Cursor.{IsCursor, remaining}
-use Rattle.be_tree.specs.Pair.{Pair}
-use Rattle.be_tree.specs.Range.{HasFirst, is_from, pairs_from}
-use Rattle.be_tree.specs.Tree.{pairs}
+use Rattle.be_tree_reading.specs.Cursor.{IsCursor, remaining}
+use Rattle.be_tree_reading.specs.Pair.{Pair}
+use Rattle.be_tree_reading.specs.Range.{HasFirst, is_from, pairs_from}
+use Rattle.be_tree_reading.specs.Tree.{pairs}
 use Rattle.be_paged.specs.Texts.{AreTexts, IsTextKey, nodes_passing_to}
 use Rattle.be_paged.proofs.texts.nodes_passing.Goals as goal
 

@@ -1,8 +1,8 @@
 use Rattle.std.proofs.Common.{◌≡◌, ℕ, zero, suc, List, [], ◌∷◌, ◌+◌, ◌*◌, ◌≤◌, ◌++◌, ◌∙◌, ap, sym, refl, map, take, arith}
 use Rattle.std.specs.Int.{to_be_bytes, w64}
 use Rattle.std.specs.List.{flat_map, range_with_len}
-use Rattle.be_tree.specs.Page.{words_for}
-use Rattle.be_tree.proofs.Codec.{flat_map_more}
+use Rattle.be_tree_reading.specs.Page.{words_for}
+use Rattle.be_tree_reading.proofs.Codec.{flat_map_more}
 use Rattle.be_paged.proofs.texts.put_bytes.Goals as goal
 
 take_take : (k n : ℕ) (xs : List ℕ) → k ≤ n → take k (take n xs) ≡ take k xs

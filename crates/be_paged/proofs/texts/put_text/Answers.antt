@@ -1,7 +1,7 @@
 use Rattle.std.proofs.Common.{ℕ, ◌+◌, ◌≤◌, ◌∙◌, ap, sym, take, arith}
-use Rattle.be_tree.specs.Page.{bytes_at, item_at, key_len}
-use Rattle.be_tree.proofs.Codec.{bytes_at_prefix, key_at}
-use Rattle.be_tree.proofs.Bytes.Words.{item_key_length}
+use Rattle.be_tree_reading.specs.Page.{bytes_at, item_at, key_len}
+use Rattle.be_tree_reading.proofs.Codec.{bytes_at_prefix, key_at}
+use Rattle.be_tree_reading.proofs.Bytes.Words.{item_key_length}
 use Rattle.be_paged.proofs.texts.put_text.Goals as goal
 
 pub returns-clause-text : goal.returns-clause-text

@@ -1,8 +1,8 @@
 use Rattle.std.proofs.Common.{◌≡◌, ◌∙◌, ◌++◌, ◌∷◌, ◌≤◌, [], ℕ, Bool, List, length, ap, sym, subst, IsUtf8, if◌then◌else◌}
 use Rattle.std.proofs.lemmas.List.{append-nil}
 use Rattle.be_plan.specs.Texts.{text_in}
-use Rattle.be_tree.specs.Page.{IsItem, item_at}
-use Rattle.be_tree.specs.Range.{number_of}
+use Rattle.be_tree_reading.specs.Page.{IsItem, item_at}
+use Rattle.be_tree_reading.specs.Range.{number_of}
 use Rattle.be_volume.specs.Query.{holds_of_text}
 use Rattle.be_paged.specs.Texts.{passes}
 use Rattle.be_paged.proofs.texts.test_item.Given.{Over}

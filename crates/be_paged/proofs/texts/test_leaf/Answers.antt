@@ -1,11 +1,11 @@
 use Rattle.std.proofs.Common.{◌≡◌, ◌∙◌, ◌<◌, ◌+◌, ◌*◌, ◌||◌, ◌++◌, ℕ, List, [], false, drop, refl, ap, sym, subst, arith}
 use Rattle.std.specs.Option.{option_copied}
 use Rattle.std.proofs.lemmas.List.{append-nil}
-use Rattle.be_tree.specs.Pair.{Pair}
-use Rattle.be_tree.specs.Page.{IsItem, item_at, items_of}
-use Rattle.be_tree.specs.Range.{is_past}
-use Rattle.be_tree.proofs.Frame.{unchanged_trans}
-use Rattle.be_tree.proofs.Reading.Leaves.{any_past, none_left, rest_at}
+use Rattle.be_tree_reading.specs.Pair.{Pair}
+use Rattle.be_tree_reading.specs.Page.{IsItem, item_at, items_of}
+use Rattle.be_tree_reading.specs.Range.{is_past}
+use Rattle.be_tree_reading.proofs.Frame.{unchanged_trans}
+use Rattle.be_tree_reading.proofs.Reading.Leaves.{any_past, none_left, rest_at}
 use Rattle.be_paged.specs.Texts.{IsTextKey, node_if_passing, nodes_passing_to}
 use Rattle.be_paged.proofs.Asking.PassingNodes.{closed, got_more, got_whole, opened, text_at}
 use Rattle.be_paged.proofs.texts.test_leaf.Given.{Over}

@@ -1,9 +1,9 @@
 use Rattle.std.proofs.Common.{◌≡◌, drop}
 use Rattle.std.specs.Option.{option_copied}
 use Rattle.be_pages.specs.Pages.{IsUnchanged}
-use Rattle.be_tree.specs.Page.{items_of}
-use Rattle.be_tree.specs.Range.{HasGot}
-use Rattle.be_tree.proofs.Reading.Leaves.{any_past}
+use Rattle.be_tree_reading.specs.Page.{items_of}
+use Rattle.be_tree_reading.specs.Range.{HasGot}
+use Rattle.be_tree_reading.proofs.Reading.Leaves.{any_past}
 use Rattle.be_paged.specs.Texts.{nodes_passing_to}
 use Rattle.be_paged.proofs.texts.test_leaf.Given as goal
 

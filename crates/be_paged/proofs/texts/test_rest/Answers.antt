@@ -2,14 +2,14 @@ use Rattle.std.proofs.Common.{◌≡◌, ◌∙◌, ◌<◌, ◌++◌, ℕ, List
 use Rattle.std.specs.Option.{option_copied}
 use Rattle.std.proofs.lemmas.List.{append-nil, length-append, length-drop}
 use Rattle.be_pages.specs.declared.room.Standing.{Standing}
-use Rattle.be_tree.specs.Cursor.{IsCursor, remaining}
-use Rattle.be_tree.specs.Pair.{Pair}
-use Rattle.be_tree.specs.Page.{items_of}
-use Rattle.be_tree.specs.Range.{HasFirst, HasGot}
-use Rattle.be_tree.proofs.Frame.{unchanged_trans}
-use Rattle.be_tree.proofs.Nodes.Slots.{items_count}
-use Rattle.be_tree.proofs.Reading.Leaves.{any_past, got_first, leaf_same}
-use Rattle.be_tree.proofs.Shape.Below.{all_left, all_right}
+use Rattle.be_tree_reading.specs.Cursor.{IsCursor, remaining}
+use Rattle.be_tree_reading.specs.Pair.{Pair}
+use Rattle.be_tree_reading.specs.Page.{items_of}
+use Rattle.be_tree_reading.specs.Range.{HasFirst, HasGot}
+use Rattle.be_tree_reading.proofs.Frame.{unchanged_trans}
+use Rattle.be_tree_reading.proofs.Items.{items_count}
+use Rattle.be_tree_reading.proofs.Reading.Leaves.{any_past, got_first, leaf_same}
+use Rattle.be_tree_reading.proofs.Shape.Below.{all_left, all_right}
 use Rattle.be_paged.specs.Texts.{AreTexts, IsTextKey, node_if_passing, nodes_passing_to}
 use Rattle.be_paged.proofs.Asking.PassingNodes.{first_of_two, last_leaf, whole_leaf}
 use Rattle.be_paged.proofs.texts.test_rest.Given.{Over}

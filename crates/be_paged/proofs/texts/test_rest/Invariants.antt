@@ -1,8 +1,8 @@
 use Rattle.std.proofs.Common.{◌≡◌, length}
 use Rattle.std.specs.Option.{option_copied}
 use Rattle.be_pages.specs.Pages.{IsUnchanged}
-use Rattle.be_tree.specs.Cursor.{IsCursor, remaining}
-use Rattle.be_tree.specs.Range.{HasGot}
+use Rattle.be_tree_reading.specs.Cursor.{IsCursor, remaining}
+use Rattle.be_tree_reading.specs.Range.{HasGot}
 use Rattle.be_paged.specs.Texts.{AreTexts, nodes_passing_to}
 use Rattle.be_paged.proofs.texts.test_rest.Given as goal
 

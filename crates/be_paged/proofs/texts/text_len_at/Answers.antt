@@ -1,6 +1,6 @@
 use Rattle.std.proofs.Common.{◌≡◌, ℕ, ◌/◌, ◌^◌, length, ap, sym, ◌∙◌, arith}
-use Rattle.be_tree.specs.Page.{item_at}
-use Rattle.be_tree.proofs.Bytes.Words.{item_key_length}
+use Rattle.be_tree_reading.specs.Page.{item_at}
+use Rattle.be_tree_reading.proofs.Bytes.Words.{item_key_length}
 use Rattle.be_paged.proofs.texts.text_len_at.Goals as goal
 
 pub returns-clause-len : goal.returns-clause-len

@@ -1,5 +1,5 @@
 use Rattle.std.proofs.Common.{ℕ, ap, sym, subst, ◌∙◌, rules, []}
-use Rattle.be_tree.proofs.Frame.{unchanged_trans}
+use Rattle.be_tree_reading.proofs.Frame.{unchanged_trans}
 use Rattle.be_volume.specs.Volume.{steps}
 use Rattle.be_volume.proofs.StepLemmas.{is_accepted}
 use Rattle.be_paged.specs.Changes.{Changes}

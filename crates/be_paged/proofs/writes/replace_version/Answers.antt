@@ -1,5 +1,5 @@
 use Rattle.std.proofs.Common.{[], ◌∷◌, rules}
-use Rattle.be_tree.proofs.Frame.{swaps_trans}
+use Rattle.be_tree_reading.proofs.Frame.{swaps_trans}
 use Rattle.be_paged.proofs.Applying.Replacing.{given_swaps}
 use Rattle.be_tree.proofs.Sizes.InHand.{takes_fewer_then, takes_given_up}
 use Rattle.be_tree.proofs.Shape.Parts.{on_err}

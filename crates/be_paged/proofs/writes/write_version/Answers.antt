@@ -1,6 +1,6 @@
 use Rattle.std.proofs.Common.{ℕ, ap, ◌∙◌, arith, rules}
 use Rattle.std.proofs.lemmas.Bool.Decides.{nat_tests}
-use Rattle.be_tree.proofs.Frame.{written_swaps}
+use Rattle.be_tree_reading.proofs.Frame.{written_swaps}
 use Rattle.be_paged.proofs.Sizes.Stopping.{fewer_same}
 use Rattle.be_tree.proofs.Shape.Parts.{on_err}
 use Rattle.be_paged.proofs.writes.write_version.Goals as goal

@@ -1,11 +1,11 @@
 use Rattle.std.proofs.Common.{subst, length, arith}
 use Rattle.std.proofs.lemmas.Result.{IfOk-weaker}
-use Rattle.be_tree.specs.Pair.{Pair}
-use Rattle.be_tree.specs.Key.{put}
+use Rattle.be_tree_reading.specs.Pair.{Pair}
+use Rattle.be_tree_reading.specs.Key.{put}
 use Rattle.be_tree.specs.Path.{IsPathTo}
-use Rattle.be_tree.specs.Tree.{BecomesTree, level_of_root, pages, pairs}
+use Rattle.be_tree_reading.specs.Tree.{BecomesTree, level_of_root, pages, pairs}
 use Rattle.be_tree.proofs.Leaves.{path_read, tree_since}
-use Rattle.be_tree.proofs.Shape.Roots.{same_pair}
+use Rattle.be_tree_reading.proofs.Shape.Roots.{same_pair}
 use Rattle.be_tree.specs.Counting.{most_taken}
 use Rattle.be_tree.proofs.Sizes.InHand.{takes_same}
 use Rattle.be_tree.proofs.Sizes.Paths.{path_levels}

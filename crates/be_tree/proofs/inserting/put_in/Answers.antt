@@ -2,15 +2,15 @@ use Rattle.std.proofs.Common.{◌≡◌, ℕ, true, ltb, ◌+◌, ◌<◌, [], �
 use Rattle.std.proofs.lemmas.Bool.Decides.{nat_tests}
 use Rattle.std.proofs.lemmas.Result.{IfOk-weaker}
 use Rattle.be_tree.specs.declared.slot.Slot.TheVariants.{New}
-use Rattle.be_tree.specs.Key.{put}
-use Rattle.be_tree.specs.Page.{items_of}
+use Rattle.be_tree_reading.specs.Key.{put}
+use Rattle.be_tree_reading.specs.Page.{items_of}
 use Rattle.be_tree.specs.Slot.{IsOff, IsReady}
 use Rattle.be_tree.specs.Path.{IsPathTo}
-use Rattle.be_tree.specs.Tree.{BecomesTree, pages, pairs}
-use Rattle.be_tree.proofs.Frame.{readable_kept}
+use Rattle.be_tree_reading.specs.Tree.{BecomesTree, pages, pairs}
+use Rattle.be_tree_reading.proofs.Frame.{readable_kept}
 use Rattle.be_tree.proofs.Leaves.{PutsAt, all_is, all_rise, keeps_front, length_spliced, path_read, puts_in, tree_since}
-use Rattle.be_tree.proofs.Nodes.Slots.{items_count}
-use Rattle.be_tree.proofs.Putting.Puts.{rising_put}
+use Rattle.be_tree_reading.proofs.Items.{items_count}
+use Rattle.be_tree_reading.proofs.Putting.Puts.{rising_put}
 use Rattle.be_tree.proofs.Shape.Parts.{all_one}
 use Rattle.be_tree.specs.Counting.{most_taken}
 use Rattle.be_tree.proofs.Sizes.Refusals.{refuses_read}

@@ -1,14 +1,14 @@
 use Rattle.std.proofs.Common.{◌≡◌, ◌∙◌, ◌+◌, ◌<◌, [], ◌∷◌, IfOk, get_or, length, drop, sym, subst, ap, arith}
 use Rattle.std.specs.declared.cmp.Ordering.TheVariants.{Equal}
 use Rattle.be_tree.specs.declared.slot.Slot.TheVariants.{New}
-use Rattle.be_tree.specs.Key.{key_cmp, put}
-use Rattle.be_tree.specs.Page.{item_at, item_place, items_of}
+use Rattle.be_tree_reading.specs.Key.{key_cmp, put}
+use Rattle.be_tree_reading.specs.Page.{item_at, item_place, items_of}
 use Rattle.be_tree.specs.Slot.{IsOff, IsReady, pairs_of}
 use Rattle.be_tree.specs.Splicing.{spliced}
-use Rattle.be_tree.specs.Tree.{BecomesTree, pages}
+use Rattle.be_tree_reading.specs.Tree.{BecomesTree, pages}
 use Rattle.be_tree.proofs.Leaves.{ChangesLeaf, all_is, all_rise, keeps_equal, length_spliced, put_equal, put_leaf}
-use Rattle.be_tree.proofs.Nodes.Slots.{item_get, items_count}
-use Rattle.be_tree.proofs.Putting.Puts.{rising_put}
+use Rattle.be_tree_reading.proofs.Items.{item_get, items_count}
+use Rattle.be_tree_reading.proofs.Putting.Puts.{rising_put}
 use Rattle.be_tree.proofs.Shape.Parts.{all_one}
 use Rattle.be_tree.specs.Counting.{most_taken}
 use Rattle.be_tree.proofs.Sizes.Refusals.{refuses_within}

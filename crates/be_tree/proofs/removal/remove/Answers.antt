@@ -1,8 +1,8 @@
 use Rattle.std.proofs.Common.{◌≡◌, ℕ, List, None, refl, subst, sym, length, arith}
 use Rattle.std.proofs.lemmas.Result.{IfOk-weaker}
-use Rattle.be_tree.specs.Pair.{Pair}
-use Rattle.be_tree.specs.Key.{payload_at, without}
-use Rattle.be_tree.specs.Tree.{BecomesTree, level_of_root, pages, pairs}
+use Rattle.be_tree_reading.specs.Pair.{Pair}
+use Rattle.be_tree_reading.specs.Key.{payload_at, without}
+use Rattle.be_tree_reading.specs.Tree.{BecomesTree, level_of_root, pages, pairs}
 use Rattle.be_tree.proofs.Leaves.{path_absent, path_found, path_read, tree_since}
 use Rattle.be_tree.proofs.Removing.Rests.{tree_same, tree_until, without_absent}
 use Rattle.be_tree.specs.Counting.{most_taken}

@@ -2,12 +2,12 @@ use Rattle.std.proofs.Common.{ℕ, [], ◌∷◌, IfOk, List, sym, subst, ap, �
 use Rattle.std.proofs.lemmas.Result.{IfOk-weaker}
 use Rattle.be_tree.specs.declared.path.Step.{Step}
 use Rattle.be_tree.specs.declared.rising.Changed.{Changed}
-use Rattle.be_tree.specs.Page.{items_of, level_of}
+use Rattle.be_tree_reading.specs.Page.{items_of, level_of}
 use Rattle.be_tree.specs.Path.{IsChanged, whole}
 use Rattle.be_tree.specs.Slot.{pairs_of}
 use Rattle.be_tree.specs.Splicing.{spliced}
-use Rattle.be_tree.specs.Tree.{BecomesTree, pages, pairs_at}
-use Rattle.be_tree.proofs.Frame.{swaps_start}
+use Rattle.be_tree_reading.specs.Tree.{BecomesTree, pages, pairs_at}
+use Rattle.be_tree_reading.proofs.Frame.{swaps_start}
 use Rattle.be_tree.proofs.Leaves.{leaf_changed, leaf_pairs}
 use Rattle.be_tree.proofs.Shape.Parts.{on_err}
 use Rattle.be_tree.proofs.Sizes.InHand.{fewer_within}

@@ -2,12 +2,12 @@ use Rattle.std.proofs.Common.{◌≡◌, ◌∙◌, ℕ, suc, ◌+◌, ◌-◌, 
 use Rattle.std.proofs.Math.Seq.{take-length, take-suc}
 use Rattle.be_tree.specs.declared.path.Step.{Step}
 use Rattle.be_tree.specs.declared.rising.Changed.{Changed}
-use Rattle.be_tree.specs.Page.{level_of}
+use Rattle.be_tree_reading.specs.Page.{level_of}
 use Rattle.be_tree.specs.Path.{IsChanged, whole}
-use Rattle.be_tree.specs.Tree.{BecomesTree, pages, pairs_at}
-use Rattle.be_tree.proofs.Frame.{start_trans, swaps_start, unchanged_start}
+use Rattle.be_tree_reading.specs.Tree.{BecomesTree, pages, pairs_at}
+use Rattle.be_tree_reading.proofs.Frame.{start_trans, swaps_start, unchanged_start}
 use Rattle.be_tree.proofs.Raises.{can_raise, changed_here, changed_root, raised, raised_whole}
-use Rattle.be_tree.proofs.Shape.Levels.{kept_not_free}
+use Rattle.be_tree_reading.proofs.Shape.Levels.{kept_not_free}
 use Rattle.be_tree.proofs.Shape.Parts.{on_err}
 use Rattle.be_tree.proofs.Sizes.InHand.{fewer_within, takes_fewer_then, takes_same, takes_then, takes_within}
 use Rattle.be_tree.proofs.Sizes.Refusals.{takes_on}

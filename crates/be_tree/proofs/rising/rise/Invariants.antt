@@ -1,9 +1,9 @@
 use Rattle.std.proofs.Common.{◌≡◌, ◌-◌, ◌≤◌, length, take}
 use Rattle.be_pages.specs.Pages.{KeepsStart}
 use Rattle.be_tree.specs.Counting.{TakesAtMost}
-use Rattle.be_tree.specs.Page.{level_of}
+use Rattle.be_tree_reading.specs.Page.{level_of}
 use Rattle.be_tree.specs.Path.{IsChanged, whole}
-use Rattle.be_tree.specs.Tree.{pairs_at}
+use Rattle.be_tree_reading.specs.Tree.{pairs_at}
 use Rattle.be_tree.proofs.rising.rise.Given as goal
 
 -- the change has come up so far, of whatever tree it is

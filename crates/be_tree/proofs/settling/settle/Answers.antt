@@ -6,17 +6,17 @@ use Rattle.be_pages.specs.Pages.{IsUnchanged, KeepsStart}
 use Rattle.be_tree.specs.declared.path.Step.{Step}
 use Rattle.be_tree.specs.declared.settling.Turn.{Turn}
 use Rattle.be_tree.specs.declared.slot.Slot.{Slot}
-use Rattle.be_tree.specs.Page.{level_of}
-use Rattle.be_tree.specs.Pair.{Pair}
+use Rattle.be_tree_reading.specs.Page.{level_of}
+use Rattle.be_tree_reading.specs.Pair.{Pair}
 use Rattle.be_tree.specs.Path.{IsInHand, least_at, whole}
 use Rattle.be_tree.specs.Settling.{IsAbove, IsTurned, taken_for}
 use Rattle.be_tree.specs.Slot.{pairs_of}
-use Rattle.be_tree.specs.Tree.{BecomesTree, pages, pages_below, pairs_below}
+use Rattle.be_tree_reading.specs.Tree.{BecomesTree, pages, pages_below, pairs_below}
 use Rattle.be_tree.proofs.Balances.{hand_apart, hand_rest, hand_tree_at, hands_start, read_hand, read_same, steps_above}
-use Rattle.be_tree.proofs.Frame.{readable_kept, start_trans, unchanged_start}
-use Rattle.be_tree.proofs.Shape.Heights.{height}
+use Rattle.be_tree_reading.proofs.Frame.{readable_kept, start_trans, unchanged_start}
+use Rattle.be_tree_reading.proofs.Shape.Heights.{height}
 use Rattle.be_tree.proofs.Shape.Parts.{on_err}
-use Rattle.be_tree.proofs.Shape.Roots.{root_some}
+use Rattle.be_tree_reading.proofs.Shape.Roots.{root_some}
 use Rattle.be_tree.specs.Counting.{TakesAtMost, TakesFewer, in_hand, most_taken}
 use Rattle.be_pages.specs.declared.room.Standing.{Standing}
 use Rattle.be_tree.proofs.Sizes.InHand.{takes_same}

@@ -1,9 +1,9 @@
 use Rattle.std.proofs.Common.{◌≡◌, ◌-◌, ◌*◌, ◌<◌, ◌≤◌, length, take}
 use Rattle.be_tree.specs.Counting.{TakesAtMost}
-use Rattle.be_tree.specs.Page.{level_of}
+use Rattle.be_tree_reading.specs.Page.{level_of}
 use Rattle.be_tree.specs.Path.{IsInHand, whole}
 use Rattle.be_tree.specs.Slot.{pairs_of}
-use Rattle.be_tree.specs.Tree.{pairs_below}
+use Rattle.be_tree_reading.specs.Tree.{pairs_below}
 use Rattle.be_tree.proofs.settling.settle.Given as goal
 
 -- the node that is left to settle has come up so far, of whatever tree it is

@@ -1,7 +1,7 @@
 use Rattle.std.proofs.Common.{ℕ, ◌+◌, ◌-◌, ◌<◌, ◌≤◌, IsTrue, length, refl, sym, subst, arith}
-use Rattle.be_tree.specs.Page.{item_at, item_place}
-use Rattle.be_tree.specs.Tree.{child}
-use Rattle.be_tree.proofs.Frame.{readable_kept}
+use Rattle.be_tree_reading.specs.Page.{item_at, item_place}
+use Rattle.be_tree_reading.specs.Tree.{child}
+use Rattle.be_tree_reading.proofs.Frame.{readable_kept}
 use Rattle.be_tree.proofs.Settles.{above_kept, above_page, before_page, child_beside, child_read, settled_since}
 use Rattle.be_tree.proofs.Sizes.Refusals.{refuses_read}
 use Rattle.be_tree.proofs.settling.settle_child.Goals as goal

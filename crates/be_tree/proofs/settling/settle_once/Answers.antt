@@ -4,15 +4,15 @@ use Rattle.be_pages.specs.Pages.{IsUnchanged, KeepsStart, is_readable}
 use Rattle.be_tree.specs.declared.path.Step.{Step}
 use Rattle.be_tree.specs.declared.settling.Settled.{Settled}
 use Rattle.be_tree.specs.declared.slot.Slot.{Slot}
-use Rattle.be_tree.specs.Page.{IsPage, items_of, level_of}
-use Rattle.be_tree.specs.Pair.{Pair}
+use Rattle.be_tree_reading.specs.Page.{IsPage, items_of, level_of}
+use Rattle.be_tree_reading.specs.Pair.{Pair}
 use Rattle.be_tree.specs.Path.{IsChanged, IsInHand, least_at, whole}
 use Rattle.be_tree.specs.Settling.{IsAbove, IsChildInHand, IsSettled, beside}
 use Rattle.be_tree.specs.Slot.{loaded, pairs_of}
 use Rattle.be_tree.specs.Splicing.{CanBeSpliced, IsSpliced, spliced}
-use Rattle.be_tree.specs.Tree.{BecomesTree, pages, pairs_at, pairs_below}
+use Rattle.be_tree_reading.specs.Tree.{BecomesTree, pages, pairs_at, pairs_below}
 use Rattle.be_tree.proofs.Balances.{can_settle, child_in_hand, hand_apart, least_front, now_kept, now_page, now_range, once_hand, once_same, out_above, settled_at, settled_count, settled_read, settled_start, settled_tree}
-use Rattle.be_tree.proofs.Frame.{readable_kept, start_trans, swaps_start, unchanged_start}
+use Rattle.be_tree_reading.proofs.Frame.{readable_kept, start_trans, swaps_start, unchanged_start}
 use Rattle.be_tree.proofs.Shape.Parts.{on_err}
 use Rattle.be_tree.specs.Counting.{TakesAtMost, TakesFewer, in_hand}
 use Rattle.be_pages.specs.declared.room.Standing.{Standing}

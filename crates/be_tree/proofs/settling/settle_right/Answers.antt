@@ -3,11 +3,11 @@ use Rattle.std.specs.List.{range_with_len}
 use Rattle.be_pages.specs.Pages.{IsUnchanged, is_readable}
 use Rattle.be_tree.specs.declared.slot.Slot.{Slot}
 use Rattle.be_tree.specs.declared.slot.Slot.TheVariants.{At}
-use Rattle.be_tree.specs.Page.{IsPage, item_place}
+use Rattle.be_tree_reading.specs.Page.{IsPage, item_place}
 use Rattle.be_tree.specs.Settling.{IsChildInHand, beside}
 use Rattle.be_tree.specs.Slot.{pairs_of}
-use Rattle.be_tree.specs.Tree.{pairs_below}
-use Rattle.be_tree.proofs.Frame.{readable_kept, start_trans, unchanged_start, unchanged_trans}
+use Rattle.be_tree_reading.specs.Tree.{pairs_below}
+use Rattle.be_tree_reading.proofs.Frame.{readable_kept, start_trans, unchanged_start, unchanged_trans}
 use Rattle.be_tree.proofs.Settles.{TwoInHand, above_kept, above_names, above_page, above_same, after_count, after_in_hand, after_page, after_readable}
 use Rattle.be_tree.proofs.Shape.Parts.{on_err}
 use Rattle.be_tree.proofs.Sizes.InHand.{takes_fewer_then, takes_same, takes_then}

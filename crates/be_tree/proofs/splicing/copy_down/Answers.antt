@@ -1,7 +1,7 @@
 use Rattle.std.proofs.Common.{◌≡◌, ◌+◌, ◌∙◌, ap, subst, inl, inr, arith}
 use Rattle.std.proofs.lemmas.Bool.{cases_lt}
 use Rattle.be_pages.specs.Pages.{is_readable}
-use Rattle.be_tree.specs.Page.{item_place}
+use Rattle.be_tree_reading.specs.Page.{item_place}
 use Rattle.be_tree.specs.Splicing.{IsCopy}
 use Rattle.be_tree.proofs.Splices.{only_then, there}
 use Rattle.be_tree.proofs.splicing.copy_down.Goals as goal

@@ -1,5 +1,5 @@
 use Rattle.std.proofs.Common.{◌≡◌, ◌≢◌, ◌+◌, ◌-◌, ◌∙◌, ap, sym, subst, inr, arith}
-use Rattle.be_tree.specs.Page.{item_place}
+use Rattle.be_tree_reading.specs.Page.{item_place}
 use Rattle.be_tree.specs.Splicing.{AreCopies, IsCopy}
 use Rattle.be_tree.proofs.Nodes.Writes.{free_other}
 use Rattle.be_tree.proofs.Nodes.Stands.{stands_else}

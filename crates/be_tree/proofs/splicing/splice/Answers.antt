@@ -2,12 +2,12 @@ use Rattle.std.proofs.Common.{ℕ, ◌+◌, ◌<◌, [], ◌∷◌, ◌∙◌, a
 use Rattle.be_pages.specs.declared.room.Standing.TheVariants.{Filled}
 use Rattle.be_pages.specs.Pages.{Swaps, after_give_up}
 use Rattle.be_tree.specs.declared.slot.Slot.{Slot}
-use Rattle.be_tree.specs.Page.{IsPage, items_of, level_of}
+use Rattle.be_tree_reading.specs.Page.{IsPage, items_of, level_of}
 use Rattle.be_tree.specs.Slot.{pair_of}
 use Rattle.be_tree.specs.Splicing.{IsStored}
-use Rattle.be_tree.proofs.Frame.{filled_is, rewritten_swaps, written_swaps}
+use Rattle.be_tree_reading.proofs.Frame.{filled_is, rewritten_swaps, written_swaps}
 use Rattle.be_tree.proofs.Nodes.Stands.{stands_at, stands_else}
-use Rattle.be_tree.proofs.Putting.Puts.{held_after, swaps_given_up}
+use Rattle.be_tree_reading.proofs.Putting.Puts.{held_after, swaps_given_up}
 use Rattle.be_tree.proofs.Splices.{off_free, off_pair, off_ready, spliced_items, spliced_page}
 use Rattle.be_tree.proofs.Sizes.InHand.{takes_given_up, takes_still, takes_then, takes_within}
 use Rattle.be_tree.proofs.Sizes.Refusals.{takes_page}

@@ -2,7 +2,7 @@ use Rattle.std.proofs.Common.{◌≡◌, ◌+◌, ◌<◌, ◌∙◌, ap, get_or
 use Rattle.std.proofs.lemmas.Bool.{cases_lt}
 use Rattle.std.proofs.lemmas.List.{get_or_default}
 use Rattle.be_tree.specs.declared.slot.Slot.{Slot}
-use Rattle.be_tree.specs.Page.{item_place}
+use Rattle.be_tree_reading.specs.Page.{item_place}
 use Rattle.be_tree.specs.Slot.{pair_of}
 use Rattle.be_tree.specs.Splicing.{IsStored}
 use Rattle.be_tree.proofs.Splices.{off_pair, off_ready, only_then, there}

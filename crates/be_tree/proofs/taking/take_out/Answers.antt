@@ -1,13 +1,13 @@
 use Rattle.std.proofs.Common.{◌≡◌, ℕ, true, ltb, ◌+◌, ◌<◌, [], IfOk, length, drop, ap, sym, subst, arith}
 use Rattle.std.proofs.lemmas.Bool.Decides.{nat_tests}
 use Rattle.std.proofs.lemmas.Result.{IfOk-weaker}
-use Rattle.be_tree.specs.Key.{without}
-use Rattle.be_tree.specs.Page.{items_of}
+use Rattle.be_tree_reading.specs.Key.{without}
+use Rattle.be_tree_reading.specs.Page.{items_of}
 use Rattle.be_tree.specs.Path.{IsPathTo, least_at}
-use Rattle.be_tree.specs.Tree.{BecomesTree, pages, pairs}
-use Rattle.be_tree.proofs.Frame.{readable_kept}
+use Rattle.be_tree_reading.specs.Tree.{BecomesTree, pages, pairs}
+use Rattle.be_tree_reading.proofs.Frame.{readable_kept}
 use Rattle.be_tree.proofs.Leaves.{TakesAt, all_is, all_rise, keeps_front, length_spliced, path_read, takes_at, tree_since}
-use Rattle.be_tree.proofs.Nodes.Slots.{items_count}
+use Rattle.be_tree_reading.proofs.Items.{items_count}
 use Rattle.be_tree.proofs.Removing.Removes.{rising_without}
 use Rattle.be_tree.specs.Counting.{most_taken}
 use Rattle.be_tree.proofs.Sizes.Refusals.{refuses_read}

@@ -2,16 +2,17 @@ use Rattle.std.proofs.Common.{◌≡◌, ◌∙◌, ℕ, suc, ◌+◌, ◌≤◌
 use Rattle.std.proofs.lemmas.Result.{IfOk-weaker}
 use Rattle.be_tree.specs.declared.path.Step.{Step}
 use Rattle.be_tree.specs.declared.splicing.Cut.{Cut}
-use Rattle.be_tree.specs.Key.{without}
-use Rattle.be_tree.specs.Page.{items_of, level_of}
+use Rattle.be_tree_reading.specs.Key.{without}
+use Rattle.be_tree_reading.specs.Page.{items_of, level_of}
 use Rattle.be_tree.specs.Path.{IsInHand, whole}
 use Rattle.be_tree.specs.Slot.{IsReady, loaded, pair_of, pairs_of}
 use Rattle.be_tree.specs.Splicing.{spliced}
-use Rattle.be_tree.specs.Tree.{BecomesTree, pages, pairs, pairs_below}
+use Rattle.be_tree_reading.specs.Tree.{BecomesTree, pages, pairs, pairs_below}
 use Rattle.be_tree.proofs.Balances.{all_spliced, least_six, map_spliced}
-use Rattle.be_tree.proofs.Frame.{readable_kept}
+use Rattle.be_tree_reading.proofs.Frame.{readable_kept}
 use Rattle.be_tree.proofs.Leaves.{TakesAt, hand_tree, leaf_in_hand, takes_at}
-use Rattle.be_tree.proofs.Nodes.Slots.{items_count, loaded_pairs, loaded_ready}
+use Rattle.be_tree_reading.proofs.Items.{items_count}
+use Rattle.be_tree.proofs.Nodes.Slots.{loaded_pairs, loaded_ready}
 use Rattle.be_tree.proofs.Removing.Removes.{rising_without}
 use Rattle.be_tree.specs.Counting.{most_taken}
 use Rattle.be_tree.proofs.Sizes.Refusals.{refuses_read}

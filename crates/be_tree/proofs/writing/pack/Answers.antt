@@ -2,7 +2,7 @@ use Rattle.std.proofs.Common.{suc, [], ◌∷◌, ◌++◌, ◌≡◌, List, ap,
 use Rattle.be_tree.specs.declared.slot.Slot.{Slot}
 use Rattle.be_tree.specs.declared.slot.Slot.TheVariants.{Branch}
 use Rattle.be_tree.specs.Slot.{pairs_of}
-use Rattle.be_tree.specs.Tree.{pairs_below, pages_below, Becomes}
+use Rattle.be_tree_reading.specs.Tree.{pairs_below, pages_below, Becomes}
 use Rattle.be_tree.proofs.Shape.Parts.{on_err}
 use Rattle.be_tree.proofs.Sizes.InHand.{fewer_within, takes_within}
 use Rattle.be_tree.proofs.Sizes.Refusals.{takes_on}

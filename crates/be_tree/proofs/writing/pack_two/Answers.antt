@@ -1,11 +1,11 @@
 use Rattle.std.proofs.Common.{ℕ, suc, [], ◌∷◌, ◌≡◌, List, sym, subst, arith}
 use Rattle.be_pages.specs.Pages.{after_give_up, times}
 use Rattle.be_tree.specs.Slot.{pairs_of}
-use Rattle.be_tree.specs.Tree.{Becomes, pages_below, pairs_below}
-use Rattle.be_tree.proofs.Frame.{times_append, times_other}
+use Rattle.be_tree_reading.specs.Tree.{Becomes, pages_below, pairs_below}
+use Rattle.be_tree_reading.proofs.Frame.{times_append, times_other}
 use Rattle.be_tree.proofs.Nodes.Neighbours.{becomes_times}
 use Rattle.be_tree.proofs.Nodes.Stands.{stands_at, stands_else}
-use Rattle.be_tree.proofs.Putting.Puts.{becomes_given_up, held_after}
+use Rattle.be_tree_reading.proofs.Putting.Puts.{becomes_given_up, held_after}
 use Rattle.be_tree.proofs.Sizes.InHand.{takes_given_up, takes_then}
 use Rattle.be_tree.proofs.writing.pack_two.Goals as goal
 

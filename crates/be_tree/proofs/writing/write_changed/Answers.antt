@@ -1,9 +1,9 @@
 use Rattle.std.proofs.Common.{ℕ, [], ◌∷◌, sym, subst, arith}
 use Rattle.be_pages.specs.Pages.{after_give_up}
 use Rattle.be_tree.specs.Slot.{branch_to, pairs_of}
-use Rattle.be_tree.specs.Tree.{IsWritten}
+use Rattle.be_tree_reading.specs.Tree.{IsWritten}
 use Rattle.be_tree.proofs.Nodes.Stands.{stands_at, stands_else}
-use Rattle.be_tree.proofs.Putting.Puts.{held_after, swaps_given_up}
+use Rattle.be_tree_reading.proofs.Putting.Puts.{held_after, swaps_given_up}
 use Rattle.be_tree.proofs.Sizes.InHand.{takes_given_up, takes_then}
 use Rattle.be_tree.proofs.writing.write_changed.Goals as goal
 

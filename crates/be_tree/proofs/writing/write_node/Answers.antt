@@ -3,10 +3,10 @@ use Rattle.std.proofs.lemmas.List.{length-map}
 use Rattle.be_pages.specs.declared.room.Standing.TheVariants.{Filled, Taken}
 use Rattle.be_tree.specs.declared.slot.Slot.{Slot}
 use Rattle.be_tree.specs.declared.slot.Slot.TheVariants.{New}
-use Rattle.be_tree.specs.Page.{IsPage, item_at, item_place}
+use Rattle.be_tree_reading.specs.Page.{IsPage, item_at, item_place}
 use Rattle.be_tree.specs.Slot.{pair_of, pairs_of}
 use Rattle.be_tree.specs.Splicing.{IsStored}
-use Rattle.be_tree.proofs.Frame.{written_swaps}
+use Rattle.be_tree_reading.proofs.Frame.{written_swaps}
 use Rattle.be_tree.proofs.Nodes.Slots.{stored_map, written_at}
 use Rattle.be_tree.proofs.Nodes.Stands.{stands_at, stands_else}
 use Rattle.be_tree.proofs.Splices.{filled_word, off_free, off_pair, off_ready, other_word}

@@ -1,8 +1,8 @@
 use Rattle.std.proofs.Common.{[], ◌∷◌, ◌++◌, All, IsTrue, sym, subst, arith, rules}
 use Rattle.be_pages.specs.Pages.{is_kept}
 use Rattle.be_tree.specs.Slot.{IsReady}
-use Rattle.be_tree.proofs.Frame.{swaps_start, start_trans, swaps_stands, readable_kept}
-use Rattle.be_tree.proofs.Shape.Below.{all_left, all_right}
+use Rattle.be_tree_reading.proofs.Frame.{swaps_start, start_trans, swaps_stands, readable_kept}
+use Rattle.be_tree_reading.proofs.Shape.Below.{all_left, all_right}
 use Rattle.be_tree.proofs.Shape.Parts.{on_err}
 use Rattle.be_tree.proofs.Nodes.Slots.{all_apart_nil, all_ready_swaps}
 use Rattle.be_tree.proofs.Nodes.Writes.{parts_written}

@@ -2,12 +2,12 @@ use Rattle.std.proofs.Common.{◌≡◌, ℕ, suc, ◌+◌, [], ◌∷◌, ◌�
 use Rattle.std.proofs.lemmas.List.{get_or_default, length-map}
 use Rattle.be_tree.specs.declared.slot.Slot.{Slot}
 use Rattle.be_tree.specs.declared.slot.Slot.TheVariants.{New}
-use Rattle.be_tree.specs.Pair.{Pair}
+use Rattle.be_tree_reading.specs.Pair.{Pair}
 use Rattle.be_tree.specs.Slot.{pair_of, pairs_of}
-use Rattle.be_tree.specs.Tree.{child, pages, pages_below, pairs_below, BecomesTree}
-use Rattle.be_tree.proofs.Putting.Puts.{held_after}
-use Rattle.be_tree.proofs.Shape.Levels.{kept_not_free}
-use Rattle.be_tree.proofs.Shape.Roots.{tree_given_up}
+use Rattle.be_tree_reading.specs.Tree.{child, pages, pages_below, pairs_below, BecomesTree}
+use Rattle.be_tree_reading.proofs.Putting.Puts.{held_after}
+use Rattle.be_tree_reading.proofs.Shape.Levels.{kept_not_free}
+use Rattle.be_tree_reading.proofs.Shape.Roots.{tree_given_up}
 use Rattle.be_tree.proofs.Removing.Rests.{one_mapped, one_used, tree_none, tree_one, tree_until}
 use Rattle.be_tree.proofs.Sizes.InHand.{takes_given_up, takes_same, takes_then, takes_within}
 use Rattle.be_tree.proofs.writing.write_rest.Given.{Over}

@@ -4,10 +4,10 @@ use Rattle.std.proofs.lemmas.List.Elements.{All-nil, All-cons}
 use Rattle.be_pages.specs.Pages.{Swaps}
 use Rattle.be_tree.specs.declared.slot.Slot.TheVariants.{Branch}
 use Rattle.be_tree.specs.Slot.{branch_to, pair_of, pairs_of, IsBranchSlot}
-use Rattle.be_tree.specs.Tree.{child, pairs_below, pages_below, IsWritten, BecomesTree}
-use Rattle.be_tree.proofs.Frame.{one_beside, swaps_start, start_trans}
+use Rattle.be_tree_reading.specs.Tree.{child, pairs_below, pages_below, IsWritten, BecomesTree}
+use Rattle.be_tree_reading.proofs.Frame.{one_beside, swaps_start, start_trans}
 use Rattle.be_tree.proofs.Shape.Parts.{on_err}
-use Rattle.be_tree.proofs.Shape.Roots.{root_written, becomes_tree}
+use Rattle.be_tree_reading.proofs.Shape.Roots.{root_written, becomes_tree}
 use Rattle.be_tree.proofs.Nodes.Slots.{child_branch, branches_ready}
 use Rattle.be_tree.proofs.Sizes.InHand.{fewer_within, takes_fewer_then, takes_then, takes_within}
 use Rattle.be_tree.proofs.Sizes.Refusals.{takes_on}

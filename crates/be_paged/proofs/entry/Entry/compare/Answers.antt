@@ -1,7 +1,7 @@
 use Rattle.std.proofs.Common.{◌≡◌, ℕ, ◌<◌, ◌≤◌, List, length, slice_index, ap, sym, subst, ◌∙◌, arith}
 use Rattle.std.specs.Ordering.{nat_cmp}
-use Rattle.be_tree.specs.Page.{bytes_at}
-use Rattle.be_tree.proofs.Padded.{alike_differ, alike_end, alike_first, alike_next}
+use Rattle.be_tree_reading.specs.Page.{bytes_at}
+use Rattle.be_tree_reading.proofs.Padded.{alike_differ, alike_end, alike_first, alike_next}
 use Rattle.be_volume.specs.Maps.{name_cmp}
 use Rattle.be_paged.specs.Entry.{Entry}
 use Rattle.be_paged.proofs.Stored.Codec.{name_short}

@@ -1,6 +1,6 @@
 use Rattle.std.proofs.Common.{slice_index}
-use Rattle.be_tree.specs.Page.{bytes_at}
-use Rattle.be_tree.proofs.Padded.{AreAlike}
+use Rattle.be_tree_reading.specs.Page.{bytes_at}
+use Rattle.be_tree_reading.proofs.Padded.{AreAlike}
 use Rattle.be_paged.proofs.entry.Entry.compare.Given as goal
 
 -- the words so far are the same

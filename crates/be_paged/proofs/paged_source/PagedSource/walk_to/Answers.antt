@@ -1,9 +1,9 @@
 use Rattle.std.proofs.Common.{◌≡◌, ℕ, ◌<◌, List, [], Bool, true, length, get_or, ap, sym, subst, ◌∙◌}
-use Rattle.be_tree.specs.Cursor.{remaining}
-use Rattle.be_tree.specs.Page.{item_at}
-use Rattle.be_tree.proofs.Order.{key_same}
-use Rattle.be_tree.specs.Range.{pairs_from}
-use Rattle.be_tree.specs.Tree.{pairs}
+use Rattle.be_tree_reading.specs.Cursor.{remaining}
+use Rattle.be_tree_reading.specs.Page.{item_at}
+use Rattle.be_tree_reading.proofs.Order.{key_same}
+use Rattle.be_tree_reading.specs.Range.{pairs_from}
+use Rattle.be_tree_reading.specs.Tree.{pairs}
 use Rattle.be_value.specs.declared.values.Kind.TheVariants as kinds
 use Rattle.be_paged.specs.Entry.{Entry}
 use Rattle.be_paged.specs.Page.{contents_of}

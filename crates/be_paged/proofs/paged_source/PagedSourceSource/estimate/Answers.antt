@@ -1,5 +1,5 @@
 use Rattle.std.proofs.Common.{ℕ, [], sym, subst, ◌∙◌}
-use Rattle.be_tree.specs.Tree.{IsTree}
+use Rattle.be_tree_reading.specs.Tree.{IsTree}
 use Rattle.be_value.specs.declared.values.Kind.TheVariants as kinds
 use Rattle.be_paged.specs.Entry.{Entry}
 use Rattle.be_paged.specs.Page.{contents_of}

@@ -3,12 +3,12 @@ use Rattle.std.specs.List.{slice_get}
 use Rattle.std.specs.Option.{option_map}
 use Rattle.be_pages.specs.declared.room.Standing.{Standing}
 use Rattle.be_pages.specs.Pages.{is_readable}
-use Rattle.be_tree.specs.Pair.{Pair}
-use Rattle.be_tree.specs.Page.{IsItem, item_at}
-use Rattle.be_tree.specs.Cursor.{IsCursor, remaining}
-use Rattle.be_tree.specs.Range.{pairs_from}
-use Rattle.be_tree.specs.Tree.{IsTree, pairs}
-use Rattle.be_tree.proofs.Trees.{tree_rising}
+use Rattle.be_tree_reading.specs.Pair.{Pair}
+use Rattle.be_tree_reading.specs.Page.{IsItem, item_at}
+use Rattle.be_tree_reading.specs.Cursor.{IsCursor, remaining}
+use Rattle.be_tree_reading.specs.Range.{pairs_from}
+use Rattle.be_tree_reading.specs.Tree.{IsTree, pairs}
+use Rattle.be_tree_reading.proofs.Trees.{tree_rising}
 use Rattle.be_value.specs.declared.values.Kind.TheVariants as kinds
 use Rattle.be_paged.specs.Entry.{Entry}
 use Rattle.be_paged.specs.Page.{IsNamedAt, contents_of}

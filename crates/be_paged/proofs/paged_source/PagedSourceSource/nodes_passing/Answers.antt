@@ -2,9 +2,9 @@ use Rattle.std.proofs.Common.{ℕ, List, [], false, inl, sym, subst, ◌∙◌, 
 use Rattle.std.specs.List.{Contains}
 use Rattle.std.specs.Option.{option_copied}
 use Rattle.std.proofs.lemmas.List.Elements.{Contains-append_right}
-use Rattle.be_tree.specs.Range.{HasFirst, pairs_from}
-use Rattle.be_tree.specs.Tree.{IsTree, pairs}
-use Rattle.be_tree.proofs.Trees.{tree_rising}
+use Rattle.be_tree_reading.specs.Range.{HasFirst, pairs_from}
+use Rattle.be_tree_reading.specs.Tree.{IsTree, pairs}
+use Rattle.be_tree_reading.proofs.Trees.{tree_rising}
 use Rattle.be_value.specs.declared.values.Kind.TheVariants as kinds
 use Rattle.be_query.specs.Grammar.{Leaf}
 use Rattle.be_plan.specs.Walk.{HasOnlyTrue}

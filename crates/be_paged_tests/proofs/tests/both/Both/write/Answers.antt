@@ -1,7 +1,7 @@
 use Rattle.std.proofs.Common.{ℕ, ap, sym, subst, ◌∙◌}
 use Rattle.be_pages.specs.PagePool.{places}
 use Rattle.be_pages.specs.VecRoom.{standing_in, pool_word}
-use Rattle.be_tree.specs.Forest.{IsUndone}
+use Rattle.be_tree_reading.specs.Forest.{IsUndone}
 use Rattle.be_volume.specs.Volume.{State}
 use Rattle.be_paged.specs.Version.{IsVersion}
 use Rattle.be_paged.proofs.Standing.{version_stands, version_kept}
