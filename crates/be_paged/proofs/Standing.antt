@@ -11,10 +11,10 @@ use Rattle.be_tree_reading.proofs.Frame.{times-cons, times_itself, times_other}
 use Rattle.be_tree_reading.proofs.Trees.{tree_kept, tree_undone, trees_in_use}
 use Rattle.be_volume.specs.Volume.{State}
 use Rattle.be_volume.specs.declared.maps.Index.{Index}
-use Rattle.be_paged.specs.Entry.{Entry}
-use Rattle.be_paged.specs.Page.{contents_of, IsVersionPage, roots, reach}
-use Rattle.be_paged.specs.Catalog.{IsCatalog, IsIndexOf}
-use Rattle.be_paged.specs.Version.{AreEntriesOf, Spells, IsInHand, IsVersion}
+use Rattle.be_paged_reading.specs.Entry.{Entry}
+use Rattle.be_paged_reading.specs.Page.{contents_of, IsVersionPage, roots, reach}
+use Rattle.be_paged_reading.specs.Catalog.{IsCatalog, IsIndexOf}
+use Rattle.be_paged_reading.specs.Version.{AreEntriesOf, Spells, IsInHand, IsVersion}
 
 both : {a b c d : List ℕ} → a ≡ b → c ≡ d → a ++ c ≡ b ++ d
 both p q = cc

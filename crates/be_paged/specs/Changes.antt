@@ -28,8 +28,8 @@ use Rattle.be_volume.specs.declared.ops.Op.{Op}
 use Rattle.be_volume.specs.declared.ops.Op.TheVariants.{New, Set, MkIndex, Drop, Unset, RmIndex}
 use Rattle.be_paged.specs.declared.changes.Turn.{Turn}
 use Rattle.be_paged.specs.declared.changes.Turn.TheVariants as turns
-use Rattle.be_paged.specs.Page.{Contents, contents_of, roots, reach}
-use Rattle.be_paged.specs.Version.{IsInHand, IsVersion, Spells}
+use Rattle.be_paged_reading.specs.Page.{Contents, contents_of, roots, reach}
+use Rattle.be_paged_reading.specs.Version.{IsInHand, IsVersion, Spells}
 
 -- an index after the node got the value there, or lost the one that it had
 abbrev pub repaired : Index → ℕ → Option Value → Index

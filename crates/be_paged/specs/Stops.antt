@@ -13,8 +13,8 @@ use Rattle.be_volume.specs.Sound.{IsSound}
 use Rattle.be_volume.specs.Volume.{State, steps}
 use Rattle.be_volume.specs.declared.ops.Op.{Op}
 use Rattle.be_paged.specs.Changes.{Changes}
-use Rattle.be_paged.specs.Page.{Contents, roots}
-use Rattle.be_paged.specs.Version.{Spells}
+use Rattle.be_paged_reading.specs.Page.{Contents, roots}
+use Rattle.be_paged_reading.specs.Version.{Spells}
 
 -- how many pairs the trees of contents have
 abbrev pub pair_count : (words : ℕ → ℕ → ℕ) → Contents → ℕ

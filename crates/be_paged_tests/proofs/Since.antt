@@ -9,8 +9,8 @@ use Rattle.be_tree_reading.specs.Forest.{IsWriteStart}
 use Rattle.be_tree_reading.proofs.Frame.{unchanged_start}
 use Rattle.be_volume.specs.Volume.{State}
 use Rattle.be_volume.specs.declared.ops.Done.{Done}
-use Rattle.be_paged.specs.Version.{IsVersion}
-use Rattle.be_paged.proofs.Versions.{version_since}
+use Rattle.be_paged_reading.specs.Version.{IsVersion}
+use Rattle.be_paged_reading.proofs.Versions.{version_since}
 
 made_by : Result (State × List Done) Refusal → State → State
 made_by (Ok reached) none = reached.0

@@ -6,7 +6,7 @@ use Rattle.std.proofs.lemmas.Bool.Decides.{nat_tests}
 use Rattle.std.proofs.lemmas.List.{get_or_default, get_or_past}
 use borrow.Author.Tests.{lt-ltb}
 use Rattle.be_core.specs.Machine.{bit, has}
-use Rattle.be_paged.specs.Page.{reach}
+use Rattle.be_paged_reading.specs.Page.{reach}
 use Rattle.be_pages.specs.Pages.{is_taken, times}
 use Rattle.be_pages.specs.Place.{is_in_hand, place_of}
 use Rattle.be_pages.specs.declared.page_pool.Place.{Place}

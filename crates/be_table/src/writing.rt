@@ -85,8 +85,8 @@ impl<'a> Writing<'a> {
     ghost use Rattle.be_volume.specs.Ahead.{state_after};
     ghost use Rattle.be_journal.specs.Journal.{Agrees, replay};
     ghost use Rattle.be_journal.specs.Text.{lines_from};
-    ghost use Rattle.be_paged.specs.Page.{reach};
-    ghost use Rattle.be_paged.specs.Version.{IsVersion};
+    ghost use Rattle.be_paged_reading.specs.Page.{reach};
+    ghost use Rattle.be_paged_reading.specs.Version.{IsVersion};
     ghost use Rattle.be_table.specs.Reading.{word_of_page};
     ghost use Rattle.be_table.specs.Rule.{page_at, entries};
     ghost use Rattle.be_table.specs.Seats.{pin_of};

@@ -12,10 +12,10 @@ use Rattle.be_volume.specs.Sound.{IsSound}
 use Rattle.be_volume.specs.Volume.{State, steps}
 use Rattle.be_volume.specs.declared.ops.Done.{Done}
 use Rattle.be_volume.specs.declared.ops.Op.{Op}
-use Rattle.be_paged.specs.Catalog.{IsCatalog}
+use Rattle.be_paged_reading.specs.Catalog.{IsCatalog}
 use Rattle.be_paged.specs.Changes.{Changes, Applies, SetsWhatStands}
-use Rattle.be_paged.specs.Page.{Contents, contents_of, IsVersionPage, roots, reach}
-use Rattle.be_paged.specs.Version.{IsInHand, IsVersion, Spells}
+use Rattle.be_paged_reading.specs.Page.{Contents, contents_of, IsVersionPage, roots, reach}
+use Rattle.be_paged_reading.specs.Version.{IsInHand, IsVersion, Spells}
 use Rattle.be_paged.proofs.Applying.Hand.{entries_same}
 
 free_unused : (s : Standing) → s ≡ Free → IsTrue (is_kept s) → ⊥

@@ -18,10 +18,10 @@ use Rattle.be_volume.specs.Sound.{IsName}
 use Rattle.be_volume.specs.Volume.{State}
 use Rattle.be_volume.specs.declared.maps.Index.{Index}
 use Rattle.be_volume.proofs.MapLemmas.{names_total}
-use Rattle.be_paged.specs.Entry.{Entry}
-use Rattle.be_paged.specs.Page.{Contents, IsNamedAt}
-use Rattle.be_paged.specs.Catalog.{IsCatalog, IsIndexOf}
-use Rattle.be_paged.specs.Version.{IsEntryOf, AreEntriesOf, Spells, IsInHand}
+use Rattle.be_paged_reading.specs.Entry.{Entry}
+use Rattle.be_paged_reading.specs.Page.{Contents, IsNamedAt}
+use Rattle.be_paged_reading.specs.Catalog.{IsCatalog, IsIndexOf}
+use Rattle.be_paged_reading.specs.Version.{IsEntryOf, AreEntriesOf, Spells, IsInHand}
 use Rattle.be_paged.specs.Changes.{Changes}
 
 abbrev root_of : Entry → ℕ

@@ -25,14 +25,14 @@ use Rattle.be_volume.specs.declared.ops.Op.TheVariants.{MkIndex, RmIndex}
 use Rattle.be_volume.proofs.StepLemmas.{made, accepted}
 use Rattle.be_volume.specs.declared.maps.Index.{Index}
 use Rattle.be_volume.proofs.MapLemmas.{names_total, exact_names}
-use Rattle.be_paged.specs.Entry.{Entry}
-use Rattle.be_paged.specs.Page.{Contents, IsNamedAt, IsGapAt, roots}
-use Rattle.be_paged.specs.Catalog.{IsPairOf}
-use Rattle.be_paged.specs.Version.{IsEntryOf, AreEntriesOf, IsInHand, Spells}
+use Rattle.be_paged_reading.specs.Entry.{Entry}
+use Rattle.be_paged_reading.specs.Page.{Contents, IsNamedAt, IsGapAt, roots}
+use Rattle.be_paged_reading.specs.Catalog.{IsPairOf}
+use Rattle.be_paged_reading.specs.Version.{IsEntryOf, AreEntriesOf, IsInHand, Spells}
 use Rattle.be_paged.specs.Changes.{Changes, Steps}
 use Rattle.be_paged.proofs.Applying.Composing.{swaps_none}
 use Rattle.be_paged.proofs.Applying.Stepping.{stepped_is}
-use Rattle.be_paged.proofs.IndexEntries.Indexing.{entries_len, named_found, gap_none, gap_entries, inserted_pages, inserted_all, inserted_roots}
+use Rattle.be_paged_reading.proofs.IndexEntries.Indexing.{entries_len, named_found, gap_none, gap_entries, inserted_pages, inserted_all, inserted_roots}
 use Rattle.be_tree_reading.proofs.Trees.{trees_in_use}
 
 abbrev pub new_index : Kind → Index

@@ -29,11 +29,11 @@ use Rattle.be_volume.specs.declared.ops.Op.{Op}
 use Rattle.be_volume.specs.declared.ops.Op.TheVariants.{New, Drop, Set, Unset, MkIndex, RmIndex}
 use Rattle.be_volume.proofs.MapLemmas.{exact_names, names_total}
 use Rattle.be_volume.proofs.StepLemmas.{made}
-use Rattle.be_paged.specs.Catalog.{IsIndexOf}
+use Rattle.be_paged_reading.specs.Catalog.{IsIndexOf}
 use Rattle.be_paged.specs.Changes.{SetsWhatStands}
-use Rattle.be_paged.specs.Entries.{with_root}
-use Rattle.be_paged.specs.Entry.{Entry}
-use Rattle.be_paged.proofs.CatalogPairs.Items.{get_here}
+use Rattle.be_paged_reading.specs.Entries.{with_root}
+use Rattle.be_paged_reading.specs.Entry.{Entry}
+use Rattle.be_paged_reading.proofs.CatalogPairs.Items.{get_here}
 use Rattle.be_paged.proofs.IndexEntries.Repairs.{Leaves, kinds_agree, kinds_same, same_value}
 use Rattle.be_paged.proofs.Applying.Stepping.{stepped_is}
 

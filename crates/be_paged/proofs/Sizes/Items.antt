@@ -21,12 +21,12 @@ use Rattle.be_volume.specs.Items.{items}
 use Rattle.be_volume.specs.Maps.{Attributes, Nodes, name_cmp}
 use Rattle.be_volume.specs.Volume.{State}
 use Rattle.be_volume.specs.declared.maps.Index.{Index}
-use Rattle.be_paged.specs.Catalog.{IsCatalog, IsCatalogKey, IsIndexOf, IsPairOf, catalog_key, payload_of, stored}
-use Rattle.be_paged.specs.Entry.{Entry}
-use Rattle.be_paged.specs.Page.{contents_of, reach, roots}
-use Rattle.be_paged.specs.Version.{AreEntriesOf, IsVersion}
-use Rattle.be_paged.proofs.CatalogPairs.Finding.{found_pair}
-use Rattle.be_paged.proofs.IndexEntries.Indexing.{names_exact}
+use Rattle.be_paged_reading.specs.Catalog.{IsCatalog, IsCatalogKey, IsIndexOf, IsPairOf, catalog_key, payload_of, stored}
+use Rattle.be_paged_reading.specs.Entry.{Entry}
+use Rattle.be_paged_reading.specs.Page.{contents_of, reach, roots}
+use Rattle.be_paged_reading.specs.Version.{AreEntriesOf, IsVersion}
+use Rattle.be_paged_reading.proofs.CatalogPairs.Finding.{found_pair}
+use Rattle.be_paged_reading.proofs.IndexEntries.Indexing.{names_exact}
 use Rattle.be_paged.proofs.Sizes.Keys.{is_in, same_key, few_pairs, or_left, or_right, any_entry, any_flat, any_map}
 
 -- the keys of a node: its mark's, and those of its attributes

@@ -28,10 +28,10 @@ use Rattle.be_volume.specs.Volume.{State, steps}
 use Rattle.be_volume.specs.declared.ops.Done.{Done}
 use Rattle.be_volume.specs.declared.ops.Op.{Op}
 use Rattle.be_paged.specs.Changes.{Changes, key_put, key_taken}
-use Rattle.be_paged.specs.Entry.{Entry}
-use Rattle.be_paged.specs.Page.{Contents, roots}
+use Rattle.be_paged_reading.specs.Entry.{Entry}
+use Rattle.be_paged_reading.specs.Page.{Contents, roots}
 use Rattle.be_paged.specs.Stops.{Gains, Stops, StopsNear, StopsTree, TakesFew, pair_count}
-use Rattle.be_paged.specs.Version.{IsInHand, Spells}
+use Rattle.be_paged_reading.specs.Version.{IsInHand, Spells}
 use Rattle.be_paged.proofs.Applying.Composing.{changes_none, changes_since, changes_trans, tree_stays}
 use Rattle.be_paged.proofs.Applying.Hand.{catalog_changes, catalog_replaces, entry_changes, entry_replaces, replaced, replaced_len, roots_replaced, roots_split}
 use Rattle.be_paged.proofs.IndexEntries.Repairs.{Leaves}

@@ -7,7 +7,7 @@
 //! It is exact: a row fails if its cost grows, and if it falls.
 ghost use Rattle.std.specs.Prelude.{◌≤◌, ◌<◌, ◌+◌, ◌^◌, length, IsTrue};
 ghost use Rattle.be_volume.specs.Volume.{State};
-ghost use Rattle.be_paged.specs.Version.{IsVersion};
+ghost use Rattle.be_paged_reading.specs.Version.{IsVersion};
 
 use crate::tests::asking::read_query;
 use crate::tests::both::Both;

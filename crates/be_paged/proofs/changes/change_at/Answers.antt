@@ -4,16 +4,16 @@ use Rattle.be_value.specs.declared.values.Kind.{Kind}
 use Rattle.be_value.specs.declared.values.Kind.TheVariants as kinds
 use Rattle.be_pages.specs.Pages.{Swaps}
 use Rattle.be_tree_reading.specs.Tree.{IsTree, pairs, pages}
-use Rattle.be_paged.specs.Entry.{Entry}
-use Rattle.be_paged.specs.Catalog.{IsIndexOf}
+use Rattle.be_paged_reading.specs.Entry.{Entry}
+use Rattle.be_paged_reading.specs.Catalog.{IsIndexOf}
 use Rattle.be_paged.specs.Changes.{Changes, IsReady, repaired, with_change}
-use Rattle.be_paged.specs.Page.{contents}
-use Rattle.be_paged.specs.Version.{Spells}
+use Rattle.be_paged_reading.specs.Page.{contents}
+use Rattle.be_paged_reading.specs.Version.{Spells}
 use Rattle.be_volume.specs.Indices.{Indices}
 use Rattle.be_paged.proofs.IndexEntries.EntryChange.{indexed}
 use Rattle.be_paged.proofs.Applying.Hand.{entry_changes, entry_spells, replaced}
 use Rattle.be_paged.proofs.IndexEntries.Settled.{by_kinds, paired_same, root_kept}
-use Rattle.be_paged.proofs.Asking.SourceKeys.{entry_tree}
+use Rattle.be_paged_reading.proofs.Asking.SourceKeys.{entry_tree}
 use Rattle.be_tree.specs.Counting.{one_of}
 use Rattle.be_paged.specs.Stops.{Gains, StopsTree}
 use Rattle.be_paged.proofs.Sizes.Stopping.{entry_gains, entry_stops}

@@ -1,11 +1,11 @@
 use Rattle.std.proofs.Common.{ℕ, List, sym, subst, ◌∙◌, rules, arith, is_some}
 use Rattle.std.specs.Option.{option_copied}
-use Rattle.be_paged.specs.Entry.{Entry}
-use Rattle.be_paged.specs.Page.{IsNamedAt, IsGapAt, contents}
-use Rattle.be_paged.specs.Version.{Spells}
+use Rattle.be_paged_reading.specs.Entry.{Entry}
+use Rattle.be_paged_reading.specs.Page.{IsNamedAt, IsGapAt, contents}
+use Rattle.be_paged_reading.specs.Version.{Spells}
 use Rattle.be_paged.proofs.Applying.Composing.{changes_none, changes_since, start_since, in_hand_since}
 use Rattle.be_paged.proofs.IndexEntries.EntryChange.{spells_unindexed}
-use Rattle.be_paged.proofs.CatalogPairs.Validity.{values_valid}
+use Rattle.be_paged_reading.proofs.CatalogPairs.Validity.{values_valid}
 use Rattle.be_paged.specs.Stops.{Gains}
 use Rattle.be_tree.specs.Counting.{one_of}
 use Rattle.be_paged.proofs.Sizes.Stopping.{gains_none, stops_since}

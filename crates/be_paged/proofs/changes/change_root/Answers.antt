@@ -6,7 +6,7 @@ use Rattle.be_tree_reading.specs.Pair.{Pair}
 use Rattle.be_tree_reading.specs.Tree.{pairs, pages}
 use Rattle.be_tree_reading.proofs.Frame.{swaps_trans, swaps_since, swaps_start, start_trans}
 use Rattle.be_volume.specs.Indices.{unpaired}
-use Rattle.be_paged.specs.Catalog.{IsIndexOf}
+use Rattle.be_paged_reading.specs.Catalog.{IsIndexOf}
 use Rattle.be_paged.specs.Changes.{repaired, key_taken, key_put}
 use Rattle.be_paged.proofs.Applying.Composing.{tree_read, start_since}
 use Rattle.be_paged.proofs.IndexEntries.Repairs.{taken, entered, stands, Leaves, HasNone, key_there, seen_some, seen_none, seen_at}

@@ -7,11 +7,11 @@ use Rattle.be_tree_reading.specs.Tree.{pairs}
 use Rattle.be_volume.specs.declared.ops.Op.TheVariants.{New}
 use Rattle.be_volume.specs.declared.ops.Done.TheVariants.{Node}
 use Rattle.be_volume.proofs.StepLemmas.{made}
-use Rattle.be_paged.specs.Page.{contents}
-use Rattle.be_paged.specs.Catalog.{IsCatalog, catalog_key}
+use Rattle.be_paged_reading.specs.Page.{contents}
+use Rattle.be_paged_reading.specs.Catalog.{IsCatalog, catalog_key}
 use Rattle.be_paged.proofs.Applying.Hand.{catalog_changes, catalog_spells}
-use Rattle.be_paged.proofs.CatalogPairs.Items.{catalog_new}
-use Rattle.be_paged.proofs.CatalogPairs.Validity.{none_at_next}
+use Rattle.be_paged_reading.proofs.CatalogPairs.Items.{catalog_new}
+use Rattle.be_paged_reading.proofs.CatalogPairs.Validity.{none_at_next}
 use Rattle.be_paged.proofs.Sizes.Stopping.{catalog_stops, tree_stops}
 use Rattle.be_tree.proofs.Shape.Parts.{on_err}
 use Rattle.be_paged.proofs.edits.add_node.Goals as goal

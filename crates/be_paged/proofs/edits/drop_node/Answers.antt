@@ -8,13 +8,13 @@ use Rattle.be_volume.specs.Maps.{Nodes}
 use Rattle.be_volume.specs.Volume.{State}
 use Rattle.be_volume.specs.declared.ops.Op.TheVariants.{Drop}
 use Rattle.be_volume.proofs.StepLemmas.{made}
-use Rattle.be_paged.specs.Catalog.{IsCatalog}
-use Rattle.be_paged.specs.Page.{Contents, contents}
-use Rattle.be_paged.specs.Version.{Spells}
+use Rattle.be_paged_reading.specs.Catalog.{IsCatalog}
+use Rattle.be_paged_reading.specs.Page.{Contents, contents}
+use Rattle.be_paged_reading.specs.Version.{Spells}
 use Rattle.be_paged.proofs.Applying.Composing.{changes_trans, start_after}
 use Rattle.be_paged.proofs.Applying.Dropping.{no_values, indices_bare}
 use Rattle.be_paged.proofs.Applying.Hand.{catalog_changes, catalog_spells}
-use Rattle.be_paged.proofs.CatalogPairs.Items.{catalog_dropped}
+use Rattle.be_paged_reading.proofs.CatalogPairs.Items.{catalog_dropped}
 use Rattle.be_paged.proofs.Applying.Stepping.{stepped_is}
 use Rattle.be_paged.proofs.Sizes.Stopping.{catalog_stops, stops_after, tree_stops}
 use Rattle.be_tree.proofs.Shape.Parts.{on_err}

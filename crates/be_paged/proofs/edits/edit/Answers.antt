@@ -4,7 +4,7 @@ use Rattle.be_volume.specs.Volume.{step}
 use Rattle.be_volume.specs.declared.ops.Op.{Op}
 use Rattle.be_volume.specs.declared.ops.Op.TheVariants.{MkIndex}
 use Rattle.be_paged.specs.Changes.{SetsWhatStands, Steps}
-use Rattle.be_paged.specs.Page.{contents}
+use Rattle.be_paged_reading.specs.Page.{contents}
 use Rattle.be_paged.proofs.IndexEntries.Settled.{if_ok}
 use Rattle.be_paged.proofs.Sizes.Stopping.{result_stops}
 use Rattle.be_paged.proofs.edits.edit.Goals as goal

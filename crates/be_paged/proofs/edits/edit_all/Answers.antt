@@ -4,8 +4,8 @@ use Rattle.be_volume.specs.Ahead.{reached}
 use Rattle.be_volume.proofs.StepLemmas.{turn, performed}
 use Rattle.be_volume.proofs.Soundness.{step_sound}
 use Rattle.be_paged.specs.Changes.{Reaches, SetsWhatStands}
-use Rattle.be_paged.specs.Page.{contents}
-use Rattle.be_paged.specs.Version.{Spells}
+use Rattle.be_paged_reading.specs.Page.{contents}
+use Rattle.be_paged_reading.specs.Version.{Spells}
 use Rattle.be_paged.proofs.Applying.Composing.{changes_none, changes_trans, start_after}
 use Rattle.be_paged.proofs.IndexEntries.Settled.{sets_ok, sets_same}
 use Rattle.be_paged.proofs.Sizes.Stopping.{list_stops}

@@ -1,12 +1,12 @@
 use Rattle.std.proofs.Common.{ℕ, ◌+◌, ◌<◌, ◌^◌, sym, subst, ◌∙◌, refl, rules, arith}
 use Rattle.be_volume.specs.declared.ops.Op.TheVariants.{Drop}
 use Rattle.be_volume.proofs.StepLemmas.{accepted}
-use Rattle.be_paged.specs.Page.{contents}
-use Rattle.be_paged.specs.Version.{Spells}
+use Rattle.be_paged_reading.specs.Page.{contents}
+use Rattle.be_paged_reading.specs.Version.{Spells}
 use Rattle.be_paged.proofs.Applying.Composing.{changes_none, changes_trans, changes_since, in_hand_since, start_since, start_after}
 use Rattle.be_paged.proofs.Applying.Dropping.{leaves_first}
 use Rattle.be_paged.proofs.Applying.Emptying.{first_has, bare_of, unset_ok, thinner, some_there}
-use Rattle.be_paged.proofs.CatalogPairs.Validity.{values_valid}
+use Rattle.be_paged_reading.proofs.CatalogPairs.Validity.{values_valid}
 use Rattle.be_paged.specs.Stops.{Gains}
 use Rattle.be_paged.proofs.Sizes.Stopping.{gains_none, gains_trans, stops_after, stops_since}
 use Rattle.be_tree.proofs.Shape.Parts.{on_err}

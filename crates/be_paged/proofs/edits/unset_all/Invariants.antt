@@ -3,8 +3,8 @@ use Rattle.be_volume.specs.Sound.{IsSound}
 use Rattle.be_volume.specs.Volume.{State, step}
 use Rattle.be_volume.specs.declared.ops.Op.TheVariants.{Drop}
 use Rattle.be_paged.specs.Changes.{Changes, IsThinned}
-use Rattle.be_paged.specs.Page.{contents}
-use Rattle.be_paged.specs.Version.{Spells}
+use Rattle.be_paged_reading.specs.Page.{contents}
+use Rattle.be_paged_reading.specs.Version.{Spells}
 use Rattle.be_paged.specs.Stops.{Gains}
 use Rattle.be_paged.proofs.edits.unset_all.Given as goal
 

@@ -4,12 +4,12 @@ use Rattle.be_tree_reading.specs.Tree.{pairs}
 use Rattle.be_volume.specs.Maps.{attributes_of}
 use Rattle.be_volume.specs.declared.ops.Op.TheVariants.{Unset}
 use Rattle.be_volume.proofs.StepLemmas.{made, accepted}
-use Rattle.be_paged.specs.Page.{Contents, contents}
-use Rattle.be_paged.specs.Catalog.{IsCatalog}
+use Rattle.be_paged_reading.specs.Page.{Contents, contents}
+use Rattle.be_paged_reading.specs.Catalog.{IsCatalog}
 use Rattle.be_paged.specs.Changes.{with_indices}
 use Rattle.be_paged.proofs.Applying.Composing.{changes_trans, start_after}
 use Rattle.be_paged.proofs.Applying.Hand.{catalog_changes, catalog_spells}
-use Rattle.be_paged.proofs.CatalogPairs.Items.{catalog_unset}
+use Rattle.be_paged_reading.proofs.CatalogPairs.Items.{catalog_unset}
 use Rattle.be_paged.proofs.Applying.Stepping.{stepped_is}
 use Rattle.be_paged.proofs.Sizes.Stopping.{catalog_stops, stops_after, tree_stops, catalog_gains, gains_trans, without_pairs}
 use Rattle.be_tree.proofs.Shape.Parts.{on_err}

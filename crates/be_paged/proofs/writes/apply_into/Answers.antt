@@ -3,8 +3,8 @@ use Rattle.be_tree_reading.proofs.Frame.{unchanged_trans}
 use Rattle.be_volume.specs.Volume.{steps}
 use Rattle.be_volume.proofs.StepLemmas.{is_accepted}
 use Rattle.be_paged.specs.Changes.{Changes}
-use Rattle.be_paged.specs.Page.{Contents, contents}
-use Rattle.be_paged.specs.Version.{Spells}
+use Rattle.be_paged_reading.specs.Page.{Contents, contents}
+use Rattle.be_paged_reading.specs.Version.{Spells}
 use Rattle.be_paged.proofs.Applying.Applied.{page_stays, applied}
 use Rattle.be_paged.proofs.Applying.Composing.{changes_since, start_after}
 use Rattle.be_paged.proofs.Sizes.Stopping.{few_at_end, few_at_stop, few_unchanged}

@@ -6,7 +6,7 @@ use Rattle.be_tree_reading.specs.Forest.{IsUndone}
 use Rattle.be_tree_reading.proofs.Frame.{swaps_start}
 use Rattle.be_volume.specs.Volume.{State, steps}
 use Rattle.be_volume.specs.declared.ops.Op.TheVariants.{Drop}
-use Rattle.be_paged.specs.Version.{IsVersion}
+use Rattle.be_paged_reading.specs.Version.{IsVersion}
 use Rattle.be_paged.proofs.Standing.{version_stands}
 use Rattle.be_paged_tests.proofs.Since.{one_made}
 use Rattle.be_paged_tests.proofs.tests.look_tests.drop_first.Goals as goal
