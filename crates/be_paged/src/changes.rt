@@ -27,10 +27,8 @@ ghost use Rattle.be_paged_reading.specs.Place.{IsKnownIn};
 ghost use Rattle.be_paged.specs.Stops.{Grows, GrowsTree, Refuses, RefusesNear, StopsTree};
 ghost use Rattle.be_paged_reading.specs.Version.{IsInHand, Spells};
 
-use be_paged_reading::{index_at, search, set_root};
-use be_paged_reading::value_in;
-use be_paged_reading::Version;
 use arrayvec::ArrayVec;
+use be_paged_reading::{Version, index_at, search, set_root, value_in};
 use be_pages::{Look, Room};
 use be_tree::{has_key, insert, remove};
 use be_value::{Kind, Name, Refusal, Value, key_of, valid};

@@ -15,14 +15,11 @@ ghost use Rattle.be_paged_reading.specs.Place.{IsAsked, IsKnownIn};
 ghost use Rattle.be_paged.specs.Stops.{Grows, Refuses, RefusesNear, StopsList};
 ghost use Rattle.be_paged_reading.specs.Version.{IsInHand, Spells};
 
-use be_paged_reading::{Asked, known_of};
-use be_paged_reading::first_attribute;
-use be_paged_reading::{catalog_key, payload_of};
 use crate::changes::change_entry;
-use be_paged_reading::search;
-use be_paged_reading::Entry;
-use be_paged_reading::Version;
 use arrayvec::ArrayVec;
+use be_paged_reading::{
+    Asked, Entry, Version, catalog_key, first_attribute, known_of, payload_of, search,
+};
 use be_pages::Room;
 use be_tree::{clear, insert, remove};
 use be_value::{Kind, Name, Refusal, Value};

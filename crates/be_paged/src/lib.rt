@@ -25,8 +25,11 @@ pub mod laws;
 mod spelling;
 mod writes;
 
+pub use be_paged_reading::{
+    Cell, HeldName, PagedSource, PagedWhole, Version, answer_decided, attrs, columns, get,
+    get_into, indices, next, nodes, source, whole,
+};
 pub use counting::version_pages;
 pub use first::first_page;
 pub use spelling::one_spelling;
 pub use writes::{apply, apply_into};
-pub use be_paged_reading::{Cell, HeldName, PagedSource, PagedWhole, Version, answer_decided, attrs, columns, get, get_into, indices, next, nodes, source, whole};

@@ -14,11 +14,9 @@ ghost use Rattle.be_paged.specs.Stops.{Refuses, TakesFew};
 ghost use Rattle.be_paged_reading.specs.Version.{IsVersion};
 ghost use Rattle.be_paged_reading.specs.Page.{contents, contents_of, IsVersionPage};
 
-use be_paged_reading::Asked;
 use crate::edits::edit_all;
-use be_paged_reading::PageFacts;
-use be_paged_reading::{Version, fill_version, store_version};
 use arrayvec::ArrayVec;
+use be_paged_reading::{Asked, PageFacts, Version, fill_version, store_version};
 use be_pages::{Look, Room};
 use be_value::Refusal;
 use be_volume::{Done, Op, first_refusal};

@@ -19,12 +19,7 @@ pub struct Asked {
 }
 
 /// Remembers what was found of an attribute, unless something is remembered.
-pub fn remember(
-    asked: &mut Option<Asked>,
-    node: u64,
-    name: &Name,
-    place: Option<(u64, usize)>,
-)
+pub fn remember(asked: &mut Option<Asked>, node: u64, name: &Name, place: Option<(u64, usize)>)
     ensures { asked.new ≡ option_or asked.old
         (Some (record { node = node; name = name.now; place = place })) }
 {
@@ -38,11 +33,7 @@ pub fn remember(
 }
 
 /// What was found of a node's attribute, if that is the one that is remembered.
-pub fn known_of(
-    asked: &Option<Asked>,
-    node: u64,
-    name: &Name,
-) -> Option<Option<(u64, usize)>>
+pub fn known_of(asked: &Option<Asked>, node: u64, name: &Name) -> Option<Option<(u64, usize)>>
     ensures { (standing : ℕ → Stands) (words : ℕ → ℕ → ℕ) (root : ℕ)
         → IsAsked standing words root asked.now
         → IsKnownOf standing words root node name.now result }

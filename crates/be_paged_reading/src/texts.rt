@@ -19,8 +19,9 @@ ghost use Rattle.be_paged_reading.specs.Texts.{node_if_passing, nodes_passing_to
 
 use be_pages::Look;
 use be_plan::TextTest;
-use be_tree_reading::{Cursor, HEADER_WORDS, ITEM_WORDS, LENGTH_BITS};
-use be_tree_reading::{first_of, is_past_at, number_at};
+use be_tree_reading::{
+    Cursor, HEADER_WORDS, ITEM_WORDS, LENGTH_BITS, first_of, is_past_at, number_at,
+};
 use std::alloc::AllocError;
 
 /// Room for the longest text, of 255 bytes, in whole words.

@@ -5,16 +5,16 @@ ghost use Rattle.be_tree.specs.Path.{IsPathFor, IsPathTo, PutsInto};
 ghost use Rattle.be_tree.specs.Writing.{Refuses};
 
 use crate::item::Item;
-use crate::storing::fill_slots;
-use be_tree_reading::MOST_ITEMS;
 use crate::path::{NewRoot, Path};
 use crate::rising::{Edit, change_leaf};
 use crate::settling::settle;
 use crate::siblings::count_of;
 use crate::slot::Slot;
 use crate::splicing::Cut;
+use crate::storing::fill_slots;
 use arrayvec::ArrayVec;
 use be_pages::Room;
+use be_tree_reading::MOST_ITEMS;
 
 /// Puts a pair where a path to its key leads, and gives the new root.
 pub(crate) fn put_on<R: Room>(room: &mut R, root: u64, path: &Path, pair: &Item) -> NewRoot

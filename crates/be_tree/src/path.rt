@@ -11,10 +11,9 @@ ghost use Rattle.be_tree.specs.Path.{IsPathTo};
 ghost use Rattle.be_tree_reading.specs.Tree.{IsTree};
 ghost use Rattle.be_tree_reading.specs.Words.{IsFirst};
 
-use be_tree_reading::{branch_in, item_number, search};
-use be_tree_reading::{child_at, first_word};
 use arrayvec::ArrayVec;
 use be_pages::Look;
+use be_tree_reading::{branch_in, child_at, first_word, item_number, search};
 use be_value::Refusal;
 
 /// An inner page on the way down, and the number of the branch that the way takes.

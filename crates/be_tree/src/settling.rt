@@ -19,16 +19,16 @@ ghost use Rattle.be_tree_reading.specs.Tree.{BecomesTree, child, pages, pairs_be
 ghost use Rattle.be_tree.specs.Writing.{Refuses};
 
 use crate::item::Item;
-use crate::storing::fill_slots;
-use be_tree_reading::{HEADER_WORDS, ITEM_WORDS, LEAST_ITEMS, MOST_ITEMS, child_at};
 use crate::path::Step;
 use crate::rising::{Changed, rise};
 use crate::siblings::{append, count_of};
 use crate::slot::{Node, Slot};
 use crate::splicing::{Cut, splice};
+use crate::storing::fill_slots;
 use crate::writing::{pack, pack_two, write_rest};
 use arrayvec::ArrayVec;
 use be_pages::{Look, Room};
+use be_tree_reading::{HEADER_WORDS, ITEM_WORDS, LEAST_ITEMS, MOST_ITEMS, child_at};
 use be_value::Refusal;
 
 /// What is in the place of some of a node's branches: the branches to the pages that were written.

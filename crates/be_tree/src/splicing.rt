@@ -16,10 +16,10 @@ ghost use Rattle.be_tree.specs.Splicing.{IsStored, IsTaken, WritesItems};
 ghost use Rattle.be_tree.specs.Writing.{Refuses};
 
 use crate::item::Item;
-use crate::storing::{copy_item, store_slot};
-use be_tree_reading::{HEADER_WORDS, ITEM_WORDS};
 use crate::slot::Slot;
+use crate::storing::{copy_item, store_slot};
 use be_pages::Room;
+use be_tree_reading::{HEADER_WORDS, ITEM_WORDS};
 use be_value::Refusal;
 
 /// Copies items to lower places, or to another page, from the first one on.

@@ -19,7 +19,7 @@ use crate::item::Item;
 use crate::slot::Slot;
 use arrayvec::ArrayVec;
 use be_pages::{Look, Room};
-use be_tree_reading::{LENGTH_BITS, ITEM_WORDS, HEADER_WORDS, word_from};
+use be_tree_reading::{HEADER_WORDS, ITEM_WORDS, LENGTH_BITS, word_from};
 
 /// Writes bytes into the words from a place on, of a page that has a word filled, eight in a word,
 /// and zeros after the last.

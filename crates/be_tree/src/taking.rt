@@ -5,15 +5,15 @@ ghost use Rattle.be_tree.specs.Path.{IsPathAt, TakesOut, least_at};
 ghost use Rattle.be_tree.specs.Writing.{Refuses};
 
 use crate::item::Item;
-use crate::storing::fill_slots;
-use be_tree_reading::LEAST_ITEMS;
 use crate::path::{NewRoot, Path, Step};
 use crate::rising::{Edit, change_leaf};
 use crate::settling::settle;
 use crate::siblings::count_of;
 use crate::splicing::Cut;
+use crate::storing::fill_slots;
 use arrayvec::ArrayVec;
 use be_pages::Room;
+use be_tree_reading::LEAST_ITEMS;
 
 /// Takes out the item that a path leads to, which has this number, and gives the new root.
 pub(crate) fn take_out<R: Room>(

@@ -13,11 +13,11 @@ ghost use Rattle.be_tree.specs.Writing.{AreApart, AreReady, IsApart, IsWritable,
 ghost use Rattle.be_tree.specs.Writing.{Refuses, ReplacesTree};
 
 use crate::item::Item;
-use be_tree_reading::{LEAST_ITEMS, MOST_ITEMS, child_at};
 use crate::slot::{Node, Slot};
 use crate::splicing::store_slots;
 use arrayvec::ArrayVec;
 use be_pages::{Look, Room};
+use be_tree_reading::{LEAST_ITEMS, MOST_ITEMS, child_at};
 use be_value::Refusal;
 
 /// Writes a node to a page of its own, and returns the page.

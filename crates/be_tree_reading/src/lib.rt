@@ -20,9 +20,7 @@ mod payload;
 mod walk;
 
 pub use cursor::Cursor;
-pub use lookup::{
-    branch_in, find, find_into, find_place, has_key, is_key_at, item_number, search,
-};
+pub use lookup::{branch_in, find, find_into, find_place, has_key, is_key_at, item_number, search};
 pub use numbers::{first_of, is_past_at, number_at, numbers_within};
 pub use page::{
     HEADER_WORDS, ITEM_WORDS, LEAST_ITEMS, LENGTH_BITS, MOST_ITEMS, child_at, extend, fill_bytes,

@@ -194,12 +194,7 @@ pub(crate) fn branch_for<L: Look>(
 /// The place of a key among a page's items: that of the item that has it, or the one after those
 /// with lesser keys.
 #[inline(always)]
-pub fn search<L: Look>(
-    look: &mut L,
-    page: u64,
-    key: &[u8],
-    first: u64,
-) -> Result<usize, usize>
+pub fn search<L: Look>(look: &mut L, page: u64, key: &[u8], first: u64) -> Result<usize, usize>
     requires readable { IsTrue (is_readable (L.standing look.old page)) }
     requires page { IsPage (L.words look.old page) }
     requires first { IsFirst key.now first }
