@@ -7,6 +7,7 @@ mod lines;
 mod machine;
 mod pages;
 mod pattern;
+mod pool;
 mod query;
 mod stored_words;
 mod tree;

@@ -1,9 +1,5 @@
 pub mod Standing
-pub mod Versions
 pub mod Stored
-pub mod CatalogPairs
 pub mod IndexEntries
-pub mod Asking
 pub mod Applying
-pub mod Told
 pub mod Sizes

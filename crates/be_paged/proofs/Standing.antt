@@ -5,16 +5,16 @@ use Rattle.std.specs.Prelude.{All, slice_index_or}
 use Rattle.be_pages.specs.declared.room.Standing.{Standing}
 use Rattle.be_pages.specs.declared.room.Standing.TheVariants.{Free, Old, GivenUp, Taken, Filled}
 use Rattle.be_pages.specs.Pages.{is_kept, is_from_before, after_keep, after_undo, times}
-use Rattle.be_tree.specs.Tree.{IsTree}
-use Rattle.be_tree.specs.Forest.{pages_of, AreTrees, IsWriteStart, IsUndone}
-use Rattle.be_tree.proofs.Frame.{times-cons, times_itself, times_other}
-use Rattle.be_tree.proofs.Trees.{tree_kept, tree_undone, trees_in_use}
+use Rattle.be_tree_reading.specs.Tree.{IsTree}
+use Rattle.be_tree_reading.specs.Forest.{pages_of, AreTrees, IsWriteStart, IsUndone}
+use Rattle.be_tree_reading.proofs.Frame.{times-cons, times_itself, times_other}
+use Rattle.be_tree_reading.proofs.Trees.{tree_kept, tree_undone, trees_in_use}
 use Rattle.be_volume.specs.Volume.{State}
 use Rattle.be_volume.specs.declared.maps.Index.{Index}
-use Rattle.be_paged.specs.Entry.{Entry}
-use Rattle.be_paged.specs.Page.{contents_of, IsVersionPage, roots, reach}
-use Rattle.be_paged.specs.Catalog.{IsCatalog, IsIndexOf}
-use Rattle.be_paged.specs.Version.{AreEntriesOf, Spells, IsInHand, IsVersion}
+use Rattle.be_paged_reading.specs.Entry.{Entry}
+use Rattle.be_paged_reading.specs.Page.{contents_of, IsVersionPage, roots, reach}
+use Rattle.be_paged_reading.specs.Catalog.{IsCatalog, IsIndexOf}
+use Rattle.be_paged_reading.specs.Version.{AreEntriesOf, Spells, IsInHand, IsVersion}
 
 both : {a b c d : List ℕ} → a ≡ b → c ≡ d → a ++ c ≡ b ++ d
 both p q = cc

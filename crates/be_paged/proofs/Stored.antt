@@ -1,6 +1,3 @@
 -- A version as its page stores it, and what the page tells.
-pub mod Codec
-pub mod UsedWords
-pub mod PageIndices
 pub mod EmptyVolume
 pub mod OneVolume

@@ -12,9 +12,9 @@ use Rattle.be_pages.specs.declared.room.Standing.{Standing}
 use Rattle.be_pages.specs.declared.room.Standing.TheVariants.{Filled}
 use Rattle.be_pages.specs.Pages.{Swaps, KeepsStart, IsUnchanged}
 use Rattle.be_pages.specs.Refusal.{IsFullOf}
-use Rattle.be_tree.specs.Forest.{pages_of}
-use Rattle.be_tree.specs.Key.{put, without}
-use Rattle.be_tree.specs.Pair.{Pair}
+use Rattle.be_tree_reading.specs.Forest.{pages_of}
+use Rattle.be_tree_reading.specs.Key.{put, without}
+use Rattle.be_tree_reading.specs.Pair.{Pair}
 use Rattle.be_value.specs.Key.{IsValue}
 use Rattle.be_volume.specs.Indices.{Indices, paired, unpaired, with_pair, without_node}
 use Rattle.be_volume.specs.Indices.{without_pair}
@@ -28,8 +28,8 @@ use Rattle.be_volume.specs.declared.ops.Op.{Op}
 use Rattle.be_volume.specs.declared.ops.Op.TheVariants.{New, Set, MkIndex, Drop, Unset, RmIndex}
 use Rattle.be_paged.specs.declared.changes.Turn.{Turn}
 use Rattle.be_paged.specs.declared.changes.Turn.TheVariants as turns
-use Rattle.be_paged.specs.Page.{Contents, contents_of, roots, reach}
-use Rattle.be_paged.specs.Version.{IsInHand, IsVersion, Spells}
+use Rattle.be_paged_reading.specs.Page.{Contents, contents_of, roots, reach}
+use Rattle.be_paged_reading.specs.Version.{IsInHand, IsVersion, Spells}
 
 -- an index after the node got the value there, or lost the one that it had
 abbrev pub repaired : Index → ℕ → Option Value → Index
@@ -81,6 +81,11 @@ pub record IsReady (index : Index) (kind : Kind) (node : ℕ) (old : Option Valu
   pub valid : (n : ℕ) (value : Value) → map.get index.pairs n ≡ Some value → IsValue value
       × (kind_of value ≡ kind)
   pub own : (value : Value) → map.get index.pairs node ≡ Some value → old ≡ Some value
+
+-- contents in hand, with numbers left for so many nodes
+abbrev pub IsInHandFor : (standing : ℕ → Standing) (words : ℕ → ℕ → ℕ) (more : ℕ) → Contents
+    → Type 0
+IsInHandFor standing words more c = IsInHand standing words c × (c.next + more < 2 ^ 64)
 
 -- the contents in hand have become others, and the pages of their trees those of the others' trees
 pub record Changes {S K : Type 0} (kept_of : S → K) (standing_of : S → ℕ → Standing)

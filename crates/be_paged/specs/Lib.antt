@@ -1,13 +1,2 @@
-pub mod Entry
-pub mod Page
-pub mod Catalog
-pub mod Texts
-pub mod Version
-pub mod Reading
-pub mod Nodes
-pub mod Facts
 pub mod Changes
-pub mod Source
-pub mod Place
-pub mod Entries
-pub mod Cells
+pub mod Stops

@@ -4,30 +4,31 @@
 //! encode a volume in which the index and the attribute disagree. So what is kept from one change
 //! to the next is that the trees are well formed, apart from what they say.
 ghost use Rattle.std.specs.Option.{option_copied};
-ghost use Rattle.std.specs.Prelude.{◌≡◌, ℕ, ◌<◌, length, IsTrue, IfOk, IfErr, OnOk, OnErr, IfSome};
-ghost use Rattle.std.specs.Prelude.{IfNone, Some, None, option_map, true, is_some, List};
+ghost use Rattle.std.specs.Prelude.{◌≡◌, ℕ, ◌<◌, length, IsTrue, IfOk, IfErr, OnOk};
+ghost use Rattle.std.specs.Prelude.{OnErr, IfSome, IfNone, Some, None, option_map, true, is_some};
+ghost use Rattle.std.specs.Prelude.{List};
 ghost use Rattle.be_value.specs.Key.{key, IsValue};
 ghost use Rattle.be_value.specs.Value.{kind_of as kind_in, is_indexable};
 ghost use Rattle.be_value.specs.declared.values.Value.{Value as AnyValue};
-ghost use Rattle.be_pages.specs.Pages.{IsUnchanged, KeepsStart, Swaps};
+ghost use Rattle.be_pages.specs.Pages.{IsUnchanged, KeepsStart};
 ghost use Rattle.be_pages.specs.Refusal.{IsFullOf};
-ghost use Rattle.be_tree.specs.Key.{payload_at};
-ghost use Rattle.be_tree.specs.Tree.{BecomesTree, IsTree, pages, pairs};
+ghost use Rattle.be_tree.specs.Counting.{TakesFewer, most_taken, one_of};
+ghost use Rattle.be_tree_reading.specs.Key.{payload_at};
+ghost use Rattle.be_tree_reading.specs.Tree.{BecomesTree, IsTree, level_of_root, pages, pairs};
 ghost use Rattle.be_volume.specs.Indices.{with_pair};
 ghost use Rattle.be_volume.specs.Reading.{attribute};
 ghost use Rattle.be_volume.specs.Sound.{IsSound};
 ghost use Rattle.be_volume.specs.Volume.{State};
 ghost use Rattle.be_volume.specs.declared.maps.Index.{Index as AnyIndex};
-ghost use Rattle.be_paged.specs.Catalog.{IsIndexOf};
-ghost use Rattle.be_paged.specs.Changes.{Changes, IsReady, repaired, with_indices, key_turned};
-ghost use Rattle.be_paged.specs.Page.{contents, IsNamedAt};
-ghost use Rattle.be_paged.specs.Place.{IsKnownIn};
-ghost use Rattle.be_paged.specs.Version.{IsInHand, Spells};
+ghost use Rattle.be_paged_reading.specs.Catalog.{IsIndexOf};
+ghost use Rattle.be_paged.specs.Changes.{IsReady, repaired, with_indices, key_turned};
+ghost use Rattle.be_paged_reading.specs.Page.{contents, IsNamedAt};
+ghost use Rattle.be_paged_reading.specs.Place.{IsKnownIn};
+ghost use Rattle.be_paged.specs.Stops.{Grows, GrowsTree, Refuses, RefusesNear, StopsTree};
+ghost use Rattle.be_paged_reading.specs.Version.{IsInHand, Spells};
 
-use crate::entries::{index_at, search, set_root};
-use crate::reading::value_in;
-use crate::version::Version;
 use arrayvec::ArrayVec;
+use be_paged_reading::{Version, index_at, search, set_root, value_in};
 use be_pages::{Look, Room};
 use be_tree::{has_key, insert, remove};
 use be_value::{Kind, Name, Refusal, Value, key_of, valid};
@@ -95,6 +96,8 @@ fn turn_key<R: Room>(
     ensures none { IfOk result (λ new. option_map (λ k. k.items) key.now ≡ None → new ≡ root) }
     ensures err { OnErr result (KeepsStart R.kept R.standing R.words room.old room.new) }
     ensures full { IfErr result (IsFullOf (R.full room.new)) }
+    ensures takes { OnErr result (TakesFewer (most_taken (level_of_root (R.words room.old) root))
+        (R.standing room.old) (R.standing room.new)) }
 {
     let Some(key) = key else {
         return Ok(root);
@@ -119,9 +122,8 @@ fn change_root<R: Room>(
 ) -> Result<u64, Refusal>
     requires tree { IsTree (R.standing room.old) (R.words room.old) root }
     requires open { IsTrue (R.is_open (R.kept room.old)) }
-    ensures tree { IfOk result (λ r. IsTree (R.standing room.new) (R.words room.new) r) }
-    ensures swaps { IfOk result (λ r. Swaps R.kept R.standing R.words
-        (pages (R.words room.old) root) (pages (R.words room.new) r) room.old room.new) }
+    ensures grows { IfOk result (λ r. GrowsTree R.kept R.standing R.words
+        (one_of (is_some (option_copied new.entry))) root r room.old room.new) }
     ensures keys { IfOk result (λ r. (index : AnyIndex)
         → IsIndexOf (pairs (R.words room.old) root) index
         → IsReady index kind node (option_copied old.entry) →
@@ -133,8 +135,8 @@ fn change_root<R: Room>(
         × IsUnchanged R.kept R.standing R.words room.old room.new) }
     ensures apart { IfOk result (λ r. (v : AnyValue) → (kind_in v ≡ kind → ⊥) →
         option_copied old.entry ≡ Some v → option_copied new.entry ≡ Some v → r ≡ root) }
-    ensures err { OnErr result (KeepsStart R.kept R.standing R.words room.old room.new) }
-    ensures full { IfErr result (IsFullOf (R.full room.new)) }
+    ensures refused { Refuses R.kept R.standing R.words R.full
+        (StopsTree R.kept R.standing R.words root) result room.old room.new }
 {
     let leaves = key_in(kind, old, node);
     let enters = key_in(kind, new, node);
@@ -158,8 +160,9 @@ fn change_at<R: Room>(
     requires in_hand { IsInHand (R.standing room.old) (R.words room.old) (contents version.old) }
     requires in_range { at < length version.old.entries.items }
     requires open { IsTrue (R.is_open (R.kept room.old)) }
-    ensures changes { OnOk result (Changes R.kept R.standing R.words (contents version.old)
-        (contents version.new) room.old room.new) }
+    ensures changes { OnOk result (Grows R.kept R.standing R.words
+        (one_of (is_some (option_copied new.entry))) (contents version.old) (contents version.new)
+        room.old room.new) }
     ensures spells { OnOk result ((volume : State) (name : List ℕ)
         → IsNamedAt version.old.entries.items name at →
         Spells (R.words room.old) (contents version.old) volume → IsSound volume
@@ -173,10 +176,10 @@ fn change_at<R: Room>(
         option_copied old.entry ≡ Some v → option_copied new.entry ≡ Some v
         → with_pair volume.indices name node v ≡ volume.indices →
         version.new.entries.items ≡ version.old.entries.items) }
-    ensures catalog { OnOk result (version.new.catalog ≡ version.old.catalog) }
-    ensures next { OnOk result (version.new.next ≡ version.old.next) }
-    ensures err { OnErr result (KeepsStart R.kept R.standing R.words room.old room.new) }
-    ensures full { IfErr result (IsFullOf (R.full room.new)) }
+    ensures rest { OnOk result ((version.new.catalog ≡ version.old.catalog)
+        × (version.new.next ≡ version.old.next)) }
+    ensures refused { RefusesNear R.kept R.standing R.words R.full 0 (contents version.old) result
+        room.old room.new }
 {
     let (kind, root) = index_at(&version.entries, at);
     let changed = change_root(room, root, kind, node, old, new)?;
@@ -197,8 +200,9 @@ pub(crate) fn change_entry<R: Room>(
     requires in_hand { IsInHand (R.standing room.old) (R.words room.old) (contents version.old) }
     requires known { IsKnownIn R.standing R.words room.old version.old node name.now known }
     requires open { IsTrue (R.is_open (R.kept room.old)) }
-    ensures changes { OnOk result (Changes R.kept R.standing R.words (contents version.old)
-        (contents version.new) room.old room.new) }
+    ensures changes { OnOk result (Grows R.kept R.standing R.words
+        (one_of (is_some (option_copied new.entry))) (contents version.old) (contents version.new)
+        room.old room.new) }
     ensures spells { OnOk result ((volume : State)
         → Spells (R.words room.old) (contents version.old) volume → IsSound volume →
         Spells (R.words room.new) (contents version.new)
@@ -209,10 +213,10 @@ pub(crate) fn change_entry<R: Room>(
         attribute volume node name.now ≡ Some v → option_copied new.entry ≡ Some v
         → with_pair volume.indices name.now node v ≡ volume.indices →
         version.new.entries.items ≡ version.old.entries.items) }
-    ensures catalog { OnOk result (version.new.catalog ≡ version.old.catalog) }
-    ensures next { OnOk result (version.new.next ≡ version.old.next) }
-    ensures err { OnErr result (KeepsStart R.kept R.standing R.words room.old room.new) }
-    ensures full { IfErr result (IsFullOf (R.full room.new)) }
+    ensures rest { OnOk result ((version.new.catalog ≡ version.old.catalog)
+        × (version.new.next ≡ version.old.next)) }
+    ensures refused { RefusesNear R.kept R.standing R.words R.full 0 (contents version.old) result
+        room.old room.new }
 {
     let Ok(at) = search(&version.entries, name) else {
         return Ok(());

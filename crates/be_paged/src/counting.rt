@@ -4,8 +4,8 @@ ghost use Rattle.std.specs.Prelude.{ℕ, ◌+◌, ◌*◌, ◌≤◌, length};
 ghost use Rattle.be_pages.specs.declared.room.Standing.{Standing as Stands};
 ghost use Rattle.be_volume.specs.Items.{items};
 ghost use Rattle.be_volume.specs.Volume.{State};
-ghost use Rattle.be_paged.specs.Page.{reach};
-ghost use Rattle.be_paged.specs.Version.{IsVersion};
+ghost use Rattle.be_paged_reading.specs.Page.{reach};
+ghost use Rattle.be_paged_reading.specs.Version.{IsVersion};
 
 /// A version has its page, and for each tree a page for each five of the tree's items and one more
 /// for those that are left over, at most.

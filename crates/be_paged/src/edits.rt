@@ -1,27 +1,25 @@
 //! Operations on a version in hand.
 //!
 //! Refusals are found before, so each operation only does its work, and the one error is that no
-//! page is free. The contracts don't say what it leaves after that: the write is undone.
-ghost use Rattle.std.specs.Prelude.{◌≡◌, [], ◌+◌, ◌≤◌, ◌<◌, ◌^◌, All, length, IsTrue, IfOk, IfErr};
-ghost use Rattle.std.specs.Prelude.{OnOk, OnErr, IsOk};
-ghost use Rattle.be_pages.specs.Pages.{KeepsStart};
-ghost use Rattle.be_pages.specs.Refusal.{IsFullOf};
+//! page is free. The write is undone after that, so the contracts don't say what it leaves, but for
+//! the pages that it has in hand, which are few (`Stops`).
+ghost use Rattle.std.specs.Prelude.{◌≡◌, [], ◌+◌, ◌≤◌, ◌<◌, ◌^◌, All, length, IsTrue, IfOk};
+ghost use Rattle.std.specs.Prelude.{OnOk, IsOk};
 ghost use Rattle.be_volume.specs.Sound.{IsSound};
 ghost use Rattle.be_volume.specs.Volume.{State, step, steps};
 ghost use Rattle.be_volume.specs.declared.ops.Op.TheVariants as ops;
-ghost use Rattle.be_paged.specs.Changes.{Changes, IsBare, SetsWhatStands, Steps, Reaches};
-ghost use Rattle.be_paged.specs.Page.{contents};
-ghost use Rattle.be_paged.specs.Place.{IsAsked, IsKnownIn};
-ghost use Rattle.be_paged.specs.Version.{IsInHand, Spells};
+ghost use Rattle.be_paged.specs.Changes.{Changes, IsBare, IsInHandFor, Reaches};
+ghost use Rattle.be_paged.specs.Changes.{SetsWhatStands, Steps};
+ghost use Rattle.be_paged_reading.specs.Page.{contents};
+ghost use Rattle.be_paged_reading.specs.Place.{IsAsked, IsKnownIn};
+ghost use Rattle.be_paged.specs.Stops.{Grows, Refuses, RefusesNear, StopsList};
+ghost use Rattle.be_paged_reading.specs.Version.{IsInHand, Spells};
 
-use crate::asked::{Asked, known_of};
-use crate::attributes::first_attribute;
-use crate::catalog::{catalog_key, payload_of};
 use crate::changes::change_entry;
-use crate::entries::search;
-use crate::entry::Entry;
-use crate::version::Version;
 use arrayvec::ArrayVec;
+use be_paged_reading::{
+    Asked, Entry, Version, catalog_key, first_attribute, known_of, payload_of, search,
+};
 use be_pages::Room;
 use be_tree::{clear, insert, remove};
 use be_value::{Kind, Name, Refusal, Value};
@@ -29,8 +27,8 @@ use be_volume::{Done, MAX_ATTRIBUTES, MAX_INDICES, Op};
 
 /// A new node: its mark enters the catalog.
 fn add_node<R: Room>(room: &mut R, version: &mut Version) -> Result<Done, Refusal>
-    requires in_hand { IsInHand (R.standing room.old) (R.words room.old) (contents version.old) }
-    requires next { version.old.next + 1 < 2 ^ 64 }
+    requires in_hand { IsInHandFor (R.standing room.old) (R.words room.old) 1
+        (contents version.old) }
     requires open { IsTrue (R.is_open (R.kept room.old)) }
     ensures changes { OnOk result (Changes R.kept R.standing R.words (contents version.old)
         (contents version.new) room.old room.new) }
@@ -38,8 +36,8 @@ fn add_node<R: Room>(room: &mut R, version: &mut Version) -> Result<Done, Refusa
         → Spells (R.words room.old) (contents version.old) volume → IsSound volume →
         Steps (R.words room.new) (contents version.new) volume ops.New done) }
     ensures next { OnOk result (version.new.next ≡ version.old.next + 1) }
-    ensures err { OnErr result (KeepsStart R.kept R.standing R.words room.old room.new) }
-    ensures full { IfErr result (IsFullOf (R.full room.new)) }
+    ensures refused { RefusesNear R.kept R.standing R.words R.full 0 (contents version.old) result
+        room.old room.new }
 {
     let node = version.next;
     version.catalog = insert(room, version.catalog, &node.to_be_bytes(), &[])?;
@@ -71,8 +69,8 @@ fn set_value<R: Room>(
         SetsWhatStands volume (ops.Set node name.now value.now) → version.new.entries.items
         ≡ version.old.entries.items) }
     ensures next { OnOk result (version.new.next ≡ version.old.next) }
-    ensures err { OnErr result (KeepsStart R.kept R.standing R.words room.old room.new) }
-    ensures full { IfErr result (IsFullOf (R.full room.new)) }
+    ensures refused { RefusesNear R.kept R.standing R.words R.full 1 (contents version.old) result
+        room.old room.new }
 {
     change_entry(room, version, node, name, known, Some(value))?;
     let key = catalog_key(node, name);
@@ -91,15 +89,15 @@ fn unset_value<R: Room>(
     requires in_hand { IsInHand (R.standing room.old) (R.words room.old) (contents version.old) }
     requires known { IsKnownIn R.standing R.words room.old version.old node name.now known }
     requires open { IsTrue (R.is_open (R.kept room.old)) }
-    ensures changes { OnOk result (Changes R.kept R.standing R.words (contents version.old)
+    ensures changes { OnOk result (Grows R.kept R.standing R.words 0 (contents version.old)
         (contents version.new) room.old room.new) }
     ensures steps { IfOk result (λ done. (volume : State)
         → Spells (R.words room.old) (contents version.old) volume → IsSound volume →
         IsOk (step volume (ops.Unset node name.now))
         → Steps (R.words room.new) (contents version.new) volume (ops.Unset node name.now) done) }
     ensures next { OnOk result (version.new.next ≡ version.old.next) }
-    ensures err { OnErr result (KeepsStart R.kept R.standing R.words room.old room.new) }
-    ensures full { IfErr result (IsFullOf (R.full room.new)) }
+    ensures refused { RefusesNear R.kept R.standing R.words R.full 0 (contents version.old) result
+        room.old room.new }
 {
     change_entry(room, version, node, name, known, None)?;
     let key = catalog_key(node, name);
@@ -150,15 +148,15 @@ fn remove_index<R: Room>(room: &mut R, version: &mut Version, name: &Name) -> Do
 fn unset_all<R: Room>(room: &mut R, version: &mut Version, node: u64) -> Result<(), Refusal>
     requires in_hand { IsInHand (R.standing room.old) (R.words room.old) (contents version.old) }
     requires open { IsTrue (R.is_open (R.kept room.old)) }
-    ensures changes { OnOk result (Changes R.kept R.standing R.words (contents version.old)
+    ensures changes { OnOk result (Grows R.kept R.standing R.words 0 (contents version.old)
         (contents version.new) room.old room.new) }
     ensures bare { OnOk result ((volume : State)
         → Spells (R.words room.old) (contents version.old) volume → IsSound volume →
         volume.next + 1 < 2 ^ 64 → IsOk (step volume (ops.Drop node))
         → IsBare (R.words room.new) (contents version.new) volume node) }
     ensures next { OnOk result (version.new.next ≡ version.old.next) }
-    ensures err { OnErr result (KeepsStart R.kept R.standing R.words room.old room.new) }
-    ensures full { IfErr result (IsFullOf (R.full room.new)) }
+    ensures refused { RefusesNear R.kept R.standing R.words R.full 0 (contents version.old) result
+        room.old room.new }
 {
     for _ in 0..MAX_ATTRIBUTES {
         let Some((name, place)) = first_attribute(room, version.catalog, node) else {
@@ -180,8 +178,8 @@ fn drop_node<R: Room>(room: &mut R, version: &mut Version, node: u64) -> Result<
         volume.next + 1 < 2 ^ 64 → IsOk (step volume (ops.Drop node))
         → Steps (R.words room.new) (contents version.new) volume (ops.Drop node) done) }
     ensures next { OnOk result (version.new.next ≡ version.old.next) }
-    ensures err { OnErr result (KeepsStart R.kept R.standing R.words room.old room.new) }
-    ensures full { IfErr result (IsFullOf (R.full room.new)) }
+    ensures refused { RefusesNear R.kept R.standing R.words R.full 0 (contents version.old) result
+        room.old room.new }
 {
     unset_all(room, version, node)?;
     version.catalog = remove(room, version.catalog, &node.to_be_bytes())?;
@@ -195,10 +193,10 @@ fn edit<R: Room>(
     op: &Op,
     asked: &Option<Asked>,
 ) -> Result<Done, Refusal>
-    requires in_hand { IsInHand (R.standing room.old) (R.words room.old) (contents version.old) }
+    requires in_hand { IsInHandFor (R.standing room.old) (R.words room.old) 1
+        (contents version.old) }
     requires asked { IsAsked (R.standing room.old) (R.words room.old) version.old.catalog
         asked.now }
-    requires next { version.old.next + 1 < 2 ^ 64 }
     requires open { IsTrue (R.is_open (R.kept room.old)) }
     ensures changes { OnOk result (Changes R.kept R.standing R.words (contents version.old)
         (contents version.new) room.old room.new) }
@@ -210,8 +208,8 @@ fn edit<R: Room>(
         → Spells (R.words room.old) (contents version.old) volume → IsSound volume →
         SetsWhatStands volume op.now → version.new.entries.items ≡ version.old.entries.items) }
     ensures next { OnOk result (version.new.next ≤ version.old.next + 1) }
-    ensures err { OnErr result (KeepsStart R.kept R.standing R.words room.old room.new) }
-    ensures full { IfErr result (IsFullOf (R.full room.new)) }
+    ensures refused { RefusesNear R.kept R.standing R.words R.full 1 (contents version.old) result
+        room.old room.new }
 {
     match op {
         Op::New => add_node(room, version),
@@ -240,11 +238,10 @@ pub(crate) fn edit_all<R: Room>(
     asked: Option<Asked>,
     dones: &mut ArrayVec<Done, 64>,
 ) -> Result<(), Refusal>
-    requires few { length ops.now ≤ 64 }
-    requires empty { dones.old.items ≡ [] }
-    requires in_hand { IsInHand (R.standing room.old) (R.words room.old) (contents version.old) }
+    requires lists { (length ops.now ≤ 64) × (dones.old.items ≡ []) }
+    requires in_hand { IsInHandFor (R.standing room.old) (R.words room.old) 64
+        (contents version.old) }
     requires asked { IsAsked (R.standing room.old) (R.words room.old) version.old.catalog asked }
-    requires fits { version.old.next + 64 < 2 ^ 64 }
     requires open { IsTrue (R.is_open (R.kept room.old)) }
     ensures changes { OnOk result (Changes R.kept R.standing R.words (contents version.old)
         (contents version.new) room.old room.new) }
@@ -256,8 +253,9 @@ pub(crate) fn edit_all<R: Room>(
         → Spells (R.words room.old) (contents version.old) volume → IsSound volume →
         All (SetsWhatStands volume) ops.now → version.new.entries.items
         ≡ version.old.entries.items) }
-    ensures err { OnErr result (KeepsStart R.kept R.standing R.words room.old room.new) }
-    ensures full { IfErr result (IsFullOf (R.full room.new)) }
+    ensures refused { Refuses R.kept R.standing R.words R.full
+        (StopsList R.kept R.standing R.words ops.now (contents version.old)) result room.old
+        room.new }
 {
     let mut first = asked;
     for op in ops {

@@ -3,7 +3,7 @@ ghost use Rattle.std.specs.Prelude.{◌≡◌, ℕ, ◌<◌, IsTrue, slice_index
 ghost use Rattle.be_pages.specs.declared.room.Standing.{Standing};
 ghost use Rattle.be_pages.specs.Pages.{is_kept};
 ghost use Rattle.be_volume.specs.Volume.{empty};
-ghost use Rattle.be_paged.specs.Version.{IsVersion};
+ghost use Rattle.be_paged_reading.specs.Version.{IsVersion};
 
 use be_pages::PAGE_WORDS;
 

@@ -6,9 +6,9 @@
 ghost use Rattle.std.specs.Prelude.{◌≡◌, ℕ};
 ghost use Rattle.be_pages.specs.declared.room.Standing.{Standing as Stands};
 ghost use Rattle.be_pages.specs.Pages.{after_keep};
-ghost use Rattle.be_tree.specs.Forest.{IsUndone, IsWriteStart};
+ghost use Rattle.be_tree_reading.specs.Forest.{IsUndone, IsWriteStart};
 ghost use Rattle.be_volume.specs.Volume.{State};
-ghost use Rattle.be_paged.specs.Version.{IsVersion};
+ghost use Rattle.be_paged_reading.specs.Version.{IsVersion};
 
 /// A version that was there when the write began encodes the same volume once the write is undone.
 #[tactic(auto, using(crate::proofs::Standing::version_stands))]

@@ -17,40 +17,19 @@
 //! lacks, and the other way round.
 #![tactic(auto)]
 
-mod asked;
-mod attributes;
-mod catalog;
-mod cells;
 mod changes;
-mod comparing;
 mod counting;
 mod edits;
-mod entries;
-mod entry;
-mod facts;
 mod first;
-mod indexed;
 pub mod laws;
-mod marks;
-mod on_page;
-mod paged_source;
-mod paged_whole;
-mod prepared;
-mod reading;
-mod rows;
 mod spelling;
-mod texts;
-mod version;
 mod writes;
 
-pub use cells::{Cell, HeldName};
+pub use be_paged_reading::{
+    Cell, HeldName, PagedSource, PagedWhole, Version, answer_decided, attrs, columns, get,
+    get_into, indices, next, nodes, source, whole,
+};
 pub use counting::version_pages;
 pub use first::first_page;
-pub use paged_source::{PagedSource, source};
-pub use paged_whole::{PagedWhole, whole};
-pub use prepared::answer_decided;
-pub use reading::{attrs, get, indices, next, nodes};
-pub use rows::{columns, get_into};
 pub use spelling::one_spelling;
-pub use version::Version;
 pub use writes::{apply, apply_into};

@@ -1,6 +1,6 @@
 //! How a version page is encoded.
 ghost use Rattle.std.specs.Prelude.{◌≡◌, ℕ, ◌+◌, ◌*◌, ◌<◌};
-ghost use Rattle.be_paged.specs.Page.{contents_of, IsVersionPage};
+ghost use Rattle.be_paged_reading.specs.Page.{contents_of, IsVersionPage};
 
 /// A law: the contents of a version page, its next number, its roots and its indices, fix each word
 /// that it uses. It does nothing.

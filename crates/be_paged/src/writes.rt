@@ -2,22 +2,21 @@
 ghost use Rattle.std.specs.Prelude.{◌≡◌, ◌+◌, ◌≤◌, ◌<◌, ◌^◌, [], ◌∷◌, length, All, IsTrue, IfOk};
 ghost use Rattle.std.specs.Prelude.{IfErr, OnErr};
 ghost use Rattle.std.specs.Result.{result_err};
-ghost use Rattle.be_pages.specs.Pages.{is_kept, IsUnchanged, KeepsStart, Swaps};
-ghost use Rattle.be_pages.specs.Refusal.{IsFullOf};
+ghost use Rattle.be_pages.specs.Pages.{is_kept, IsUnchanged, Swaps};
 ghost use Rattle.be_pages.specs.declared.room.Standing.TheVariants.{Filled};
+ghost use Rattle.be_tree.specs.Counting.{TakesFewer};
 ghost use Rattle.be_volume.specs.Sound.{IsName};
 ghost use Rattle.be_volume.specs.Volume.{State, steps};
 ghost use Rattle.be_paged.specs.Changes.{Applies, IsRefusedList};
-ghost use Rattle.be_paged.specs.Facts.{AnswersFor};
-ghost use Rattle.be_paged.specs.Place.{IsAsked};
-ghost use Rattle.be_paged.specs.Version.{IsVersion};
-ghost use Rattle.be_paged.specs.Page.{contents, contents_of, IsVersionPage};
+ghost use Rattle.be_paged_reading.specs.Facts.{AnswersFor};
+ghost use Rattle.be_paged_reading.specs.Place.{IsAsked};
+ghost use Rattle.be_paged.specs.Stops.{Refuses, TakesFew};
+ghost use Rattle.be_paged_reading.specs.Version.{IsVersion};
+ghost use Rattle.be_paged_reading.specs.Page.{contents, contents_of, IsVersionPage};
 
-use crate::asked::Asked;
 use crate::edits::edit_all;
-use crate::facts::PageFacts;
-use crate::version::{Version, fill_version, store_version};
 use arrayvec::ArrayVec;
+use be_paged_reading::{Asked, PageFacts, Version, fill_version, store_version};
 use be_pages::{Look, Room};
 use be_value::Refusal;
 use be_volume::{Done, Op, first_refusal};
@@ -50,8 +49,8 @@ fn refusal<L: Look>(
     first_refusal(&mut facts, ops)
 }
 
-/// Writes a version page.
-fn write_version<R: Room>(room: &mut R, version: &Version) -> Result<u64, Refusal>
+/// Writes a version page in the place of an old one.
+fn write_version<R: Room>(room: &mut R, old_page: u64, version: &Version) -> Result<u64, Refusal>
     requires named { All (λ e. IsName e.name) version.now.entries.items }
     requires open { IsTrue (R.is_open (R.kept room.old)) }
     ensures contents { IfOk result (λ p. contents_of (R.words room.new p) ≡ contents version.now) }
@@ -59,10 +58,10 @@ fn write_version<R: Room>(room: &mut R, version: &Version) -> Result<u64, Refusa
     ensures taken { IfOk result (λ page. R.standing room.new page ≡ Filled) }
     ensures swaps { IfOk result (λ page. Swaps R.kept R.standing R.words [] (page ∷ []) room.old
         room.new) }
-    ensures err { OnErr result (KeepsStart R.kept R.standing R.words room.old room.new) }
-    ensures full { IfErr result (IsFullOf (R.full room.new)) }
+    ensures refused { Refuses R.kept R.standing R.words R.full
+        (λ old new. TakesFewer 1 (R.standing old) (R.standing new)) result room.old room.new }
 {
-    let page = room.take()?;
+    let page = room.take_like(old_page)?;
     store_version(room, page, version);
     Ok(page)
 }
@@ -77,11 +76,11 @@ fn replace_version<R: Room>(room: &mut R, old_page: u64, version: &Version) -> R
     ensures taken { IfOk result (λ page. R.standing room.new page ≡ Filled) }
     ensures swaps { IfOk result (λ page. Swaps R.kept R.standing R.words (old_page ∷ []) (page ∷ [])
         room.old room.new) }
-    ensures err { OnErr result (KeepsStart R.kept R.standing R.words room.old room.new) }
-    ensures full { IfErr result (IsFullOf (R.full room.new)) }
+    ensures refused { Refuses R.kept R.standing R.words R.full
+        (λ old new. TakesFewer 1 (R.standing old) (R.standing new)) result room.old room.new }
 {
     room.give_up(old_page);
-    let page = write_version(room, version)?;
+    let page = write_version(room, old_page, version)?;
     Ok(page)
 }
 
@@ -92,8 +91,9 @@ fn replace_version<R: Room>(room: &mut R, old_page: u64, version: &Version) -> R
 ///
 /// The errors are those of the plain volume, NoNode to NotIndexable: they come before a page is
 /// taken, and the room is unchanged. If no page is left, the error is Full, and what was there when
-/// the write began is there again once it is undone. It takes no memory: `version` is a place for
-/// the version's contents, and what it has before and after means nothing.
+/// the write began is there again once it is undone. Until then it has few pages in hand, if it had
+/// none before: about as many as trees of all items have. It takes no memory: `version` is a place
+/// for the version's contents, and what it has before and after means nothing.
 pub fn apply_into<R: Room>(
     room: &mut R,
     version: &mut Version,
@@ -111,6 +111,8 @@ pub fn apply_into<R: Room>(
         ops.now dones.new.items room.old room.new) }
     ensures err { IfErr result (λ e. IsRefusedList R.kept R.standing R.words R.full volume ops.now e
         room.old room.new) }
+    ensures few { OnErr result (TakesFew volume ops.now (R.standing room.old)
+        (R.standing room.new)) }
 {
     fill_version(room, version_page, version);
     let mut asked = None;
@@ -137,6 +139,8 @@ pub fn apply<R: Room>(
         r.1.items room.old room.new) }
     ensures err { IfErr result (λ e. IsRefusedList R.kept R.standing R.words R.full volume ops.now e
         room.old room.new) }
+    ensures few { OnErr result (TakesFew volume ops.now (R.standing room.old)
+        (R.standing room.new)) }
 {
     let mut version = Version::new();
     let mut dones = ArrayVec::new();

@@ -5,12 +5,12 @@ use Rattle.be_value.specs.declared.refusals.Refusal.{Refusal}
 use Rattle.be_pages.specs.declared.room.Standing.{Standing}
 use Rattle.be_pages.specs.declared.room.Standing.TheVariants.{Free, Old, GivenUp, Taken, Filled}
 use Rattle.be_pages.specs.Pages.{IsUnchanged, KeepsStart, is_kept, after_keep, after_undo}
-use Rattle.be_tree.specs.Forest.{IsWriteStart}
-use Rattle.be_tree.proofs.Frame.{unchanged_start}
+use Rattle.be_tree_reading.specs.Forest.{IsWriteStart}
+use Rattle.be_tree_reading.proofs.Frame.{unchanged_start}
 use Rattle.be_volume.specs.Volume.{State}
 use Rattle.be_volume.specs.declared.ops.Done.{Done}
-use Rattle.be_paged.specs.Version.{IsVersion}
-use Rattle.be_paged.proofs.Versions.{version_since}
+use Rattle.be_paged_reading.specs.Version.{IsVersion}
+use Rattle.be_paged_reading.proofs.Versions.{version_since}
 
 made_by : Result (State × List Done) Refusal → State → State
 made_by (Ok reached) none = reached.0

@@ -1,3 +1,4 @@
 mod PageSets
+mod FreePages
 mod Pools
 mod Rooms

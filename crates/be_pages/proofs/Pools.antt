@@ -1,5 +1,5 @@
 -- A pool's lists, as one page's place changes.
-use Rattle.std.proofs.Common.{◌≡◌, ℕ, suc, ◌+◌, ◌-◌, ◌<◌, ◌≤◌, ◌==◌, ◌⊎◌, List, [], ◌∷◌, ◌++◌, length, drop, cond, Bool, true, false, if◌then◌else◌, ap, sym, subst, ◌∙◌, refl, inl, inr, arith, slice_set, count_by, map}
+use Rattle.std.proofs.Common.{◌≡◌, ℕ, suc, ◌+◌, ◌<◌, ◌≤◌, ◌==◌, List, [], ◌∷◌, ◌++◌, ◌||◌, length, drop, cond, Bool, true, false, if◌then◌else◌, ap, sym, subst, ◌∙◌, refl, inl, inr, arith, slice_set, count_by, map}
 use Rattle.std.specs.Prelude.{IsTrue, slice_index}
 use Rattle.std.proofs.lemmas.Bool.{cases_eq, cases_lt, le-ltb, lt-ltb}
 use Rattle.std.proofs.lemmas.List.{get_or_past, get_or-set_same, get_or-set_other, get_or-drop, get_or_append_left, get_or_push, drop_more, length-drop, length-append, length-set, length-map, get_or-map, ext_get_or}
@@ -10,7 +10,7 @@ use Rattle.be_pages.specs.declared.page_pool.Place.TheVariants.{Free, Reserved, 
 use Rattle.be_pages.specs.declared.page_pool.Ending.{Ending}
 use Rattle.be_pages.specs.declared.page_pool.Ending.TheVariants.{Published, Kept, Undone}
 use Rattle.be_pages.specs.Pages.{times}
-use Rattle.be_pages.specs.PageSet.{has_page, is_true, one_if}
+use Rattle.be_pages.specs.PageSet.{has_page, is_place, one_if}
 use Rattle.be_pages.specs.Place.{is_free, is_held_page, is_idle, is_in_hand, is_retired, retired_number, retired_at, place_of, place_after, published_place, swept_place, IsNewest, IsOldestFirst}
 use Rattle.be_pages.proofs.PageSets.{times_more, same_page, other_page, same_test, other_test}
 
@@ -158,19 +158,32 @@ swept_stays least (Retired n) h = ap (λ (b : Bool). if b then Free else Retired
 pub places_map : (f : Place → Place) (new old : List Place) → f Current ≡ Current → length new ≡ length old → ((q : ℕ) → place_of new q ≡ f (place_of old q)) → new ≡ map f old
 places_map f new old stays len each = ext_get_or Current new (map f old) (len ∙ sym (length-map old f)) (λ q lt. each q ∙ sym (get_or-map f old q Current Current (omega (arith, lt, len))))
 
--- how many pages the flags count
-pub count_flags : (f : Place → Bool) (flags : List Bool) (P : List Place) → length flags ≡ length P → ((q : ℕ) → has_page flags q ≡ f (place_of P q)) → count_by is_true flags ≡ count_by f P
-count_flags f [] [] len h = refl
-count_flags f [] (y ∷ ys) len h = absurd (omega (arith, len))
-count_flags f (x ∷ xs) [] len h = absurd (omega (arith, len))
-count_flags f (x ∷ xs) (y ∷ ys) len h =
+-- how many pages two sets have, of which no page is in both
+pub count_free : (f : Place → Bool) (plain spare : List ℕ) (P : List Place) → length plain ≡ length P → length spare ≡ length P → ((q : ℕ) → (has_page plain q || has_page spare q) ≡ f (place_of P q))
+    → ((q : ℕ) → has_page plain q ≡ true → has_page spare q ≡ false) → count_by is_place plain + count_by is_place spare ≡ count_by f P
+unfolding has_page
+count_free f [] [] [] len same h apart = refl
+count_free f [] [] (y ∷ ys) len same h apart = absurd (omega (arith, len))
+count_free f [] (z ∷ zs) [] len same h apart = absurd (omega (arith, same))
+count_free f [] (z ∷ zs) (y ∷ ys) len same h apart = absurd (omega (arith, len))
+count_free f (x ∷ xs) [] [] len same h apart = absurd (omega (arith, len))
+count_free f (x ∷ xs) [] (y ∷ ys) len same h apart = absurd (omega (arith, same))
+count_free f (x ∷ xs) (z ∷ zs) [] len same h apart = absurd (omega (arith, len))
+count_free f (x ∷ xs) (z ∷ zs) (y ∷ ys) len same h apart =
     omega (
       arith,
-      sum_by-cons (λ (b : Bool). cond {A = ℕ} (is_true b) 1 0) x xs,
+      sum_by-cons (λ (n : ℕ). cond {A = ℕ} (is_place n) 1 0) x xs,
+      sum_by-cons (λ (n : ℕ). cond {A = ℕ} (is_place n) 1 0) z zs,
       sum_by-cons (λ (p : Place). cond {A = ℕ} (f p) 1 0) y ys,
+      of_one (is_place x) (is_place z) (apart 0),
       ap (λ (b : Bool). cond {A = ℕ} b 1 0) (h 0),
-      count_flags f xs ys (omega (arith, len)) (λ q. h (suc q)),
+      count_free f xs zs ys (omega (arith, len)) (omega (arith, same)) (λ q. h (suc q)) (λ q. apart (suc q)),
     )
+  where
+    of_one : (a b : Bool) → (a ≡ true → b ≡ false) → cond {A = ℕ} a 1 0 + cond {A = ℕ} b 1 0 ≡ cond {A = ℕ} (a || b) 1 0
+    of_one true b apart = ap (λ (c : Bool). 1 + cond {A = ℕ} c 1 0) (apart refl)
+    of_one false true apart = refl
+    of_one false false apart = refl
 
 -- no page is counted where none passes
 pub count_none : (f : Place → Bool) (P : List Place) → ((q : ℕ) → f (place_of P q) ≡ false) → count_by f P ≡ 0
@@ -224,28 +237,28 @@ module _ (P : List Place) (p : ℕ) (s : Place) (lt : p < length P) where
   there q ne = get_or-set_other P p q s Current ne
 
   -- what a test says of each page
-  pub flags_same : (f : Place → Bool) (flags : List Bool) → ((q : ℕ) → has_page flags q ≡ f (place_of P q)) → f (place_of P p) ≡ f s → (q : ℕ) → has_page flags q ≡ f (place_of (slice_set P p s) q)
+  pub flags_same : (f : Place → Bool) (flags : ℕ → Bool) → ((q : ℕ) → flags q ≡ f (place_of P q)) → f (place_of P p) ≡ f s → (q : ℕ) → flags q ≡ f (place_of (slice_set P p s) q)
   flags_same f flags is same q = elim (cases_eq q p) [
-    | inl e ↦ subst (λ r. has_page flags r ≡ f (place_of (slice_set P p s) r)) (sym e) (is p ∙ same ∙ sym (ap f here))
+    | inl e ↦ subst (λ r. flags r ≡ f (place_of (slice_set P p s) r)) (sym e) (is p ∙ same ∙ sym (ap f here))
     | inr ne ↦ is q ∙ ap f (sym (there q ne))
   ]
 
-  pub flags_to : (f : Place → Bool) (b : Bool) (flags new : List Bool) → ((q : ℕ) → has_page flags q ≡ f (place_of P q)) → ((q : ℕ) → has_page new q ≡ (if q == p then b else has_page flags q)) → f s ≡ b
-      → (q : ℕ) → has_page new q ≡ f (place_of (slice_set P p s) q)
+  pub flags_to : (f : Place → Bool) (b : Bool) (flags new : ℕ → Bool) → ((q : ℕ) → flags q ≡ f (place_of P q)) → ((q : ℕ) → new q ≡ (if q == p then b else flags q)) → f s ≡ b
+      → (q : ℕ) → new q ≡ f (place_of (slice_set P p s) q)
   flags_to f b flags new is to same q = elim (cases_eq q p) [
-    | inl e ↦ subst (λ r. has_page new r ≡ f (place_of (slice_set P p s) r)) (sym e) (to p ∙ ap (λ (c : Bool). if c then b else has_page flags p) (same_test p) ∙ sym same ∙ sym (ap f here))
-    | inr ne ↦ to q ∙ ap (λ (c : Bool). if c then b else has_page flags q) (other_test q p ne) ∙ is q ∙ ap f (sym (there q ne))
+    | inl e ↦ subst (λ r. new r ≡ f (place_of (slice_set P p s) r)) (sym e) (to p ∙ ap (λ (c : Bool). if c then b else flags p) (same_test p) ∙ sym same ∙ sym (ap f here))
+    | inr ne ↦ to q ∙ ap (λ (c : Bool). if c then b else flags q) (other_test q p ne) ∙ is q ∙ ap f (sym (there q ne))
   ]
 
   -- the pages that the write touched are among those that wait
-  pub touches_to : (b : Bool) (flags new : List Bool) → ((q : ℕ) → is_idle (place_of P q) ≡ false → has_page flags q ≡ true) → ((q : ℕ) → has_page new q ≡ (if q == p then b else has_page flags q)) → (is_idle s ≡ false → b ≡ true)
+  pub touches_to : (b : Bool) (flags new : List ℕ) → ((q : ℕ) → is_idle (place_of P q) ≡ false → has_page flags q ≡ true) → ((q : ℕ) → has_page new q ≡ (if q == p then b else has_page flags q)) → (is_idle s ≡ false → b ≡ true)
       → (q : ℕ) → is_idle (place_of (slice_set P p s) q) ≡ false → has_page new q ≡ true
   touches_to b flags new touches to is q un = elim (cases_eq q p) [
     | inl e ↦ subst (λ r. has_page new r ≡ true) (sym e) (to p ∙ ap (λ (c : Bool). if c then b else has_page flags p) (same_test p) ∙ is (sym (ap is_idle here) ∙ ap (λ r. is_idle (place_of (slice_set P p s) r)) (sym e) ∙ un))
     | inr ne ↦ to q ∙ ap (λ (c : Bool). if c then b else has_page flags q) (other_test q p ne) ∙ touches q (ap is_idle (sym (there q ne)) ∙ un)
   ]
 
-  pub touches_same : (flags : List Bool) → ((q : ℕ) → is_idle (place_of P q) ≡ false → has_page flags q ≡ true) → (is_idle s ≡ false → is_idle (place_of P p) ≡ false)
+  pub touches_same : (flags : List ℕ) → ((q : ℕ) → is_idle (place_of P q) ≡ false → has_page flags q ≡ true) → (is_idle s ≡ false → is_idle (place_of P p) ≡ false)
       → (q : ℕ) → is_idle (place_of (slice_set P p s) q) ≡ false → has_page flags q ≡ true
   touches_same flags touches is q un = elim (cases_eq q p) [
     | inl e ↦ subst (λ r. has_page flags r ≡ true) (sym e) (touches p (is (sym (ap is_idle here) ∙ ap (λ r. is_idle (place_of (slice_set P p s) r)) (sym e) ∙ un)))
@@ -315,14 +328,14 @@ module _ (P : List Place) (p : ℕ) (s : Place) (lt : p < length P) where
         gone i within e = absurd (omega (arith, at_most_once (drop 1 queue) i within, ap (λ (r : ℕ). times r (drop 1 queue)) e, first_out some top p, same_page p, retires p, ap one_if was))
 
   -- what a loop over the waiting pages keeps
-  pub done_to : (after : Place → Place) (start : List Place) (flags new : List Bool) → ((q : ℕ) → has_page flags q ≡ false → place_of P q ≡ after (place_of start q)) → ((q : ℕ) → has_page new q ≡ (if q == p then false else has_page flags q))
+  pub done_to : (after : Place → Place) (start : List Place) (flags new : List ℕ) → ((q : ℕ) → has_page flags q ≡ false → place_of P q ≡ after (place_of start q)) → ((q : ℕ) → has_page new q ≡ (if q == p then false else has_page flags q))
       → s ≡ after (place_of start p) → (q : ℕ) → has_page new q ≡ false → place_of (slice_set P p s) q ≡ after (place_of start q)
   done_to after start flags new done to is q not = elim (cases_eq q p) [
     | inl e ↦ subst (λ r. place_of (slice_set P p s) r ≡ after (place_of start r)) (sym e) (here ∙ is)
     | inr ne ↦ there q ne ∙ done q (sym (to q ∙ ap (λ (c : Bool). if c then false else has_page flags q) (other_test q p ne)) ∙ not)
   ]
 
-  pub waiting_to : (start : List Place) (flags new : List Bool) → ((q : ℕ) → has_page flags q ≡ true → place_of P q ≡ place_of start q) → ((q : ℕ) → has_page new q ≡ (if q == p then false else has_page flags q))
+  pub waiting_to : (start : List Place) (flags new : List ℕ) → ((q : ℕ) → has_page flags q ≡ true → place_of P q ≡ place_of start q) → ((q : ℕ) → has_page new q ≡ (if q == p then false else has_page flags q))
       → (q : ℕ) → has_page new q ≡ true → place_of (slice_set P p s) q ≡ place_of start q
   waiting_to start flags new waiting to q is = elim (cases_eq q p) [
     | inl e ↦ absurd (false≢true (sym (to p ∙ ap (λ (c : Bool). if c then false else has_page flags p) (same_test p)) ∙ ap (has_page new) (sym e) ∙ is))
@@ -360,21 +373,21 @@ other_place GivenUp free retired = (refl, refl)
 other_place (Retired n) free retired = absurd (retired n refl)
 
 -- a page that was settled before waits no longer
-pub done_less : (after : Place → Place) (P start : List Place) (p : ℕ) (flags new : List Bool) → ((q : ℕ) → has_page flags q ≡ false → place_of P q ≡ after (place_of start q)) → ((q : ℕ) → has_page new q ≡ (if q == p then false else has_page flags q))
+pub done_less : (after : Place → Place) (P start : List Place) (p : ℕ) (flags new : List ℕ) → ((q : ℕ) → has_page flags q ≡ false → place_of P q ≡ after (place_of start q)) → ((q : ℕ) → has_page new q ≡ (if q == p then false else has_page flags q))
     → place_of P p ≡ after (place_of start p) → (q : ℕ) → has_page new q ≡ false → place_of P q ≡ after (place_of start q)
 done_less after P start p flags new done to is q not = elim (cases_eq q p) [
   | inl e ↦ subst (λ r. place_of P r ≡ after (place_of start r)) (sym e) is
   | inr ne ↦ done q (sym (to q ∙ ap (λ (c : Bool). if c then false else has_page flags q) (other_test q p ne)) ∙ not)
 ]
 
-pub waiting_less : (P start : List Place) (p : ℕ) (flags new : List Bool) → ((q : ℕ) → has_page flags q ≡ true → place_of P q ≡ place_of start q) → ((q : ℕ) → has_page new q ≡ (if q == p then false else has_page flags q))
+pub waiting_less : (P start : List Place) (p : ℕ) (flags new : List ℕ) → ((q : ℕ) → has_page flags q ≡ true → place_of P q ≡ place_of start q) → ((q : ℕ) → has_page new q ≡ (if q == p then false else has_page flags q))
     → (q : ℕ) → has_page new q ≡ true → place_of P q ≡ place_of start q
 waiting_less P start p flags new waiting to q is = elim (cases_eq q p) [
   | inl e ↦ absurd (false≢true (sym (to p ∙ ap (λ (c : Bool). if c then false else has_page flags p) (same_test p)) ∙ ap (has_page new) (sym e) ∙ is))
   | inr ne ↦ waiting q (sym (to q ∙ ap (λ (c : Bool). if c then false else has_page flags q) (other_test q p ne)) ∙ is)
 ]
 
-pub touches_less : (P : List Place) (p : ℕ) (flags new : List Bool) → ((q : ℕ) → is_idle (place_of P q) ≡ false → has_page flags q ≡ true) → ((q : ℕ) → has_page new q ≡ (if q == p then false else has_page flags q)) → is_idle (place_of P p) ≡ true
+pub touches_less : (P : List Place) (p : ℕ) (flags new : List ℕ) → ((q : ℕ) → is_idle (place_of P q) ≡ false → has_page flags q ≡ true) → ((q : ℕ) → has_page new q ≡ (if q == p then false else has_page flags q)) → is_idle (place_of P p) ≡ true
     → (q : ℕ) → is_idle (place_of P q) ≡ false → has_page new q ≡ true
 touches_less P p flags new touches to is q un = elim (cases_eq q p) [
   | inl e ↦ absurd (false≢true (sym un ∙ ap (λ r. is_idle (place_of P r)) e ∙ is))

@@ -1,5 +1,6 @@
 pub mod Pages
 pub mod PageSet
+pub mod FreePages
 pub mod PagePool
 pub mod Place
 pub mod Refusal

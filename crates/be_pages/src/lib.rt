@@ -24,6 +24,7 @@
 //! of a pool's pages, by equations (`specs/Place.antt`).
 #![tactic(auto)]
 
+mod free_pages;
 mod page_pool;
 mod page_set;
 mod room;

@@ -7,16 +7,18 @@
 //!
 //! # Lists
 //! The pool keeps three lists beside the places. The free pages lie on a stack: the page that was
-//! freed last is taken first, since its words are still near. The pages that the open write took or
-//! gave up lie on another, so the write ends by walking these alone. The retired pages lie in a
-//! queue, oldest first, so a sweep stops at the first one that has to wait. Each list has room for
-//! every page from the start: no call but `new` takes memory.
+//! freed last is taken first, since its words are still near, but for the pages that are spared for
+//! a copy (`FreePages`). The pages that the open write took or gave up lie on another, so the write
+//! ends by walking these alone. The retired pages lie in a queue, oldest first, so a sweep stops at
+//! the first one that has to wait. Each list has room for every page from the start: no call but
+//! `new` takes memory.
 ghost use Rattle.std.specs.Prelude.{◌≡◌, ◌≢◌, ℕ, ◌+◌, ◌<◌, ◌≤◌, List, Bool, true, false, length};
 ghost use Rattle.std.specs.Prelude.{vec_len, map, count_by, slice_set};
 ghost use Rattle.std.specs.Prelude.{slice_index, slice_index_or, IsTrue, IfOk, IfSome, IfNone};
 ghost use Rattle.std.specs.VecDeque.{deque_len, deque_capacity};
 ghost use Rattle.be_pages.specs.Pages.{times};
 ghost use Rattle.be_pages.specs.PageSet.{has_page, one_if};
+ghost use Rattle.be_pages.specs.FreePages.{has_free};
 ghost use Rattle.be_pages.specs.Place.{given_place, is_free, is_held_page, is_idle, is_in_hand};
 ghost use Rattle.be_pages.specs.Place.{is_retired, kept_place, retired_at};
 ghost use Rattle.be_pages.specs.Place.{place_after, place_of, published_place, swept_place};
@@ -25,6 +27,7 @@ ghost use Rattle.be_pages.specs.declared.page_pool.Place.TheVariants.{Free, Rese
 ghost use Rattle.be_pages.specs.declared.page_pool.Place.TheVariants.{Current, GivenUp, Retired};
 ghost use Rattle.be_pages.specs.declared.page_pool.Ending.TheVariants.{Published, Kept, Undone};
 
+use crate::free_pages::FreePages;
 use crate::page_set::PageSet;
 use std::alloc::{AllocError, Global};
 use std::collections::VecDeque;
@@ -61,16 +64,16 @@ pub(crate) enum Ending {
 #[derive(Drop)]
 pub struct PagePool {
     places: Vec<Place>,
-    free: PageSet,
+    free: FreePages,
     touched: PageSet,
     retired: VecDeque<u64>,
-    ghost free_pages: { length free.has.items ≡ vec_len places },
-    ghost touched_pages: { length touched.has.items ≡ vec_len places },
+    ghost free_pages: { length free.plain.places.items ≡ vec_len places },
+    ghost touched_pages: { length touched.places.items ≡ vec_len places },
     ghost retired_room: { vec_len places ≤ deque_capacity retired },
     ghost retired_count: { length retired.items ≡ count_by is_retired places.items },
-    ghost frees: { (q : ℕ) → has_page free.has.items q ≡ is_free (place_of places.items q) },
+    ghost frees: { (q : ℕ) → has_free free q ≡ is_free (place_of places.items q) },
     ghost touches: { (q : ℕ) → is_idle (place_of places.items q) ≡ false
-        → has_page touched.has.items q ≡ true },
+        → has_page touched.places.items q ≡ true },
     ghost retires: { (q : ℕ) → times q retired.items
         ≡ one_if (is_retired (place_of places.items q)) },
     ghost oldest_first: { IsOldestFirst (retired_at places.items) retired.items },
@@ -90,7 +93,7 @@ impl PagePool {
             → place_of (places pool) q ≡ Free) }
     {
         let places = new_places(alloc, pages, used)?;
-        let free = PageSet::from(alloc, used, pages)?;
+        let free = FreePages::from(alloc, used, pages)?;
         let touched = PageSet::new(alloc, pages)?;
         let retired = VecDeque::with_capacity(alloc, pages)?;
         Ok(PagePool {
@@ -124,7 +127,7 @@ impl PagePool {
         is_in_hand(self.place(page))
     }
 
-    /// Takes the free page that was freed last.
+    /// Takes the free page that was freed last, and a spared one only if there is no other.
     pub fn take(&mut self) -> Option<u64>
         ensures free { IfSome result (λ page. (page < length (places self.old))
             × (place_of (places self.old) page ≡ Free)) }
@@ -138,6 +141,23 @@ impl PagePool {
         self.touched.insert(page);
         self.places[page as usize] = Place::Reserved;
         Some(page)
+    }
+
+    /// Takes a free page for a copy of a page: the one that this page was copied from, if it is
+    /// spared for that, and has most of its words. Otherwise it takes the page that `take` does.
+    pub fn take_like(&mut self, page: u64) -> Option<u64>
+        ensures free { IfSome result (λ copy. (copy < length (places self.old))
+            × (place_of (places self.old) copy ≡ Free)) }
+        ensures some { IfSome result (λ copy. places self.new
+            ≡ slice_set (places self.old) copy Reserved) }
+        ensures none { IfNone result ((q : ℕ) → q < length (places self.old)
+            → place_of (places self.old) q ≢ Free) }
+        ensures same { IfNone result (places self.new ≡ places self.old) }
+    {
+        let copy = self.free.pop_like(page)?;
+        self.touched.insert(copy);
+        self.places[copy as usize] = Place::Reserved;
+        Some(copy)
     }
 
     /// Marks a page that was taken as one with a word filled. Most calls find it marked, and then

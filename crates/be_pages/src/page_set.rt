@@ -1,8 +1,7 @@
 //! A set of pages, of which the last that came in is the first to go out.
 ghost use Rattle.std.specs.Prelude.{◌≡◌, ◌≢◌, ℕ, ◌<◌, ◌≤◌, ◌==◌, if◌then◌else◌, Bool, true, false};
-ghost use Rattle.std.specs.Prelude.{length, vec_len, take, count_by, IfOk, IfSome, IfNone};
-ghost use Rattle.be_pages.specs.Pages.{times};
-ghost use Rattle.be_pages.specs.PageSet.{has_page, is_true, one_if};
+ghost use Rattle.std.specs.Prelude.{length, vec_len, count_by, IfOk, IfSome, IfNone};
+ghost use Rattle.be_pages.specs.PageSet.{has_page, is_place, IsListed};
 
 use std::alloc::{AllocError, Global};
 
@@ -11,32 +10,36 @@ use std::alloc::{AllocError, Global};
 pub(crate) struct PageSet {
     list: Vec<u64>,
     len: usize,
-    has: Vec<bool>,
-    ghost same: { vec_len list ≡ vec_len has },
-    ghost counted: { len ≡ count_by is_true has.items },
-    ghost once: { (q : ℕ) → times q (take len list.items) ≡ one_if (has_page has.items q) },
+    /// Of each page one more than its place in the list, or 0.
+    places: Vec<usize>,
+    ghost same: { vec_len list ≡ vec_len places },
+    ghost counted: { len ≡ count_by is_place places.items },
+    ghost listed: { IsListed list.items places.items len },
 }
 
 impl PageSet {
-    ghost use Rattle.std.specs.Prelude.{length};
-
     /// No page, of those below `pages`.
+    #[tactic(auto, unfolding(crate::specs::PageSet::has_page))]
     pub(crate) fn new(alloc: Global, pages: usize) -> Result<PageSet, AllocError>
-        ensures none { IfOk result (λ s. (q : ℕ) → has_page s.has.items q ≡ false) }
-        ensures pages { IfOk result (λ s. length s.has.items ≡ pages) }
+        ensures none { IfOk result (λ s. (q : ℕ) → has_page s.places.items q ≡ false) }
+        ensures pages { IfOk result (λ s. length s.places.items ≡ pages) }
     {
         let list = vec![in alloc; 0; pages]?;
-        let has = vec![in alloc; false; pages]?;
-        Ok(PageSet { list, len: 0, has })
+        let places = vec![in alloc; 0; pages]?;
+        Ok(PageSet {
+            list,
+            len: 0,
+            places,
+        })
     }
 
     /// The pages from one on that are below `pages`. The lowest is the first to go out.
     pub(crate) fn from(alloc: Global, first: usize, pages: usize) -> Result<PageSet, AllocError>
         requires { first ≤ pages }
-        ensures in_set { IfOk result (λ s. (q : ℕ) → first ≤ q → q < pages → has_page s.has.items q
-            ≡ true) }
-        ensures out { IfOk result (λ s. (q : ℕ) → q < first → has_page s.has.items q ≡ false) }
-        ensures pages { IfOk result (λ s. length s.has.items ≡ pages) }
+        ensures in_set { IfOk result (λ s. (q : ℕ) → first ≤ q → q < pages
+            → has_page s.places.items q ≡ true) }
+        ensures out { IfOk result (λ s. (q : ℕ) → q < first → has_page s.places.items q ≡ false) }
+        ensures pages { IfOk result (λ s. length s.places.items ≡ pages) }
     {
         let mut set = PageSet::new(alloc, pages)?;
         for i in 0..pages - first {
@@ -46,43 +49,73 @@ impl PageSet {
     }
 
     /// Adds a page, which may be there.
+    #[tactic(auto, unfolding(crate::specs::PageSet::has_page))]
     pub(crate) fn insert(&mut self, page: u64)
-        requires { page < length self.old.has.items }
-        ensures has { (q : ℕ) → has_page self.new.has.items q
-            ≡ (if q == page then true else has_page self.old.has.items q) }
-        ensures pages { length self.new.has.items ≡ length self.old.has.items }
+        requires { page < length self.old.places.items }
+        ensures has { (q : ℕ) → has_page self.new.places.items q
+            ≡ (if q == page then true else has_page self.old.places.items q) }
+        ensures pages { length self.new.places.items ≡ length self.old.places.items }
     {
         let at = page as usize;
-        if self.has[at] {
+        if self.places[at] > 0 {
             return;
         }
         self.list[self.len] = page;
-        self.has[at] = true;
         self.len += 1;
+        self.places[at] = self.len;
     }
 
     /// Takes the last page that came in.
+    #[tactic(auto, unfolding(crate::specs::PageSet::has_page))]
     pub(crate) fn pop(&mut self) -> Option<u64>
-        ensures some { IfSome result (λ page. has_page self.old.has.items page ≡ true) }
-        ensures has { IfSome result (λ page. (q : ℕ) → has_page self.new.has.items q
-            ≡ (if q == page then false else has_page self.old.has.items q)) }
-        ensures none { IfNone result ((q : ℕ) → has_page self.old.has.items q ≡ false) }
-        ensures still_none { IfNone result (self.new.has.items ≡ self.old.has.items) }
+        ensures some { IfSome result (λ page. has_page self.old.places.items page ≡ true) }
+        ensures inside { IfSome result (λ page. page < length self.old.places.items) }
+        ensures has { IfSome result (λ page. (q : ℕ) → has_page self.new.places.items q
+            ≡ (if q == page then false else has_page self.old.places.items q)) }
+        ensures none { IfNone result ((q : ℕ) → has_page self.old.places.items q ≡ false) }
+        ensures still_none { IfNone result (self.new.places.items ≡ self.old.places.items) }
         ensures fewer { IfSome result (λ page. self.new.len < self.old.len) }
-        ensures pages { length self.new.has.items ≡ length self.old.has.items }
+        ensures pages { length self.new.places.items ≡ length self.old.places.items }
     {
         if self.len == 0 {
             return None;
         }
         let page = self.list[self.len - 1];
         self.len -= 1;
-        self.has[page as usize] = false;
+        self.places[page as usize] = 0;
         Some(page)
+    }
+
+    /// Whether a page is in the set.
+    #[tactic(auto, unfolding(crate::specs::PageSet::has_page))]
+    pub(crate) fn has(&self, page: u64) -> bool
+        ensures { result ≡ has_page self.now.places.items page }
+    {
+        match self.places.get(page as usize) {
+            Some(&place) => place > 0,
+            None => false,
+        }
+    }
+
+    /// Takes a page out that is in the set. The last one that came in gets its place.
+    #[tactic(auto, unfolding(crate::specs::PageSet::has_page))]
+    pub(crate) fn remove(&mut self, page: u64)
+        requires { has_page self.old.places.items page ≡ true }
+        ensures has { (q : ℕ) → has_page self.new.places.items q
+            ≡ (if q == page then false else has_page self.old.places.items q) }
+        ensures pages { length self.new.places.items ≡ length self.old.places.items }
+    {
+        let place = self.places[page as usize];
+        let last = self.list[self.len - 1];
+        self.list[place - 1] = last;
+        self.places[last as usize] = place;
+        self.places[page as usize] = 0;
+        self.len -= 1;
     }
 
     /// How many pages there are.
     pub(crate) fn len(&self) -> usize
-        ensures { result ≡ count_by is_true self.now.has.items }
+        ensures { result ≡ count_by is_place self.now.places.items }
     {
         self.len
     }

@@ -84,6 +84,19 @@ pub trait Room: Look {
         ensures words { Self.words self.new ≡ Self.words self.old }
         ensures kept { Self.kept self.new ≡ Self.kept self.old };
 
+    /// Takes a free page as `take` does, for a copy of a page: one that has most of its words
+    /// already, if there is such a one.
+    fn take_like(&mut self, page: u64) -> Result<u64, Refusal>
+        requires open { IsTrue (Self.is_open (Self.kept self.old)) }
+        ensures page { IfOk result (λ page. (page < 2 ^ 32)
+            × (Self.standing self.old page ≡ Free)) }
+        ensures ok { IfOk result (λ page. StandsAt (Self.standing self.old) (Self.standing self.new)
+            page Taken) }
+        ensures err { OnErr result (Self.standing self.new ≡ Self.standing self.old) }
+        ensures full { IfErr result (IsFullOf (full self.new)) }
+        ensures words { Self.words self.new ≡ Self.words self.old }
+        ensures kept { Self.kept self.new ≡ Self.kept self.old };
+
     /// Writes one word of a page that was taken in this write.
     fn fill(&mut self, page: u64, i: usize, word: u64)
         requires open { IsTrue (Self.is_open (Self.kept self.old)) }

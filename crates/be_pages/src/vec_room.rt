@@ -65,6 +65,10 @@ impl Room for VecRoom {
         }
     }
 
+    fn take_like(&mut self, _page: u64) -> Result<u64, Refusal> {
+        self.take()
+    }
+
     #[tactic(auto, using(crate::proofs::Rooms::filling))]
     fn fill(&mut self, page: u64, i: usize, word: u64) {
         self.words[page as usize * PAGE_WORDS + i] = word;

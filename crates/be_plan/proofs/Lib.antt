@@ -9,6 +9,7 @@ pub mod Integers
 pub mod Leaving
 pub mod LongTexts
 pub mod Marked
+mod Meeting
 pub mod Parts
 pub mod Passing
 pub mod Prefixes

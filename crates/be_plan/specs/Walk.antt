@@ -40,6 +40,15 @@ AddsTrue s f before after = (n : ℕ) → Contains after n → Contains before n
 abbrev pub HasAllTrue : State → Formula → List ℕ → Type 0
 HasAllTrue s f found = (n : ℕ) → sat s f n ≡ true → Contains found n
 
+-- each of the nodes was there before, or is one of these and the formula is true of it
+abbrev pub AddsTrueOf : State → Formula → List ℕ → List ℕ → List ℕ → Type 0
+AddsTrueOf s f nodes before after = (n : ℕ) → Contains after n → Contains before n
+    ⊎ (Contains nodes n × (sat s f n ≡ true))
+
+-- each of these nodes of which the formula is true is there
+abbrev pub HasTrueOf : State → Formula → List ℕ → List ℕ → Type 0
+HasTrueOf s f nodes found = (n : ℕ) → Contains nodes n → sat s f n ≡ true → Contains found n
+
 -- there is no memory, or the query rests on no index
 abbrev pub IsNoAnswer : State → Formula → Refusal → Type 0
 IsNoAnswer s f e = (e ≡ OutOfMemory) ⊎ ((e ≡ NotCovered) × (covered s f ≡ false))

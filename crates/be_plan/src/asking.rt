@@ -16,43 +16,15 @@ ghost use Rattle.be_plan.specs.Walk.{AddsTrue, AreAllOn, HasAllTrue, IsNoAnswer,
 
 use crate::Source;
 use crate::choosing::choose_by_source;
-use crate::narrowing::narrow_alone;
+use crate::names::only_name;
 use crate::ranges::Range;
 use crate::running::walk_picks;
+use crate::sifting::{Index, walk_index};
 use crate::sorting::put_in_order;
-use crate::walks::{ROOM, walk};
+use crate::walks::ROOM;
 use be_query::{Query, Tree};
 use be_value::{Name, Refusal};
 use std::alloc::Global;
-
-/// Whether each comparison is on this name, and none is under `||`.
-fn are_all_on(tree: &Tree, name: &Name) -> bool
-    ensures { result ≡ true → AreAllOn (formula tree.now) name.now }
-{
-    match tree {
-        Tree::Leaf(comparison) => comparison.name == *name,
-        Tree::And(a, b) => are_all_on(a, name) && are_all_on(b, name),
-        Tree::Or(_, _) => false,
-    }
-}
-
-/// The name that each comparison is on, if it is one, and none is under `||`.
-pub(crate) fn only_name(tree: &Tree) -> Option<&Name>
-    ensures { IfSome (option_copied result) (λ name. AreAllOn (formula tree.now) name) }
-{
-    match tree {
-        Tree::Leaf(comparison) => Some(&comparison.name),
-        Tree::And(a, b) => {
-            let name = only_name(a)?;
-            if are_all_on(b, name) {
-                Some(name)
-            } else {
-                None
-            }
-        }
-        Tree::Or(_, _) => None,
-    }
-}
 
 /// Adds the nodes of which a side is true whose comparisons are all on one name.
 fn collect_named<S: Source>(
@@ -77,9 +49,8 @@ fn collect_named<S: Source>(
     let Some(kind) = source.kind_of(name) else {
         return Err(Refusal::NotCovered);
     };
-    range.open();
-    let rest = narrow_alone(range, tree, kind);
-    walk(alloc, source, tree, name, kind, range, rest, found)
+    let index = Index { name, kind };
+    walk_index(alloc, source, range, tree, index, found)
 }
 
 /// Adds the nodes of which a side is true, from the comparisons that the source's indices choose
@@ -165,7 +136,8 @@ fn collect<S: Source>(
 /// come from comparisons that the source's own indices choose; `explain` of the cover that
 /// `choose_from` gives shows which. A query that rests on no index is refused by `NotCovered`. The
 /// function asks for the index of each comparison once, or once for all of one name under `&&`, and
-/// of others under `&&` a second time for each pick. A list with room for the nodes takes no
+/// of others under `&&` a second time for each pick, and once more if the index of the other side
+/// is walked as well. A list with room for the nodes takes no
 /// memory. After an error the source is still that of the volume, and the list has any numbers.
 pub fn answer_into<S: Source>(
     alloc: Global,

@@ -49,7 +49,7 @@ pub(crate) fn satisfies<S: Source>(
 }
 
 /// Whether the tree is true of the node. The source is asked for each comparison.
-pub(crate) fn is_true<S: Source>(source: &mut S, tree: &Tree, node: u64) -> bool
+pub fn is_true<S: Source>(source: &mut S, tree: &Tree, node: u64) -> bool
     requires { (volume : State) × S.answers_for source.old volume }
     ensures answer { (volume : State) → S.answers_for source.old volume → result
         ≡ sat volume (formula tree.now) node }

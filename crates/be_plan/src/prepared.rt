@@ -10,7 +10,7 @@ ghost use Rattle.be_plan.specs.Prepared.{Decides};
 ghost use Rattle.be_plan.specs.Walk.{AreAllOn};
 
 use crate::KeyRange;
-use crate::asking::only_name;
+use crate::names::only_name;
 use crate::narrowing::narrow_alone;
 use crate::ranges::Range;
 use be_query::Query;

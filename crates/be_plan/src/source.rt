@@ -149,6 +149,16 @@ pub trait Source {
         value.kind().indexable() && self.has_key(name, key_of(&value, node).as_slice())
     }
 
+    /// About how many keys the index of that name has, 0 without an index. It decides only which
+    /// way a query goes, so any number is right.
+    fn estimate(&mut self, _name: &Name) -> u64
+        requires { (volume : State) × answers_for self.old volume }
+        ensures stays { kept self.new ≡ kept self.old }
+        ensures answers { StillAnswers answers_for self.old self.new }
+    {
+        u64::MAX
+    }
+
     // A law: each pair of an index of the volume is its node's attribute and has the index's kind.
     ghost sound: { (source : Self) (volume : State) → answers_for source volume → IsSound volume };
 }

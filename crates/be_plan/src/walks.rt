@@ -191,67 +191,6 @@ fn test_texts<S: Source>(
     visit_texts(source, test, name, range, found)
 }
 
-/// Adds the node, if the tree is true of it. The source is asked for each comparison.
-fn add_if_true<S: Source>(
-    source: &mut S,
-    tree: &Tree,
-    node: u64,
-    found: &mut Vec<u64>,
-) -> Result<(), Refusal>
-    ghost volume: { State }
-    requires answers { S.answers_for source.old volume }
-    ensures stays { S.kept source.new ≡ S.kept source.old }
-    ensures answers { S.answers_for source.new volume }
-    ensures memory { IfErr result (λ e. e ≡ OutOfMemory) }
-    ensures keeps { Keeps found.old.items found.new.items }
-    ensures only { (n : ℕ) → Contains found.new.items n → Contains found.old.items n
-        ⊎ ((node ≡ n) × (sat volume (formula tree.now) n ≡ true)) }
-    ensures has { OnOk result (sat volume (formula tree.now) node ≡ true
-        → Contains found.new.items node) }
-{
-    if is_true(source, tree, node) {
-        found.push(node)?;
-    }
-    Ok(())
-}
-
-/// Adds the nodes of the keys in the range of which the tree is true. The source gives the nodes by
-/// one call, and is asked of each, in the order of their numbers: so what it reads for one is near
-/// what it read for the one before, and the nodes added are in order already.
-fn ask_each<S: Source>(
-    alloc: Global,
-    source: &mut S,
-    tree: &Tree,
-    name: &Name,
-    range: &Range,
-    found: &mut Vec<u64>,
-) -> Result<(), Refusal>
-    ghost volume: { State }
-    requires answers { S.answers_for source.old volume }
-    ensures stays { S.kept source.new ≡ S.kept source.old }
-    ensures answers { S.answers_for source.new volume }
-    ensures memory { IfErr result (λ e. e ≡ OutOfMemory) }
-    ensures keeps { Keeps found.old.items found.new.items }
-    ensures only { (n : ℕ) → Contains found.new.items n →
-        Contains found.old.items n ⊎ (IsNodeWithin volume name.now range.now.low.items
-        (high_of range.now) n × (sat volume (formula tree.now) n ≡ true)) }
-    ensures has { OnOk result (HasWithin volume (formula tree.now) name.now range.now.low.items
-        (high_of range.now) found.new.items) }
-{
-    let mut nodes = Vec::with_capacity(alloc, ROOM)?;
-    let keys = KeyRange {
-        name,
-        low: range.low(),
-        high: range.high(),
-    };
-    source.nodes_within(keys, &mut nodes)?;
-    put_in_order(alloc, &mut nodes)?;
-    for i in 0..nodes.len() {
-        add_if_true(source, tree, nodes[i], found)?;
-    }
-    Ok(())
-}
-
 /// The comparison that is left to ask of the texts of the index, if that is all that is left.
 fn asked_of_texts<'t>(rest: &'t Tree, name: &Name, kind: Kind) -> Option<&'t Comparison>
     ensures leaf { IfSome (option_copied result)
@@ -271,10 +210,10 @@ fn asked_of_texts<'t>(rest: &'t Tree, name: &Name, kind: Kind) -> Option<&'t Com
 }
 
 /// Adds the nodes of the keys in the range of which the tree is true, if this part is left to ask
-/// of them. If no comparison on the index's name is left, only a key's node is needed. It is a
-/// function of its own, so that a walk whose range decides the tree needs no room for keys.
+/// of them, from what the keys hold. It is a function of its own, so that a walk whose range
+/// decides the tree needs no room for keys.
 #[inline(never)]
-fn walk_rest<S: Source>(
+fn pass_keys<S: Source>(
     alloc: Global,
     source: &mut S,
     tree: &Tree,
@@ -301,17 +240,13 @@ fn walk_rest<S: Source>(
         let test = TextTest::new(alloc, comparison)?;
         return test_texts(source, &test, name, range, found);
     }
-    if asks_name(rest, name) {
-        visit_all(source, tree, name, kind, range, found)
-    } else {
-        ask_each(alloc, source, rest, name, range, found)
-    }
+    visit_all(source, tree, name, kind, range, found)
 }
 
 /// Adds the nodes of the keys in the range of which the tree is true, if this is left to ask of
-/// them: nothing, if the range decides the tree.
+/// them: nothing, if the range decides the tree. What is left is asked from key to key.
 #[inline]
-pub(crate) fn walk<S: Source>(
+pub(crate) fn walk_alone<S: Source>(
     alloc: Global,
     source: &mut S,
     tree: &Tree,
@@ -343,6 +278,6 @@ pub(crate) fn walk<S: Source>(
             };
             source.nodes_within(keys, found)
         }
-        Some(rest) => walk_rest(alloc, source, tree, name, kind, range, rest, found),
+        Some(rest) => pass_keys(alloc, source, tree, name, kind, range, rest, found),
     }
 }

@@ -10,6 +10,7 @@
 //! `nodes 2 3 asks nnn`. The commands `keys`, `looks` and `kinds` count the calls to a source that
 //! knows the kinds, and `ranges` counts the ranges that decide a query whole.
 
+mod both;
 mod counting;
 mod ranges;
 mod sizes;

@@ -223,7 +223,7 @@ module _ (a c : Knowledge) (before : IsPass a) (beyond : IsPass c) (limits : c.l
       unroomed (inl spent) = inl (refused_at_limit (known c) ops (steps (volume_seen c) ops) h.0 (seen_count c.seen ∙ spent.1) ∙ ap Err (sym spent.0))
       unroomed (inr want) = inr (inl (inl want.0, accepted_with_room (known c) ops (steps (volume_seen c) ops) h.0 (omega (arith, seen_count c.seen, want.1))))
   refused_as tries ops e settled number (inr (inr (inr h))) =
-      inr (inl (inr (h.2.0, h.2.1, least_shown c.limits.passes c.seen c.phase h.2.0 settled beyond.pin h.2.2.2), accepted_with_room (known c) ops (steps (volume_seen c) ops) h.0 (omega (arith, seen_count c.seen, h.1))))
+      inr (inl (inr (h.2.0, h.2.1, least_shown c.limits.passes c.seen c.phase h.2.0 settled beyond.pin h.2.2.spent.2), accepted_with_room (known c) ops (steps (volume_seen c) ops) h.0 (omega (arith, seen_count c.seen, h.1))))
 
   pub writes_meanwhile : {X : Type 0} (tries : ℕ) (dones_of : X → List Done) (ops : List Op) (r : Result (ℕ × X) Refusal) → IsBetweenCalls c.limits.passes c.phase → IfOk r (λ x. Accepts a c ops x.0 (dones_of x.1)) →
       IfErr r (λ e. Learns a c × IsLastReason tries a c ops e) → Meanwhile (known a) (λ s. MayWrite dones_of s ops r (known c))

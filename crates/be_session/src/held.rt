@@ -1,6 +1,6 @@
 //! Names that are checked once, and how many cells a call may return.
 ghost use Rattle.std.specs.Prelude.{◌≡◌, ◌*◌, ◌^◌, ◌<◌, ◌≤◌, true, false, IfErr, IfOk, Ok, IsUtf8};
-ghost use Rattle.be_paged.specs.Cells.{name_in};
+ghost use Rattle.be_paged_reading.specs.Cells.{name_in};
 ghost use Rattle.be_session.specs.Meaning.{IsNoName};
 ghost use Rattle.be_value.specs.Name.{name_from};
 

@@ -1,6 +1,6 @@
 -- A whole write: the lock is taken, the write is published or not, and the lock is given back.
-use Rattle.std.proofs.Common.{◌≡◌, false, inr, ℕ, List, [], ◌∷◌, ◌++◌, length, refl, sym, ap, ◌∙◌, subst, arith, length-append}
-use Rattle.std.specs.Prelude.{Result, Ok, Err, MatchResult, IfOk, IfErr}
+use Rattle.std.proofs.Common.{◌≡◌, ◌<◌, false, inl, inr, ℕ, List, [], ◌∷◌, ◌++◌, length, refl, sym, ap, ◌∙◌, subst, arith, length-append}
+use Rattle.std.specs.Prelude.{Result, Ok, Err, MatchResult, IfOk, IfErr, IsOk}
 use Rattle.std.proofs.lemmas.List.{map-append}
 use Rattle.be_journal.specs.declared.entries.Entry.{Entry}
 use Rattle.be_journal.specs.Journal.{by_pass, replay}
@@ -13,7 +13,7 @@ use Rattle.be_table.specs.Rule.{entries}
 use Rattle.be_table.specs.Steps.{IsPass, entry_by, without_lock, with_history}
 use Rattle.be_table.specs.Trace.{Makes, upto_lock}
 use Rattle.be_table.specs.Working.{HasWorked, WorksOn}
-use Rattle.be_table.specs.Works.{Moves, TakesLock}
+use Rattle.be_table.specs.Works.{HasNoRoom, Moves, TakesLock}
 use Rattle.be_table.proofs.Histories.{by_pass-append, by_pass-own}
 use Rattle.be_table.proofs.Traces.{makes_more}
 use Rattle.be_table.proofs.Worked.{upto_now, works_none}
@@ -21,8 +21,10 @@ use Rattle.be_value.specs.declared.refusals.Refusal.{Refusal}
 use Rattle.be_volume.specs.Volume.{steps}
 use Rattle.be_volume.specs.declared.ops.Done.{Done}
 use Rattle.be_volume.specs.declared.ops.Op.{Op}
-use Rattle.be_store.specs.History.{Accepts, Learns, LocksAndUnlocks, LocksOnly, IsReason, text_seen}
+use Rattle.be_store.specs.History.{Accepts, Learns, LocksAndUnlocks, LocksOnly, IsReason, IsRefusedAt, text_seen}
+use Rattle.be_store.specs.Passes.{volume_seen}
 use Rattle.be_store.specs.Writing.{Publishes, IsHeldBack, IsSame}
+use Rattle.be_store.proofs.Capacity.{short_unlocked}
 
 pub entries_append : (log more : List Commit) → entries (log ++ more) ≡ entries log ++ entries more
 entries_append log more = map-append (λ (c : Commit). c.entry) log more
@@ -140,8 +142,18 @@ module _ (a w : Knowledge) (t : TakesLock a w) where
       learns_same v c p.seen p.same is pass
       (subst (λ (x : Limits × ℕ × List Move). WorksOn x.0 x.1 x.2 v.history) (λ i. (p.same.limits i, p.same.pass i, (p.begun ∙ upto_here) i)) (worked p.unpublished)) unlocked
 
-pub reasons : (a w v c : Knowledge) (ops : List Op) (e : Refusal) → IsHeldBack w v ops e → c ≡ without_lock (with_history v c.history) → IsReason a c ops e
-reasons a w v c ops e p is = subst (λ (k : Knowledge). IsReason a k ops e) (sym is) (inr p.reason)
+-- a refusal stays what it is when the lock is given back
+pub refused_unlocked : (v c : Knowledge) (ops : List Op) (e : Refusal) → c ≡ without_lock (with_history v c.history) → Moves v (Unlock v.number ∷ []) c → IsRefusedAt v ops e → IsRefusedAt c ops e
+refused_unlocked v c ops e is unlocked (inl h) = inl (subst (λ (k : Knowledge). steps (volume_seen k) ops ≡ Err e) (sym is) h)
+refused_unlocked v c ops e is unlocked (inr (inl h)) = inr (inl (subst (λ (k : Knowledge). IsOk (steps (volume_seen k) ops) × HasNoRoom e k) (sym is) h))
+refused_unlocked v c ops e is unlocked (inr (inr h)) = inr (inr (
+  subst (λ (k : Knowledge). IsOk (steps (volume_seen k) ops)) (sym is) h.0,
+  subst (λ (k : Knowledge). length k.seen < k.limits.commits) (sym is) h.1,
+  (h.2.0, h.2.1, short_unlocked v c ops h.2.0 is unlocked h.2.2),
+))
+
+pub reasons : (a w v c : Knowledge) (ops : List Op) (e : Refusal) → IsHeldBack w v ops e → c ≡ without_lock (with_history v c.history) → Moves v (Unlock v.number ∷ []) c → IsReason a c ops e
+reasons a w v c ops e p is unlocked = inr (refused_unlocked v c ops e is unlocked p.reason)
 
 pub accepted_if : {T E : Type 0} (r : Result T E) (P R : T → Type 0) (Q : E → Type 0) → MatchResult r P Q → ((x : T) → P x → R x) → IfOk r R
 accepted_if (Ok x) P R Q m f = f x m

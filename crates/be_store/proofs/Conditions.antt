@@ -25,7 +25,7 @@ use Rattle.be_store.specs.Passes.{IsPinnedTo, volume_pinned}
 use Rattle.be_store.specs.Writing.{Publishes}
 use Rattle.be_store.specs.declared.conditional.ApplyIfError.{ApplyIfError}
 use Rattle.be_store.specs.declared.conditional.ApplyIfError.TheVariants.{Conflict, Refused}
-use Rattle.be_store.proofs.Applied.{accepts, entries_append, learns, learns_only}
+use Rattle.be_store.proofs.Applied.{accepts, entries_append, learns, learns_only, refused_unlocked}
 use Rattle.be_store.proofs.Passes.{pinned_phase}
 use Rattle.be_store.proofs.Retries.{accepts_at_last, held_at_last, held_by, learns_at_last}
 
@@ -72,7 +72,7 @@ module _ (a w : Knowledge) (t : TakesLock a w) (number : ℕ) where
   unapplied v c ops (Refused e) h is unlocked pass worked = (
     learns a w t v c ops e h.0 is pass worked unlocked,
     inr (
-      subst (λ (k : Knowledge). IsRefusedAt k ops e) (sym is) h.0.reason,
+      refused_unlocked v c ops e is unlocked h.0.reason,
       ap (λ (k : Knowledge). length k.seen) is ∙ (ap length h.0.seen ∙ h.1),
     ),
   )

@@ -14,7 +14,7 @@ use Rattle.std.specs.Result.{result_map_both}
 use Rattle.std.specs.declared.option.Option.{Option}
 use Rattle.be_journal.specs.Journal.{Agrees, IsLegal, replay}
 use Rattle.be_journal.specs.declared.entries.Entry.{Entry}
-use Rattle.be_paged.proofs.CatalogPairs.Items.{get_other, get_here, gone_other, keys_tell}
+use Rattle.be_paged_reading.proofs.CatalogPairs.Items.{get_other, get_here, gone_other, keys_tell}
 use Rattle.be_query.specs.Grammar.{Formula, Leaf, And, Or}
 use Rattle.be_value.specs.declared.refusals.Refusal.{Refusal}
 use Rattle.be_value.specs.declared.values.Value.{Value}

@@ -1,6 +1,7 @@
 pub mod Passes
 pub mod Writes
 pub mod Refusals
+pub mod Capacity
 pub mod Applied
 pub mod Answering
 pub mod Alone

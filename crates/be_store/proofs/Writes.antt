@@ -1,5 +1,5 @@
 -- What a write makes of the pass that holds the lock.
-use Rattle.std.proofs.Common.{arith, false, ◌≡◌, inl, inr, ℕ, List, [], ◌∷◌, ◌++◌, length, Ok, Err, sym, ap, ◌∙◌, subst}
+use Rattle.std.proofs.Common.{arith, false, ◌≡◌, ◌≤◌, inl, inr, ℕ, List, [], ◌∷◌, ◌++◌, length, Ok, Err, sym, ap, ◌∙◌, subst}
 use Rattle.std.specs.Prelude.{IfErr, IsOk, Result, MatchResult}
 use Rattle.std.specs.Result.{IsErrAnd}
 use Rattle.be_journal.specs.Journal.{replay}
@@ -35,7 +35,7 @@ current_spelt k page t is = subst (λ p. SpellsVolume (reach_at k.seen (length k
 
 -- a pass that has just taken the lock begins a write
 pub begins_locked : (a k : Knowledge) → TakesLock a k → Begins k
-begins_locked a k t = record { unpublished = ap (λ (x : Knowledge). x.published) t.same; begun = t.begun; spelt = t.spelt }
+begins_locked a k t = record { small = t.pass.within.few_pages; unpublished = ap (λ (x : Knowledge). x.published) t.same; begun = t.begun; spelt = t.spelt }
 
 -- a scan frees only pages that stand nowhere
 pub begins_scanned : (old new : Work) (least : ℕ) → MakesScan old new least → Begins old.knows → Begins new.knows
@@ -43,6 +43,7 @@ begins_scanned old new least h b =
     let k : Knowledge = old.knows in
     let begun : (q : ℕ) → standing_among new.knows.places q ≡ at_start (has (reach_at k.seen (length k.seen)) q) = λ q. ap (λ ps. standing_among ps q) h.places ∙ swept_in least k.places q ∙ b.begun q in
     let same : new.knows ≡ record k { scanned = 0; least = least; places = new.knows.places; held = new.knows.held; steps = new.knows.steps; history = new.knows.history } = ap (λ (w : Work). w.knows) h.same in record {
+      small = subst (λ (x : Knowledge). x.limits.pages ≤ 16384) (sym same) b.small;
       unpublished = ap (λ (x : Knowledge). x.published) same ∙ b.unpublished;
       begun = λ q. begun q ∙ ap (λ (x : List Commit). at_start (has (reach_at x (length x)) q)) (sym (ap (λ (x : Knowledge). x.seen) same));
       spelt = subst (λ (x : List Commit × List ℕ). SpellsVolume (reach_at x.0 (length x.0)) (word_of_page x.1) (page_at x.0 (length x.0)) (replay (entries x.0)))

@@ -18,12 +18,13 @@ use Rattle.be_table.specs.Working.{WorksOn}
 use Rattle.be_table.specs.declared.pass.Move.{Move}
 use Rattle.be_table.specs.declared.pass.Move.TheVariants.{Look, Announce, LookAgain, Lock, Publish}
 use Rattle.be_table.specs.declared.pass.Move.TheVariants.{Unlock}
-use Rattle.be_table.specs.Works.{MovesNow, FoundHeld, HasNoRoom, IsSpent}
+use Rattle.be_table.specs.Works.{MovesNow, FoundHeld, HasNoRoom}
 use Rattle.be_value.specs.declared.refusals.Refusal.{Refusal}
 use Rattle.be_value.specs.declared.refusals.Refusal.TheVariants.{Busy, OutOfMemory}
 use Rattle.be_volume.specs.Volume.{steps}
 use Rattle.be_volume.specs.declared.ops.Done.{Done}
 use Rattle.be_volume.specs.declared.ops.Op.{Op}
+use Rattle.be_store.specs.Capacity.{IsShort}
 use Rattle.be_store.specs.Passes.{IsPinnedTo, volume_seen}
 
 -- The moves of an accepted write: the pass takes the lock and works on pages, publishes this
@@ -83,7 +84,7 @@ IsRefusedAt c ops e =
     (steps (volume_seen c) ops ≡ Err e)
     ⊎ (IsOk (steps (volume_seen c) ops) × HasNoRoom e c)
     ⊎ (IsOk (steps (volume_seen c) ops) × (length c.seen < c.limits.commits)
-    × IsFullOf (IsSpent c) e)
+    × IsFullOf (IsShort c ops) e)
 
 -- Why a write is refused. Its one try found that another pass holds the lock, and nothing more was
 -- seen; or the pass had the lock.

@@ -1,4 +1,5 @@
 pub mod Passes
+pub mod Capacity
 pub mod History
 pub mod Writing
 pub mod Conditional

@@ -16,7 +16,7 @@ use Rattle.be_table.specs.Steps.{entry_by}
 use Rattle.be_table.specs.Trace.{Makes, upto_lock}
 use Rattle.be_table.specs.Versions.{at_start, SpellsVolume}
 use Rattle.be_table.specs.Working.{WorksOn}
-use Rattle.be_table.specs.Works.{MakesScan}
+use Rattle.be_table.specs.Works.{due_after, MakesScan}
 use Rattle.be_value.specs.declared.refusals.Refusal.{Refusal}
 use Rattle.be_value.specs.declared.refusals.Refusal.TheVariants.{Full}
 use Rattle.be_volume.specs.declared.ops.Done.{Done}
@@ -27,18 +27,19 @@ use Rattle.be_store.specs.Passes.{volume_seen}
 -- an open write in which no page is taken yet: the states of its pages, and their words, are those
 -- of the current version
 pub record Begins (k : Knowledge) : Type 0 where
+  pub small : k.limits.pages ≤ 16384
   pub unpublished : k.published ≡ false
   pub begun : (q : ℕ) → standing_among k.places q
       ≡ at_start (has (reach_at k.seen (length k.seen)) q)
   pub spelt : SpellsVolume (reach_at k.seen (length k.seen)) (word_of_page k.words)
       (page_at k.seen (length k.seen)) (volume_seen k)
 
--- An early scan: a whole one if 32 or more pages are retired besides those that the last scan left,
--- and otherwise none.
+-- An early scan: a whole one if so many more pages are retired than the last scan left as make one
+-- due, and otherwise none.
 abbrev pub ScansEarly : Work → Work → Type 0
 ScansEarly old new =
-    ((count_by is_retired old.knows.places < old.left + 32) × (new ≡ old))
-    ⊎ ((old.left + 32 ≤ count_by is_retired old.knows.places)
+    ((count_by is_retired old.knows.places < old.left + due_after old.left) × (new ≡ old))
+    ⊎ ((old.left + due_after old.left ≤ count_by is_retired old.knows.places)
     × ((least : ℕ) × MakesScan old new least))
 
 -- the pass is still the same pass, with its pin

@@ -7,13 +7,13 @@ ghost use Rattle.be_value.specs.declared.refusals.Refusal.TheVariants.{OutOfMemo
 ghost use Rattle.be_query.specs.View.{formula};
 ghost use Rattle.be_volume.specs.Query.{sat};
 ghost use Rattle.be_volume.specs.Volume.{State};
-ghost use Rattle.be_paged.specs.Version.{IsVersion};
+ghost use Rattle.be_paged_reading.specs.Version.{IsVersion};
 ghost use Rattle.be_store.specs.Live.{is_among};
 
 use crate::answers::Updates;
 use be_paged::source;
 use be_pages::Look;
-use be_plan::Source;
+use be_plan::{Source, is_true};
 use be_query::{Query, Tree};
 use be_value::Refusal;
 
@@ -51,24 +51,6 @@ fn add_change(list: &[u64], node: u64, is: bool, updates: &mut Updates) -> Resul
     let was = has(list, node);
     add_if(&mut updates.created, node, is && !was)?;
     add_if(&mut updates.removed, node, was && !is)
-}
-
-/// Whether a tree is true of a node. The source is asked for its comparisons, from left to right,
-/// until that is known.
-fn is_true<S: Source>(source: &mut S, tree: &Tree, node: u64) -> bool
-    requires { (volume : State) × S.answers_for source.old volume }
-    ensures answer { (volume : State) → S.answers_for source.old volume → result
-        ≡ sat volume (formula tree.now) node }
-    ensures stays { S.kept source.new ≡ S.kept source.old }
-    ensures answers { (volume : State) → S.answers_for source.old volume
-        → S.answers_for source.new volume }
-    ensures still { (volume : State) × S.answers_for source.new volume }
-{
-    match tree {
-        Tree::Leaf(comparison) => source.holds(node, comparison),
-        Tree::And(a, b) => is_true(source, a, node) && is_true(source, b, node),
-        Tree::Or(a, b) => is_true(source, a, node) || is_true(source, b, node),
-    }
 }
 
 /// Asks a tree of each of these nodes. Adds those that the list lacks though the tree is true of

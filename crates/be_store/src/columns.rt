@@ -1,7 +1,7 @@
 //! Many attributes in one call, written to places of the caller.
 ghost use Rattle.std.specs.Prelude.{◌≡◌, ◌*◌, ◌^◌, ◌≤◌, ℕ, length, map as each};
 ghost use Rattle.be_volume.specs.Reading.{attribute};
-ghost use Rattle.be_paged.specs.Cells.{IsReadInto, TellsColumns, name_in};
+ghost use Rattle.be_paged_reading.specs.Cells.{IsReadInto, TellsColumns, name_in};
 ghost use Rattle.be_store.specs.Passes.{HasRead, IsPassOf, IsPinnedTo, volume_pinned};
 
 use crate::{Pass, Store};

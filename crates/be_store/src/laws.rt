@@ -1,10 +1,12 @@
-//! What a pass of a store knows, and what holds for the only pass of a store.
+//! What a pass of a store knows, what holds for the only pass of a store, and which pool is large
+//! enough.
 //!
 //! Each law does nothing; its contract is the law, for the crates above. The laws of the only pass
 //! speak of what a pass knows before and after a call: `alone` says that a given pass is the only
 //! one.
 ghost use Rattle.std.specs.Prelude.{◌≡◌, ◌≤◌, ◌<◌, ℕ, List, IsOk, length};
 ghost use Rattle.be_value.specs.declared.refusals.Refusal.{Refusal};
+ghost use Rattle.be_value.specs.declared.refusals.Refusal.TheVariants.{Full};
 ghost use Rattle.be_volume.specs.Ahead.{state_after};
 ghost use Rattle.be_volume.specs.Volume.{empty, steps};
 ghost use Rattle.be_volume.specs.declared.ops.Done.{Done};
@@ -18,6 +20,7 @@ ghost use Rattle.be_table.specs.Versions.{CanSpellEach};
 ghost use Rattle.be_table.specs.declared.pass.Commit.{Commit};
 ghost use Rattle.be_table.specs.declared.pass.Knowledge.{Knowledge};
 ghost use Rattle.be_store.specs.Alone.{IsAlone, WritesNext};
+ghost use Rattle.be_store.specs.Capacity.{HasLargePool, IsAtCurrent, NoneIsEarlier};
 ghost use Rattle.be_store.specs.History.{Accepts, Learns, IsReason, IsRefusedAt, Pins as IsPin};
 ghost use Rattle.be_store.specs.Passes.{IsPassOf, IsPinnedTo, volume_pinned, volume_seen};
 ghost use Rattle.be_store.specs.Told.{ComesAfter, EndedBefore};
@@ -106,4 +109,19 @@ pub fn alone_refused()
 /// A pin of the only pass shows it nothing.
 pub fn alone_pins_seen()
     ensures { (a c : Knowledge) (n : ℕ) → IsAlone a → IsAlone c → IsPin a c n → c.seen ≡ a.seen }
+{}
+
+/// A pool that is large enough for a write never refuses it by Full while no pass is pinned to an
+/// earlier version, whatever the store has done before. Half of such a pool is for the current
+/// version, and half for a write that changes all of it. How much a volume has in it between its
+/// operations, `be_volume::laws::stays_within` bounds.
+pub fn large_enough()
+    ensures { (c : Knowledge) (ops : List Op) (least : ℕ) → NoneIsEarlier c → HasLargePool c ops
+        → ¬ (IsRefusedAt c ops (Full least)) }
+{}
+
+/// The same of the only pass of a store, if it isn't pinned to an earlier version itself.
+pub fn alone_large_enough()
+    ensures { (c : Knowledge) (ops : List Op) (least : ℕ) → IsAlone c → IsAtCurrent c
+        → HasLargePool c ops → ¬ (IsRefusedAt c ops (Full least)) }
 {}

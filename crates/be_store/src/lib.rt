@@ -12,8 +12,8 @@
 //! place. The journal has the writes of each pass once and in their order. A pin names a prefix of
 //! the journal that contains all that its pass had seen, and the answer of a query is that of the
 //! volume after this prefix. A refused write is refused as the volume after what its pass has then
-//! seen refuses it. `laws` has what follows for what a pass has seen, and for the only pass of a
-//! store.
+//! seen refuses it. `laws` has what follows for what a pass has seen, for the only pass of a store,
+//! and for how large a pool has to be.
 //!
 //! # What a program names
 //! This crate alone. Names, values, operations, queries and their covers, the journal and the list

@@ -24,6 +24,9 @@ use be_value::Refusal;
 use std::alloc::Global;
 use std::marker::Model;
 
+/// Of fewer nodes the whole query costs less than reading which nodes were written.
+const LEAST: usize = 96;
+
 /// A live query: it is asked again and again, and keeps its answer at the last refresh.
 ///
 /// It also keeps where that refresh was made, so that the next one reads what was written since
@@ -138,6 +141,9 @@ impl Live {
             (volume_pinned pass.old.knows) self.old.query self.old.last }
     {
         pass.is_pass();
+        if self.last.len() < LEAST {
+            return false;
+        }
         let Some(mut mark) = self.mark.take() else {
             return false;
         };
@@ -221,10 +227,10 @@ impl Live {
     /// NotCovered and OutOfMemory leave it as it was. It reads the journal's entries since the last
     /// refresh, and asks the query of the nodes that they name. For that it tries the lock once; if
     /// it gets it, other passes' writes are Busy meanwhile. It asks the whole query, which costs
-    /// what `refresh_whole` costs, if another pass holds the lock, the version is older than that
-    /// of the last refresh, an index was made or removed since then, or many nodes were written:
-    /// more than 4, and one for each 32 of the last answer, or more than 64. Memory for what it
-    /// returns.
+    /// what `refresh_whole` costs, if the last answer has fewer than 96 nodes, another pass holds
+    /// the lock, the version is older than that of the last refresh, an index was made or removed
+    /// since then, or many nodes were written: more than 4, and one for each 32 of the last answer,
+    /// or more than 64. Memory for what it returns.
     pub fn refresh(&mut self, store: &Store, pass: &mut Pass) -> Result<Updates, Refusal>
         requires pass { IsPassOf store.now pass.old }
         requires pinned { (n : ℕ) × IsPinnedTo pass.old.knows n }

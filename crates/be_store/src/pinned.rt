@@ -13,8 +13,8 @@ ghost use Rattle.be_volume.specs.Reading.{attribute, attributes_at, index_kinds}
 ghost use Rattle.be_volume_state.specs.Places.{given, left};
 ghost use Rattle.be_plan.specs.Cover.{chosen, covers};
 ghost use Rattle.be_plan.specs.Explain.{are_places};
-ghost use Rattle.be_paged.specs.Cells.{TellsColumns, name_in};
-ghost use Rattle.be_paged.specs.Nodes.{nodes_from};
+ghost use Rattle.be_paged_reading.specs.Cells.{TellsColumns, name_in};
+ghost use Rattle.be_paged_reading.specs.Nodes.{nodes_from};
 ghost use Rattle.be_table.specs.Seats.{pinned_number};
 ghost use Rattle.be_table.specs.Steps.{unpins, with_history};
 ghost use Rattle.be_table.specs.Works.{IsSeatOf};

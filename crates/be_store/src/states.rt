@@ -2,7 +2,7 @@
 ghost use Rattle.std.specs.Prelude.{◌≡◌, ◌<◌, ◌≤◌, ◌++◌, [], IfNone, IfOk, IfSome, length};
 ghost use Rattle.be_volume.specs.Volume.{State};
 ghost use Rattle.be_volume_state.specs.Places.{given, left};
-ghost use Rattle.be_paged.specs.Version.{IsVersion};
+ghost use Rattle.be_paged_reading.specs.Version.{IsVersion};
 
 use be_paged::whole;
 use be_pages::Look;

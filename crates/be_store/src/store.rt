@@ -50,8 +50,8 @@ impl Store {
     ghost use Rattle.be_volume_state.specs.Places.{given, left};
     ghost use Rattle.be_plan.specs.Cover.{chosen, covers};
     ghost use Rattle.be_plan.specs.Explain.{are_places};
-    ghost use Rattle.be_paged.specs.Nodes.{nodes_from};
-    ghost use Rattle.be_paged.specs.Version.{IsVersion};
+    ghost use Rattle.be_paged_reading.specs.Nodes.{nodes_from};
+    ghost use Rattle.be_paged_reading.specs.Version.{IsVersion};
     ghost use Rattle.be_table.specs.History.{StartsWith, AreOfPasses};
     ghost use Rattle.be_table.specs.Reading.{pinned_standing, word_of_page};
     ghost use Rattle.be_table.specs.Rule.{IsWithin, entries, one_step_on};

@@ -1,13 +1,15 @@
 //! One write, while the lock is held.
-ghost use Rattle.std.specs.Prelude.{◌≡◌, [], ◌+◌, ◌^◌, ◌<◌, ◌≤◌, IfOk, IfErr, false, length};
+ghost use Rattle.std.specs.Prelude.{◌≡◌, [], ◌+◌, ◌^◌, ◌<◌, ◌≤◌, IfOk, IfErr, OnErr, false};
+ghost use Rattle.std.specs.Prelude.{length};
 ghost use Rattle.be_volume.specs.Volume.{State};
 ghost use Rattle.be_paged.specs.Changes.{Applies, IsRefusedList};
-ghost use Rattle.be_paged.specs.Version.{IsVersion};
+ghost use Rattle.be_paged.specs.Stops.{TakesFew};
+ghost use Rattle.be_paged_reading.specs.Version.{IsVersion};
 ghost use Rattle.be_table.specs.Place.{Work};
 ghost use Rattle.be_table.specs.Reading.{open_of, standing_among, standing_in_work, word_of_page};
 ghost use Rattle.be_table.specs.Reading.{words_of};
 ghost use Rattle.be_table.specs.Trace.{upto_lock};
-ghost use Rattle.be_table.specs.Works.{IsSpent, TakesLock};
+ghost use Rattle.be_table.specs.Works.{IsFull, TakesLock};
 ghost use Rattle.be_table.specs.declared.pass.Knowledge.{Knowledge};
 ghost use Rattle.be_store.specs.Conditional.{WritesIf};
 ghost use Rattle.be_store.specs.Writing.{Begins, HasRoomAtFull, ScansEarly, Writes};
@@ -36,9 +38,10 @@ fn apply_to(
     requires empty { dones.old.items ≡ [] }
     ensures ok { IfOk result (λ page. Applies open_of standing_in_work words_of version_page page
         volume ops.now dones.new.items writing.old writing.new) }
-    ensures err { IfErr result (λ e. IsRefusedList open_of standing_in_work words_of
-        (λ w least. IsSpent w.knows least)
+    ensures err { IfErr result (λ e. IsRefusedList open_of standing_in_work words_of IsFull
         volume ops.now e writing.old writing.new) }
+    ensures few { OnErr result (TakesFew volume ops.now (standing_in_work writing.old)
+        (standing_in_work writing.new)) }
 {
     let mut space = writing.take_space();
     let answer = apply_in(writing, &mut space, version_page, ops, dones);
@@ -63,9 +66,10 @@ fn apply_in(
     requires empty { dones.old.items ≡ [] }
     ensures ok { IfOk result (λ page. Applies open_of standing_in_work words_of version_page page
         volume ops.now dones.new.items writing.old writing.new) }
-    ensures err { IfErr result (λ e. IsRefusedList open_of standing_in_work words_of
-        (λ w least. IsSpent w.knows least)
+    ensures err { IfErr result (λ e. IsRefusedList open_of standing_in_work words_of IsFull
         volume ops.now e writing.old writing.new) }
+    ensures few { OnErr result (TakesFew volume ops.now (standing_in_work writing.old)
+        (standing_in_work writing.new)) }
 {
     match space {
         Some(version) => apply_into(writing, version, version_page, ops, dones),
@@ -91,9 +95,10 @@ fn apply_apart(
     requires empty { dones.old.items ≡ [] }
     ensures ok { IfOk result (λ page. Applies open_of standing_in_work words_of version_page page
         volume ops.now dones.new.items writing.old writing.new) }
-    ensures err { IfErr result (λ e. IsRefusedList open_of standing_in_work words_of
-        (λ w least. IsSpent w.knows least)
+    ensures err { IfErr result (λ e. IsRefusedList open_of standing_in_work words_of IsFull
         volume ops.now e writing.old writing.new) }
+    ensures few { OnErr result (TakesFew volume ops.now (standing_in_work writing.old)
+        (standing_in_work writing.new)) }
 {
     let mut version = Version::new();
     apply_into(writing, &mut version, version_page, ops, dones)

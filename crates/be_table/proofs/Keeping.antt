@@ -11,8 +11,8 @@ use Rattle.be_pages.specs.declared.page_pool.Place.TheVariants.{Free, Reserved, 
 use Rattle.be_pages.specs.declared.room.Standing.{Standing}
 use Rattle.be_pages.specs.Pages.{after_keep, times, is_kept as stands_kept, PageStep, untouched, unused, fresh, given_old, given_new, stays_old, stays_new, Swaps}
 use Rattle.be_pages.specs.Place.{place_of}
-use Rattle.be_paged.specs.Page.{reach}
-use Rattle.be_paged.specs.Version.{IsVersion}
+use Rattle.be_paged_reading.specs.Page.{reach}
+use Rattle.be_paged_reading.specs.Version.{IsVersion}
 use Rattle.be_paged.proofs.Standing.{version_kept, reaches_once}
 use Rattle.be_volume.specs.Volume.{State}
 use Rattle.be_table.specs.Ledger.{is_of_next}

@@ -28,3 +28,4 @@ pub mod Fills
 pub mod Unused
 pub mod Worked
 pub mod Shares
+pub mod Announced

@@ -1,14 +1,27 @@
 -- The pages of a pool, shared among the versions and an open write.
-use Rattle.std.proofs.Common.{◌≡◌, ℕ, zero, suc, ◌+◌, ◌-◌, ◌<◌, ◌≤◌, ◌==◌, ◌||◌, Bool, true, false, List, [], ◌∷◌, length, ap, sym, subst, ◌∙◌, refl, inl, inr, arith, cond}
+use Rattle.std.proofs.Common.{◌≡◌, ℕ, zero, suc, ◌+◌, ◌-◌, ◌*◌, ◌<◌, ◌≤◌, ◌==◌, ◌||◌, Bool, true, false, nat_lt, List, [], ◌∷◌, length, ap, sym, subst, ◌∙◌, refl, inl, inr, arith, cond}
+use Rattle.std.specs.Prelude.{IsTrue, slice_index_or}
 use Rattle.std.proofs.lemmas.Bool.{cases_eq, cases_lt}
 use Rattle.std.proofs.lemmas.Bool.Decides.{nat_tests}
+use Rattle.std.proofs.lemmas.List.{get_or_default, get_or_past}
+use borrow.Author.Tests.{lt-ltb}
 use Rattle.be_core.specs.Machine.{bit, has}
+use Rattle.be_paged_reading.specs.Page.{reach}
+use Rattle.be_pages.specs.Pages.{is_taken, times}
+use Rattle.be_pages.specs.Place.{is_in_hand, place_of}
+use Rattle.be_pages.specs.declared.page_pool.Place.{Place}
+use Rattle.be_pages.specs.declared.page_pool.Place.TheVariants.{Free as Nowhere, Reserved, Filled, Current, GivenUp, Retired}
+use Rattle.be_tree.specs.Counting.{in_hand, one_of}
 use Rattle.be_table.specs.declared.pass.Commit.{Commit}
 use Rattle.be_table.specs.declared.pass.Knowledge.{Knowledge}
 use Rattle.be_table.specs.Counts.{count_below, is_reached, reached}
+use Rattle.be_table.specs.Reading.{standing_among, standing_at}
 use Rattle.be_table.specs.Rule.{reach_at}
 use Rattle.be_table.specs.Steps.{NoCommitReaches}
-use Rattle.be_table.specs.Works.{IsSpent}
+use Rattle.be_table.specs.Versions.{SpellsVolume}
+use Rattle.be_table.specs.Works.{HoldsStill, IsSpent}
+use Rattle.be_volume.specs.Volume.{State}
+use Rattle.be_tree_reading.proofs.Frame.{times-cons}
 
 bit_cond : (b : Bool) → bit b ≡ cond {A = ℕ} b 1 0
 bit_cond true = refl
@@ -48,7 +61,7 @@ one_more : (n p : ℕ) (ps : List ℕ) → count_below (has (p ∷ ps)) n ≤ co
 one_more zero p ps = omega arith
 one_more (suc n) p ps = omega (arith, one_more n p ps, either (p == n) (has ps n))
 
-pub listed : (ps : List ℕ) (n : ℕ) → count_below (has ps) n ≤ length ps
+listed : (ps : List ℕ) (n : ℕ) → count_below (has ps) n ≤ length ps
 listed [] n = omega (arith, none_of_none n)
 listed (p ∷ ps) n = omega (arith, one_more n p ps, one_of_them n p, listed ps n)
 
@@ -87,8 +100,8 @@ module _ (a : Knowledge) (least : ℕ) (spent : IsSpent a least) where
       by true e = omega arith
       by false e = omega (arith, ap bit (spent.1 p lt (no_commit a.seen least p e)))
 
-  pub shared : a.limits.pages ≤ reached a.seen least a.limits.pages + length a.held
-  shared = omega (arith, all_counted (is_reached a.seen least (suc (length a.seen) - least)) (has a.held) a.limits.pages counted, listed a.held a.limits.pages)
+  pub shared : a.limits.pages ≤ reached a.seen least a.limits.pages + count_below (has a.held) a.limits.pages
+  shared = all_counted (is_reached a.seen least (suc (length a.seen) - least)) (has a.held) a.limits.pages counted
 
 -- of the current version alone
 false_right : (a : Bool) → (a || false) ≡ a
@@ -99,7 +112,7 @@ same_tests : (f g : ℕ → Bool) (n : ℕ) → ((p : ℕ) → f p ≡ g p) → 
 same_tests f g zero same = refl
 same_tests f g (suc n) same = omega (arith, ap bit (same n), same_tests f g n same)
 
-pub shared_now : (a : Knowledge) → IsSpent a (length a.seen) → a.limits.pages ≤ length (reach_at a.seen (length a.seen)) + length a.held
+pub shared_now : (a : Knowledge) → IsSpent a (length a.seen) → a.limits.pages ≤ count_below (has (reach_at a.seen (length a.seen))) a.limits.pages + count_below (has a.held) a.limits.pages
 shared_now a spent =
     let now = length a.seen in
     let one : suc now - now ≡ 1 = omega arith in
@@ -109,8 +122,56 @@ shared_now a spent =
       arith,
       shared a now spent,
       same_tests (is_reached a.seen now (suc now - now)) (has (reach_at a.seen now)) a.limits.pages same,
-      listed (reach_at a.seen now) a.limits.pages,
     )
   where
     plus_none : (n : ℕ) → n + 0 ≡ n
     plus_none n = omega arith
+
+-- pages that are in hand are counted as such
+in_hand_taken : (x : Place) → IsTrue (is_in_hand x) → is_taken (standing_at x) ≡ true
+in_hand_taken Nowhere h = h
+in_hand_taken Reserved h = refl
+in_hand_taken Filled h = refl
+in_hand_taken Current h = h
+in_hand_taken GivenUp h = h
+in_hand_taken (Retired n) h = h
+
+taken_at : (xs : List Place) (p : ℕ) → p < 16384 → IsTrue (is_in_hand (place_of xs p)) → is_taken (standing_among xs p) ≡ true
+taken_at xs p small h = elim (cases_lt p (length xs)) [
+  | inl lt ↦
+      let in_range : nat_lt p 16384 ≡ true = lt-ltb p 16384 (omega (arith, small)) in
+      let place : slice_index_or xs p Nowhere ≡ place_of xs p = get_or_default xs p Nowhere Current lt in
+      rw (in_range, place) (in_hand_taken (place_of xs p) h)
+  | inr le ↦ absurd (let past : place_of xs p ≡ Current = get_or_past xs p Current le in let e : false ≡ true = sym (ap is_in_hand past) ∙ h in cc)
+]
+
+one_of_true : (b t : Bool) → (b ≡ true → t ≡ true) → bit b ≤ one_of t
+one_of_true false t h = omega arith
+one_of_true true t h = subst (λ (c : Bool). 1 ≤ one_of c) (sym (h refl)) (omega arith)
+
+pub still_counted : (a : Knowledge) (n : ℕ) → HoldsStill a → n ≤ 16384 → count_below (has a.held) n ≤ in_hand n (standing_among a.places)
+still_counted a zero still small = omega arith
+still_counted a (suc n) still small =
+    omega (arith, still_counted a n still (omega (arith, small)), one_of_true (has a.held n) (is_taken (standing_among a.places n)) (λ h. taken_at a.places n (omega (arith, small)) (still n h)))
+
+-- the pages that a version has are those that it reaches
+absent : (q : ℕ) (ps : List ℕ) → has ps q ≡ false → times q ps ≡ 0
+absent q [] h = refl
+absent q (p ∷ ps) h =
+    let here : cond {A = ℕ} (p == q) 1 0 ≡ 0 = ap (λ (b : Bool). cond {A = ℕ} b 1 0) (left_false (p == q) (has ps q) h) in
+    omega (arith, times-cons q p ps, absent q ps (right_false (p == q) (has ps q) h))
+
+present : (pages ps : List ℕ) (q : ℕ) → times q ps ≡ bit (has pages q) → bit (has pages q) ≤ bit (has ps q)
+present pages ps q e = by (has ps q) refl
+  where
+    by : (b : Bool) → has ps q ≡ b → bit (has pages q) ≤ bit b
+    by true h = at_most_one (has pages q)
+    by false h = omega (arith, absent q ps h)
+
+spelt_few : (pages ps : List ℕ) (n : ℕ) → ((q : ℕ) → times q ps ≡ bit (has pages q)) → count_below (has pages) n ≤ count_below (has ps) n
+spelt_few pages ps zero exact = omega arith
+spelt_few pages ps (suc n) exact = omega (arith, spelt_few pages ps n exact, present pages ps n (exact n))
+
+pub spelt_counted : (pages : List ℕ) (words : ℕ → ℕ → ℕ) (page n most : ℕ) (volume : State) → SpellsVolume pages words page volume → 5 * length (reach words page) ≤ most → 5 * count_below (has pages) n ≤ most
+spelt_counted pages words page n most volume s few =
+    omega (arith, spelt_few pages (reach words page) n s.exact, listed (reach words page) n)

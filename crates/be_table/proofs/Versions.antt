@@ -6,8 +6,8 @@ use borrow.Author.Tests.{lt-ltb, le-ltb}
 use Rattle.be_core.specs.Machine.{has, bit}
 use Rattle.be_pages.specs.declared.room.Standing.TheVariants.{Old}
 use Rattle.be_pages.specs.Pages.{is_kept, is_from_before, after_undo, times}
-use Rattle.be_tree.specs.Forest.{IsWriteStart, IsUndone}
-use Rattle.be_paged.specs.Version.{IsVersion}
+use Rattle.be_tree_reading.specs.Forest.{IsWriteStart, IsUndone}
+use Rattle.be_paged_reading.specs.Version.{IsVersion}
 use Rattle.be_paged.proofs.Standing.{version_stands, reach_stands, reaches_alone}
 use Rattle.be_volume.specs.Volume.{State, empty}
 use Rattle.be_table.specs.Rule.{word_place}

@@ -5,8 +5,8 @@ use Rattle.be_core.specs.Machine.{has, bit}
 use Rattle.be_pages.specs.declared.room.Standing.{Standing}
 use Rattle.be_pages.specs.declared.room.Standing.TheVariants.{Free as Nowhere, Old}
 use Rattle.be_pages.specs.Pages.{times}
-use Rattle.be_paged.specs.Page.{reach}
-use Rattle.be_paged.specs.Version.{IsVersion}
+use Rattle.be_paged_reading.specs.Page.{reach}
+use Rattle.be_paged_reading.specs.Version.{IsVersion}
 use Rattle.be_journal.specs.Journal.{replay}
 use Rattle.be_journal.specs.declared.entries.Entry.{Entry}
 use Rattle.be_volume.specs.Volume.{State}

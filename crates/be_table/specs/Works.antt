@@ -1,13 +1,13 @@
 -- What is true of each table and of each open write, and what calls promise.
-use Rattle.std.specs.Prelude.{◌≡◌, ◌≢◌, ◌⊎◌, ℕ, ◌+◌, ◌<◌, false, List, [], ◌∷◌, length, map}
-use Rattle.std.specs.Prelude.{count_by, IsTrue}
+use Rattle.std.specs.Prelude.{◌≡◌, ◌≢◌, ◌⊎◌, ℕ, suc, ◌+◌, ◌<◌, false, List, [], ◌∷◌, length, map}
+use Rattle.std.specs.Prelude.{count_by, zero, IsTrue}
 use Rattle.atomic_table.specs.Seated.{TableId}
 use Rattle.be_journal.specs.declared.entries.Entry.{Entry}
 use Rattle.be_table.specs.declared.limits.Limits.{Limits}
 use Rattle.be_table.specs.declared.pass.Knowledge.{Knowledge}
 use Rattle.be_table.specs.declared.pass.Move.{Move}
 use Rattle.be_table.specs.declared.pass.Move.TheVariants.{Look, LookAgain, Lock}
-use Rattle.be_core.specs.Machine.{has}
+use Rattle.be_core.specs.Machine.{World, has}
 use Rattle.be_core.specs.declared.event.Phase.TheVariants.{Announced}
 use Rattle.be_value.specs.declared.refusals.Refusal.{Refusal}
 use Rattle.be_value.specs.declared.refusals.Refusal.TheVariants.{Busy, CommitsSpent, OutOfMemory}
@@ -19,8 +19,9 @@ use Rattle.be_table.specs.Place.{SeatFacts, WitnessFacts, Opened, Work}
 use Rattle.be_table.specs.Reading.{standing_among, word_of_page}
 use Rattle.be_table.specs.Versions.{at_start, SpellsVolume}
 use Rattle.be_journal.specs.Journal.{replay}
-use Rattle.be_table.specs.Trace.{AllRest, Makes, upto_lock}
+use Rattle.be_table.specs.Trace.{AllRest, Makes, RunsTo, upto_lock}
 use Rattle.be_table.specs.Rule.{Reaches, AreBad, IsWithin, entries, page_at, reach_at, newcomer}
+use Rattle.be_table.specs.Rule.{announce_word}
 use Rattle.be_table.specs.Steps.{Has, AllIdle, KeepsSeen, IsPass, looks, finds_held, takes_lock}
 use Rattle.be_table.specs.Steps.{pins, takes_page, take_moves, scans_all, IsLeastAnnounced}
 use Rattle.be_table.specs.Steps.{IsOwnLeast, pages_from, UnreachedAreFree, NoCommitReaches}
@@ -126,6 +127,11 @@ pub record MakesScan (old new : Work) (least : ℕ) : Type 0 where
     left = new.left;
   }
 
+-- how many more pages are retired than the last whole scan left, if a scan is due
+abbrev pub due_after : ℕ → ℕ
+due_after zero = 1
+due_after (suc n) = 32
+
 -- no page is free
 abbrev pub HasNoFree : Work → Type 0
 HasNoFree w = (p : ℕ) → p < length w.knows.places → place_of w.knows.places p ≢ Free
@@ -154,18 +160,44 @@ abbrev pub HoldsUnreached : Knowledge → ℕ → Type 0
 HoldsUnreached a least = (p : ℕ) → p < a.limits.pages → NoCommitReaches a.seen least p
     → IsTrue (has a.held p)
 
+-- in the machine after some front of its history that goes on from the lock, the pass j had
+-- announced this number
+pub record HadAnnounced (a : Knowledge) (j number : ℕ) : Type 0 where
+  pub upto : List Move
+  pub front : StartsWith a.history upto
+  pub since : StartsWith upto (upto_lock a.number a.history)
+  pub words : ℕ → ℕ → ℕ
+  pub world : World
+  pub runs : RunsTo a.limits words upto world
+  pub told : announce_word (world.phases j) ≡ suc number
+
+-- this is the current number, or some pass had announced it since the lock
+abbrev pub WasAnnounced : Knowledge → ℕ → Type 0
+WasAnnounced a least = (least ≡ length a.seen)
+    ⊎ ((j : ℕ) × (j < a.limits.passes) × HadAnnounced a j least)
+
 -- This is the least of the write's last whole scan, and of the pages that no version from there on
 -- reaches the write held each. It is no more than the current number and what the pass has
--- announced; and of the only pass it is the least of the two.
+-- announced; and of the only pass it is the least of the two. If it isn't the current number, some
+-- pass had announced it.
 abbrev pub IsSpent : Knowledge → ℕ → Type 0
 IsSpent a least = (least ≡ a.least) × HoldsUnreached a least × IsOwnLeast a least
+    × WasAnnounced a least
+
+-- the pages that the write held at its last whole scan are in hand still
+abbrev pub HoldsStill : Knowledge → Type 0
+HoldsStill a = (p : ℕ) → IsTrue (has a.held p) → IsTrue (is_in_hand (place_of a.places p))
+
+-- why an open write can take no page
+abbrev pub IsFull : Work → ℕ → Type 0
+IsFull w least = IsSpent w.knows least × HoldsStill w.knows
 
 -- no page was free, and none after a whole scan
 pub record FindsNone (old new : Work) (least : ℕ) : Type 0 where
   pub before : HasNoFree old
   pub scan : MakesScan old new least
   pub none : (p : ℕ) → p < length new.knows.places → place_of new.knows.places p ≢ Free
-  pub spent : IsSpent new.knows least
+  pub full : IsFull new least
 
 -- why a table with these limits was not opened
 abbrev pub IsOpenRefused : Limits → Refusal → Type 0

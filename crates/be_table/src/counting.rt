@@ -1,15 +1,43 @@
 //! How a pool is shared among the versions and an open write, if no page is left.
-ghost use Rattle.std.specs.Prelude.{ℕ, ◌+◌, ◌≤◌, length};
-ghost use Rattle.be_table.specs.Counts.{reached};
+ghost use Rattle.std.specs.FinMap as map;
+ghost use Rattle.std.specs.Prelude.{ℕ, ◌+◌, ◌*◌, ◌≤◌, List, length};
+ghost use Rattle.be_core.specs.Machine.{has};
+ghost use Rattle.be_table.specs.Counts.{count_below, reached};
+ghost use Rattle.be_table.specs.Reading.{standing_among};
 ghost use Rattle.be_table.specs.Rule.{reach_at};
-ghost use Rattle.be_table.specs.Works.{IsSpent};
+ghost use Rattle.be_table.specs.Versions.{SpellsVolume};
+ghost use Rattle.be_table.specs.Works.{HoldsStill, IsSpent};
 ghost use Rattle.be_table.specs.declared.pass.Knowledge.{Knowledge};
+ghost use Rattle.be_tree.specs.Counting.{in_hand};
+ghost use Rattle.be_volume.specs.Items.{items};
+ghost use Rattle.be_volume.specs.Volume.{State};
+
+use be_paged::version_pages;
 
 /// If a write was refused since no page was left, the versions from the least on and the pages
 /// that it had in hand were the whole pool.
 pub fn full_counts()
     ensures all { (a : Knowledge) (least : ℕ) → IsSpent a least
-        → a.limits.pages ≤ reached a.seen least a.limits.pages + length a.held }
+        → a.limits.pages ≤ reached a.seen least a.limits.pages
+        + count_below (has a.held) a.limits.pages }
     ensures now { (a : Knowledge) → IsSpent a (length a.seen)
-        → a.limits.pages ≤ length (reach_at a.seen (length a.seen)) + length a.held }
+        → a.limits.pages ≤ count_below (has (reach_at a.seen (length a.seen))) a.limits.pages
+        + count_below (has a.held) a.limits.pages }
+{}
+
+/// A version that encodes a volume has one page for each five of its items, one for each index, and
+/// one more, at most.
+pub fn spelt_counts()
+    ensures { (pages : List ℕ) (words : ℕ → ℕ → ℕ) (page n : ℕ) (volume : State)
+        → SpellsVolume pages words page volume
+        → 5 * count_below (has pages) n ≤ items volume + 4 * map.len volume.indices + 9 }
+{
+    version_pages();
+}
+
+/// Right after that, the pages that the write had in hand at the scan are among those that it has
+/// in hand.
+pub fn held_counts()
+    ensures { (a : Knowledge) (n : ℕ) → HoldsStill a → n ≤ 16384
+        → count_below (has a.held) n ≤ in_hand n (standing_among a.places) }
 {}

@@ -50,7 +50,7 @@ mod table;
 mod witness;
 mod writing;
 
-pub use counting::full_counts;
+pub use counting::{full_counts, held_counts, spelt_counts};
 pub use limits::Limits;
 pub use pinned::PinnedLook;
 pub use seat::Seat;

@@ -32,9 +32,9 @@ impl<'a> Look for Writing<'a> {
 }
 
 impl<'a> Room for Writing<'a> {
-    ghost use Rattle.be_table.specs.Works.{IsSpent};
+    ghost use Rattle.be_table.specs.Works.{IsFull};
 
-    ghost full = { λ w least. IsSpent w.knows least };
+    ghost full = { IsFull };
 
     #[tactic(auto, using(crate::proofs::Standings::taken))]
     fn is_taken(&self, page: u64) -> bool {
@@ -43,6 +43,10 @@ impl<'a> Room for Writing<'a> {
 
     fn take(&mut self) -> Result<u64, Refusal> {
         Writing::take(self)
+    }
+
+    fn take_like(&mut self, page: u64) -> Result<u64, Refusal> {
+        Writing::take_like(self, page)
     }
 
     fn fill(&mut self, page: u64, i: usize, word: u64) {

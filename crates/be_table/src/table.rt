@@ -68,7 +68,7 @@ impl VersionTable {
     ghost use Rattle.be_core.specs.declared.event.Phase.TheVariants.{Pinned};
     ghost use Rattle.be_volume.specs.Volume.{empty};
     ghost use Rattle.be_journal.specs.Journal.{IsLegal, replay};
-    ghost use Rattle.be_paged.specs.Version.{IsVersion};
+    ghost use Rattle.be_paged_reading.specs.Version.{IsVersion};
     ghost use Rattle.be_table.specs.History.{StartsWith, AreOfPasses};
     ghost use Rattle.be_table.specs.Reading.{pinned_standing, word_of_page};
     ghost use Rattle.be_table.specs.Rule.{IsWithin, entries};

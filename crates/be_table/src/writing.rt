@@ -22,7 +22,7 @@ ghost use Rattle.be_table.specs.Steps.{takes_page, gives_up, scans, scans_out, s
 ghost use Rattle.be_table.specs.Steps.{least_found, IsLeastAnnounced, IsOwnLeast, UnreachedAreFree};
 ghost use Rattle.be_table.specs.Trace.{Makes, upto_lock};
 ghost use Rattle.be_table.specs.Working.{HasWorked, MakesForReason};
-ghost use Rattle.be_table.specs.Works.{HasReasonToScan, Moves};
+ghost use Rattle.be_table.specs.Works.{due_after, HasReasonToScan, Moves};
 ghost use Rattle.be_table.specs.declared.pass.Move.TheVariants as moves;
 
 use crate::ledger::Ledger;
@@ -42,9 +42,18 @@ use std::marker::{Brand, Model};
 /// A retired page is used again only once a scan has freed it. A write that lets the pool run empty
 /// first goes through the memory of every page, where those that were given up last are still near.
 /// A write gives up 6 to 16, all of which use the same few lines of the cache. So those of two or
-/// three writes are still in its nearest levels. A scan a write would find no more of them there,
-/// and costs a load for each pass.
+/// three writes are still in its nearest levels. While readers keep pages, a scan a write would
+/// find no more of them there, and costs a load for each pass.
 const EARLY: usize = 32;
+
+/// How many more pages are retired than the last whole scan left, if a scan pays. If it left none,
+/// no reader keeps pages, and each write scans: then what the last write gave up is free, and each
+/// copy of a page can go to the page that it was copied from.
+fn due_after(left: usize) -> usize
+    ensures { result ≡ due_after left }
+{
+    if left == 0 { 1 } else { EARLY }
+}
 
 /// The lock is held by this pass. It has no `Drop`, so it ends in `unlock`.
 pub struct Writing<'a> {
@@ -76,8 +85,8 @@ impl<'a> Writing<'a> {
     ghost use Rattle.be_volume.specs.Ahead.{state_after};
     ghost use Rattle.be_journal.specs.Journal.{Agrees, replay};
     ghost use Rattle.be_journal.specs.Text.{lines_from};
-    ghost use Rattle.be_paged.specs.Page.{reach};
-    ghost use Rattle.be_paged.specs.Version.{IsVersion};
+    ghost use Rattle.be_paged_reading.specs.Page.{reach};
+    ghost use Rattle.be_paged_reading.specs.Version.{IsVersion};
     ghost use Rattle.be_table.specs.Reading.{word_of_page};
     ghost use Rattle.be_table.specs.Rule.{page_at, entries};
     ghost use Rattle.be_table.specs.Seats.{pin_of};
@@ -230,7 +239,8 @@ impl<'a> Writing<'a> {
         self.ledger.pool.give_up(page);
     }
 
-    /// Takes the page that was freed last, if one is free.
+    /// Takes the page that was freed last, if one is free; one that is spared for a copy only if
+    /// there is no other.
     fn take_free(&mut self) -> Option<u64>
         requires open { self.old.knows.published ≡ false }
         ensures some { IfSome result (λ page. (page < length self.old.knows.places)
@@ -253,10 +263,35 @@ impl<'a> Writing<'a> {
         Some(page)
     }
 
-    /// Takes a free page, the one that was freed last. If none is free, it scans. If none is free
-    /// after the scan either, the error is Full with the least number that the scan found: this
-    /// write then holds each page that no version from that number on has. One load; with a scan,
-    /// the scan's loads too.
+    /// Takes a free page for a copy of a page: the one that this page was copied from, if it is
+    /// free. While readers keep pages, what a write gives up isn't free at the next one, so no page
+    /// is spared for a copy, and the page is taken that was freed last.
+    fn take_free_like(&mut self, page: u64) -> Option<u64>
+        requires open { self.old.knows.published ≡ false }
+        ensures some { IfSome result (λ page. (page < length self.old.knows.places)
+            × (place_of self.old.knows.places page ≡ Place.Free)) }
+        ensures small { IfSome result (λ page. page < 16384) }
+        ensures taken { IfSome result (λ page. self.new
+            ≡ record self.old {
+              knows = takes_page
+                  (with_history self.old.knows self.new.knows.history) page;
+            }) }
+        ensures moves { IfSome result (λ page. Makes self.old.knows.number self.old.knows.history
+            (take_moves self.old.knows page) self.new.knows.history) }
+        ensures same { IfNone result (self.new ≡ self.old) }
+    {
+        if self.ledger.left > 0 {
+            return self.take_free();
+        }
+        let copy = self.ledger.pool.take_like(page)?;
+        tell_taken(self.table, &mut self.base, copy);
+        Some(copy)
+    }
+
+    /// Takes a free page, the one that was freed last; one that is spared for a copy only if there
+    /// is no other. If none is free, it scans. If none is free after the scan either, the error is
+    /// Full with the least number that the scan found: this write then holds each page that no
+    /// version from that number on has. One load; with a scan, the scan's loads too.
     pub fn take(&mut self) -> Result<u64, Refusal>
         requires open { self.old.knows.published ≡ false }
         ensures ok { IfOk result (λ page. TakesPage self.old self.new page) }
@@ -272,17 +307,32 @@ impl<'a> Writing<'a> {
         }
     }
 
-    /// Whether a scan pays though pages may be free: 32 or more pages are retired beyond those that
-    /// the last whole scan had to leave for readers, which are no more than are retired now. No
-    /// step.
+    /// Takes a free page for a copy of a page: the one that this page was copied from, if that is
+    /// free, since it has most of the words already. Otherwise it takes the page that `take` does,
+    /// at the same cost.
+    pub fn take_like(&mut self, page: u64) -> Result<u64, Refusal>
+        requires open { self.old.knows.published ≡ false }
+        ensures ok { IfOk result (λ page. TakesPage self.old self.new page) }
+        ensures full { IfErr result (IsFullOf (FindsNone self.old self.new)) }
+    {
+        if let Some(copy) = self.take_free_like(page) {
+            return Ok(copy);
+        }
+        self.take()
+    }
+
+    /// Whether a scan pays though pages may be free: more pages are retired than the last whole
+    /// scan had to leave for readers, one if it left none and 32 otherwise. Those that it left are
+    /// no more than are retired now. No step.
     pub fn is_scan_due(&self) -> bool
-        ensures due { result ≡ true → self.now.left + 32
+        ensures due { result ≡ true → self.now.left + due_after self.now.left
             ≤ count_by is_retired self.now.knows.places }
-        ensures not_yet { result ≡ false → count_by is_retired self.now.knows.places < self.now.left
-            + 32 }
+        ensures not_yet { result ≡ false → count_by is_retired self.now.knows.places
+            < self.now.left + due_after self.now.left }
         ensures left { self.now.left ≤ count_by is_retired self.now.knows.places }
     {
-        self.ledger.pool.retired().saturating_sub(self.ledger.left) >= EARLY
+        let left = self.ledger.left;
+        self.ledger.pool.retired().saturating_sub(left) >= due_after(left)
     }
 
     /// Reads every announcement once. Returns the least of them and of the current number; the

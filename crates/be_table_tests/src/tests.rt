@@ -120,12 +120,12 @@ fn check_scanned(alloc: Global, room: &mut Room, written: u64) -> Result<(), Fai
 fn scans_early(alloc: Global, room: &mut Room) -> Result<bool, Fail> {
     let (before, beyond) = count_until_due(alloc, room)?;
     check_scanned(alloc, room, before.saturating_add(beyond))?;
-    Ok(before == 16 && beyond == 11)
+    Ok(before == 1 && beyond == 15)
 }
 
-/// A scan is due once 32 pages are retired, and, if a pin keeps them, again once there are 32 more.
-/// A write of a node retires two pages while the catalog is one, and three once it has an inner
-/// page.
+/// A scan is due once a page is retired, and, if a pin keeps it, again once there are 32 more. The
+/// first write of a node retires a page, later ones two while the catalog is one, and three once it
+/// has an inner page.
 #[test]
 fn scan_due(rt: HostRuntime) -> Result<(), Fail> {
     assert!(rt; scans_early(rt.alloc(), &mut opened(rt.alloc(), 1024)?)?);

@@ -60,6 +60,11 @@ impl<R: Room> Room for Counted<R> {
         self.pages.take()
     }
 
+    fn take_like(&mut self, page: u64) -> Result<u64, Refusal> {
+        self.takes = self.takes.wrapping_add(1);
+        self.pages.take_like(page)
+    }
+
     #[tactic(auto, using(crate::proofs::Standings::taken_readable))]
     fn fill(&mut self, page: u64, i: usize, word: u64) {
         if self.pages.word(page, i) != word {

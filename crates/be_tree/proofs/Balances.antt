@@ -14,23 +14,24 @@ use Rattle.be_tree.specs.declared.settling.Settled.{Settled}
 use Rattle.be_tree.specs.declared.slot.Slot.{Slot}
 use Rattle.be_tree.specs.declared.slot.Slot.TheVariants.{At, Branch, New}
 use Rattle.be_tree.specs.declared.splicing.Cut.{Cut}
-use Rattle.be_tree.specs.Pair.{Pair}
-use Rattle.be_tree.specs.Key.{IsRising}
-use Rattle.be_tree.specs.Page.{IsPage, item_place, items_of, level_of}
+use Rattle.be_tree_reading.specs.Pair.{Pair}
+use Rattle.be_tree_reading.specs.Key.{IsRising}
+use Rattle.be_tree_reading.specs.Page.{IsPage, item_place, items_of, level_of}
 use Rattle.be_tree.specs.Path.{BecomesNode, IsChanged, IsInHand, IsWayIn, KeepsLeast, around, least_at, whole}
 use Rattle.be_tree.specs.Settling.{IsAbove, IsChildInHand, IsSettled, beside}
 use Rattle.be_tree.specs.Slot.{IsBranchSlot, IsOff, IsReady, branch_to, loaded, pair_of, pairs_of}
 use Rattle.be_tree.specs.Splicing.{CanBeSpliced, IsSpliced, spliced}
-use Rattle.be_tree.specs.Tree.{Becomes, BecomesTree, IsBelow, IsTreeAt, child, pages, pages_at, pages_below, pairs_at, pairs_below}
+use Rattle.be_tree_reading.specs.Tree.{Becomes, BecomesTree, IsBelow, IsTreeAt, child, pages, pages_at, pages_below, pairs_at, pairs_below}
 use Rattle.be_tree.specs.Writing.{IsApart}
-use Rattle.be_tree.proofs.Frame.{readable_kept, swaps_same, swaps_start}
+use Rattle.be_tree_reading.proofs.Frame.{readable_kept, swaps_same, swaps_start}
 use Rattle.be_tree.proofs.Nodes.Neighbours.{ready_until}
-use Rattle.be_tree.proofs.Nodes.Slots.{branches_ready, child_branch, items_count, loaded_pairs, loaded_ready}
-use Rattle.be_tree.proofs.Putting.Puts.{becomes_until, given_up_page, kept_after}
+use Rattle.be_tree_reading.proofs.Items.{items_count}
+use Rattle.be_tree.proofs.Nodes.Slots.{branches_ready, child_branch, loaded_pairs, loaded_ready}
+use Rattle.be_tree_reading.proofs.Putting.Puts.{becomes_until, given_up_page, kept_after}
 use Rattle.be_tree.proofs.Raises.{tree_on_way}
 use Rattle.be_tree.proofs.Rises.{around_is, least_up, node_over, over_pairs}
-use Rattle.be_tree.proofs.Shape.Below.{all_left, all_right, below_left, below_right, child_page, times_pages}
-use Rattle.be_tree.proofs.Shape.Roots.{tree_over}
+use Rattle.be_tree_reading.proofs.Shape.Below.{all_left, all_right, below_left, below_right, child_page, times_pages}
+use Rattle.be_tree_reading.proofs.Shape.Roots.{tree_over}
 use Rattle.be_tree.proofs.Ways.{IsPopped, rising_inside, step_leads, way_pop, whole_push}
 
 -- lists with others in the place of a cut

@@ -1,5 +1,5 @@
 -- A leaf at the end of a path that has changed.
-use Rattle.std.proofs.Common.{◌≡◌, ◌≢◌, ℕ, zero, suc, ◌+◌, ◌-◌, ◌<◌, ◌≤◌, List, [], ◌∷◌, ◌++◌, Bool, true, length, get_or, take, drop, All, Result, IfOk, IfErr, Ok, Err, None, is_some, ap, sym, subst, ◌∙◌, refl, arith, append_assoc, if◌then◌else◌, length-append, length-drop}
+use Rattle.std.proofs.Common.{◌≡◌, ◌≢◌, ℕ, zero, suc, ◌+◌, ◌-◌, ◌<◌, ◌≤◌, List, [], ◌∷◌, ◌++◌, Bool, true, length, get_or, take, drop, All, IfOk, IfErr, Ok, Err, None, is_some, ap, sym, subst, ◌∙◌, refl, arith, append_assoc, if◌then◌else◌, length-append, length-drop}
 use Rattle.std.specs.declared.cmp.Ordering.TheVariants.{Equal, Greater}
 use Rattle.std.specs.List.{flat_map}
 use Rattle.std.specs.Ordering.{is_eq}
@@ -7,32 +7,30 @@ use Rattle.std.proofs.Math.Seq.{take-suc}
 use mathlib.Core.Bool.{false≢true}
 use Rattle.std.proofs.lemmas.List.{get_or_default, length-take-le}
 use Rattle.be_pages.specs.declared.room.Standing.{Standing}
-use Rattle.be_value.specs.declared.refusals.Refusal.{Refusal}
-use Rattle.be_pages.specs.Pages.{IsUnchanged, KeepsStart, Swaps}
+use Rattle.be_pages.specs.Pages.{IsUnchanged, Swaps}
 use Rattle.be_tree.specs.declared.path.Path.{Path}
 use Rattle.be_tree.specs.declared.path.Step.{Step}
 use Rattle.be_tree.specs.declared.slot.Slot.{Slot}
 use Rattle.be_tree.specs.declared.splicing.Cut.{Cut}
-use Rattle.be_tree.specs.Pair.{Pair}
-use Rattle.be_tree.specs.Key.{IsBranchFor, IsGap, IsRising, key_cmp, payload_at, put, put_before, without}
-use Rattle.be_tree.specs.Page.{item_at, item_place, items_of, level_of}
+use Rattle.be_tree_reading.specs.Pair.{Pair}
+use Rattle.be_tree_reading.specs.Key.{IsBranchFor, IsGap, IsRising, key_cmp, payload_at, put, put_before, without}
+use Rattle.be_tree_reading.specs.Page.{item_at, item_place, items_of, level_of}
 use Rattle.be_tree.specs.Path.{BecomesNode, IsChanged, IsInHand, IsPathTo, IsWayIn, KeepsLeast, least_at, whole}
 use Rattle.be_tree.specs.Slot.{IsReady, pairs_of}
 use Rattle.be_tree.specs.Splicing.{IsSpliced, spliced}
-use Rattle.be_tree.specs.Writing.{Refuses}
-use Rattle.be_tree.specs.Tree.{BecomesTree, IsBelow, IsTreeAt, least_of_root, pages, pairs, pairs_at, pairs_below}
-use Rattle.be_tree.proofs.Frame.{one_page, start_trans, swaps_since}
-use Rattle.be_tree.proofs.Nodes.Slots.{item_get, items_count}
-use Rattle.be_tree.proofs.Order.{key_exact}
-use Rattle.be_tree.proofs.Putting.Puts.{put_at_item}
+use Rattle.be_tree_reading.specs.Tree.{BecomesTree, IsBelow, IsTreeAt, least_of_root, pages, pairs, pairs_at, pairs_below}
+use Rattle.be_tree_reading.proofs.Frame.{one_page, swaps_since}
+use Rattle.be_tree_reading.proofs.Items.{item_get, items_count}
+use Rattle.be_tree_reading.proofs.Order.{key_exact}
+use Rattle.be_tree_reading.proofs.Putting.Puts.{put_at_item}
 use Rattle.be_tree.proofs.Raises.{top, tree_on_way}
-use Rattle.be_tree.proofs.Reading.Cursors.{root_pairs}
+use Rattle.be_tree_reading.proofs.Reading.Cursors.{root_pairs}
 use Rattle.be_tree.proofs.Removing.Clears.{swaps_none}
 use Rattle.be_tree.proofs.Removing.Removes.{without_split}
 use Rattle.be_tree.proofs.Rises.{node_written}
-use Rattle.be_tree.proofs.Searching.{found_equal, found_gap, rank_of_equal, rank_of_gap}
-use Rattle.be_tree.proofs.Shape.Roots.{root_some}
-use Rattle.be_tree.proofs.TreeFacts.{IsSplit, as_branches, leaf_split, page_keys}
+use Rattle.be_tree_reading.proofs.Searching.{found_equal, found_gap, rank_of_equal, rank_of_gap}
+use Rattle.be_tree_reading.proofs.Shape.Roots.{root_some}
+use Rattle.be_tree_reading.proofs.TreeFacts.{IsSplit, as_branches, leaf_split, page_keys}
 use Rattle.be_tree.proofs.Ways.{change_down, payload_down, put_goes, rising_inside, without_goes}
 
 put_first : (pair : Pair) (items : List Pair) → ((d : Pair) → 0 < length items → key_cmp (get_or items 0 d).key pair.key ≡ Greater) → put pair items ≡ pair ∷ items
@@ -143,12 +141,6 @@ without_leaf k standing words root above leaf way for is_leaf =
       tree = subst (λ n. IsTreeAt n (least_at above n) standing words leaf) is_leaf (tree_on_way standing words root above leaf way);
       pairs_rise = subst IsRising (sym is) tree.below.rising;
     }
-
--- a refusal since a change
-pub refuses_since : {S K A : Type 0} (kept_of : S → K) (standing_of : S → ℕ → Standing) (words_of : S → ℕ → ℕ → ℕ) (full : S → ℕ → Type 0) (r : Result A Refusal) (old mid new : S) → KeepsStart kept_of standing_of words_of old mid
-    → Refuses kept_of standing_of words_of full r mid new → Refuses kept_of standing_of words_of full r old new
-refuses_since kept_of standing_of words_of full (Ok a) old mid new starts h = (tt, tt)
-refuses_since kept_of standing_of words_of full (Err e) old mid new starts h = (start_trans kept_of standing_of words_of old mid new starts h.0, h.1)
 
 -- what a change of a tree is once it is one of its leaf's items
 module _ (change : List Pair → List Pair) (rises : (xs : List Pair) → IsRising xs → IsRising (change xs)) (standing : ℕ → Standing) (words : ℕ → ℕ → ℕ) (root : ℕ) (above : List Step) (leaf : ℕ) (cut : Cut) (more : List Pair)

@@ -1,11 +1,4 @@
-pub mod Codec
-pub mod Padded
-pub mod Order
-pub mod Ranges
-pub mod Frame
-pub mod TreeFacts
 pub mod Splices
-pub mod Trees
 pub mod Ways
 pub mod Rises
 pub mod Raises
@@ -15,8 +8,5 @@ pub mod Balances
 pub mod Bytes
 pub mod Nodes
 pub mod Shape
-pub mod Putting
 pub mod Removing
-pub mod Reading
-pub mod Searching
 pub mod Sizes

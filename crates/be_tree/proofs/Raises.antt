@@ -6,20 +6,21 @@ use Rattle.be_pages.specs.Pages.{Swaps, times}
 use Rattle.be_tree.specs.declared.path.Step.{Step}
 use Rattle.be_tree.specs.declared.rising.Changed.{Changed}
 use Rattle.be_tree.specs.declared.slot.Slot.TheVariants.{Branch}
-use Rattle.be_tree.specs.Pair.{Pair}
-use Rattle.be_tree.specs.Key.{IsRising, StartsAt}
-use Rattle.be_tree.specs.Page.{IsPage, item_at, item_place, items_of, level_of}
+use Rattle.be_tree_reading.specs.Pair.{Pair}
+use Rattle.be_tree_reading.specs.Key.{IsRising, StartsAt}
+use Rattle.be_tree_reading.specs.Page.{IsPage, item_at, item_place, items_of, level_of}
 use Rattle.be_tree.specs.Path.{BecomesNode, IsChanged, IsWay, IsWayIn, KeepsLeast, around, least_at, whole}
 use Rattle.be_tree.specs.Slot.{IsOff, IsReady, branch_to}
 use Rattle.be_tree.specs.Splicing.{CanBeSpliced, IsSpliced}
-use Rattle.be_tree.specs.Tree.{Becomes, BecomesTree, IsBranch, IsTree, IsTreeAt, child, least_of_root, pages, pages_at, pages_below, pairs_at, pairs_below}
-use Rattle.be_tree.proofs.Frame.{readable_kept, same_page, swaps_same, times-cons}
-use Rattle.be_tree.proofs.Nodes.Slots.{child_branch, item_get, items_count}
-use Rattle.be_tree.proofs.Putting.Puts.{given_up_page, kept_after}
+use Rattle.be_tree_reading.specs.Tree.{Becomes, BecomesTree, IsBranch, IsTree, IsTreeAt, child, least_of_root, pages, pages_at, pages_below, pairs_at, pairs_below}
+use Rattle.be_tree_reading.proofs.Frame.{readable_kept, same_page, swaps_same, times-cons}
+use Rattle.be_tree_reading.proofs.Items.{item_get, items_count}
+use Rattle.be_tree.proofs.Nodes.Slots.{child_branch}
+use Rattle.be_tree_reading.proofs.Putting.Puts.{given_up_page, kept_after}
 use Rattle.be_tree.proofs.Rises.{Stays, around_is, becomes_items, end_least, least_up, node_over, over_pairs, stays_whole}
 use Rattle.be_tree.proofs.Shape.Parts.{all_one, starts_first}
-use Rattle.be_tree.proofs.Shape.Roots.{root_tree}
-use Rattle.be_tree.proofs.TreeFacts.{times_part}
+use Rattle.be_tree_reading.proofs.Shape.Roots.{root_tree}
+use Rattle.be_tree_reading.proofs.TreeFacts.{times_part}
 use Rattle.be_tree.proofs.Ways.{IsPopped, branch_is, rising_inside, step_leads, way_down, way_pop, whole_push}
 
 pub top : (standing : ℕ → Standing) (words : ℕ → ℕ → ℕ) (root : ℕ) → IsTree standing words root → 0 < root → IsTreeAt (level_of (words (root - 1))) (least_of_root (level_of (words (root - 1)))) standing words (root - 1)

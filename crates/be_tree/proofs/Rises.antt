@@ -5,17 +5,17 @@ use Rattle.std.proofs.lemmas.List.{append-nil, length-take-le}
 use Rattle.be_pages.specs.declared.room.Standing.{Standing}
 use Rattle.be_pages.specs.Pages.{is_kept, times, untouched, Swaps}
 use Rattle.be_tree.specs.declared.path.Step.{Step}
-use Rattle.be_tree.specs.Pair.{Pair}
-use Rattle.be_tree.specs.Key.{IsRising, StartsAt}
-use Rattle.be_tree.specs.Page.{IsPage, item_at, item_place, items_of, level_of}
+use Rattle.be_tree_reading.specs.Pair.{Pair}
+use Rattle.be_tree_reading.specs.Key.{IsRising, StartsAt}
+use Rattle.be_tree_reading.specs.Page.{IsPage, item_at, item_place, items_of, level_of}
 use Rattle.be_tree.specs.Path.{BecomesNode, IsStep, IsWay, KeepsLeast, around, whole}
-use Rattle.be_tree.specs.Tree.{AreShaped, Becomes, IsBelow, IsBranch, IsNode, IsTreeAt, child, pages_at, pages_below, pairs_at, pairs_below}
-use Rattle.be_tree.proofs.Frame.{one_beside, readable_kept, swaps_after, swaps_frame, swaps_same, swaps_trans, swaps_with, times_append, times_itself}
-use Rattle.be_tree.proofs.Nodes.Slots.{items_count}
-use Rattle.be_tree.proofs.Putting.Puts.{given_up_page, kept_after}
-use Rattle.be_tree.proofs.Shape.Below.{below_left, beside_apart, beside_below, beside_pages, beside_pairs, pairs_append}
-use Rattle.be_tree.proofs.Shape.Heights.{once_at}
-use Rattle.be_tree.proofs.Shape.Levels.{tree_in_use}
+use Rattle.be_tree_reading.specs.Tree.{AreShaped, Becomes, IsBelow, IsBranch, IsNode, IsTreeAt, child, pages_at, pages_below, pairs_at, pairs_below}
+use Rattle.be_tree_reading.proofs.Frame.{one_beside, readable_kept, swaps_after, swaps_frame, swaps_same, swaps_trans, swaps_with, times_append, times_itself}
+use Rattle.be_tree_reading.proofs.Items.{items_count}
+use Rattle.be_tree_reading.proofs.Putting.Puts.{given_up_page, kept_after}
+use Rattle.be_tree_reading.proofs.Shape.Below.{below_left, beside_apart, beside_below, beside_pages, beside_pairs, pairs_append}
+use Rattle.be_tree_reading.proofs.Shape.Heights.{once_at}
+use Rattle.be_tree_reading.proofs.Shape.Levels.{tree_in_use}
 use Rattle.be_tree.proofs.Shape.Parts.{all_one, becomes_part, starts_append, starts_first}
 use Rattle.be_tree.proofs.Ways.{branch_is, branch_names, rising_inside, step_leads, three}
 

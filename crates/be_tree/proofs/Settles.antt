@@ -10,23 +10,23 @@ use Rattle.be_tree.specs.declared.path.Step.{Step}
 use Rattle.be_tree.specs.declared.settling.Settled.{Settled}
 use Rattle.be_tree.specs.declared.slot.Slot.{Slot}
 use Rattle.be_tree.specs.declared.slot.Slot.TheVariants.{At}
-use Rattle.be_tree.specs.Pair.{Pair}
-use Rattle.be_tree.specs.Key.{IsRising}
-use Rattle.be_tree.specs.Page.{IsPage, item_at, item_place, items_of}
+use Rattle.be_tree_reading.specs.Pair.{Pair}
+use Rattle.be_tree_reading.specs.Key.{IsRising}
+use Rattle.be_tree_reading.specs.Page.{IsPage, item_at, item_place, items_of}
 use Rattle.be_tree.specs.Settling.{IsChildInHand, IsSettled, beside}
 use Rattle.be_tree.specs.Slot.{pairs_of}
 use Rattle.be_tree.specs.Splicing.{spliced}
-use Rattle.be_tree.specs.Tree.{AreNeighbours, Becomes, IsBelow, IsTreeAt, child, pages_at, pages_below, pairs_at, pairs_below}
+use Rattle.be_tree_reading.specs.Tree.{AreNeighbours, Becomes, IsBelow, IsTreeAt, child, pages_at, pages_below, pairs_at, pairs_below}
 use Rattle.be_tree.specs.Writing.{AreApart, IsWritable, IsApart}
-use Rattle.be_tree.proofs.Frame.{readable_kept, swaps_same, times-cons}
+use Rattle.be_tree_reading.proofs.Frame.{readable_kept, swaps_same, times-cons}
 use Rattle.be_tree.proofs.Nodes.Children.{first_changed, names_page, second_changed, second_rising, two_in_three, two_neighbours, whole_below}
 use Rattle.be_tree.proofs.Nodes.Joins.{left_changed, left_in_hand, left_length, right_changed, right_in_hand, right_length}
 use Rattle.be_tree.proofs.Nodes.Neighbours.{apart, becomes_times, left_page, left_readable, neighbour_times, ready_until, right_page, right_readable}
-use Rattle.be_tree.proofs.Nodes.Slots.{items_count}
-use Rattle.be_tree.proofs.Order.{IsRising_left, IsRising_right}
-use Rattle.be_tree.proofs.Putting.Puts.{becomes_over, becomes_until, given_up_page, kept_after}
+use Rattle.be_tree_reading.proofs.Items.{items_count}
+use Rattle.be_tree_reading.proofs.Order.{IsRising_left, IsRising_right}
+use Rattle.be_tree_reading.proofs.Putting.Puts.{becomes_over, becomes_until, given_up_page, kept_after}
 use Rattle.be_tree.proofs.Shape.Parts.{becomes_part}
-use Rattle.be_tree.proofs.TreeFacts.{times_part}
+use Rattle.be_tree_reading.proofs.TreeFacts.{times_part}
 use Rattle.be_tree.proofs.Ways.{branch_child, branch_is, three}
 
 -- two children have become others, and a page's items have these in the place of the two

@@ -9,15 +9,16 @@ use Rattle.be_pages.specs.declared.room.Standing.TheVariants.{Filled, Free}
 use Rattle.be_pages.specs.Pages.{OnlyWrites, StandsAt, is_readable}
 use Rattle.be_tree.specs.declared.slot.Slot.{Slot}
 use Rattle.be_tree.specs.declared.slot.Slot.TheVariants.{At, Branch, New}
-use Rattle.be_tree.specs.Page.{IsItem, IsPage, item_at, item_place, items_of}
-use Rattle.be_tree.specs.Pair.{Pair}
+use Rattle.be_tree_reading.specs.Page.{IsItem, IsPage, item_at, item_place, items_of}
+use Rattle.be_tree_reading.specs.Pair.{Pair}
 use Rattle.be_tree.specs.Slot.{IsOff, IsReady, pair_of}
 use Rattle.be_tree.specs.declared.splicing.Cut.{Cut}
 use Rattle.be_tree.specs.Splicing.{AreCopies, HasGap, IsStored, spliced}
 use Rattle.be_tree.proofs.Bytes.Zeros.{IsItem_same}
-use Rattle.be_tree.proofs.Codec.{item_at_same}
+use Rattle.be_tree_reading.proofs.Codec.{item_at_same}
 use Rattle.be_tree.proofs.Nodes.Stands.{stands_at, stands_else}
-use Rattle.be_tree.proofs.Nodes.Slots.{branch_same, item_get, items_count}
+use Rattle.be_tree_reading.proofs.Items.{item_get, items_count}
+use Rattle.be_tree.proofs.Nodes.Slots.{branch_same}
 
 -- what a page has once its header is written and the items before and after a cut are copied
 pub gap_of : (u v : ℕ → ℕ) (cut : Cut) (more rest : ℕ) → cut.at + cut.gone ≤ u 1 → rest ≡ u 1 - (cut.at + cut.gone) → v 0 ≡ u 0 → v 1 ≡ cut.at + more + rest

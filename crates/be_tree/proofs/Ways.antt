@@ -3,16 +3,16 @@ use Rattle.std.proofs.Common.{◌≡◌, ℕ, zero, suc, ◌-◌, ◌<◌, List,
 use Rattle.std.proofs.lemmas.List.{append-nil}
 use Rattle.be_pages.specs.declared.room.Standing.{Standing}
 use Rattle.be_tree.specs.declared.path.Step.{Step}
-use Rattle.be_tree.specs.Pair.{Pair}
-use Rattle.be_tree.specs.Key.{IsBranchFor, IsRising, payload_at, put, without}
-use Rattle.be_tree.specs.Page.{item_at, item_place, items_of, level_of}
+use Rattle.be_tree_reading.specs.Pair.{Pair}
+use Rattle.be_tree_reading.specs.Key.{IsBranchFor, IsRising, payload_at, put, without}
+use Rattle.be_tree_reading.specs.Page.{item_at, item_place, items_of, level_of}
 use Rattle.be_tree.specs.Path.{IsStep, IsWay, around, whole}
-use Rattle.be_tree.specs.Tree.{IsBelow, IsBranch, IsTreeAt, child, pairs_at, pairs_below}
-use Rattle.be_tree.proofs.Nodes.Slots.{item_get, items_count}
-use Rattle.be_tree.proofs.Order.{IsRising_left, IsRising_right}
-use Rattle.be_tree.proofs.Putting.Puts.{put_at_item}
+use Rattle.be_tree_reading.specs.Tree.{IsBelow, IsBranch, IsTreeAt, child, pairs_at, pairs_below}
+use Rattle.be_tree_reading.proofs.Items.{item_get, items_count}
+use Rattle.be_tree_reading.proofs.Order.{IsRising_left, IsRising_right}
+use Rattle.be_tree_reading.proofs.Putting.Puts.{put_at_item}
 use Rattle.be_tree.proofs.Removing.Removes.{without_split}
-use Rattle.be_tree.proofs.TreeFacts.{branch_tree, in_three, inner_split, steps_down}
+use Rattle.be_tree_reading.proofs.TreeFacts.{branch_tree, in_three, inner_split, steps_down}
 
 -- one step more at the end, and one less
 pub way_push : (words : ℕ → ℕ → ℕ) (page : ℕ) (above : List Step) (last : ℕ) (step : Step) → IsWay words page above last → IsStep words last step

@@ -1,11 +1,12 @@
 -- How many pages trees have, and how many of them a write has in hand.
 use Rattle.std.specs.Prelude.{◌≡◌, ℕ, zero, suc, ◌+◌, ◌*◌, ◌^◌, ◌<◌, ◌≤◌, ◌⊎◌, List, IsTrue, Bool}
-use Rattle.std.specs.Prelude.{true, false}
+use Rattle.std.specs.Prelude.{true, false, OnErr, OnOk, Result}
 use Rattle.std.specs.List.{flat_map}
 use Rattle.be_pages.specs.declared.room.Standing.{Standing}
 use Rattle.be_pages.specs.Pages.{is_taken, times}
-use Rattle.be_tree.specs.Pair.{Pair}
-use Rattle.be_tree.specs.Tree.{pairs}
+use Rattle.be_value.specs.declared.refusals.Refusal.{Refusal}
+use Rattle.be_tree_reading.specs.Pair.{Pair}
+use Rattle.be_tree_reading.specs.Tree.{pairs}
 
 -- the pairs of several trees
 abbrev pub pairs_of_all : (words : ℕ → ℕ → ℕ) (roots : List ℕ) → List Pair
@@ -31,6 +32,15 @@ TakesAtMost most old new = (n : ℕ) → in_hand n new ≤ in_hand n old + most
 -- it has fewer than so many more
 abbrev pub TakesFewer : ℕ → (old new : ℕ → Standing) → Type 0
 TakesFewer most old new = (n : ℕ) → in_hand n new < in_hand n old + most
+
+-- a call takes up to so many, and fewer if it is refused
+abbrev pub Takes : {A : Type 0} → ℕ → Result A Refusal → (old new : ℕ → Standing) → Type 0
+Takes most result old new = OnOk result (TakesAtMost most old new)
+    × OnErr result (TakesFewer most old new)
+
+-- one change of a tree of this level takes at most so many: two a level, and three at the root
+abbrev pub most_taken : (level : ℕ) → ℕ
+most_taken level = 2 * level + 3
 
 -- the pages that it has in hand are among these
 abbrev pub HasInHand : (standing : ℕ → Standing) → List ℕ → Type 0

@@ -1,15 +1,6 @@
-pub mod Pair
-pub mod Key
-pub mod Page
-pub mod Tree
 pub mod Slot
 pub mod Writing
-pub mod Range
-pub mod Cursor
-pub mod Forest
-pub mod Words
 pub mod Splicing
 pub mod Path
 pub mod Settling
-pub mod Places
 pub mod Counting

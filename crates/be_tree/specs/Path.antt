@@ -9,13 +9,13 @@ use Rattle.be_tree.specs.declared.path.Path.{Path}
 use Rattle.be_tree.specs.declared.rising.Changed.{Changed}
 use Rattle.be_tree.specs.declared.rising.Edit.{Edit}
 use Rattle.be_tree.specs.declared.slot.Slot.{Slot}
-use Rattle.be_tree.specs.Pair.{Pair}
-use Rattle.be_tree.specs.Key.{IsBranchFor, IsGap, IsRising, StartsAt, key_cmp, put, without}
-use Rattle.be_tree.specs.Page.{item_at, item_place, items_of, level_of}
+use Rattle.be_tree_reading.specs.Pair.{Pair}
+use Rattle.be_tree_reading.specs.Key.{IsBranchFor, IsGap, IsRising, StartsAt, key_cmp, put, without}
+use Rattle.be_tree_reading.specs.Page.{item_at, item_place, items_of, level_of}
 use Rattle.be_tree.specs.Slot.{IsReady, pairs_of}
 use Rattle.be_tree.specs.Splicing.{spliced}
-use Rattle.be_tree.specs.Tree.{Becomes, BecomesTree, IsTree, IsTreeAt, child, least_of_root}
-use Rattle.be_tree.specs.Tree.{pages, pages_at, pages_below, pairs, pairs_at, pairs_below}
+use Rattle.be_tree_reading.specs.Tree.{Becomes, BecomesTree, IsTree, IsTreeAt, child, least_of_root}
+use Rattle.be_tree_reading.specs.Tree.{pages, pages_at, pages_below, pairs, pairs_at, pairs_below}
 
 -- a step of a way: one of an inner page's branches
 pub record IsStep (words : ℕ → ℕ → ℕ) (page : ℕ) (step : Step) : Type 0 where

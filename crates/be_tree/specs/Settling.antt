@@ -7,14 +7,14 @@ use Rattle.be_tree.specs.declared.settling.Settled.{Settled}
 use Rattle.be_tree.specs.declared.settling.Turn.{Turn}
 use Rattle.be_tree.specs.declared.settling.Turn.TheVariants.{Above, Whole}
 use Rattle.be_tree.specs.declared.slot.Slot.{Slot}
-use Rattle.be_tree.specs.Key.{IsRising}
-use Rattle.be_tree.specs.Page.{item_at, item_place, items_of, level_of}
-use Rattle.be_tree.specs.Pair.{Pair}
+use Rattle.be_tree_reading.specs.Key.{IsRising}
+use Rattle.be_tree_reading.specs.Page.{item_at, item_place, items_of, level_of}
+use Rattle.be_tree_reading.specs.Pair.{Pair}
 use Rattle.be_tree.specs.Path.{IsInHand, whole}
 use Rattle.be_tree.specs.Slot.{IsBranchSlot, IsReady, pairs_of}
 use Rattle.be_tree.specs.Splicing.{spliced}
-use Rattle.be_tree.specs.Tree.{Becomes, BecomesTree, IsTreeAt, child, pages, pages_below}
-use Rattle.be_tree.specs.Tree.{pairs_below}
+use Rattle.be_tree_reading.specs.Tree.{Becomes, BecomesTree, IsTreeAt, child, pages, pages_below}
+use Rattle.be_tree_reading.specs.Tree.{pairs_below}
 
 -- the pairs of an inner page, with these in the place of those below one of its items
 abbrev pub beside : (level : ℕ) (words : ℕ → ℕ → ℕ) → Step → List Pair → List Pair
@@ -88,3 +88,9 @@ IsTurned kept_of standing_of words_of root above given all (Whole new) start now
 IsTurned kept_of standing_of words_of root above given all (Above page slots) start now =
     IsAbove kept_of standing_of words_of root (take (length above - 1) above) page given slots.items
     all start now
+
+-- how many pages a node in hand takes until it is settled, at the end of so many steps: two if the
+-- page above is in hand in turn, and otherwise one more for each step
+abbrev pub taken_for : Turn → (steps : ℕ) → ℕ
+taken_for (Whole new) steps = steps + 2
+taken_for (Above page slots) steps = 2

@@ -6,8 +6,8 @@ use Rattle.be_pages.specs.declared.room.Standing.TheVariants.{Free, Filled}
 use Rattle.be_pages.specs.Pages.{is_kept, OnlyWrites, StandsAt, Swaps}
 use Rattle.be_tree.specs.declared.slot.Slot.{Slot}
 use Rattle.be_tree.specs.declared.splicing.Cut.{Cut}
-use Rattle.be_tree.specs.Pair.{Pair}
-use Rattle.be_tree.specs.Page.{IsItem, IsPage, item_at, item_place, items_of, level_of}
+use Rattle.be_tree_reading.specs.Pair.{Pair}
+use Rattle.be_tree_reading.specs.Page.{IsPage, IsPairAt, item_at, item_place, items_of, level_of}
 use Rattle.be_tree.specs.Slot.{IsOff, IsReady, pairs_of}
 
 -- a list with others in the place of a cut
@@ -16,7 +16,7 @@ spliced cut xs more = take cut.at xs ++ (more ++ drop (cut.at + cut.gone) xs)
 
 -- item number j of a page is this pair
 abbrev pub IsStored : (words : ℕ → ℕ) (j : ℕ) → Pair → Type 0
-IsStored words j pair = (item_at words (item_place j) ≡ pair) × IsItem words (item_place j)
+IsStored words j pair = IsPairAt words (item_place j) pair
 
 -- item number i of one page is item number j of another
 abbrev pub IsCopy : (from to : ℕ → ℕ) (i j : ℕ) → Type 0

@@ -7,17 +7,22 @@ use Rattle.be_pages.specs.Pages.{is_kept, times, KeepsStart}
 use Rattle.be_pages.specs.Refusal.{IsFullOf}
 use Rattle.be_value.specs.declared.refusals.Refusal.{Refusal}
 use Rattle.be_tree.specs.declared.slot.Slot.{Slot}
-use Rattle.be_tree.specs.Pair.{Pair}
+use Rattle.be_tree.specs.Counting.{Takes}
+use Rattle.be_tree_reading.specs.Pair.{Pair}
 use Rattle.be_tree.specs.Slot.{IsReady, pairs_of}
-use Rattle.be_tree.specs.Tree.{Becomes, BecomesTree, IsBelow, pages_below, pairs_below}
+use Rattle.be_tree_reading.specs.Tree.{Becomes, BecomesTree, IsBelow, pages_below, pairs_below}
 
--- what is below the node's items is well formed, and each item can be read, also the pair that
--- is put among them
+-- each of a node's items can be read, also the pair that is put among them
+abbrev pub AreReady : (standing : ℕ → Standing) (words : ℕ → ℕ → ℕ) (given : Pair) → List Slot
+    → Type 0
+AreReady standing words given slots = All (IsReady standing words) slots × (length given.key ≤ 264)
+
+-- and what is below the items is well formed
 abbrev pub IsWritable : {S : Type 0} → (S → ℕ → Standing) → (S → ℕ → ℕ → ℕ) → (now : S)
     → (level : ℕ) (given : Pair) → List Slot → Type 0
 IsWritable standing_of words_of now level given slots =
     IsBelow level (standing_of now) (words_of now) (pairs_of (words_of now) given slots)
-    × (All (IsReady (standing_of now) (words_of now)) slots × (length given.key ≤ 264))
+    × AreReady (standing_of now) (words_of now) given slots
 
 -- a page that is in use, and not below the node
 abbrev pub IsApart : {S : Type 0} → (S → ℕ → Standing) → (S → ℕ → ℕ → ℕ) → (now : S)
@@ -61,8 +66,9 @@ ReplacesTree kept_of standing_of words_of level given slots page root old new =
     (pairs_below level (words_of old) (pairs_of (words_of old) given slots)) root old new
 
 -- If a write is refused, what was there when it began is there again once it is undone, and no page
--- was left.
+-- was left. The write has at most so many pages more in hand than before, and fewer if refused.
 abbrev pub Refuses : {S K A : Type 0} → (S → K) → (S → ℕ → Standing) → (S → ℕ → ℕ → ℕ)
-    → (full : S → ℕ → Type 0) → Result A Refusal → S → S → Type 0
-Refuses kept_of standing_of words_of full result old new = OnErr result
-    (KeepsStart kept_of standing_of words_of old new) × IfErr result (IsFullOf (full new))
+    → (full : S → ℕ → Type 0) → (most : ℕ) → Result A Refusal → S → S → Type 0
+Refuses kept_of standing_of words_of full most result old new =
+    OnErr result (KeepsStart kept_of standing_of words_of old new)
+    × IfErr result (IsFullOf (full new)) × Takes most result (standing_of old) (standing_of new)

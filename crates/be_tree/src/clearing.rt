@@ -1,11 +1,11 @@
 //! A tree is given up, page by page.
 ghost use Rattle.std.specs.Prelude.{◌≡◌, [], IsTrue};
 ghost use Rattle.be_pages.specs.Pages.{Swaps};
-ghost use Rattle.be_tree.specs.Page.{items_of};
-ghost use Rattle.be_tree.specs.Tree.{IsTree, IsTreeAt, pages, pages_at, pages_below};
+ghost use Rattle.be_tree_reading.specs.Page.{items_of};
+ghost use Rattle.be_tree_reading.specs.Tree.{IsTree, IsTreeAt, pages, pages_at, pages_below};
 
-use crate::page::{HEADER_WORDS, ITEM_WORDS, child_at};
 use be_pages::Room;
+use be_tree_reading::{HEADER_WORDS, ITEM_WORDS, child_at};
 
 /// Gives up each page of a tree. A page that was there when the write began keeps its words until
 /// the write is kept, so undoing the room brings the tree back. It gives each page up once, reads

@@ -7,8 +7,8 @@ ghost use Rattle.be_pages.specs.declared.room.Standing.{Standing as Stands};
 ghost use Rattle.be_pages.specs.Pages.{Swaps};
 ghost use Rattle.be_tree.specs.Counting.{CanBeHigh, HasInHand, TakesAtMost, TakesFewer, in_hand};
 ghost use Rattle.be_tree.specs.Counting.{pairs_of_all};
-ghost use Rattle.be_tree.specs.Forest.{AreTrees, pages_of};
-ghost use Rattle.be_tree.specs.Tree.{IsTree, level_of_root, pages, pairs};
+ghost use Rattle.be_tree_reading.specs.Forest.{AreTrees, pages_of};
+ghost use Rattle.be_tree_reading.specs.Tree.{IsTree, level_of_root, pages, pairs};
 
 use be_pages::Look;
 

@@ -8,8 +8,9 @@
 ghost use Rattle.std.specs.Prelude.{◌+◌, ◌≤◌, length, IfOk, OnErr, IfErr, IsTrue};
 ghost use Rattle.be_pages.specs.Pages.{KeepsStart};
 ghost use Rattle.be_pages.specs.Refusal.{IsFullOf};
-ghost use Rattle.be_tree.specs.Key.{put};
-ghost use Rattle.be_tree.specs.Tree.{BecomesTree, IsTree, pairs, pages};
+ghost use Rattle.be_tree.specs.Counting.{Takes, most_taken};
+ghost use Rattle.be_tree_reading.specs.Key.{put};
+ghost use Rattle.be_tree_reading.specs.Tree.{BecomesTree, IsTree, level_of_root, pairs, pages};
 
 use crate::inserting::put_on;
 use crate::item::Item;
@@ -33,6 +34,8 @@ pub fn insert<R: Room>(room: &mut R, root: u64, key: &[u8], payload: &[u8]) -> R
         room.old room.new) }
     ensures err { OnErr result (KeepsStart R.kept R.standing R.words room.old room.new) }
     ensures full { IfErr result (IsFullOf (R.full room.new)) }
+    ensures takes { Takes (most_taken (level_of_root (R.words room.old) root)) result
+        (R.standing room.old) (R.standing room.new) }
 {
     let pair = Item::new(key, payload);
     if root == 0 {

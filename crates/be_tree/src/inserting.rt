@@ -1,18 +1,20 @@
 //! A pair is put where a path leads.
 ghost use Rattle.std.specs.Prelude.{◌≡◌, ◌≤◌, IsTrue, Ok, Err, length};
+ghost use Rattle.be_tree.specs.Counting.{most_taken};
 ghost use Rattle.be_tree.specs.Path.{IsPathFor, IsPathTo, PutsInto};
 ghost use Rattle.be_tree.specs.Writing.{Refuses};
 
 use crate::item::Item;
-use crate::page::{MOST_ITEMS, fill_slots};
 use crate::path::{NewRoot, Path};
 use crate::rising::{Edit, change_leaf};
 use crate::settling::settle;
 use crate::siblings::count_of;
 use crate::slot::Slot;
 use crate::splicing::Cut;
+use crate::storing::fill_slots;
 use arrayvec::ArrayVec;
 use be_pages::Room;
+use be_tree_reading::MOST_ITEMS;
 
 /// Puts a pair where a path to its key leads, and gives the new root.
 pub(crate) fn put_on<R: Room>(room: &mut R, root: u64, path: &Path, pair: &Item) -> NewRoot
@@ -20,7 +22,8 @@ pub(crate) fn put_on<R: Room>(room: &mut R, root: u64, path: &Path, pair: &Item)
     requires key_fits { length pair.now.key ≤ 264 }
     requires open { IsTrue (R.is_open (R.kept room.old)) }
     ensures ok { PutsInto R.kept R.standing R.words root pair.now result room.old room.new }
-    ensures refused { Refuses R.kept R.standing R.words R.full result room.old room.new }
+    ensures refused { Refuses R.kept R.standing R.words R.full
+        (most_taken (length path.now.above.items)) result room.old room.new }
 {
     match path.place {
         Ok(at) => put_over(room, root, path, at, pair),
@@ -33,7 +36,8 @@ fn put_over<R: Room>(room: &mut R, root: u64, path: &Path, at: usize, pair: &Ite
     requires path { IsPathFor R.standing R.words room.old root pair.now path.now (Ok at) }
     requires open { IsTrue (R.is_open (R.kept room.old)) }
     ensures ok { PutsInto R.kept R.standing R.words root pair.now result room.old room.new }
-    ensures refused { Refuses R.kept R.standing R.words R.full result room.old room.new }
+    ensures refused { Refuses R.kept R.standing R.words R.full
+        (most_taken (length path.now.above.items)) result room.old room.new }
 {
     let edit = Edit {
         cut: Cut { at, gone: 1 },
@@ -47,7 +51,8 @@ fn put_in<R: Room>(room: &mut R, root: u64, path: &Path, at: usize, pair: &Item)
     requires path { IsPathFor R.standing R.words room.old root pair.now path.now (Err at) }
     requires open { IsTrue (R.is_open (R.kept room.old)) }
     ensures ok { PutsInto R.kept R.standing R.words root pair.now result room.old room.new }
-    ensures refused { Refuses R.kept R.standing R.words R.full result room.old room.new }
+    ensures refused { Refuses R.kept R.standing R.words R.full
+        (most_taken (length path.now.above.items)) result room.old room.new }
 {
     if count_of(room, path.leaf) == MOST_ITEMS {
         return overflow(room, root, path, at, pair);
@@ -66,7 +71,8 @@ fn overflow<R: Room>(room: &mut R, root: u64, path: &Path, at: usize, pair: &Ite
     requires full { R.words room.old path.now.leaf 1 ≡ 12 }
     requires open { IsTrue (R.is_open (R.kept room.old)) }
     ensures ok { PutsInto R.kept R.standing R.words root pair.now result room.old room.new }
-    ensures refused { Refuses R.kept R.standing R.words R.full result room.old room.new }
+    ensures refused { Refuses R.kept R.standing R.words R.full
+        (most_taken (length path.now.above.items)) result room.old room.new }
 {
     let mut slots = ArrayVec::new();
     fill_slots(room, path.leaf, &mut slots);

@@ -1,6 +1,6 @@
 //! An item of a page.
 ghost use Rattle.std.specs.Prelude.{◌≡◌, ◌+◌, ◌≤◌, ◌++◌, length};
-ghost use Rattle.be_tree.specs.Tree.{child};
+ghost use Rattle.be_tree_reading.specs.Tree.{child};
 
 use arrayvec::ArrayVec;
 use std::marker::Model;
@@ -14,7 +14,7 @@ pub(crate) struct Item {
 
 impl Model for Item {
     ghost use Rattle.std.specs.Prelude.{take, drop, length, ◌≤◌};
-    ghost use Rattle.be_tree.specs.Pair.{Pair};
+    ghost use Rattle.be_tree_reading.specs.Pair.{Pair};
 
     ghost Value = { Pair };
 
@@ -73,7 +73,7 @@ impl Item {
     }
 
     /// The page that a branch names.
-    #[tactic(auto, unfolding(crate::specs::Tree::child))]
+    #[tactic(auto, unfolding(be_tree_reading::specs::Tree::child))]
     pub(crate) fn child(&self) -> u64
         requires { length self.now.payload ≡ 8 }
         ensures { result ≡ child self.now }

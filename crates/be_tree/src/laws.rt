@@ -7,8 +7,9 @@
 ghost use Rattle.std.specs.Prelude.{◌≡◌, ℕ, ◌<◌, List, ◌∷◌, ◌++◌};
 ghost use Rattle.be_pages.specs.declared.room.Standing.{Standing as Stands};
 ghost use Rattle.be_pages.specs.Pages.{after_keep, Swaps, times};
-ghost use Rattle.be_tree.specs.Forest.{AreTrees, IsUndone, IsWriteStart, KeepsTree, Replaces};
-ghost use Rattle.be_tree.specs.Tree.{IsTree, pages};
+ghost use Rattle.be_tree_reading.specs.Forest.{AreTrees, IsUndone, IsWriteStart};
+ghost use Rattle.be_tree_reading.specs.Forest.{KeepsTree, Replaces};
+ghost use Rattle.be_tree_reading.specs.Tree.{IsTree, pages};
 
 use be_pages::Look;
 

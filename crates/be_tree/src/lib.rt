@@ -29,36 +29,28 @@
 
 mod clearing;
 mod counting;
-mod cursor;
 mod edit;
 mod inserting;
 mod item;
 mod laws;
-mod lookup;
-mod numbers;
-mod page;
 mod path;
-mod payload;
 mod removal;
 mod rising;
 mod settling;
 mod siblings;
 mod slot;
 mod splicing;
+mod storing;
 mod taking;
-mod walk;
 mod writing;
 
+pub use be_tree_reading::{
+    Cursor, HEADER_WORDS, ITEM_WORDS, LENGTH_BITS, TreeItem, fill_payload, find, find_into,
+    find_place, first_of, has_key, is_key_at, is_past_at, key_at, number_at, numbers_within,
+    payload_byte_at, payload_len_at, payload_number_at, payload_number32_at, range, word_from,
+};
 pub use clearing::clear;
 pub use counting::{few_in_hand, forest_pages, swaps_take, takes_add, tree_level, tree_pages};
-pub use cursor::Cursor;
 pub use edit::insert;
 pub use laws::{tree_beside, tree_kept, tree_replaced, tree_undone};
-pub use lookup::{find, find_into, find_place, has_key, is_key_at};
-pub use numbers::{first_of, is_past_at, number_at, numbers_within};
-pub use page::{HEADER_WORDS, ITEM_WORDS, LENGTH_BITS, word_from};
-pub use payload::{
-    fill_payload, payload_byte_at, payload_len_at, payload_number_at, payload_number32_at,
-};
 pub use removal::remove;
-pub use walk::{TreeItem, key_at, range};

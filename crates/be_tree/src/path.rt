@@ -5,16 +5,15 @@
 ghost use Rattle.std.specs.Prelude.{◌≡◌, ◌<◌, [], IfOk, IfErr, IsTrue};
 ghost use Rattle.std.specs.declared.cmp.Ordering.TheVariants.{Equal};
 ghost use Rattle.be_pages.specs.Pages.{IsUnchanged, is_readable};
-ghost use Rattle.be_tree.specs.Key.{IsGap, key_cmp};
-ghost use Rattle.be_tree.specs.Page.{IsPage, item_at, item_place, items_of};
+ghost use Rattle.be_tree_reading.specs.Key.{IsGap, key_cmp};
+ghost use Rattle.be_tree_reading.specs.Page.{IsPage, item_at, item_place, items_of};
 ghost use Rattle.be_tree.specs.Path.{IsPathTo};
-ghost use Rattle.be_tree.specs.Tree.{IsTree};
-ghost use Rattle.be_tree.specs.Words.{IsFirst};
+ghost use Rattle.be_tree_reading.specs.Tree.{IsTree};
+ghost use Rattle.be_tree_reading.specs.Words.{IsFirst};
 
-use crate::lookup::{branch_in, item_number, search};
-use crate::page::{child_at, first_word};
 use arrayvec::ArrayVec;
 use be_pages::Look;
+use be_tree_reading::{branch_in, child_at, first_word, item_number, search};
 use be_value::Refusal;
 
 /// An inner page on the way down, and the number of the branch that the way takes.

@@ -11,8 +11,9 @@
 ghost use Rattle.std.specs.Prelude.{◌≡◌, IfOk, OnErr, IfErr, IsTrue, None, Ok};
 ghost use Rattle.be_pages.specs.Pages.{IsUnchanged, KeepsStart};
 ghost use Rattle.be_pages.specs.Refusal.{IsFullOf};
-ghost use Rattle.be_tree.specs.Key.{payload_at, without};
-ghost use Rattle.be_tree.specs.Tree.{BecomesTree, IsTree, pages, pairs};
+ghost use Rattle.be_tree.specs.Counting.{Takes, most_taken};
+ghost use Rattle.be_tree_reading.specs.Key.{payload_at, without};
+ghost use Rattle.be_tree_reading.specs.Tree.{BecomesTree, IsTree, level_of_root, pages, pairs};
 
 use crate::path::{Path, find_path};
 use crate::taking::take_out;
@@ -32,6 +33,8 @@ pub fn remove<R: Room>(room: &mut R, root: u64, key: &[u8]) -> Result<u64, Refus
         → IsUnchanged R.kept R.standing R.words room.old room.new }
     ensures err { OnErr result (KeepsStart R.kept R.standing R.words room.old room.new) }
     ensures full { IfErr result (IsFullOf (R.full room.new)) }
+    ensures takes { Takes (most_taken (level_of_root (R.words room.old) root)) result
+        (R.standing room.old) (R.standing room.new) }
 {
     if root == 0 {
         return Ok(root);

@@ -3,12 +3,12 @@
 //! A page that is copied has another number, so the branch to it is changed. A page of which the
 //! least key is another one is named by it above. If neither is so, the pages above stay as they
 //! are.
-ghost use Rattle.std.specs.Prelude.{◌≡◌, ◌+◌, ◌<◌, ◌⊎◌, IfOk, IsTrue, true};
-ghost use Rattle.be_tree.specs.Page.{items_of, level_of};
+ghost use Rattle.std.specs.Prelude.{◌≡◌, ◌+◌, ◌<◌, ◌⊎◌, IfOk, IsTrue, length, true};
+ghost use Rattle.be_tree_reading.specs.Page.{items_of, level_of};
 ghost use Rattle.be_tree.specs.Path.{IsChanged, IsEdit, IsWayIn, whole};
 ghost use Rattle.be_tree.specs.Slot.{pairs_of};
 ghost use Rattle.be_tree.specs.Splicing.{CanBeSpliced, spliced};
-ghost use Rattle.be_tree.specs.Tree.{BecomesTree, pages, pairs_at};
+ghost use Rattle.be_tree_reading.specs.Tree.{BecomesTree, pages, pairs_at};
 ghost use Rattle.be_tree.specs.Writing.{Refuses};
 
 use crate::item::Item;
@@ -55,7 +55,8 @@ pub(crate) fn rise<R: Room>(
         → BecomesTree R.kept R.standing R.words (pages (R.words start) root)
         (whole (R.words start) above.now (pairs_at (level_of (R.words start changed.was))
         (R.words room.old) changed.page)) new start room.new) }
-    ensures refused { Refuses R.kept R.standing R.words R.full result room.old room.new }
+    ensures refused { Refuses R.kept R.standing R.words R.full (length above.now) result
+        room.old room.new }
 {
     let none = Item::new(&[], &[]);
     let mut below = changed;
@@ -113,7 +114,8 @@ pub(crate) fn change_leaf<R: Room>(
         (whole (R.words room.old) path.now.above.items
         (spliced edit.cut (items_of (R.words room.old path.now.leaf))
         (pairs_of (R.words room.old) pair.now slots.now))) new room.old room.new) }
-    ensures refused { Refuses R.kept R.standing R.words R.full result room.old room.new }
+    ensures refused { Refuses R.kept R.standing R.words R.full
+        (length path.now.above.items + 1) result room.old room.new }
 {
     let page = splice(room, path.leaf, edit.cut, slots, pair)?;
     let changed = Changed {

@@ -9,24 +9,26 @@
 ghost use Rattle.std.specs.Prelude.{◌≡◌, ◌≤◌, ◌+◌, ◌-◌, ◌<◌, ◌⊎◌, ◌++◌, suc, take, drop};
 ghost use Rattle.std.specs.Prelude.{length, true, IfOk, IsTrue};
 ghost use Rattle.be_pages.specs.Pages.{IsUnchanged, is_readable};
-ghost use Rattle.be_tree.specs.Page.{IsPage, item_at, item_place, level_of};
+ghost use Rattle.be_tree.specs.Counting.{TakesAtMost, most_taken};
+ghost use Rattle.be_tree_reading.specs.Page.{IsPage, item_at, item_place, level_of};
 ghost use Rattle.be_tree.specs.Path.{IsInHand, whole};
-ghost use Rattle.be_tree.specs.Settling.{IsChildInHand, IsTurned, Settles};
+ghost use Rattle.be_tree.specs.Settling.{IsChildInHand, IsTurned, Settles, taken_for};
 ghost use Rattle.be_tree.specs.Slot.{loaded, pairs_of};
 ghost use Rattle.be_tree.specs.Splicing.{spliced};
-ghost use Rattle.be_tree.specs.Tree.{BecomesTree, child, pages, pairs_below};
+ghost use Rattle.be_tree_reading.specs.Tree.{BecomesTree, child, pages, pairs_below};
 ghost use Rattle.be_tree.specs.Writing.{Refuses};
 
 use crate::item::Item;
-use crate::page::{HEADER_WORDS, ITEM_WORDS, LEAST_ITEMS, MOST_ITEMS, child_at, fill_slots};
 use crate::path::Step;
 use crate::rising::{Changed, rise};
 use crate::siblings::{append, count_of};
 use crate::slot::{Node, Slot};
 use crate::splicing::{Cut, splice};
+use crate::storing::fill_slots;
 use crate::writing::{pack, pack_two, write_rest};
 use arrayvec::ArrayVec;
 use be_pages::{Look, Room};
+use be_tree_reading::{HEADER_WORDS, ITEM_WORDS, LEAST_ITEMS, MOST_ITEMS, child_at};
 use be_value::Refusal;
 
 /// What is in the place of some of a node's branches: the branches to the pages that were written.
@@ -47,7 +49,7 @@ fn settle_split<R: Room>(room: &mut R, step: Step, was: u64, node: Node<'_>) -> 
     requires open { IsTrue (R.is_open (R.kept room.old)) }
     ensures ok { Settles R.kept R.standing R.words step was node.entry.level node.entry.pair.now
         node.entry.slots.now result room.old room.new }
-    ensures refused { Refuses R.kept R.standing R.words R.full result room.old room.new }
+    ensures refused { Refuses R.kept R.standing R.words R.full 2 result room.old room.new }
 {
     let at = step.at;
     let branches = pack(room, was, node)?;
@@ -66,7 +68,7 @@ fn settle_left<R: Room>(room: &mut R, step: Step, was: u64, node: Node<'_>) -> S
     requires open { IsTrue (R.is_open (R.kept room.old)) }
     ensures ok { Settles R.kept R.standing R.words step was node.entry.level node.entry.pair.now
         node.entry.slots.now result room.old room.new }
-    ensures refused { Refuses R.kept R.standing R.words R.full result room.old room.new }
+    ensures refused { Refuses R.kept R.standing R.words R.full 2 result room.old room.new }
 {
     let at = step.at - 1;
     let left = child_at(room, step.page, HEADER_WORDS + ITEM_WORDS * at);
@@ -92,7 +94,7 @@ fn settle_right<R: Room>(room: &mut R, step: Step, was: u64, node: Node<'_>) -> 
     requires open { IsTrue (R.is_open (R.kept room.old)) }
     ensures ok { Settles R.kept R.standing R.words step was node.entry.level node.entry.pair.now
         node.entry.slots.now result room.old room.new }
-    ensures refused { Refuses R.kept R.standing R.words R.full result room.old room.new }
+    ensures refused { Refuses R.kept R.standing R.words R.full 2 result room.old room.new }
 {
     let right = child_at(room, step.page, HEADER_WORDS + ITEM_WORDS * (step.at + 1));
     let mut others = ArrayVec::new();
@@ -134,7 +136,7 @@ fn settle_child<R: Room>(room: &mut R, step: Step, was: u64, node: Node<'_>) -> 
     requires open { IsTrue (R.is_open (R.kept room.old)) }
     ensures ok { Settles R.kept R.standing R.words step was node.entry.level node.entry.pair.now
         node.entry.slots.now result room.old room.new }
-    ensures refused { Refuses R.kept R.standing R.words R.full result room.old room.new }
+    ensures refused { Refuses R.kept R.standing R.words R.full 2 result room.old room.new }
 {
     if node.slots.len() > MOST_ITEMS {
         if left_has_room(room, step, was, node) {
@@ -249,7 +251,10 @@ fn settle_once<R: Room>(
         → IsTurned R.kept R.standing R.words root above.now pair.now (whole (R.words start)
         above.now (pairs_below (level_of (R.words start was)) (R.words room.old)
         (pairs_of (R.words room.old) pair.now slots.now))) turn start room.new) }
-    ensures refused { Refuses R.kept R.standing R.words R.full result room.old room.new }
+    ensures takes { IfOk result (λ turn. TakesAtMost (taken_for turn (length above.now))
+        (R.standing room.old) (R.standing room.new)) }
+    ensures refused { Refuses R.kept R.standing R.words R.full (length above.now + 2) result
+        room.old room.new }
 {
     let level = room.word(was, 0);
     let last = above.len() - 1;
@@ -294,7 +299,8 @@ pub(crate) fn settle<R: Room>(
         (whole (R.words start) above.now (pairs_below (level_of (R.words start was))
         (R.words room.old) (pairs_of (R.words room.old) pair.now in_hand.items))) new start
         room.new) }
-    ensures refused { Refuses R.kept R.standing R.words R.full result room.old room.new }
+    ensures refused { Refuses R.kept R.standing R.words R.full
+        (most_taken (length above.now)) result room.old room.new }
 {
     let mut slots = in_hand;
     let mut was = was;

@@ -1,7 +1,7 @@
 //! Pages and lists of slots beside one another.
 ghost use Rattle.std.specs.Prelude.{◌≡◌, ◌+◌, ◌≤◌, ◌++◌, length, IsTrue};
 ghost use Rattle.be_pages.specs.Pages.{IsUnchanged, is_readable};
-ghost use Rattle.be_tree.specs.Page.{IsPage};
+ghost use Rattle.be_tree_reading.specs.Page.{IsPage};
 
 use crate::slot::Slot;
 use arrayvec::ArrayVec;

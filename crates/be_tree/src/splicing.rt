@@ -3,21 +3,23 @@
 //! A page that this write has taken is changed where it is: the items after the place are moved up
 //! or down, and the others stay. A page that was there when the write began keeps its words: its
 //! items are copied to a page that is taken for them, each to the place that it has then.
-ghost use Rattle.std.specs.Prelude.{◌≡◌, ℕ, ◌+◌, ◌<◌, ◌≤◌, All, IfOk, IsTrue, length};
-ghost use Rattle.std.specs.Prelude.{slice_index_or};
-ghost use Rattle.be_pages.specs.declared.room.Standing.TheVariants.{Filled};
-ghost use Rattle.be_pages.specs.Pages.{OnlyWrites, is_kept, is_readable};
+ghost use Rattle.std.specs.Prelude.{◌≡◌, ℕ, ◌+◌, ◌^◌, ◌<◌, ◌≤◌, All, IsTrue, length};
+ghost use Rattle.std.specs.Prelude.{IfErr, IfOk, OnErr, slice_index_or};
+ghost use Rattle.be_pages.specs.declared.room.Standing.TheVariants.{Free, Taken, Filled};
+ghost use Rattle.be_pages.specs.Pages.{OnlyWrites, StandsAt, is_kept, is_readable};
+ghost use Rattle.be_pages.specs.Refusal.{IsFullOf};
 ghost use Rattle.be_tree.specs.declared.slot.Slot.{Slot as Slots};
-ghost use Rattle.be_tree.specs.Page.{IsItem, IsPage, item_place};
+ghost use Rattle.be_tree_reading.specs.Page.{IsItem, IsPage, item_place};
 ghost use Rattle.be_tree.specs.Slot.{IsOff, IsReady, pair_of};
 ghost use Rattle.be_tree.specs.Splicing.{AreCopies, CanBeSpliced, HasGap, IsSpliced};
 ghost use Rattle.be_tree.specs.Splicing.{IsStored, IsTaken, WritesItems};
 ghost use Rattle.be_tree.specs.Writing.{Refuses};
 
 use crate::item::Item;
-use crate::page::{HEADER_WORDS, ITEM_WORDS, copy_item, store_slot};
 use crate::slot::Slot;
+use crate::storing::{copy_item, store_slot};
 use be_pages::Room;
+use be_tree_reading::{HEADER_WORDS, ITEM_WORDS};
 use be_value::Refusal;
 
 /// Copies items to lower places, or to another page, from the first one on.
@@ -97,6 +99,24 @@ fn open_here<R: Room>(room: &mut R, page: u64, cut: Cut, more: usize)
     move_items(room, page, next, cut.at + more, rest);
 }
 
+/// Takes a page for a copy of one of a level. From level 2 on a page is copied by so many writes
+/// that its earlier copy is near; below that a page that was freed last is nearer.
+fn take_copy<R: Room>(room: &mut R, page: u64, level: u64) -> Result<u64, Refusal>
+    requires open { IsTrue (R.is_open (R.kept room.old)) }
+    ensures page { IfOk result (λ copy. (copy < 2 ^ 32) × (R.standing room.old copy ≡ Free)) }
+    ensures ok { IfOk result (λ copy. StandsAt (R.standing room.old) (R.standing room.new) copy
+        Taken) }
+    ensures err { OnErr result (R.standing room.new ≡ R.standing room.old) }
+    ensures full { IfErr result (IsFullOf (R.full room.new)) }
+    ensures words { R.words room.new ≡ R.words room.old }
+    ensures kept { R.kept room.new ≡ R.kept room.old }
+{
+    if level < 2 {
+        return room.take();
+    }
+    room.take_like(page)
+}
+
 /// Copies a page to one that is taken for it, with room for `more` items in the place of a cut, and
 /// gives the copy.
 fn open_copy<R: Room>(room: &mut R, page: u64, cut: Cut, more: usize) -> Result<u64, Refusal>
@@ -108,10 +128,10 @@ fn open_copy<R: Room>(room: &mut R, page: u64, cut: Cut, more: usize) -> Result<
     ensures gap { IfOk result (λ copy. HasGap (R.words room.old page) (R.words room.new copy) cut
         more) }
     ensures taken { IfOk result (λ copy. IsTaken R.kept R.standing R.words copy room.old room.new) }
-    ensures refused { Refuses R.kept R.standing R.words R.full result room.old room.new }
+    ensures refused { Refuses R.kept R.standing R.words R.full 1 result room.old room.new }
 {
-    let copy = room.take()?;
     let level = room.word(page, 0);
+    let copy = take_copy(room, page, level)?;
     let count = room.word(page, 1) as usize;
     let next = cut.at + cut.gone;
     let rest = count - next;
@@ -161,7 +181,7 @@ pub(crate) fn splice<R: Room>(
     requires open { IsTrue (R.is_open (R.kept room.old)) }
     ensures ok { IfOk result (λ to. IsSpliced R.kept R.standing R.words page cut pair.now slots.now
         to room.old room.new) }
-    ensures refused { Refuses R.kept R.standing R.words R.full result room.old room.new }
+    ensures refused { Refuses R.kept R.standing R.words R.full 1 result room.old room.new }
 {
     if room.is_taken(page) {
         open_here(room, page, cut, slots.len());

@@ -1,17 +1,19 @@
 //! The item that a path leads to is taken out.
-ghost use Rattle.std.specs.Prelude.{◌≡◌, IsTrue, Ok};
+ghost use Rattle.std.specs.Prelude.{◌≡◌, IsTrue, Ok, length};
+ghost use Rattle.be_tree.specs.Counting.{most_taken};
 ghost use Rattle.be_tree.specs.Path.{IsPathAt, TakesOut, least_at};
 ghost use Rattle.be_tree.specs.Writing.{Refuses};
 
 use crate::item::Item;
-use crate::page::{LEAST_ITEMS, fill_slots};
 use crate::path::{NewRoot, Path, Step};
 use crate::rising::{Edit, change_leaf};
 use crate::settling::settle;
 use crate::siblings::count_of;
 use crate::splicing::Cut;
+use crate::storing::fill_slots;
 use arrayvec::ArrayVec;
 use be_pages::Room;
+use be_tree_reading::LEAST_ITEMS;
 
 /// Takes out the item that a path leads to, which has this number, and gives the new root.
 pub(crate) fn take_out<R: Room>(
@@ -24,7 +26,8 @@ pub(crate) fn take_out<R: Room>(
     requires path { IsPathAt R.standing R.words room.old root key.now path.now (Ok at) }
     requires open { IsTrue (R.is_open (R.kept room.old)) }
     ensures ok { TakesOut R.kept R.standing R.words root key.now result room.old room.new }
-    ensures refused { Refuses R.kept R.standing R.words R.full result room.old room.new }
+    ensures refused { Refuses R.kept R.standing R.words R.full
+        (most_taken (length path.now.above.items)) result room.old room.new }
 {
     if count_of(room, path.leaf) <= least_of_leaf(&path.above) {
         return underflow(room, root, key, path, at);
@@ -43,7 +46,8 @@ fn underflow<R: Room>(room: &mut R, root: u64, key: &[u8], path: &Path, at: usiz
     requires path { IsPathAt R.standing R.words room.old root key.now path.now (Ok at) }
     requires open { IsTrue (R.is_open (R.kept room.old)) }
     ensures ok { TakesOut R.kept R.standing R.words root key.now result room.old room.new }
-    ensures refused { Refuses R.kept R.standing R.words R.full result room.old room.new }
+    ensures refused { Refuses R.kept R.standing R.words R.full
+        (most_taken (length path.now.above.items)) result room.old room.new }
 {
     let none = Item::new(&[], &[]);
     let mut slots = ArrayVec::new();

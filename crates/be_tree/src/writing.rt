@@ -3,30 +3,28 @@
 //! This is what becomes of a node that has too many items or too few: its items are on one page or
 //! on two, and go to one that is taken for them, or to two. The pages where they were are given up.
 ghost use Rattle.std.specs.Prelude.{◌≡◌, ◌+◌, ◌-◌, ◌^◌, ◌<◌, ◌≤◌, [], ◌∷◌};
-ghost use Rattle.std.specs.Prelude.{length, take, All, IfOk, OnErr, IfErr};
+ghost use Rattle.std.specs.Prelude.{length, take, All, IfOk};
 ghost use Rattle.std.specs.Prelude.{IsTrue};
 ghost use Rattle.be_pages.specs.Pages.{is_kept, IsUnchanged};
-ghost use Rattle.be_pages.specs.Pages.{Swaps, KeepsStart};
-ghost use Rattle.be_pages.specs.Refusal.{IsFullOf};
+ghost use Rattle.be_pages.specs.Pages.{Swaps};
 ghost use Rattle.be_tree.specs.Slot.{IsBranchSlot, IsReady, branch_to, pair_of, pairs_of};
-ghost use Rattle.be_tree.specs.Tree.{IsBelow, IsWritten, BecomesTree, child, least_of_root};
-ghost use Rattle.be_tree.specs.Writing.{AreApart, IsApart, IsWritable, Packs, Replaces};
-ghost use Rattle.be_tree.specs.Writing.{ReplacesTree};
+ghost use Rattle.be_tree_reading.specs.Tree.{IsBelow, IsWritten, BecomesTree, child, least_of_root};
+ghost use Rattle.be_tree.specs.Writing.{AreApart, AreReady, IsApart, IsWritable, Packs, Replaces};
+ghost use Rattle.be_tree.specs.Writing.{Refuses, ReplacesTree};
 
 use crate::item::Item;
-use crate::page::{LEAST_ITEMS, MOST_ITEMS, child_at};
 use crate::slot::{Node, Slot};
 use crate::splicing::store_slots;
 use arrayvec::ArrayVec;
 use be_pages::{Look, Room};
+use be_tree_reading::{LEAST_ITEMS, MOST_ITEMS, child_at};
 use be_value::Refusal;
 
 /// Writes a node to a page of its own, and returns the page.
 fn write_node<R: Room>(room: &mut R, node: Node<'_>) -> Result<u64, Refusal>
-    requires some { 0 < length node.slots.now }
-    requires few { length node.slots.now ≤ 12 }
-    requires ready { All (IsReady (R.standing room.old) (R.words room.old)) node.slots.now }
-    requires key_fits { length node.pair.now.key ≤ 264 }
+    requires size { (0 < length node.slots.now) × (length node.slots.now ≤ 12) }
+    requires ready { AreReady (R.standing room.old) (R.words room.old) node.pair.now
+        node.slots.now }
     requires open { IsTrue (R.is_open (R.kept room.old)) }
     ensures ok { IfOk result (λ page. IsWritten node.entry.level (R.words room.new)
         (pairs_of (R.words room.old) node.entry.pair.now node.entry.slots.now)
@@ -34,8 +32,7 @@ fn write_node<R: Room>(room: &mut R, node: Node<'_>) -> Result<u64, Refusal>
     ensures swaps { IfOk result (λ page. Swaps R.kept R.standing R.words [] (page ∷ []) room.old
         room.new) }
     ensures small { IfOk result (λ page. page < 2 ^ 32) }
-    ensures err { OnErr result (KeepsStart R.kept R.standing R.words room.old room.new) }
-    ensures full { IfErr result (IsFullOf (R.full room.new)) }
+    ensures refused { Refuses R.kept R.standing R.words R.full 1 result room.old room.new }
 {
     let page = room.take()?;
     room.fill(page, 0, node.level);
@@ -46,11 +43,10 @@ fn write_node<R: Room>(room: &mut R, node: Node<'_>) -> Result<u64, Refusal>
 
 /// Writes a node that is changed to a page of its own, and gives the old one up. Gives the page.
 fn write_changed<R: Room>(room: &mut R, old: u64, node: Node<'_>) -> Result<u64, Refusal>
-    requires some { 0 < length node.slots.now }
-    requires few { length node.slots.now ≤ 12 }
-    requires ready { All (IsReady (R.standing room.old) (R.words room.old)) node.slots.now }
+    requires size { (0 < length node.slots.now) × (length node.slots.now ≤ 12) }
+    requires ready { AreReady (R.standing room.old) (R.words room.old) node.pair.now
+        node.slots.now }
     requires kept { IsTrue (is_kept (R.standing room.old old)) }
-    requires key_fits { length node.pair.now.key ≤ 264 }
     requires open { IsTrue (R.is_open (R.kept room.old)) }
     ensures ok { IfOk result (λ page. IsWritten node.entry.level (R.words room.new)
         (pairs_of (R.words room.old) node.entry.pair.now node.entry.slots.now)
@@ -58,8 +54,7 @@ fn write_changed<R: Room>(room: &mut R, old: u64, node: Node<'_>) -> Result<u64,
     ensures swaps { IfOk result (λ page. Swaps R.kept R.standing R.words (old ∷ []) (page ∷ [])
         room.old room.new) }
     ensures small { IfOk result (λ page. page < 2 ^ 32) }
-    ensures err { OnErr result (KeepsStart R.kept R.standing R.words room.old room.new) }
-    ensures full { IfErr result (IsFullOf (R.full room.new)) }
+    ensures refused { Refuses R.kept R.standing R.words R.full 1 result room.old room.new }
 {
     let page = write_node(room, node)?;
     room.give_up(old);
@@ -76,8 +71,7 @@ pub(crate) fn write_branch<R: Room>(room: &mut R, old: u64, node: Node<'_>) -> R
         node.entry.pair.now node.entry.slots.now (old ∷ [])
         (branch_to (R.words room.new) page ∷ []) room.old room.new) }
     ensures small { IfOk result (λ page. page < 2 ^ 32) }
-    ensures err { OnErr result (KeepsStart R.kept R.standing R.words room.old room.new) }
-    ensures full { IfErr result (IsFullOf (R.full room.new)) }
+    ensures refused { Refuses R.kept R.standing R.words R.full 1 result room.old room.new }
 {
     let page = write_changed(room, old, node)?;
     Ok(page)
@@ -101,8 +95,7 @@ fn write_parts<R: Room>(
         (branch_to (R.words room.new) both.0 ∷ branch_to (R.words room.new) both.1 ∷ []) room.old
         room.new) }
     ensures small { IfOk result (λ both. (both.0 < 2 ^ 32) × (both.1 < 2 ^ 32)) }
-    ensures err { OnErr result (KeepsStart R.kept R.standing R.words room.old room.new) }
-    ensures full { IfErr result (IsFullOf (R.full room.new)) }
+    ensures refused { Refuses R.kept R.standing R.words R.full 2 result room.old room.new }
 {
     let Node { level, slots, pair } = node;
     let (front, back) = slots.split_at(cut);
@@ -143,8 +136,7 @@ pub(crate) fn pack<R: Room>(
     ensures branches { IfOk result (λ branches. All IsBranchSlot branches.items) }
     ensures some { IfOk result (λ branches. (0 < length branches.items)
         × (length branches.items ≤ 2)) }
-    ensures err { OnErr result (KeepsStart R.kept R.standing R.words room.old room.new) }
-    ensures full { IfErr result (IsFullOf (R.full room.new)) }
+    ensures refused { Refuses R.kept R.standing R.words R.full 2 result room.old room.new }
 {
     let mut branches = ArrayVec::new();
     if node.slots.len() <= MOST_ITEMS {
@@ -175,8 +167,7 @@ pub(crate) fn pack_two<R: Room>(
     ensures branches { IfOk result (λ branches. All IsBranchSlot branches.items) }
     ensures some { IfOk result (λ branches. (0 < length branches.items)
         × (length branches.items ≤ 2)) }
-    ensures err { OnErr result (KeepsStart R.kept R.standing R.words room.old room.new) }
-    ensures full { IfErr result (IsFullOf (R.full room.new)) }
+    ensures refused { Refuses R.kept R.standing R.words R.full 2 result room.old room.new }
 {
     let branches = pack(room, left, node)?;
     room.give_up(right);
@@ -198,8 +189,7 @@ pub(crate) fn write_first_root<R: Room>(
     requires open { IsTrue (R.is_open (R.kept room.old)) }
     ensures ok { IfOk result (λ root. BecomesTree R.kept R.standing R.words []
         (pairs_of (R.words room.old) pair.now slots.now) root room.old room.new) }
-    ensures err { OnErr result (KeepsStart R.kept R.standing R.words room.old room.new) }
-    ensures full { IfErr result (IsFullOf (R.full room.new)) }
+    ensures refused { Refuses R.kept R.standing R.words R.full 1 result room.old room.new }
 {
     let node = Node {
         level: 0,
@@ -220,8 +210,7 @@ pub(crate) fn write_root<R: Room>(room: &mut R, old: u64, node: Node<'_>) -> Res
     requires open { IsTrue (R.is_open (R.kept room.old)) }
     ensures ok { IfOk result (λ root. ReplacesTree R.kept R.standing R.words node.entry.level
         node.entry.pair.now node.entry.slots.now old root room.old room.new) }
-    ensures err { OnErr result (KeepsStart R.kept R.standing R.words room.old room.new) }
-    ensures full { IfErr result (IsFullOf (R.full room.new)) }
+    ensures refused { Refuses R.kept R.standing R.words R.full 3 result room.old room.new }
 {
     if node.slots.len() <= MOST_ITEMS {
         let top = write_changed(room, old, node)?;
@@ -248,8 +237,7 @@ pub(crate) fn write_rest<R: Room>(room: &mut R, old: u64, node: Node<'_>) -> Res
     requires open { IsTrue (R.is_open (R.kept room.old)) }
     ensures ok { IfOk result (λ root. ReplacesTree R.kept R.standing R.words node.entry.level
         node.entry.pair.now node.entry.slots.now old root room.old room.new) }
-    ensures err { OnErr result (KeepsStart R.kept R.standing R.words room.old room.new) }
-    ensures full { IfErr result (IsFullOf (R.full room.new)) }
+    ensures refused { Refuses R.kept R.standing R.words R.full 3 result room.old room.new }
 {
     let Node { level, slots, pair } = node;
     if slots.len() == 0 {

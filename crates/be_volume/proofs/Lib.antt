@@ -1,4 +1,5 @@
 pub mod FactLemmas
+pub mod ItemLemmas
 pub mod KeyLemmas
 pub mod MapLemmas
 pub mod RefusalLemmas

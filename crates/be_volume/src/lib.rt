@@ -19,7 +19,7 @@ mod volumes;
 
 pub use ahead::{MAX_ATTRIBUTES, MAX_INDICES, first_refusal};
 pub use facts::Facts;
-pub use laws::sound_steps;
+pub use laws::{sound_steps, stays_within, step_items};
 pub use ops::{Done, Op};
 pub use queries::{holds, is_true_of, literal_number};
 pub use volumes::Volume;

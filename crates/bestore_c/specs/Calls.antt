@@ -4,9 +4,9 @@ use Rattle.std.specs.Prelude.{slice_get, Option, None, Some, Ok, Err}
 use Rattle.std.specs.declared.result.Result.{Result}
 use Rattle.be_journal.specs.declared.entries.Entry.{Entry}
 use Rattle.be_journal.specs.Journal.{IsLegal}
-use Rattle.be_paged.specs.Cells.{TellsColumns, name_in}
-use Rattle.be_paged.specs.declared.cells.Cell.{Cell}
-use Rattle.be_paged.specs.declared.cells.HeldName.{HeldName}
+use Rattle.be_paged_reading.specs.Cells.{TellsColumns, name_in}
+use Rattle.be_paged_reading.specs.declared.cells.Cell.{Cell}
+use Rattle.be_paged_reading.specs.declared.cells.HeldName.{HeldName}
 use Rattle.be_query.specs.Grammar.{Formula, IsTextOf}
 use Rattle.be_query.specs.Printing.{or_text}
 use Rattle.be_session.specs.Fault.{fault_carried, fault_code}

@@ -6,8 +6,8 @@
 #![tactic(auto)]
 
 ghost use Rattle.std.specs.Prelude.{◌≡◌, ◌⊎◌, ◌+◌, None, Ok, length, map};
-ghost use Rattle.be_paged.specs.Cells.{name_in};
-ghost use Rattle.be_paged.specs.Nodes.{nodes_from};
+ghost use Rattle.be_paged_reading.specs.Cells.{name_in};
+ghost use Rattle.be_paged_reading.specs.Nodes.{nodes_from};
 ghost use Rattle.be_query.specs.Grammar.{IsTextOf};
 ghost use Rattle.be_session.specs.Items.{IsBuilt, IsUnbuilt};
 ghost use Rattle.be_session.specs.Operations.{makes, sets};

@@ -70,7 +70,7 @@ impl Owned {
         }
     }
 
-    /// Owns this session, whose box becomes a pointer.
+    /// Owns this `Session`, whose box becomes a pointer.
     pub fn of(session: Box<Session, Global>) -> Owned
         ensures { result.value ≡ Some session.value }
     {

@@ -3,7 +3,7 @@
 //! The bytes of a value go from its page to the caller's places. The pin is tested first, so that
 //! only the store's own answer is left to be joined with it.
 ghost use Rattle.std.specs.Prelude.{◌≡◌, ◌⊎◌};
-ghost use Rattle.be_paged.specs.Cells.{name_in};
+ghost use Rattle.be_paged_reading.specs.Cells.{name_in};
 ghost use Rattle.be_store.specs.Passes.{HasRead, volume_pinned};
 ghost use Rattle.be_table.specs.Seats.{pinned_number};
 ghost use Rattle.be_volume.specs.Reading.{attribute};

@@ -3,7 +3,7 @@
 ghost use Rattle.std.specs.Prelude.{◌≡◌, ℕ, IfOk, IsTrue, OnOk};
 ghost use Rattle.be_pages.specs.declared.room.Standing.TheVariants.{Free};
 ghost use Rattle.be_pages.specs.Pages.{IsUnchanged};
-ghost use Rattle.be_tree.specs.Tree.{IsTree};
+ghost use Rattle.be_tree_reading.specs.Tree.{IsTree};
 
 use be_pages::{Look, Room, VecRoom};
 use be_test_tools::Counted;

@@ -1,7 +1,7 @@
 //! How many words a write stores, by a room that counts them.
 ghost use Rattle.std.specs.Prelude.{◌≡◌, ℕ, ◌<◌, IfOk, IsTrue, OnOk};
 ghost use Rattle.be_pages.specs.declared.room.Standing.TheVariants.{Free};
-ghost use Rattle.be_tree.specs.Tree.{IsTree};
+ghost use Rattle.be_tree_reading.specs.Tree.{IsTree};
 
 use super::counting_look::room_of;
 use super::lines::{first_number, replies};

@@ -3,8 +3,8 @@
 ghost use Rattle.std.specs.Prelude.{◌≡◌, ◌<◌, ◌≤◌, IfOk, OnErr};
 ghost use Rattle.be_pages.specs.declared.room.Standing.TheVariants.{Free};
 ghost use Rattle.be_pages.specs.Pages.{IsUnchanged};
-ghost use Rattle.be_tree.specs.Forest.{IsWriteStart};
-ghost use Rattle.be_tree.specs.Tree.{IsTree};
+ghost use Rattle.be_tree_reading.specs.Forest.{IsWriteStart};
+ghost use Rattle.be_tree_reading.specs.Tree.{IsTree};
 
 use super::counting_look::{finds, ranges, room_of};
 use super::lines::{first_number, replies};

@@ -1,5 +1,5 @@
 //! The words of a page, by an example from outside.
-ghost use Rattle.be_tree.specs.Tree.{IsTree};
+ghost use Rattle.be_tree_reading.specs.Tree.{IsTree};
 
 use super::counting_look::room_of;
 use be_pages::Look;

@@ -5,17 +5,17 @@ use Rattle.std.proofs.lemmas.Bool.{cases_eq}
 use Rattle.be_pages.specs.declared.room.Standing.{Standing}
 use Rattle.be_pages.specs.declared.room.Standing.TheVariants.{Free, Filled}
 use Rattle.be_pages.specs.Pages.{is_kept, times, Swaps}
-use Rattle.be_tree.proofs.Frame.{times-cons, times_itself, times_other, same_page, swaps_trans, swaps_frame, swaps_fresh, swaps_stands, readable_kept}
-use Rattle.be_tree.proofs.Trees.{AreBeside, trees_beside, trees_in_use}
-use Rattle.be_tree.specs.Forest.{pages_of}
+use Rattle.be_tree_reading.proofs.Frame.{times-cons, times_itself, times_other, same_page, swaps_trans, swaps_frame, swaps_fresh, swaps_stands, readable_kept}
+use Rattle.be_tree_reading.proofs.Trees.{AreBeside, trees_beside, trees_in_use}
+use Rattle.be_tree_reading.specs.Forest.{pages_of}
 use Rattle.be_volume.specs.Sound.{IsSound}
 use Rattle.be_volume.specs.Volume.{State, steps}
 use Rattle.be_volume.specs.declared.ops.Done.{Done}
 use Rattle.be_volume.specs.declared.ops.Op.{Op}
-use Rattle.be_paged.specs.Catalog.{IsCatalog}
+use Rattle.be_paged_reading.specs.Catalog.{IsCatalog}
 use Rattle.be_paged.specs.Changes.{Changes, Applies, SetsWhatStands}
-use Rattle.be_paged.specs.Page.{Contents, contents_of, IsVersionPage, roots, reach}
-use Rattle.be_paged.specs.Version.{IsInHand, IsVersion, Spells}
+use Rattle.be_paged_reading.specs.Page.{Contents, contents_of, IsVersionPage, roots, reach}
+use Rattle.be_paged_reading.specs.Version.{IsInHand, IsVersion, Spells}
 use Rattle.be_paged.proofs.Applying.Hand.{entries_same}
 
 free_unused : (s : Standing) → s ≡ Free → IsTrue (is_kept s) → ⊥

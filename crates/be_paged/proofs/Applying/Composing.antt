@@ -3,12 +3,12 @@ use Rattle.std.proofs.Common.{◌≡◌, ℕ, zero, suc, ◌<◌, List, IsTrue, 
 use Rattle.be_pages.specs.declared.room.Standing.{Standing}
 use Rattle.be_pages.specs.declared.room.Standing.TheVariants.{Free, Old, GivenUp, Taken, Filled}
 use Rattle.be_pages.specs.Pages.{is_kept, times, PageStep, untouched, stays_old, stays_new, Swaps, KeepsStart, IsUnchanged}
-use Rattle.be_tree.specs.Tree.{IsTree, pairs, pages, BecomesTree}
-use Rattle.be_tree.specs.Forest.{pages_of}
-use Rattle.be_tree.proofs.Frame.{swaps_trans, swaps_since, swaps_start, start_trans, unchanged_start}
-use Rattle.be_tree.proofs.Trees.{root_in_use, trees_in_use}
-use Rattle.be_paged.specs.Page.{Contents, roots}
-use Rattle.be_paged.specs.Version.{IsInHand}
+use Rattle.be_tree_reading.specs.Tree.{IsTree, pairs, pages, BecomesTree}
+use Rattle.be_tree_reading.specs.Forest.{pages_of}
+use Rattle.be_tree_reading.proofs.Frame.{swaps_trans, swaps_since, swaps_start, start_trans, unchanged_start}
+use Rattle.be_tree_reading.proofs.Trees.{root_in_use, trees_in_use}
+use Rattle.be_paged_reading.specs.Page.{Contents, roots}
+use Rattle.be_paged_reading.specs.Version.{IsInHand}
 use Rattle.be_paged.specs.Changes.{Changes}
 
 never : {A : Type 0} → false ≡ true → A

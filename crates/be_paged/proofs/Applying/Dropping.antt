@@ -18,10 +18,10 @@ use Rattle.be_volume.specs.declared.ops.Op.TheVariants.{Unset}
 use Rattle.be_volume.proofs.MapLemmas.{names_total, exact_names}
 use Rattle.be_volume.proofs.StepLemmas.{made}
 use Rattle.be_volume.proofs.Soundness.{step_sound}
-use Rattle.be_paged.specs.Catalog.{value_at}
+use Rattle.be_paged_reading.specs.Catalog.{value_at}
 use Rattle.be_paged.specs.Changes.{Leaves}
-use Rattle.be_paged.proofs.CatalogPairs.Items.{get_here, get_other, gone_here, gone_other, keys_tell}
-use Rattle.be_paged.proofs.CatalogPairs.Segments.{value_there}
+use Rattle.be_paged_reading.proofs.CatalogPairs.Items.{get_here, get_other, gone_here, gone_other, keys_tell}
+use Rattle.be_paged_reading.proofs.CatalogPairs.Segments.{value_there}
 use Rattle.be_paged.proofs.Applying.Stepping.{stepped_found}
 
 pub leaves_first : (volume : State) (node : ℕ) → IsSound volume → fin.contains_key volume.nodes node ≡ true → Leaves volume volume node

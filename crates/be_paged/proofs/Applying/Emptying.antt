@@ -18,11 +18,11 @@ use Rattle.be_volume.specs.declared.ops.Op.TheVariants.{Unset}
 use Rattle.be_volume.proofs.MapLemmas.{names_total}
 use Rattle.be_volume.proofs.StepLemmas.{made}
 use Rattle.be_paged.specs.Changes.{Leaves, Steps, IsThinned}
-use Rattle.be_paged.specs.Page.{Contents}
-use Rattle.be_paged.specs.Reading.{AreValid}
-use Rattle.be_paged.specs.Version.{Spells}
+use Rattle.be_paged_reading.specs.Page.{Contents}
+use Rattle.be_paged_reading.specs.Reading.{AreValid}
+use Rattle.be_paged_reading.specs.Version.{Spells}
 use Rattle.be_paged.proofs.Applying.Dropping.{leaves_more, less_to_count}
-use Rattle.be_paged.proofs.CatalogPairs.Segments.{value_there}
+use Rattle.be_paged_reading.proofs.CatalogPairs.Segments.{value_there}
 use Rattle.be_paged.proofs.Applying.Stepping.{stepped_found}
 
 abbrev name_of : List ℕ × Value → List ℕ

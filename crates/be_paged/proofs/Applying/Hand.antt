@@ -9,19 +9,19 @@ use Rattle.std.specs.FinMap as fin
 use Rattle.std.specs.FinMap.Entries.{put, by_order}
 use Rattle.be_pages.specs.declared.room.Standing.{Standing}
 use Rattle.be_pages.specs.Pages.{Swaps}
-use Rattle.be_tree.specs.Tree.{IsTree, pairs, pages}
-use Rattle.be_tree.specs.Forest.{pages_of, AreTrees, Replaces}
-use Rattle.be_tree.proofs.TreeFacts.{in_three}
-use Rattle.be_tree.proofs.Trees.{all_cons, replaces}
+use Rattle.be_tree_reading.specs.Tree.{IsTree, pairs, pages}
+use Rattle.be_tree_reading.specs.Forest.{pages_of, AreTrees, Replaces}
+use Rattle.be_tree_reading.proofs.TreeFacts.{in_three}
+use Rattle.be_tree_reading.proofs.Trees.{all_cons, replaces}
 use Rattle.be_volume.specs.Maps.{name_cmp, Nodes}
 use Rattle.be_volume.specs.Sound.{IsName}
 use Rattle.be_volume.specs.Volume.{State}
 use Rattle.be_volume.specs.declared.maps.Index.{Index}
 use Rattle.be_volume.proofs.MapLemmas.{names_total}
-use Rattle.be_paged.specs.Entry.{Entry}
-use Rattle.be_paged.specs.Page.{Contents, IsNamedAt}
-use Rattle.be_paged.specs.Catalog.{IsCatalog, IsIndexOf}
-use Rattle.be_paged.specs.Version.{IsEntryOf, AreEntriesOf, Spells, IsInHand}
+use Rattle.be_paged_reading.specs.Entry.{Entry}
+use Rattle.be_paged_reading.specs.Page.{Contents, IsNamedAt}
+use Rattle.be_paged_reading.specs.Catalog.{IsCatalog, IsIndexOf}
+use Rattle.be_paged_reading.specs.Version.{IsEntryOf, AreEntriesOf, Spells, IsInHand}
 use Rattle.be_paged.specs.Changes.{Changes}
 
 abbrev root_of : Entry → ℕ
@@ -51,10 +51,10 @@ replaced_len [] i e lt = absurd (omega (arith, lt))
 replaced_len (x ∷ es) zero e lt = refl
 replaced_len (x ∷ es) (suc i) e lt = ap suc (replaced_len es i e (omega (arith, lt)))
 
-roots_split : (es : List Entry) (i : ℕ) (d : Entry) → i < length es → map (λ e. e.root) es ≡ map (λ e. e.root) (take i es) ++ (get_or es i d).root ∷ map (λ e. e.root) (drop (suc i) es)
+pub roots_split : (es : List Entry) (i : ℕ) (d : Entry) → i < length es → map (λ e. e.root) es ≡ map (λ e. e.root) (take i es) ++ (get_or es i d).root ∷ map (λ e. e.root) (drop (suc i) es)
 roots_split es i d lt = ap (map root_of) (in_three es i d lt) ∙ map-append root_of (take i es) (get_or es i d ∷ drop (suc i) es)
 
-roots_replaced : (es : List Entry) (i : ℕ) (e : Entry) → map (λ e. e.root) (replaced es i e) ≡ map (λ e. e.root) (take i es) ++ e.root ∷ map (λ e. e.root) (drop (suc i) es)
+pub roots_replaced : (es : List Entry) (i : ℕ) (e : Entry) → map (λ e. e.root) (replaced es i e) ≡ map (λ e. e.root) (take i es) ++ e.root ∷ map (λ e. e.root) (drop (suc i) es)
 roots_replaced es i e = map-append root_of (take i es) (e ∷ drop (suc i) es)
 
 flip : (a b : List ℕ) (r : Ordering) → name_cmp a b ≡ r → name_cmp b a ≡ ordering_reverse r
@@ -80,7 +80,7 @@ named_put v w (e ∷ es) (x ∷ is) name index new (suc i) h at front back here 
 module _ {S K : Type 0} (kept_of : S → K) (standing_of : S → ℕ → Standing) (words_of : S → ℕ → ℕ → ℕ) (old new : S) (c : Contents) (h : IsInHand (standing_of old) (words_of old) c) where
   -- the catalog's tree
   module _ (root : ℕ) (tree : IsTree (standing_of new) (words_of new) root) (swaps : Swaps kept_of standing_of words_of (pages (words_of old) c.catalog) (pages (words_of new) root) old new) where
-    catalog_replaces : Replaces kept_of standing_of words_of [] (map (λ e. e.root) c.entries) c.catalog root old new
+    pub catalog_replaces : Replaces kept_of standing_of words_of [] (map (λ e. e.root) c.entries) c.catalog root old new
     catalog_replaces = replaces kept_of standing_of words_of old new [] (map (λ e. e.root) c.entries) c.catalog root h.trees tree swaps
 
     pub catalog_changes : (next : ℕ) → next < 2 ^ 64 → Changes kept_of standing_of words_of c (record { next = next; catalog = root; entries = c.entries }) old new
@@ -103,7 +103,7 @@ module _ {S K : Type 0} (kept_of : S → K) (standing_of : S → ℕ → Standin
     back : List ℕ
     back = map (λ e. e.root) (drop (suc i) c.entries)
 
-    entry_replaces : Replaces kept_of standing_of words_of (c.catalog ∷ map (λ e. e.root) (take i c.entries)) (map (λ e. e.root) (drop (suc i) c.entries)) (get_or c.entries i d).root e.root old new
+    pub entry_replaces : Replaces kept_of standing_of words_of (c.catalog ∷ map (λ e. e.root) (take i c.entries)) (map (λ e. e.root) (drop (suc i) c.entries)) (get_or c.entries i d).root e.root old new
     entry_replaces = replaces kept_of standing_of words_of old new (c.catalog ∷ map (λ e. e.root) (take i c.entries)) (map (λ e. e.root) (drop (suc i) c.entries)) (get_or c.entries i d).root e.root
         (subst (λ rs. AreTrees (standing_of old) (words_of old) (c.catalog ∷ rs)) (roots_split c.entries i d lt) h.trees) tree swaps
 

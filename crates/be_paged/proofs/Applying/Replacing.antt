@@ -6,7 +6,7 @@ use Rattle.std.proofs.lemmas.Bool.Decides.{nat_tests}
 use Rattle.be_pages.specs.declared.room.Standing.{Standing}
 use Rattle.be_pages.specs.declared.room.Standing.TheVariants.{Free, Old, GivenUp, Taken, Filled}
 use Rattle.be_pages.specs.Pages.{is_kept, after_give_up, times, StandsAt, PageStep, untouched, given_old, given_new, Swaps}
-use Rattle.be_tree.proofs.Frame.{times_itself, times_other}
+use Rattle.be_tree_reading.proofs.Frame.{times_itself, times_other}
 
 give_step : (P : Type 0) (s : Standing) → P → IsTrue (is_kept s) → PageStep P 1 0 s (after_give_up s)
 give_step P Free p used = absurd (false≢true used)

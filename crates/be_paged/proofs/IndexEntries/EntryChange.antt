@@ -4,18 +4,18 @@ use Rattle.std.specs.declared.option.Option.{Option}
 use Rattle.std.specs.FinMap as fin
 use Rattle.be_value.specs.Value.{kind_of}
 use Rattle.be_value.specs.declared.values.Value.{Value}
-use Rattle.be_tree.specs.Tree.{pairs}
+use Rattle.be_tree_reading.specs.Tree.{pairs}
 use Rattle.be_volume.specs.Indices.{Indices, paired_at, unpaired_at, same_kind}
 use Rattle.be_volume.specs.Reading.{attribute}
 use Rattle.be_volume.specs.Sound.{IsSound}
 use Rattle.be_volume.specs.Volume.{State}
 use Rattle.be_volume.specs.declared.maps.Index.{Index}
-use Rattle.be_paged.specs.Entry.{Entry}
-use Rattle.be_paged.specs.Page.{Contents, IsNamedAt, IsGapAt}
-use Rattle.be_paged.specs.Catalog.{IsIndexOf}
+use Rattle.be_paged_reading.specs.Entry.{Entry}
+use Rattle.be_paged_reading.specs.Page.{Contents, IsNamedAt, IsGapAt}
+use Rattle.be_paged_reading.specs.Catalog.{IsIndexOf}
 use Rattle.be_paged.specs.Changes.{IsReady, repaired, with_change, with_indices}
-use Rattle.be_paged.specs.Version.{Spells}
-use Rattle.be_paged.proofs.IndexEntries.Indexing.{Found, named_found, gap_none}
+use Rattle.be_paged_reading.specs.Version.{Spells}
+use Rattle.be_paged_reading.proofs.IndexEntries.Indexing.{Found, named_found, gap_none}
 use Rattle.be_paged.proofs.IndexEntries.Repairs.{ready_index}
 
 change_none : (indices : Indices) (name : List ℕ) (node : ℕ) (value : Option Value) → fin.get indices name ≡ None → with_change indices name node value ≡ indices

@@ -11,9 +11,9 @@ use Rattle.std.specs.FinMap.{is_sorted, get-empty}
 use Rattle.std.specs.FinMap.Entries.{below_all, find, where_key, is_sorted-where_key, find-where_key}
 use Rattle.be_pages.specs.declared.room.Standing.{Standing}
 use Rattle.be_pages.specs.Pages.{times, Swaps}
-use Rattle.be_tree.specs.Tree.{IsTree, pages, pairs}
-use Rattle.be_tree.specs.Forest.{pages_of}
-use Rattle.be_tree.proofs.Trees.{all_cons}
+use Rattle.be_tree_reading.specs.Tree.{IsTree, pages, pairs}
+use Rattle.be_tree_reading.specs.Forest.{pages_of}
+use Rattle.be_tree_reading.proofs.Trees.{all_cons}
 use Rattle.be_value.specs.declared.values.Kind.{Kind}
 use Rattle.be_value.specs.declared.values.Value.{Value}
 use Rattle.be_volume.specs.Indices.{Indices}
@@ -25,15 +25,15 @@ use Rattle.be_volume.specs.declared.ops.Op.TheVariants.{MkIndex, RmIndex}
 use Rattle.be_volume.proofs.StepLemmas.{made, accepted}
 use Rattle.be_volume.specs.declared.maps.Index.{Index}
 use Rattle.be_volume.proofs.MapLemmas.{names_total, exact_names}
-use Rattle.be_paged.specs.Entry.{Entry}
-use Rattle.be_paged.specs.Page.{Contents, IsNamedAt, IsGapAt, roots}
-use Rattle.be_paged.specs.Catalog.{IsPairOf}
-use Rattle.be_paged.specs.Version.{IsEntryOf, AreEntriesOf, IsInHand, Spells}
+use Rattle.be_paged_reading.specs.Entry.{Entry}
+use Rattle.be_paged_reading.specs.Page.{Contents, IsNamedAt, IsGapAt, roots}
+use Rattle.be_paged_reading.specs.Catalog.{IsPairOf}
+use Rattle.be_paged_reading.specs.Version.{IsEntryOf, AreEntriesOf, IsInHand, Spells}
 use Rattle.be_paged.specs.Changes.{Changes, Steps}
 use Rattle.be_paged.proofs.Applying.Composing.{swaps_none}
 use Rattle.be_paged.proofs.Applying.Stepping.{stepped_is}
-use Rattle.be_paged.proofs.IndexEntries.Indexing.{entries_len, named_found, gap_none, gap_entries, inserted_pages, inserted_all, inserted_roots}
-use Rattle.be_tree.proofs.Trees.{trees_in_use}
+use Rattle.be_paged_reading.proofs.IndexEntries.Indexing.{entries_len, named_found, gap_none, gap_entries, inserted_pages, inserted_all, inserted_roots}
+use Rattle.be_tree_reading.proofs.Trees.{trees_in_use}
 
 abbrev pub new_index : Kind → Index
 new_index kind = record { kind = kind; pairs = fin.empty }

@@ -9,17 +9,17 @@ use Rattle.be_value.specs.declared.values.Kind.{Kind}
 use Rattle.be_value.specs.declared.values.Kind.TheVariants as kinds
 use Rattle.be_value.specs.declared.values.Value.{Value}
 use Rattle.be_value.proofs.KeyPairs.{one_pair_of}
-use Rattle.be_tree.specs.Pair.{Pair}
-use Rattle.be_tree.specs.Key.{payload_at, put}
+use Rattle.be_tree_reading.specs.Pair.{Pair}
+use Rattle.be_tree_reading.specs.Key.{payload_at, put}
 use Rattle.be_volume.specs.Indices.{paired, unpaired, same_kind}
 use Rattle.be_volume.specs.Sound.{IsSound}
 use Rattle.be_volume.specs.Reading.{attribute}
 use Rattle.be_volume.specs.Volume.{State}
 use Rattle.be_volume.specs.declared.maps.Index.{Index}
-use Rattle.be_paged.specs.Catalog.{IsPairOf, IsIndexOf}
+use Rattle.be_paged_reading.specs.Catalog.{IsPairOf, IsIndexOf}
 use Rattle.be_paged.specs.Changes.{IsReady, repaired, key_taken, key_put}
-use Rattle.be_paged.proofs.CatalogPairs.Finding.{found_pair}
-use Rattle.be_paged.proofs.IndexEntries.IndexKeys.{index_without, index_bare, index_with, index_still}
+use Rattle.be_paged_reading.proofs.CatalogPairs.Finding.{found_pair}
+use Rattle.be_paged_reading.proofs.IndexEntries.IndexKeys.{index_without, index_bare, index_with, index_still}
 
 pub kinds_agree : (a b : Kind) → a ≡ b → same_kind a b ≡ true
 kinds_agree a b e = ap (same_kind a) (sym e) ∙ itself a

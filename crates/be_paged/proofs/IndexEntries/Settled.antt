@@ -14,9 +14,9 @@ use Rattle.be_value.specs.Value.{kind_of, is_indexable}
 use Rattle.be_value.specs.declared.refusals.Refusal.{Refusal}
 use Rattle.be_value.specs.declared.values.Kind.{Kind}
 use Rattle.be_value.specs.declared.values.Value.{Value}
-use Rattle.be_tree.specs.Key.{payload_at}
-use Rattle.be_tree.specs.Pair.{Pair}
-use Rattle.be_tree.proofs.TreeFacts.{in_three}
+use Rattle.be_tree_reading.specs.Key.{payload_at}
+use Rattle.be_tree_reading.specs.Pair.{Pair}
+use Rattle.be_tree_reading.proofs.TreeFacts.{in_three}
 use Rattle.be_volume.specs.Ahead.{reached}
 use Rattle.be_volume.specs.Indices.{Indices, paired, paired_at, same_kind, with_pair}
 use Rattle.be_volume.specs.Maps.{attributes_of, Attributes}
@@ -29,11 +29,11 @@ use Rattle.be_volume.specs.declared.ops.Op.{Op}
 use Rattle.be_volume.specs.declared.ops.Op.TheVariants.{New, Drop, Set, Unset, MkIndex, RmIndex}
 use Rattle.be_volume.proofs.MapLemmas.{exact_names, names_total}
 use Rattle.be_volume.proofs.StepLemmas.{made}
-use Rattle.be_paged.specs.Catalog.{IsIndexOf}
+use Rattle.be_paged_reading.specs.Catalog.{IsIndexOf}
 use Rattle.be_paged.specs.Changes.{SetsWhatStands}
-use Rattle.be_paged.specs.Entries.{with_root}
-use Rattle.be_paged.specs.Entry.{Entry}
-use Rattle.be_paged.proofs.CatalogPairs.Items.{get_here}
+use Rattle.be_paged_reading.specs.Entries.{with_root}
+use Rattle.be_paged_reading.specs.Entry.{Entry}
+use Rattle.be_paged_reading.proofs.CatalogPairs.Items.{get_here}
 use Rattle.be_paged.proofs.IndexEntries.Repairs.{Leaves, kinds_agree, kinds_same, same_value}
 use Rattle.be_paged.proofs.Applying.Stepping.{stepped_is}
 

@@ -1,8 +1,8 @@
 -- The pairs of a version's trees are no more than the items of its volume.
-use Rattle.std.proofs.Common.{◌≡◌, ℕ, zero, suc, ◌+◌, ◌*◌, ◌<◌, ◌≤◌, ◌^◌, Bool, true, false, ◌||◌, List, [], ◌∷◌, ◌++◌, map, length, All, Some, None, is_some, ap, sym, subst, ◌∙◌, refl, arith}
+use Rattle.std.proofs.Common.{◌≡◌, ℕ, suc, ◌+◌, ◌*◌, ◌≤◌, true, false, List, [], ◌∷◌, map, length, All, Some, None, is_some, ap, sym, ◌∙◌, refl, arith}
 use Rattle.std.specs.FinMap as fin
 use Rattle.std.specs.FinMap.{nat_cmp-IsAntisymmetric}
-use Rattle.std.specs.List.{flat_map, list_any, sum_by}
+use Rattle.std.specs.List.{flat_map, sum_by}
 use Rattle.std.specs.Option.{option_map, option_and_then}
 use Rattle.std.specs.Ordering.{eq_by_cmp, nat_cmp}
 use Rattle.std.specs.declared.option.Option.{Option}
@@ -12,22 +12,21 @@ use Rattle.be_value.specs.Key.{key}
 use Rattle.be_value.specs.declared.values.Value.{Value}
 use Rattle.be_pages.specs.declared.room.Standing.{Standing}
 use Rattle.be_tree.specs.Counting.{pairs_of_all}
-use Rattle.be_tree.specs.Forest.{pages_of}
-use Rattle.be_tree.specs.Key.{IsRising, key_cmp, payload_at}
-use Rattle.be_tree.specs.Pair.{Pair}
-use Rattle.be_tree.specs.Tree.{IsTree, pairs}
+use Rattle.be_tree_reading.specs.Key.{IsRising, key_cmp, payload_at}
+use Rattle.be_tree_reading.specs.Pair.{Pair}
+use Rattle.be_tree_reading.specs.Tree.{IsTree, pairs}
 use Rattle.be_tree.proofs.Sizes.Trees.{forest_size}
-use Rattle.be_tree.proofs.Trees.{tree_rising}
+use Rattle.be_tree_reading.proofs.Trees.{tree_rising}
 use Rattle.be_volume.specs.Items.{items}
 use Rattle.be_volume.specs.Maps.{Attributes, Nodes, name_cmp}
 use Rattle.be_volume.specs.Volume.{State}
 use Rattle.be_volume.specs.declared.maps.Index.{Index}
-use Rattle.be_paged.specs.Catalog.{IsCatalog, IsCatalogKey, IsIndexOf, IsPairOf, catalog_key, payload_of, stored, value_at}
-use Rattle.be_paged.specs.Entry.{Entry}
-use Rattle.be_paged.specs.Page.{contents_of, reach, roots}
-use Rattle.be_paged.specs.Version.{AreEntriesOf, IsVersion}
-use Rattle.be_paged.proofs.CatalogPairs.Finding.{found_pair}
-use Rattle.be_paged.proofs.IndexEntries.Indexing.{names_exact}
+use Rattle.be_paged_reading.specs.Catalog.{IsCatalog, IsCatalogKey, IsIndexOf, IsPairOf, catalog_key, payload_of, stored}
+use Rattle.be_paged_reading.specs.Entry.{Entry}
+use Rattle.be_paged_reading.specs.Page.{contents_of, reach, roots}
+use Rattle.be_paged_reading.specs.Version.{AreEntriesOf, IsVersion}
+use Rattle.be_paged_reading.proofs.CatalogPairs.Finding.{found_pair}
+use Rattle.be_paged_reading.proofs.IndexEntries.Indexing.{names_exact}
 use Rattle.be_paged.proofs.Sizes.Keys.{is_in, same_key, few_pairs, or_left, or_right, any_entry, any_flat, any_map}
 
 -- the keys of a node: its mark's, and those of its attributes

@@ -1,6 +1,6 @@
 -- Pairs that rise are no more than the keys among which their keys are.
-use Rattle.std.proofs.Common.{◌≡◌, ℕ, zero, suc, ◌≤◌, Bool, true, false, cond, ◌||◌, List, [], ◌∷◌, map, length, Some, None, is_some, unwrap_or, ap, sym, subst, ◌∙◌, refl}
-use Rattle.std.specs.FinMap.{FinMap, IsAntisymmetric}
+use Rattle.std.proofs.Common.{◌≡◌, ℕ, ◌≤◌, Bool, true, false, cond, ◌||◌, List, [], ◌∷◌, map, length, Some, None, is_some, unwrap_or, ap, sym, subst, ◌∙◌, refl}
+use Rattle.std.specs.FinMap.{IsAntisymmetric}
 use Rattle.std.specs.FinMap.Entries.{find}
 use Rattle.std.specs.Cmp.{IsEquivalence, eq_by_cmp_equiv}
 use Rattle.std.specs.List.{AllByRecursion, IsDistinct, flat_map, list_any}
@@ -10,9 +10,9 @@ use Rattle.std.specs.declared.cmp.Ordering.TheVariants.{Less, Equal, Greater}
 use Rattle.std.proofs.lemmas.List.{length-map}
 use Rattle.std.proofs.lemmas.List.Folds.{list_any-append}
 use Rattle.std.proofs.lemmas.Map.Made.{length-le_from_is_member}
-use Rattle.be_tree.specs.Pair.{Pair}
-use Rattle.be_tree.specs.Key.{AllAbove, IsRising, key_cmp, payload_at}
-use Rattle.be_tree.proofs.Order.{key_total, key_cmp_flip}
+use Rattle.be_tree_reading.specs.Pair.{Pair}
+use Rattle.be_tree_reading.specs.Key.{AllAbove, IsRising, key_cmp, payload_at}
+use Rattle.be_tree_reading.proofs.Order.{key_total, key_cmp_flip}
 
 pub same_key : IsEquivalence (eq_by_cmp key_cmp)
 same_key = eq_by_cmp_equiv key_total

@@ -7,16 +7,16 @@ use Rattle.std.specs.FinMap as fin
 use Rattle.std.specs.FinMap.{get-empty, len-empty, len-entries}
 use Rattle.be_pages.specs.declared.room.Standing.{Standing}
 use Rattle.be_pages.specs.Pages.{is_kept, times}
-use Rattle.be_tree.specs.Tree.{IsTree}
-use Rattle.be_tree.specs.Forest.{pages_of}
+use Rattle.be_tree_reading.specs.Tree.{IsTree}
+use Rattle.be_tree_reading.specs.Forest.{pages_of}
 use Rattle.be_volume.specs.Volume.{empty}
 use Rattle.be_volume.specs.Maps.{name_cmp, Attributes}
 use Rattle.be_volume.specs.declared.maps.Index.{Index}
 use Rattle.be_volume.proofs.Soundness.{empty_sound}
-use Rattle.be_paged.specs.Page.{Contents, contents_of, entry_at, entry_place, roots}
-use Rattle.be_paged.specs.Catalog.{payload_of, value_at, stored}
-use Rattle.be_paged.specs.Version.{IsInHand, IsVersion, AreEntriesOf, Spells}
-use Rattle.be_paged.proofs.Stored.Codec.{same_contents}
+use Rattle.be_paged_reading.specs.Page.{Contents, contents_of, entry_at, entry_place, roots}
+use Rattle.be_paged_reading.specs.Catalog.{payload_of, value_at, stored}
+use Rattle.be_paged_reading.specs.Version.{IsInHand, IsVersion, AreEntriesOf, Spells}
+use Rattle.be_paged_reading.proofs.Stored.Codec.{same_contents}
 
 no_items : {A : Type 0} (xs : List A) → length xs ≡ 0 → xs ≡ []
 no_items [] h = refl

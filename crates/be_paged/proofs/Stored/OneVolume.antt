@@ -21,21 +21,21 @@ use Rattle.be_value.specs.declared.values.Value.{Value}
 use Rattle.be_value.specs.declared.values.Value.TheVariants.{Cstr, Long, Llng, Mims, Rawt, Ulng, Ullg}
 use Rattle.be_value.proofs.KeyPairs.{one_pair_of}
 use Rattle.be_pages.specs.declared.room.Standing.{Standing}
-use Rattle.be_tree.specs.Pair.{Pair}
+use Rattle.be_tree_reading.specs.Pair.{Pair}
 use Rattle.be_volume.specs.Maps.{Nodes, Attributes, name_cmp}
 use Rattle.be_volume.specs.Indices.{Indices}
 use Rattle.be_volume.specs.Sound.{IsSound}
 use Rattle.be_volume.specs.Volume.{State}
 use Rattle.be_volume.specs.declared.maps.Index.{Index}
-use Rattle.be_paged.specs.Entry.{Entry}
-use Rattle.be_paged.specs.Catalog.{payload_of, value_at, stored, IsCatalog, IsPairOf, IsIndexOf}
-use Rattle.be_paged.specs.Reading.{AreValid}
-use Rattle.be_paged.specs.Version.{AreEntriesOf, IsVersion}
-use Rattle.be_paged.proofs.CatalogPairs.FactValues.{node_there}
-use Rattle.be_paged.proofs.CatalogPairs.Finding.{found_pair}
-use Rattle.be_paged.proofs.IndexEntries.Indexing.{names_exact, names_total}
-use Rattle.be_paged.proofs.CatalogPairs.Segments.{no_nameless}
-use Rattle.be_paged.proofs.CatalogPairs.Validity.{values_valid}
+use Rattle.be_paged_reading.specs.Entry.{Entry}
+use Rattle.be_paged_reading.specs.Catalog.{payload_of, value_at, stored, IsCatalog, IsPairOf, IsIndexOf}
+use Rattle.be_paged_reading.specs.Reading.{AreValid}
+use Rattle.be_paged_reading.specs.Version.{AreEntriesOf, IsVersion}
+use Rattle.be_paged_reading.proofs.CatalogPairs.FactValues.{node_there}
+use Rattle.be_paged_reading.proofs.CatalogPairs.Finding.{found_pair}
+use Rattle.be_paged_reading.proofs.IndexEntries.Indexing.{names_exact, names_total}
+use Rattle.be_paged_reading.proofs.CatalogPairs.Segments.{no_nameless}
+use Rattle.be_paged_reading.proofs.CatalogPairs.Validity.{values_valid}
 
 -- bytes tell their number
 word32 : (a b : ℕ) → a < 2 ^ 32 → b < 2 ^ 32 → to_be_bytes w32 a ≡ to_be_bytes w32 b → a ≡ b

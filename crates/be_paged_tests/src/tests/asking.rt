@@ -7,7 +7,7 @@ ghost use Rattle.be_pages.specs.Pages.{IsUnchanged};
 ghost use Rattle.be_volume.specs.Query.{has_index};
 ghost use Rattle.be_volume.specs.Volume.{State};
 ghost use Rattle.be_plan.specs.Cover.{covers};
-ghost use Rattle.be_paged.specs.Version.{IsVersion};
+ghost use Rattle.be_paged_reading.specs.Version.{IsVersion};
 
 use crate::tests::same::same_lists;
 use be_paged::source;

@@ -30,8 +30,8 @@ pub(crate) struct Both {
 
 impl Model for Both {
     ghost use Rattle.std.specs.Prelude.{ℕ};
-    ghost use Rattle.be_tree.specs.Forest.{IsWriteStart};
-    ghost use Rattle.be_paged.specs.Version.{IsVersion};
+    ghost use Rattle.be_tree_reading.specs.Forest.{IsWriteStart};
+    ghost use Rattle.be_paged_reading.specs.Version.{IsVersion};
 
     ghost Value = { ℕ };
 

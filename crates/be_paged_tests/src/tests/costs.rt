@@ -7,7 +7,7 @@
 //! It is exact: a row fails if its cost grows, and if it falls.
 ghost use Rattle.std.specs.Prelude.{◌≤◌, ◌<◌, ◌+◌, ◌^◌, length, IsTrue};
 ghost use Rattle.be_volume.specs.Volume.{State};
-ghost use Rattle.be_paged.specs.Version.{IsVersion};
+ghost use Rattle.be_paged_reading.specs.Version.{IsVersion};
 
 use crate::tests::asking::read_query;
 use crate::tests::both::Both;
@@ -15,7 +15,7 @@ use crate::tests::lines::request_of;
 use crate::tests::run_lines;
 use crate::tests::sizes::{accepted, numbered};
 use arrayvec::ArrayVec;
-use be_paged::{Version, answer_decided, apply_into, get, source};
+use be_paged::{Cell, HeldName, Version, answer_decided, apply_into, columns, get, source};
 use be_pages::{Look, Room};
 use be_plan::{PreparedQuery, answer};
 use be_query::Query;
@@ -74,6 +74,52 @@ fn count_get(both: Both, node: u64, name: &Name) -> Cost {
         found: value.is_some() as u64,
         reads: look.reads,
     }
+}
+
+/// The cell of nothing, which a read of a row writes over.
+fn no_cell() -> Cell {
+    Cell {
+        error: 1,
+        code: 0,
+        number: 0,
+        offset: 0,
+        length: 0,
+    }
+}
+
+/// How many of the cells have a value.
+fn values_in(cells: &[Cell]) -> u64 {
+    let mut found: u64 = 0;
+    for cell in cells {
+        if cell.error == 0 {
+            found = found.saturating_add(1);
+        }
+    }
+    found
+}
+
+/// How many of three attributes a node has, and what the look at their row costs.
+fn count_row(both: Both, node: u64, names: &[HeldName; 3]) -> Cost {
+    let Both { room, page, .. } = both;
+    let mut look = Counted::new(room);
+    let mut cells = [no_cell(); 3];
+    let mut bytes = [0; 64];
+    let _needed = columns(&mut look, page, &[node], names, &mut cells, &mut bytes);
+    Cost::Read {
+        found: values_in(&cells),
+        reads: look.reads,
+    }
+}
+
+/// The same by the node and the names as words.
+fn row_cost(alloc: Global, text: &str) -> Result<Cost, Fail> {
+    let mut words = text.split(" ");
+    let node = word_of(words.next().unwrap_or("").as_bytes()).unwrap_or(0);
+    let mut names = [HeldName::new(&Name::new("none")?); 3];
+    for name in &mut names {
+        *name = HeldName::new(&Name::new(words.next().unwrap_or(""))?);
+    }
+    Ok(count_row(filled(alloc)?, node, &names))
 }
 
 /// The nodes of a query, as a store asks for them, and the look. The plain volume isn't asked: it
@@ -206,9 +252,13 @@ fn write_cost(alloc: Global, request: &str) -> Result<Cost, Fail> {
     count_write(filled(alloc)?, &ops)
 }
 
+/// What a request costs. A prepared query and a row have words of their own.
 fn cost_of(alloc: Global, request: &str) -> Result<Cost, Fail> {
     if let Some(("again", text)) = request.split_once(" ") {
         return again_cost(alloc, text);
+    }
+    if let Some(("row", text)) = request.split_once(" ") {
+        return row_cost(alloc, text);
     }
     match request_of(alloc, request)? {
         Request::Get(node, name) => Ok(count_get(filled(alloc)?, node, &name?)),
@@ -258,8 +308,8 @@ fn expect_rows(alloc: Global, rows: &str) -> Result<(), Fail> {
 /// node: a second descent of its index's tree, or a look at the node. The size 1420 has the least
 /// key of its leaf: its range begins at the end of the leaf before, so it takes that second
 /// descent. A range and a front: a descent for each key, instead of a step along the leaves. The
-/// filter makes a descent of the catalog's tree for each of a hundred nodes: it would grow by a
-/// hundred words for each word that a descent reads more.
+/// filter: a descent of the catalog's tree for each of the hundred nodes of the front, some 63
+/// words, instead of a walk of the range of sizes.
 #[test]
 fn read_costs(rt: HostRuntime) -> Result<(), Fail> {
     let rows = r#"get 150 size => 1 found, 44 words read
@@ -268,7 +318,7 @@ query size==1430 => 1 found, 34 words read
 query size==1420 => 1 found, 83 words read
 query size>=1000 && size<2000 => 100 found, 460 words read
 query name=="101*" => 100 found, 456 words read
-query name=="101*" && size>=1500 => 50 found, 6774 words read"#;
+query name=="101*" && size>=1500 => 50 found, 1090 words read"#;
     expect_rows(rt.alloc(), rows)
 }
 
@@ -293,6 +343,19 @@ again size>=1000 && size<2000 => 100 found, 458 words read"#;
     expect_rows(rt.alloc(), rows)
 }
 
+/// Rows of a node: its attributes of three names in one call. Names in the order of the catalog
+/// take one descent, and would take one more for each step along the leaf that isn't made. From the
+/// last to the first each takes a descent, and so does a name that the node hasn't. A node that
+/// isn't there takes one for each name, and one for itself.
+#[test]
+fn row_costs(rt: HostRuntime) -> Result<(), Fail> {
+    let rows = r#"row 150 kind name size => 3 found, 66 words read
+row 150 size name kind => 3 found, 145 words read
+row 150 kind name other => 2 found, 98 words read
+row 302 kind name size => 0 found, 138 words read"#;
+    expect_rows(rt.alloc(), rows)
+}
+
 /// A new node, a set with an index, two sets without one, of which the second sets the value that
 /// is there already, lists of sets of many nodes and of one, and a drop.
 ///
@@ -304,13 +367,13 @@ again size>=1000 && size<2000 => 100 found, 458 words read"#;
 fn write_costs(rt: HostRuntime) -> Result<(), Fail> {
     let rows =
         "new;set 302 name CSTR 10150-copy.txt;set 302 size LONG 1505;set 302 kind CSTR image/png \
-=> 281 words stored, 11 pages taken, 615 words read
-set 150 size LONG 1505 => 219 words stored, 7 pages taken, 368 words read
-set 150 kind CSTR image/png => 58 words stored, 4 pages taken, 195 words read
-set 150 kind CSTR text/plain => 55 words stored, 4 pages taken, 195 words read
-sizes 64 => 6247 words stored, 144 pages taken, 17601 words read
-names 8 => 141 words stored, 6 pages taken, 619 words read
-names 64 => 643 words stored, 26 pages taken, 4692 words read
-drop 150 => 258 words stored, 10 pages taken, 724 words read";
+=> 281 words stored, 11 pages taken, 614 words read
+set 150 size LONG 1505 => 219 words stored, 7 pages taken, 366 words read
+set 150 kind CSTR image/png => 58 words stored, 4 pages taken, 193 words read
+set 150 kind CSTR text/plain => 55 words stored, 4 pages taken, 193 words read
+sizes 64 => 6247 words stored, 144 pages taken, 17529 words read
+names 8 => 141 words stored, 6 pages taken, 616 words read
+names 64 => 643 words stored, 26 pages taken, 4685 words read
+drop 150 => 258 words stored, 10 pages taken, 722 words read";
     expect_rows(rt.alloc(), rows)
 }

@@ -2,8 +2,8 @@
 //! open one that sees the pages as they were before it.
 ghost use Rattle.std.specs.Prelude.{◌≡◌, IfOk};
 ghost use Rattle.be_pages.specs.Pages.{IsUnchanged, after_undo};
-ghost use Rattle.be_tree.specs.Forest.{IsWriteStart};
-ghost use Rattle.be_paged.specs.Version.{IsVersion};
+ghost use Rattle.be_tree_reading.specs.Forest.{IsWriteStart};
+ghost use Rattle.be_paged_reading.specs.Version.{IsVersion};
 
 use crate::tests::asking::{query_both, read_query};
 use crate::tests::both::Both;

@@ -4,11 +4,11 @@
 //! refused.
 ghost use Rattle.std.specs.Prelude.{◌≡◌, ◌<◌, ◌≤◌, ◌+◌, ◌^◌, Ok, IfOk, OnOk, IfErr, List, length};
 ghost use Rattle.be_pages.specs.Pages.{after_undo};
-ghost use Rattle.be_tree.specs.Forest.{IsWriteStart};
+ghost use Rattle.be_tree_reading.specs.Forest.{IsWriteStart};
 ghost use Rattle.be_volume.specs.Volume.{State, Writes, steps, empty};
 ghost use Rattle.be_volume.specs.declared.ops.Done.{Done as AnyDone};
 ghost use Rattle.be_paged.specs.Changes.{Applies, IsRefusedList};
-ghost use Rattle.be_paged.specs.Version.{IsVersion};
+ghost use Rattle.be_paged_reading.specs.Version.{IsVersion};
 
 use arrayvec::ArrayVec;
 use be_paged::{apply, first_page};

@@ -3,7 +3,7 @@
 ghost use Rattle.std.specs.Prelude.{◌≡◌, ◌≤◌, ◌<◌, ◌+◌, ◌^◌, ℕ, false, length, IfErr, IfOk};
 ghost use Rattle.be_table.specs.declared.pass.Knowledge.{Knowledge};
 ghost use Rattle.be_paged.specs.Changes.{Applies};
-ghost use Rattle.be_paged.specs.Version.{IsVersion};
+ghost use Rattle.be_paged_reading.specs.Version.{IsVersion};
 ghost use Rattle.be_volume.specs.Volume.{State};
 ghost use Rattle.be_table.specs.Reading.{open_of, standing_among, word_of_page, standing_in_work};
 ghost use Rattle.be_table.specs.Reading.{words_of};

@@ -2,9 +2,9 @@
 use Rattle.std.proofs.Common.{◌≡◌, ℕ, ◌+◌, ◌*◌, ◌/◌, ◌%◌, ◌^◌, ◌<◌, ◌≤◌, List, ◌++◌, length, take, ap, sym, subst, ◌∙◌, arith, append_assoc}
 use Rattle.std.specs.Int.{to_be_bytes, w64}
 use Rattle.std.proofs.lemmas.List.{length-append}
-use Rattle.be_tree.specs.Page.{bytes_at, item_at, key_len, IsItem, IsPadded}
-use Rattle.be_tree.proofs.Codec.{bytes_at_copied, bytes_at_prefix, bytes_at_split, item_at_stored, key_at, word_bytes}
-use Rattle.be_tree.proofs.Bytes.Words.{item_key_length}
+use Rattle.be_tree_reading.specs.Page.{bytes_at, item_at, key_len, IsItem, IsPadded}
+use Rattle.be_tree_reading.proofs.Codec.{bytes_at_copied, bytes_at_prefix, bytes_at_split, item_at_stored, key_at, word_bytes}
+use Rattle.be_tree_reading.proofs.Bytes.Words.{item_key_length}
 use Rattle.be_tree.proofs.Bytes.Zeros.{IsItem_stored, after_later}
 
 module _ (v w : ℕ → ℕ) (page at : ℕ) (header : w at ≡ key_len v 2 * 2 ^ 32 + 8)

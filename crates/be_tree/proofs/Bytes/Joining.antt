@@ -7,10 +7,10 @@ use Rattle.std.proofs.Math.Seq.{drop-append_seam, take-append_seam}
 use Rattle.std.proofs.lemmas.List.{append-nil, length-append, length-take-le, take-append-drop}
 use Rattle.std.proofs.lemmas.List.Elements.{All-cons, All-nil}
 use Rattle.std.proofs.lemmas.Nat.{mul-add-lt}
-use Rattle.be_tree.specs.Page.{IsPadded, bytes_at, words_for}
-use Rattle.be_tree.proofs.Bytes.Words.{byte_is, pow256}
-use Rattle.be_tree.proofs.Bytes.Straddling.{high_append, high_dropped, high_taken, low_bytes, positive, rejoined, second_fits, shifted}
-use Rattle.be_tree.proofs.Codec.{word_bytes}
+use Rattle.be_tree_reading.specs.Page.{IsPadded, bytes_at, words_for}
+use Rattle.be_tree_reading.proofs.Bytes.Words.{byte_is, pow256}
+use Rattle.be_tree_reading.proofs.Bytes.Straddling.{high_append, high_dropped, high_taken, low_bytes, positive, rejoined, second_fits, shifted}
+use Rattle.be_tree_reading.proofs.Codec.{word_bytes}
 
 zeros : (n : ℕ) → All (λ byte. byte ≡ 0) (bytes_high_first n 0)
 zeros zero = All-nil (λ byte. byte ≡ 0)

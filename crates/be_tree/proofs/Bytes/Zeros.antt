@@ -7,8 +7,8 @@ use Rattle.std.proofs.lemmas.List.Elements.{All-from_get_or}
 use Rattle.std.proofs.lemmas.List.FromFn.{get_or-map-range_with_len, length-map-range_with_len}
 use Rattle.std.proofs.lemmas.Nat.{div-mul-add, mod-mul-add}
 use Rattle.std.proofs.Math.Seq.{drop-append_seam}
-use Rattle.be_tree.specs.Page.{bytes_after, words_for, key_len, payload_len, IsItem, IsPadded}
-use Rattle.be_tree.proofs.Codec.{flat_map_length, flat_map_range_append, flat_map_stored, map_same, maps_along}
+use Rattle.be_tree_reading.specs.Page.{bytes_after, words_for, key_len, payload_len, IsItem, IsPadded}
+use Rattle.be_tree_reading.proofs.Codec.{flat_map_length, flat_map_range_append, flat_map_stored, map_same, maps_along}
 
 -- past its end a list reads as zeros
 zeros_past : (bs : List ℕ) (m : ℕ) → All (λ byte. byte ≡ 0) (drop (length bs) (map (λ k. get_or bs k 0) (range_with_len 0 m)))

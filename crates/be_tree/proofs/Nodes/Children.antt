@@ -4,13 +4,13 @@ use Rattle.std.specs.List.{flat_map}
 use Rattle.std.proofs.lemmas.List.{append-nil, append_assoc, drop_more, take_more, take-append-drop}
 use Rattle.std.proofs.lemmas.List.Concat.{flat_map-append}
 use Rattle.be_pages.specs.declared.room.Standing.{Standing}
-use Rattle.be_tree.specs.Pair.{Pair}
-use Rattle.be_tree.specs.Key.{IsRising}
-use Rattle.be_tree.specs.Page.{item_at, items_of, item_place}
-use Rattle.be_tree.specs.Tree.{AreNeighbours, child, pairs_at, pairs_below, IsBelow, IsTreeAt}
-use Rattle.be_tree.proofs.Order.{IsRising_left, IsRising_right}
-use Rattle.be_tree.proofs.Shape.Below.{below_left, below_right}
-use Rattle.be_tree.proofs.Nodes.Slots.{item_get, items_count}
+use Rattle.be_tree_reading.specs.Pair.{Pair}
+use Rattle.be_tree_reading.specs.Key.{IsRising}
+use Rattle.be_tree_reading.specs.Page.{item_at, items_of, item_place}
+use Rattle.be_tree_reading.specs.Tree.{AreNeighbours, child, pairs_at, pairs_below, IsBelow, IsTreeAt}
+use Rattle.be_tree_reading.proofs.Order.{IsRising_left, IsRising_right}
+use Rattle.be_tree_reading.proofs.Shape.Below.{below_left, below_right}
+use Rattle.be_tree_reading.proofs.Items.{item_get, items_count}
 use Rattle.be_tree.proofs.Nodes.Neighbours.{are_neighbours}
 
 module _ (level below least page : ℕ) (standing : ℕ → Standing) (words : ℕ → ℕ → ℕ) (e : level ≡ suc below) (tree : IsTreeAt level least standing words page) where

@@ -7,12 +7,12 @@ use Rattle.be_pages.specs.declared.room.Standing.{Standing}
 use Rattle.be_pages.specs.Pages.{is_kept, times, IsUnchanged, KeepsStart}
 use Rattle.be_tree.specs.declared.slot.Slot.{Slot}
 use Rattle.be_tree.specs.declared.slot.Slot.TheVariants.{At}
-use Rattle.be_tree.specs.Pair.{Pair}
-use Rattle.be_tree.specs.Key.{IsRising}
-use Rattle.be_tree.specs.Page.{items_of, item_place}
+use Rattle.be_tree_reading.specs.Pair.{Pair}
+use Rattle.be_tree_reading.specs.Key.{IsRising}
+use Rattle.be_tree_reading.specs.Page.{items_of, item_place}
 use Rattle.be_tree.specs.Slot.{pairs_of, IsReady}
-use Rattle.be_tree.specs.Tree.{AreNeighbours, pairs_at, pairs_below, pages_below, IsBelow, Becomes}
-use Rattle.be_tree.proofs.Frame.{swaps_start}
+use Rattle.be_tree_reading.specs.Tree.{AreNeighbours, pairs_at, pairs_below, pages_below, IsBelow, Becomes}
+use Rattle.be_tree_reading.proofs.Frame.{swaps_start}
 use Rattle.be_tree.proofs.Nodes.Neighbours.{becomes_joined, left_apart, left_count, left_joined, left_kept, left_ready, ready_until, right_apart, right_count, right_joined, right_kept, right_ready, slots_until}
 
 pub record Joined {S K : Type 0} (kept_of : S → K) (standing_of : S → ℕ → Standing) (words_of : S → ℕ → ℕ → ℕ) (level l r : ℕ) (all : List Pair) (given : Pair) (slots : List Slot) (old read : S) : Type 0 where

@@ -8,16 +8,16 @@ use Rattle.be_pages.specs.declared.room.Standing.{Standing}
 use Rattle.be_pages.specs.Pages.{is_readable, is_kept, times, PageStep, IsUnchanged}
 use Rattle.be_tree.specs.declared.slot.Slot.{Slot}
 use Rattle.be_tree.specs.declared.slot.Slot.TheVariants.{At}
-use Rattle.be_tree.specs.Pair.{Pair}
-use Rattle.be_tree.specs.Key.{IsRising}
-use Rattle.be_tree.specs.Page.{items_of, item_place, IsPage}
+use Rattle.be_tree_reading.specs.Pair.{Pair}
+use Rattle.be_tree_reading.specs.Key.{IsRising}
+use Rattle.be_tree_reading.specs.Page.{items_of, item_place, IsPage}
 use Rattle.be_tree.specs.Slot.{pair_of, pairs_of, IsReady}
-use Rattle.be_tree.specs.Tree.{AreNeighbours, child, pairs_at, pairs_below, pages_below, IsBelow, Becomes}
-use Rattle.be_tree.proofs.Frame.{times_append, times-cons, times_itself, times_other, same_page, swaps_trans, swaps_frame, swaps_same, swaps_stands, readable_kept}
-use Rattle.be_tree.proofs.TreeFacts.{branch_tree}
-use Rattle.be_tree.proofs.Shape.Below.{below_append, times_both, times_pages}
+use Rattle.be_tree_reading.specs.Tree.{AreNeighbours, child, pairs_at, pairs_below, pages_below, IsBelow, Becomes}
+use Rattle.be_tree_reading.proofs.Frame.{times_append, times-cons, times_itself, times_other, same_page, swaps_trans, swaps_frame, swaps_same, swaps_stands, readable_kept}
+use Rattle.be_tree_reading.proofs.TreeFacts.{branch_tree}
+use Rattle.be_tree_reading.proofs.Shape.Below.{below_append, times_both, times_pages}
 use Rattle.be_tree.proofs.Shape.Parts.{becomes_same, becomes_append, back_below, back_pairs}
-use Rattle.be_tree.proofs.Putting.Puts.{becomes_since, becomes_until, given_up_page}
+use Rattle.be_tree_reading.proofs.Putting.Puts.{becomes_since, becomes_until, given_up_page}
 use Rattle.be_tree.proofs.Nodes.Slots.{loaded_pairs, loaded_ready}
 
 -- the children of two branches are neighbours

@@ -10,11 +10,12 @@ use Rattle.be_pages.specs.declared.room.Standing.{Standing}
 use Rattle.be_pages.specs.Pages.{is_readable, is_kept, times, Swaps}
 use Rattle.be_tree.specs.declared.slot.Slot.{Slot}
 use Rattle.be_tree.specs.declared.slot.Slot.TheVariants.{At, Branch, New}
-use Rattle.be_tree.specs.Pair.{Pair}
-use Rattle.be_tree.specs.Page.{item_at, items_of, level_of, IsItem, IsPage, item_place}
-use Rattle.be_tree.specs.Tree.{child, IsBelow, IsNode, IsWritten}
-use Rattle.be_tree.proofs.Frame.{swaps_stands, swaps_same, readable_kept}
-use Rattle.be_tree.proofs.Shape.Below.{child_page}
+use Rattle.be_tree_reading.specs.Pair.{Pair}
+use Rattle.be_tree_reading.specs.Page.{item_at, items_of, level_of, IsItem, IsPage, item_place}
+use Rattle.be_tree_reading.specs.Tree.{child, IsBelow, IsNode, IsWritten}
+use Rattle.be_tree_reading.proofs.Items.{item_get, items_count}
+use Rattle.be_tree_reading.proofs.Frame.{swaps_stands, swaps_same, readable_kept}
+use Rattle.be_tree_reading.proofs.Shape.Below.{child_page}
 use Rattle.be_tree.specs.Slot.{branch_to, pair_of, pairs_of, IsReady, IsBranchSlot}
 
 -- items that stand in a page as a list of slots says
@@ -29,13 +30,6 @@ stored_map f g slots n len same = subst (λ m. map g (range_with_len 0 m) ≡ ma
       where
         ap2 : {A : Type 0} {x y : A} {xs ys : List A} → x ≡ y → xs ≡ ys → x ∷ xs ≡ y ∷ ys
         ap2 p q = cc
-
--- a page's item by its number
-pub item_get : (words : ℕ → ℕ) (j : ℕ) (d : Pair) → j < words 1 → get_or (items_of words) j d ≡ item_at words (item_place j)
-item_get words j d lt = get_or-map-range_with_len (λ (j : ℕ). item_at words (item_place j)) 0 (words 1) j j d lt (zero-add j)
-
-pub items_count : (words : ℕ → ℕ) → length (items_of words) ≡ words 1
-items_count words = length-map-range_with_len (λ (j : ℕ). item_at words (item_place j)) 0 (words 1)
 
 -- a branch names its page
 pub child_branch : (w : ℕ → ℕ → ℕ) (page : ℕ) → page < 2 ^ 32 → child (branch_to w page) ≡ page

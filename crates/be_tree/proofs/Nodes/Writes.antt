@@ -6,13 +6,13 @@ use Rattle.be_pages.specs.declared.room.Standing.{Standing}
 use Rattle.be_pages.specs.declared.room.Standing.TheVariants.{Free}
 use Rattle.be_pages.specs.Pages.{is_kept, times, Swaps}
 use Rattle.be_tree.specs.declared.slot.Slot.{Slot}
-use Rattle.be_tree.specs.Pair.{Pair}
-use Rattle.be_tree.specs.Page.{items_of, level_of, IsPage}
+use Rattle.be_tree_reading.specs.Pair.{Pair}
+use Rattle.be_tree_reading.specs.Page.{items_of, level_of, IsPage}
 use Rattle.be_tree.specs.Slot.{branch_to, pair_of, pairs_of, IsReady}
-use Rattle.be_tree.specs.Tree.{child, pairs_below, pages_below, IsBelow, IsWritten, Becomes}
-use Rattle.be_tree.proofs.Frame.{times_append, times_itself, times_other, one_page, alone, one_beside, swaps_after, swaps_both, swaps_fresh, swaps_same, readable_kept}
+use Rattle.be_tree_reading.specs.Tree.{child, pairs_below, pages_below, IsBelow, IsWritten, Becomes}
+use Rattle.be_tree_reading.proofs.Frame.{times_append, times_itself, times_other, one_page, alone, one_beside, swaps_after, swaps_both, swaps_fresh, swaps_same, readable_kept}
 use Rattle.be_tree.proofs.Shape.Parts.{becomes_branch, becomes_two}
-use Rattle.be_tree.proofs.Putting.Puts.{given_up_page}
+use Rattle.be_tree_reading.proofs.Putting.Puts.{given_up_page}
 use Rattle.be_tree.proofs.Nodes.Slots.{all_apart_nil, child_branch, pairs_swaps, written_at}
 
 -- a page with its items, while others are written

@@ -5,14 +5,14 @@ use Rattle.std.proofs.Math.Seq.{take-suc}
 use Rattle.std.proofs.lemmas.Bool.Decides.{nat_tests}
 use Rattle.be_pages.specs.declared.room.Standing.{Standing}
 use Rattle.be_pages.specs.Pages.{is_kept, is_readable, after_give_up, times, PageStep, untouched, StandsAt, Swaps, IsUnchanged}
-use Rattle.be_tree.specs.Pair.{Pair}
-use Rattle.be_tree.specs.Page.{items_of, item_at, item_place}
-use Rattle.be_tree.specs.Tree.{child, pages_at, pages_below, IsTreeAt}
-use Rattle.be_tree.proofs.Shape.Below.{pages_append, times_pages}
-use Rattle.be_tree.proofs.Frame.{times_append, times-cons, times_tail, same_page, swaps_trans, swaps_frame, swaps_stands, readable_kept}
-use Rattle.be_tree.proofs.Nodes.Slots.{item_get, items_count}
-use Rattle.be_tree.proofs.TreeFacts.{branch_tree}
-use Rattle.be_tree.proofs.Putting.Puts.{tree_weaker, swaps_given_up}
+use Rattle.be_tree_reading.specs.Pair.{Pair}
+use Rattle.be_tree_reading.specs.Page.{items_of, item_at, item_place}
+use Rattle.be_tree_reading.specs.Tree.{child, pages_at, pages_below, IsTreeAt}
+use Rattle.be_tree_reading.proofs.Shape.Below.{pages_append, times_pages}
+use Rattle.be_tree_reading.proofs.Frame.{times_append, times-cons, times_tail, same_page, swaps_trans, swaps_frame, swaps_stands, readable_kept}
+use Rattle.be_tree_reading.proofs.Items.{item_get, items_count}
+use Rattle.be_tree_reading.proofs.TreeFacts.{branch_tree}
+use Rattle.be_tree_reading.proofs.Putting.Puts.{tree_weaker, swaps_given_up}
 
 module _ {S K : Type 0} (kept_of : S → K) (standing_of : S → ℕ → Standing) (words_of : S → ℕ → ℕ → ℕ) where
   -- where nothing changed, no page was replaced

@@ -5,11 +5,11 @@ use Rattle.std.specs.Ordering.{is_eq}
 use Rattle.std.specs.declared.cmp.Ordering.TheVariants.{Less, Equal, Greater}
 use Rattle.std.proofs.lemmas.List.Elements.{All-cons}
 use Rattle.be_pages.specs.declared.room.Standing.{Standing}
-use Rattle.be_tree.specs.Pair.{Pair}
-use Rattle.be_tree.specs.Key.{key_cmp, AllAbove, AllBelow, IsRising, without}
-use Rattle.be_tree.specs.Tree.{least_of_root, IsTreeAt}
-use Rattle.be_tree.proofs.Order.{AllAbove_left, AllAbove_right}
-use Rattle.be_tree.proofs.TreeFacts.{flat_map_in_three, IsSplit}
+use Rattle.be_tree_reading.specs.Pair.{Pair}
+use Rattle.be_tree_reading.specs.Key.{key_cmp, AllAbove, AllBelow, IsRising, without}
+use Rattle.be_tree_reading.specs.Tree.{least_of_root, IsTreeAt}
+use Rattle.be_tree_reading.proofs.Order.{AllAbove_left, AllAbove_right}
+use Rattle.be_tree_reading.proofs.TreeFacts.{flat_map_in_three, IsSplit}
 
 -- a key out of a list in three parts
 without_above : (k : List ℕ) (xs : List Pair) → AllAbove k xs → without k xs ≡ xs

@@ -6,14 +6,14 @@ use Rattle.std.specs.declared.cmp.Ordering.TheVariants.{Less, Equal, Greater}
 use Rattle.std.proofs.lemmas.List.{append-nil, nil_from_length}
 use Rattle.be_pages.specs.declared.room.Standing.{Standing}
 use Rattle.be_pages.specs.Pages.{is_kept, times, PageStep, untouched, Swaps, IsUnchanged}
-use Rattle.be_tree.specs.Pair.{Pair}
-use Rattle.be_tree.specs.Key.{key_cmp, payload_at, without}
-use Rattle.be_tree.specs.Tree.{child, pairs, pages, pairs_at, pairs_below, pages_at, pages_below, IsBelow, IsTree, IsTreeAt, BecomesTree, least_of_root}
-use Rattle.be_tree.proofs.Frame.{swaps_frame}
-use Rattle.be_tree.proofs.TreeFacts.{branch_tree}
+use Rattle.be_tree_reading.specs.Pair.{Pair}
+use Rattle.be_tree_reading.specs.Key.{key_cmp, payload_at, without}
+use Rattle.be_tree_reading.specs.Tree.{child, pairs, pages, pairs_at, pairs_below, pages_at, pages_below, IsBelow, IsTree, IsTreeAt, BecomesTree, least_of_root}
+use Rattle.be_tree_reading.proofs.Frame.{swaps_frame}
+use Rattle.be_tree_reading.proofs.TreeFacts.{branch_tree}
 use Rattle.be_tree.proofs.Shape.Parts.{becomes_same}
 use Rattle.be_tree.proofs.Removing.Removes.{tree_least}
-use Rattle.be_tree.proofs.Trees.{root_in_use, root_once}
+use Rattle.be_tree_reading.proofs.Trees.{root_in_use, root_once}
 
 some_none : {A : Type 0} (x : A) → Some x ≡ None → ⊥
 some_none x e = cc

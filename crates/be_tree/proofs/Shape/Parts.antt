@@ -4,13 +4,13 @@ use Rattle.std.proofs.lemmas.List.{append-nil}
 use Rattle.std.proofs.lemmas.List.Elements.{All-nil, All-cons}
 use Rattle.be_pages.specs.declared.room.Standing.{Standing}
 use Rattle.be_pages.specs.Pages.{times, untouched, Swaps}
-use Rattle.be_tree.specs.Pair.{Pair}
-use Rattle.be_tree.specs.Key.{IsRising, StartsAt}
-use Rattle.be_tree.specs.Page.{items_of}
-use Rattle.be_tree.specs.Tree.{child, pairs_at, pairs_below, pages_below, IsNode, IsBranch, AreShaped, IsBelow, IsWritten, Becomes}
-use Rattle.be_tree.proofs.Order.{IsRising_right}
-use Rattle.be_tree.proofs.Frame.{times_append, one_page, swaps_trans, swaps_frame, swaps_after}
-use Rattle.be_tree.proofs.Shape.Below.{pairs_append, times_both, times_pages, below_left, below_right, below_append, beside_pairs, beside_pages, beside_below, beside_apart}
+use Rattle.be_tree_reading.specs.Pair.{Pair}
+use Rattle.be_tree_reading.specs.Key.{IsRising, StartsAt}
+use Rattle.be_tree_reading.specs.Page.{items_of}
+use Rattle.be_tree_reading.specs.Tree.{child, pairs_at, pairs_below, pages_below, IsNode, IsBranch, AreShaped, IsBelow, IsWritten, Becomes}
+use Rattle.be_tree_reading.proofs.Order.{IsRising_right}
+use Rattle.be_tree_reading.proofs.Frame.{times_append, one_page, swaps_trans, swaps_frame, swaps_after}
+use Rattle.be_tree_reading.proofs.Shape.Below.{pairs_append, times_both, times_pages, below_left, below_right, below_append, beside_pairs, beside_pages, beside_below, beside_apart}
 
 pub starts_append : (k : List ℕ) (xs ys : List Pair) → StartsAt k xs → StartsAt k (xs ++ ys)
 starts_append k [] ys h = absurd h

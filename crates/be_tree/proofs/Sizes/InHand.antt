@@ -1,12 +1,14 @@
 -- The pages that a write has in hand, counted.
-use Rattle.std.proofs.Common.{◌≡◌, ℕ, zero, suc, ◌+◌, ◌<◌, ◌≤◌, ◌==◌, List, [], ◌∷◌, length, IsTrue, true, false, Bool, refl, inl, inr, arith, cond}
+use Rattle.std.proofs.Common.{◌≡◌, ◌≢◌, ℕ, zero, suc, ◌+◌, ◌<◌, ◌≤◌, ◌==◌, List, [], ◌∷◌, length, IsTrue, true, false, Bool, refl, ap, inl, inr, arith, cond}
 use Rattle.std.proofs.lemmas.Bool.{cases_eq}
 use Rattle.std.proofs.lemmas.Bool.Decides.{nat_tests}
 use mathlib.Core.Bool.{false≢true}
 use Rattle.be_pages.specs.declared.room.Standing.{Standing}
-use Rattle.be_pages.specs.Pages.{is_taken, times, PageStep, untouched, unused, fresh, given_old, given_new, stays_old, stays_new, Swaps}
+use Rattle.be_pages.specs.declared.room.Standing.TheVariants.{Free, Old, GivenUp, Taken, Filled}
+use Rattle.be_pages.specs.Pages.{is_taken, after_give_up, times, StandsAt, PageStep, untouched, unused, fresh, given_old, given_new, stays_old, stays_new, Swaps}
 use Rattle.be_tree.specs.Counting.{one_of, in_hand, TakesAtMost, TakesFewer, HasInHand}
-use Rattle.be_tree.proofs.Frame.{times-cons}
+use Rattle.be_tree_reading.proofs.Frame.{times-cons, times_itself}
+use Rattle.be_tree.proofs.Nodes.Stands.{stands_at, stands_else}
 
 -- one change after another
 pub takes_then : (a b : ℕ) (s t u : ℕ → Standing) → TakesAtMost a s t → TakesAtMost b t u → TakesAtMost (a + b) s u
@@ -14,6 +16,16 @@ takes_then a b s t u first second n = omega (arith, first n, second n)
 
 pub takes_fewer_then : (a b : ℕ) (s t u : ℕ → Standing) → TakesAtMost a s t → TakesFewer b t u → TakesFewer (a + b) s u
 takes_fewer_then a b s t u first second n = omega (arith, first n, second n)
+
+-- nothing is taken
+pub takes_same : (s t : ℕ → Standing) → t ≡ s → TakesAtMost 0 s t
+takes_same s t e n = omega (arith, ap (in_hand n) e)
+
+pub takes_within : (a b : ℕ) (s t : ℕ → Standing) → a ≤ b → TakesAtMost a s t → TakesAtMost b s t
+takes_within a b s t le takes n = omega (arith, le, takes n)
+
+pub fewer_within : (a b : ℕ) (s t : ℕ → Standing) → a ≤ b → TakesFewer a s t → TakesFewer b s t
+fewer_within a b s t le takes n = omega (arith, le, takes n)
 
 -- how often the first n pages are among some
 all_times : ℕ → List ℕ → ℕ
@@ -68,6 +80,35 @@ by_pages (suc n) old new ps each = omega (arith, each n, by_pages n old new ps e
 
 pub takes_by : (old new : ℕ → Standing) (ps : List ℕ) → ((q : ℕ) → one_of (is_taken (new q)) ≤ one_of (is_taken (old q)) + times q ps) → TakesAtMost (length ps) old new
 takes_by old new ps each n = omega (arith, by_pages n old new ps each, all_times_size n ps)
+
+-- no page changes its state
+pub takes_still : (s t : ℕ → Standing) → ((q : ℕ) → t q ≡ s q) → TakesAtMost 0 s t
+takes_still s t same = takes_by s t [] (λ q. omega (arith, ap (λ x. one_of (is_taken x)) (same q)))
+
+-- no page but this one does
+pub takes_one : (s t : ℕ → Standing) (page : ℕ) → ((q : ℕ) → q ≢ page → t q ≡ s q) → TakesAtMost 1 s t
+takes_one s t page same = takes_by s t (page ∷ []) (λ q. elim (cases_eq q page) [
+  | inl e ↦ omega (arith, at_most_one (is_taken (t q)), ap (λ p. times p (page ∷ [])) e, times_itself page)
+  | inr ne ↦ omega (arith, ap (λ x. one_of (is_taken x)) (same q ne))
+])
+  where
+    at_most_one : (b : Bool) → one_of b ≤ 1
+    at_most_one true = omega arith
+    at_most_one false = omega arith
+
+-- a page that is given up is in hand no more
+given_up : (x : Standing) → is_taken (after_give_up x) ≡ false
+given_up Free = refl
+given_up Old = refl
+given_up GivenUp = refl
+given_up Taken = refl
+given_up Filled = refl
+
+pub takes_given_up : (s t : ℕ → Standing) (page : ℕ) → StandsAt s t page (after_give_up (s page)) → TakesAtMost 0 s t
+takes_given_up s t page stands = takes_by s t [] (λ q. elim (cases_eq q page) [
+  | inl e ↦ omega (arith, ap (λ p. one_of (is_taken (t p))) e, ap (λ x. one_of (is_taken x)) (stands_at s t page (after_give_up (s page)) stands), ap one_of (given_up (s page)))
+  | inr ne ↦ omega (arith, ap (λ x. one_of (is_taken x)) (stands_else s t page (after_give_up (s page)) stands q ne))
+])
 
 -- the pages in hand are no more than those among which they are
 in_bits : (b : Bool) (n : ℕ) → (IsTrue b → 0 < n) → one_of b ≤ n

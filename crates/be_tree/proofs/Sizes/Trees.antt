@@ -2,11 +2,11 @@
 use Rattle.std.proofs.Common.{◌≡◌, ℕ, zero, suc, ◌+◌, ◌*◌, ◌^◌, ◌≤◌, List, [], ◌∷◌, length, All, inl, inr, refl, arith}
 use Rattle.std.proofs.lemmas.List.{length-append}
 use Rattle.be_pages.specs.declared.room.Standing.{Standing}
-use Rattle.be_tree.specs.Pair.{Pair}
-use Rattle.be_tree.specs.Page.{items_of, level_of}
-use Rattle.be_tree.specs.Forest.{pages_of}
+use Rattle.be_tree_reading.specs.Pair.{Pair}
+use Rattle.be_tree_reading.specs.Page.{items_of, level_of}
+use Rattle.be_tree_reading.specs.Forest.{pages_of}
 use Rattle.be_tree.specs.Counting.{pairs_of_all, CanBeHigh}
-use Rattle.be_tree.specs.Tree.{child, level_of_root, least_of_root, pages, pages_at, pages_below, pairs, pairs_at, pairs_below, AreShaped, IsTree}
+use Rattle.be_tree_reading.specs.Tree.{child, level_of_root, least_of_root, pages, pages_at, pages_below, pairs, pairs_at, pairs_below, AreShaped, IsTree}
 
 branches : (level : ℕ) (words : ℕ → ℕ → ℕ)
     → ((items : List Pair) → AreShaped level words items → 5 * length (pages_below level words items) + length items ≤ length (pairs_below level words items))

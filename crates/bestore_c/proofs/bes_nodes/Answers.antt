@@ -1,5 +1,5 @@
 use Rattle.std.proofs.Common.{◌≡◌, Ok, Some, length, refl}
-use Rattle.be_paged.specs.Nodes.{nodes_from}
+use Rattle.be_paged_reading.specs.Nodes.{nodes_from}
 use Rattle.be_store.specs.Passes.{HasRead, volume_pinned}
 use Rattle.be_table.specs.Seats.{pinned_number}
 use Rattle.bestore_c.specs.Calls.{IsClosed, PutsOutAtPin}

@@ -1,6 +1,6 @@
-use Rattle.std.proofs.Common.{◌≡◌, ℕ, List, None, refl, subst, sym}
-use Rattle.be_tree.specs.Pair.{Pair}
-use Rattle.be_tree.specs.Tree.{BecomesTree, pages, pairs}
+use Rattle.std.proofs.Common.{◌≡◌, List, None, refl, subst, sym}
+use Rattle.be_tree_reading.specs.Pair.{Pair}
+use Rattle.be_tree_reading.specs.Tree.{BecomesTree, pages, pairs}
 use Rattle.be_paged.specs.Changes.{key_turned}
 use Rattle.be_paged.specs.declared.changes.Turn.{Turn}
 use Rattle.be_paged.specs.declared.changes.Turn.TheVariants as turns

@@ -1,11 +1,12 @@
-use Rattle.std.proofs.Common.{sym, subst, IsOk}
+use Rattle.std.proofs.Common.{sym, subst, IsOk, arith}
 use Rattle.std.proofs.lemmas.Result.{IfOk-weaker}
 use Rattle.be_volume.specs.Volume.{step}
 use Rattle.be_volume.specs.declared.ops.Op.{Op}
 use Rattle.be_volume.specs.declared.ops.Op.TheVariants.{MkIndex}
 use Rattle.be_paged.specs.Changes.{SetsWhatStands, Steps}
-use Rattle.be_paged.specs.Page.{contents}
+use Rattle.be_paged_reading.specs.Page.{contents}
 use Rattle.be_paged.proofs.IndexEntries.Settled.{if_ok}
+use Rattle.be_paged.proofs.Sizes.Stopping.{result_stops}
 use Rattle.be_paged.proofs.edits.edit.Goals as goal
 
 pub returns-in-New-clause-steps : goal.returns-in-New-clause-steps
@@ -58,3 +59,24 @@ set_value-requires-clause-known g c = c.known_of-known.ensures (g.R.Look.standin
 
 pub unset_value-requires-clause-known : goal.unset_value-requires-clause-known
 unset_value-requires-clause-known g c = c.known_of-known-in-Unset.ensures (g.R.Look.standing c.args.room.now) (g.R.Look.words c.args.room.now) c.args.version.now.catalog c.requires.asked
+
+pub returns-in-New-clause-refused : goal.returns-in-New-clause-refused
+returns-in-New-clause-refused g c = (
+  c.add_node.ensures.refused.0,
+  c.add_node.ensures.refused.1,
+  result_stops g.R.Look.kept g.R.Look.standing g.R.Look.words 0 1 (contents c.args.version.now) c.args.room.now c.add_node.new.room c.add_node.result (omega arith) c.add_node.ensures.refused.2,
+)
+
+pub returns-in-Drop-clause-refused : goal.returns-in-Drop-clause-refused
+returns-in-Drop-clause-refused g c = (
+  c.drop_node.ensures.refused.0,
+  c.drop_node.ensures.refused.1,
+  result_stops g.R.Look.kept g.R.Look.standing g.R.Look.words 0 1 (contents c.args.version.now) c.args.room.now c.drop_node.new.room c.drop_node.result (omega arith) c.drop_node.ensures.refused.2,
+)
+
+pub returns-in-Unset-clause-refused : goal.returns-in-Unset-clause-refused
+returns-in-Unset-clause-refused g c = (
+  c.unset_value.ensures.refused.0,
+  c.unset_value.ensures.refused.1,
+  result_stops g.R.Look.kept g.R.Look.standing g.R.Look.words 0 1 (contents c.args.version.now) c.args.room.now c.unset_value.new.room c.unset_value.result (omega arith) c.unset_value.ensures.refused.2,
+)

@@ -2,9 +2,9 @@ use Rattle.std.proofs.Common.{◌≡◌, ◌+◌, ◌≤◌, All, IsOk, take, le
 use Rattle.be_volume.specs.Sound.{IsSound}
 use Rattle.be_volume.specs.Volume.{State, steps}
 use Rattle.be_paged.specs.Changes.{Changes, Reaches, SetsWhatStands}
-use Rattle.be_paged.specs.Page.{contents}
-use Rattle.be_paged.specs.Place.{IsAsked}
-use Rattle.be_paged.specs.Version.{Spells}
+use Rattle.be_paged_reading.specs.Page.{contents}
+use Rattle.be_paged_reading.specs.Place.{IsAsked}
+use Rattle.be_paged_reading.specs.Version.{Spells}
 use Rattle.be_paged.proofs.edits.edit_all.Given as goal
 
 -- the operations so far are done

@@ -1,9 +1,9 @@
 use Rattle.std.proofs.Common.{List, ◌∷◌, ◌++◌, take, drop, ap, sym, subst, ◌∙◌, refl, arith}
 use Rattle.be_volume.specs.declared.ops.Op.TheVariants.{MkIndex}
 use Rattle.be_volume.specs.declared.ops.Done.TheVariants.{Unit as Nothing}
-use Rattle.be_paged.specs.Entry.{Entry}
+use Rattle.be_paged_reading.specs.Entry.{Entry}
 use Rattle.be_paged.specs.Changes.{Changes, Steps}
-use Rattle.be_paged.specs.Page.{IsNamedAt, IsGapAt, contents}
+use Rattle.be_paged_reading.specs.Page.{IsNamedAt, IsGapAt, contents}
 use Rattle.be_paged.proofs.Applying.Composing.{changes_none}
 use Rattle.be_paged.proofs.IndexEntries.Making.{made_changes, made_steps, not_there, not_full}
 use Rattle.be_paged.proofs.edits.make_index.Goals as goal

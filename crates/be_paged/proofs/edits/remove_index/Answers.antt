@@ -1,15 +1,15 @@
 use Rattle.std.proofs.Common.{ℕ, suc, [], List, take, drop, get_or, ap, sym, subst, ◌∙◌, refl}
 use Rattle.be_pages.specs.Pages.{Swaps}
-use Rattle.be_tree.specs.Tree.{IsTree, pages}
+use Rattle.be_tree_reading.specs.Tree.{IsTree, pages}
 use Rattle.be_volume.specs.declared.ops.Op.TheVariants.{RmIndex}
 use Rattle.be_volume.specs.declared.ops.Done.TheVariants.{Unit as Nothing}
-use Rattle.be_paged.specs.Entry.{Entry}
+use Rattle.be_paged_reading.specs.Entry.{Entry}
 use Rattle.be_paged.specs.Changes.{Changes, Steps}
-use Rattle.be_paged.specs.Page.{IsNamedAt, IsGapAt, contents}
+use Rattle.be_paged_reading.specs.Page.{IsNamedAt, IsGapAt, contents}
 use Rattle.be_paged.proofs.Applying.Composing.{changes_none}
 use Rattle.be_paged.proofs.Applying.Hand.{entry_changes}
 use Rattle.be_paged.proofs.IndexEntries.Making.{left_changes, is_there, gone_steps}
-use Rattle.be_paged.proofs.Asking.SourceKeys.{entry_tree}
+use Rattle.be_paged_reading.proofs.Asking.SourceKeys.{entry_tree}
 use Rattle.be_paged.proofs.edits.remove_index.Goals as goal
 
 pub clear-requires-clause-tree : goal.clear-requires-clause-tree

@@ -1,17 +1,21 @@
 use Rattle.std.proofs.Common.{ℕ, ◌+◌, ◌<◌, ◌^◌, sym, subst, ◌∙◌, refl, rules, arith}
 use Rattle.be_volume.specs.declared.ops.Op.TheVariants.{Drop}
 use Rattle.be_volume.proofs.StepLemmas.{accepted}
-use Rattle.be_paged.specs.Page.{contents}
-use Rattle.be_paged.specs.Version.{Spells}
+use Rattle.be_paged_reading.specs.Page.{contents}
+use Rattle.be_paged_reading.specs.Version.{Spells}
 use Rattle.be_paged.proofs.Applying.Composing.{changes_none, changes_trans, changes_since, in_hand_since, start_since, start_after}
 use Rattle.be_paged.proofs.Applying.Dropping.{leaves_first}
 use Rattle.be_paged.proofs.Applying.Emptying.{first_has, bare_of, unset_ok, thinner, some_there}
-use Rattle.be_paged.proofs.CatalogPairs.Validity.{values_valid}
+use Rattle.be_paged_reading.proofs.CatalogPairs.Validity.{values_valid}
+use Rattle.be_paged.specs.Stops.{Gains}
+use Rattle.be_paged.proofs.Sizes.Stopping.{gains_none, gains_trans, stops_after, stops_since}
+use Rattle.be_tree.proofs.Shape.Parts.{on_err}
 use Rattle.be_paged.proofs.edits.unset_all.Goals as goal
 
 pub loop-init : goal.loop-init
 loop-init g c = record {
   changes = changes_none g.R.Look.kept g.R.Look.standing g.R.Look.words (contents c.args.version.now) c.args.room.now c.requires.in_hand;
+  gains = gains_none (g.R.Look.words c.args.room.now) 0 (contents c.args.version.now);
   next = refl;
   thinned = λ volume spells sound fits ok. record {
     left = volume;
@@ -33,11 +37,14 @@ unset_value-requires-clause-known g c = c.in-Some.ensures.place
 
 pub loop-preserved : goal.loop-preserved
 loop-preserved g c =
+    let w = g.R.Look.words in
     let step = changes_since g.R.Look.kept g.R.Look.standing g.R.Look.words (contents c.loop.version) (contents c.unset_value.new.version) c.loop.room c.first_attribute.new.look c.unset_value.new.room
-    c.first_attribute.ensures.unchanged c.in_ok-unset_value.ensures.changes in
+    c.first_attribute.ensures.unchanged c.in_ok-unset_value.ensures.changes.0 in
     record {
       changes = changes_trans g.R.Look.kept g.R.Look.standing g.R.Look.words (contents c.args.version.now) (contents c.loop.version) (contents c.unset_value.new.version) c.args.room.now c.loop.room c.unset_value.new.room
           c.loop.invariant.changes step;
+      gains = gains_trans 0 0 0 (w c.args.room.now) (w c.loop.room) (w c.unset_value.new.room) (contents c.args.version.now) (contents c.loop.version) (contents c.unset_value.new.version) c.loop.invariant.gains
+          (subst (λ (v : ℕ → ℕ → ℕ). Gains 0 v (w c.unset_value.new.room) (contents c.loop.version) (contents c.unset_value.new.version)) c.first_attribute.ensures.unchanged.words c.in_ok-unset_value.ensures.changes.1) (omega arith);
       next = c.in_ok-unset_value.ensures.next ∙ c.loop.invariant.next;
       thinned = λ volume spells sound fits ok.
           let r = c.loop.invariant.thinned volume spells sound fits ok in
@@ -54,10 +61,12 @@ pub returns-in_default-clause-changes : goal.returns-in_default-clause-changes
 returns-in_default-clause-changes g c =
     let v = contents c.loop.version in
     let read = c.first_attribute.new.look in
-    let same = c.first_attribute.ensures.unchanged in
-    changes_trans g.R.Look.kept g.R.Look.standing g.R.Look.words (contents c.args.version.now) v v c.args.room.now c.loop.room read c.loop.invariant.changes
-    (changes_since g.R.Look.kept g.R.Look.standing g.R.Look.words v v c.loop.room read read same
-    (changes_none g.R.Look.kept g.R.Look.standing g.R.Look.words v read (in_hand_since g.R.Look.kept g.R.Look.standing g.R.Look.words v c.loop.room read same c.loop.invariant.changes.in_hand)))
+    let same = c.first_attribute.ensures.unchanged in (
+      changes_trans g.R.Look.kept g.R.Look.standing g.R.Look.words (contents c.args.version.now) v v c.args.room.now c.loop.room read c.loop.invariant.changes
+          (changes_since g.R.Look.kept g.R.Look.standing g.R.Look.words v v c.loop.room read read same
+          (changes_none g.R.Look.kept g.R.Look.standing g.R.Look.words v read (in_hand_since g.R.Look.kept g.R.Look.standing g.R.Look.words v c.loop.room read same c.loop.invariant.changes.in_hand))),
+      subst (λ (w : ℕ → ℕ → ℕ). Gains 0 (g.R.Look.words c.args.room.now) w (contents c.args.version.now) (contents c.loop.version)) (sym c.first_attribute.ensures.unchanged.words) c.loop.invariant.gains,
+    )
 
 pub returns-in_default-clause-bare : goal.returns-in_default-clause-bare
 returns-in_default-clause-bare g c = λ volume spells sound fits ok.
@@ -74,8 +83,15 @@ returns-clause-bare g c = λ volume spells sound fits ok.
     let r = c.loop.invariant.thinned volume spells sound fits ok in
     record { left = r.left; spells = r.spells; leaves = r.leaves; bare = omega (arith, r.counted, c.loop-test.false) }
 
-pub returns-in_err-unset_value-clause-err : goal.returns-in_err-unset_value-clause-err
-returns-in_err-unset_value-clause-err g c =
-    let more = start_since g.R.Look.kept g.R.Look.standing g.R.Look.words c.loop.room c.first_attribute.new.look c.unset_value.new.room c.first_attribute.ensures.unchanged c.in_err-unset_value.ensures.err in
-    let k = start_after g.R.Look.kept g.R.Look.standing g.R.Look.words (contents c.args.version.now) (contents c.loop.version) c.args.room.now c.loop.room c.unset_value.new.room c.loop.invariant.changes more in
-    search (rules, k)
+pub returns-in_err-unset_value-clause-refused : goal.returns-in_err-unset_value-clause-refused
+returns-in_err-unset_value-clause-refused g c =
+    let more = start_since g.R.Look.kept g.R.Look.standing g.R.Look.words c.loop.room c.first_attribute.new.look c.unset_value.new.room c.first_attribute.ensures.unchanged c.in_err-unset_value.ensures.refused.0 in
+    let back = start_after g.R.Look.kept g.R.Look.standing g.R.Look.words (contents c.args.version.now) (contents c.loop.version) c.args.room.now c.loop.room c.unset_value.new.room c.loop.invariant.changes more in
+    let v = contents c.loop.version in
+    let read = c.first_attribute.new.look in
+    let new = c.unset_value.new.room in
+    let same = c.first_attribute.ensures.unchanged in
+    let hand = in_hand_since g.R.Look.kept g.R.Look.standing g.R.Look.words v c.loop.room read same c.loop.invariant.changes.in_hand in
+    let k = stops_after g.R.Look.kept g.R.Look.standing g.R.Look.words 0 0 0 (contents c.args.version.now) v c.args.room.now c.loop.room new c.loop.invariant.changes c.loop.invariant.gains (omega arith)
+    (stops_since g.R.Look.kept g.R.Look.standing g.R.Look.words 0 v c.loop.room read new hand same c.in_err-unset_value.ensures.refused.2) in
+    (on_err _ back, search rules, on_err _ k)

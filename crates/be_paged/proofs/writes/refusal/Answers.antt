@@ -2,10 +2,10 @@ use Rattle.std.proofs.Common.{◌≡◌, ℕ, None, ap, sym, subst, rules}
 use Rattle.std.specs.declared.option.Option.{Option}
 use base.Fml.{GName}
 use Rattle.be_pages.specs.declared.room.Standing.{Standing}
-use Rattle.be_paged.specs.Facts.{AnswersFor, FactsOf}
-use Rattle.be_paged.specs.Page.{contents}
-use Rattle.be_paged.specs.Place.{IsAsked}
-use Rattle.be_paged.specs.declared.asked.Asked.{Asked}
+use Rattle.be_paged_reading.specs.Facts.{AnswersFor, FactsOf}
+use Rattle.be_paged_reading.specs.Page.{contents}
+use Rattle.be_paged_reading.specs.Place.{IsAsked}
+use Rattle.be_paged_reading.specs.declared.asked.Asked.{Asked}
 use Rattle.be_paged.proofs.writes.refusal.Goals as goal
 
 pub first_refusal-requires : goal.first_refusal-requires

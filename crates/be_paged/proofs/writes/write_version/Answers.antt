@@ -1,6 +1,8 @@
-use Rattle.std.proofs.Common.{ℕ, ap, ◌∙◌, arith}
+use Rattle.std.proofs.Common.{ℕ, ap, ◌∙◌, arith, rules}
 use Rattle.std.proofs.lemmas.Bool.Decides.{nat_tests}
-use Rattle.be_tree.proofs.Frame.{written_swaps}
+use Rattle.be_tree_reading.proofs.Frame.{written_swaps}
+use Rattle.be_paged.proofs.Sizes.Stopping.{fewer_same}
+use Rattle.be_tree.proofs.Shape.Parts.{on_err}
 use Rattle.be_paged.proofs.writes.write_version.Goals as goal
 
 pub returns-clause-swaps : goal.returns-clause-swaps
@@ -11,3 +13,10 @@ returns-clause-swaps g c =
     (grind (arith, nat_tests, c.store_version.ensures.standing c.in_ok-page.page))
     (λ q ne. grind (arith, nat_tests, c.store_version.ensures.standing q, c.in_ok-page.ensures.ok q))
     (λ q ne. c.store_version.ensures.others q ne ∙ ap (λ (w : ℕ → ℕ → ℕ). w q) c.in_ok-page.ensures.words)
+
+pub returns-in_err-page-clause-refused : goal.returns-in_err-page-clause-refused
+returns-in_err-page-clause-refused g c = (
+  search rules,
+  search rules,
+  on_err _ (fewer_same (g.R.Look.standing c.args.room.now) (g.R.Look.standing c.take_like.new.self) c.in_err-page.ensures.err),
+)

@@ -1,4 +1,4 @@
 use Rattle.be_plan.proofs.asking.collect_named.Given as goal
 
-abbrev pub ghost-walk : goal.ghost-walk
-ghost-walk g a = g.volume
+abbrev pub ghost-walk_index : goal.ghost-walk_index
+ghost-walk_index g a = g.volume

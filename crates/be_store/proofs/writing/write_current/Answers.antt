@@ -2,16 +2,17 @@ use Rattle.std.proofs.Common.{◌≡◌, ℕ, Ok, sym, ap, ◌∙◌, subst}
 use Rattle.be_core.specs.Machine.{bit}
 use Rattle.be_journal.specs.Journal.{replay}
 use Rattle.be_pages.specs.Pages.{is_kept, times}
-use Rattle.be_paged.specs.Page.{reach}
-use Rattle.be_paged.specs.Version.{IsVersion}
+use Rattle.be_paged_reading.specs.Page.{reach}
+use Rattle.be_paged_reading.specs.Version.{IsVersion}
 use Rattle.be_volume.specs.Ahead.{state_after, reached}
 use Rattle.be_volume.specs.Volume.{State, steps}
 use Rattle.be_table.specs.declared.pass.Knowledge.{Knowledge}
 use Rattle.be_table.specs.Place.{Work}
 use Rattle.be_table.specs.Reading.{standing_among, word_of_page, StaysOpen}
 use Rattle.be_table.specs.Rule.{entries}
-use Rattle.be_table.specs.Works.{IsSpent}
+use Rattle.be_table.specs.Works.{IsFull}
 use Rattle.be_table.proofs.Keeping.{begun_version, keeps_exactly}
+use Rattle.be_store.proofs.Capacity.{full_held_back}
 use Rattle.be_store.proofs.Writes.{current_spelt, full_unroomed, passed_up, published, unroomed_passed_up}
 use Rattle.be_store.proofs.writing.write_current.Goals as goal
 
@@ -61,9 +62,14 @@ returns-in_err-reserve-in-Err-Full-clause-answer c =
     let none = c.in_err-reserve-in-Err-Full.ensures in
     let refused = c.in-Err-Full.ensures.err in
     passed_up c.from_residual-in_err-reserve-in-Err-Full.result c.in_err-reserve-in-Err-Full.field-0.0 _ _ c.from_residual-in_err-reserve-in-Err-Full.ensures.1
-    (full_unroomed c.args.writing.now c.apply_to.new.writing c.reserve-in-Err-Full.new.self (λ (w : Work) least. IsSpent w.knows least) c.args.ops.now c.in-Err-Full.least c.in-Err-Full.field-0 _ c.requires.begins.unpublished c.in-Err-Full.field-0-is refused none.0 none.1)
+    (full_unroomed c.args.writing.now c.apply_to.new.writing c.reserve-in-Err-Full.new.self IsFull c.args.ops.now c.in-Err-Full.least c.in-Err-Full.field-0 _ c.requires.begins.unpublished c.in-Err-Full.field-0-is refused none.0 none.1)
 
 pub returns-in_err-reserve-in-Err-Full-clause-room : goal.returns-in_err-reserve-in-Err-Full-clause-room
 returns-in_err-reserve-in-Err-Full-clause-room c =
     unroomed_passed_up c.from_residual-in_err-reserve-in-Err-Full.result c.apply_to.new.writing.knows c.reserve-in-Err-Full.new.self _ c.in_err-reserve-in-Err-Full.field-0.0 c.in_err-reserve-in-Err-Full.ensures.1
     c.from_residual-in_err-reserve-in-Err-Full.ensures.1
+
+pub returns-in_ok-reserve-in-Err-Full-clause-answer : goal.returns-in_ok-reserve-in-Err-Full-clause-answer
+returns-in_ok-reserve-in-Err-Full-clause-answer c =
+    let none = c.in_ok-reserve-in-Err-Full.ensures in
+    full_held_back c.args.writing.now c.apply_to.new.writing c.reserve-in-Err-Full.new.self c.args.ops.now c.in-Err-Full.least c.in-Err-Full.field-0 c.requires.begins c.in-Err-Full.field-0-is c.in-Err-Full.ensures.err c.in-Err-Full.ensures.few (ap (λ (w : Work). w.knows) none.0) none.1

@@ -1,7 +1,7 @@
 use Rattle.std.proofs.Common.{◌≡◌, ℕ, suc, [], ◌+◌, ◌-◌, ◌*◌, ◌<◌, IsTrue, length, take, ap, sym, subst, ◌∙◌, refl, arith}
 use Rattle.be_pages.specs.Pages.{Swaps}
-use Rattle.be_tree.specs.Page.{items_of, item_at}
-use Rattle.be_tree.specs.Tree.{IsTreeAt, child, pages_at, pages_below}
+use Rattle.be_tree_reading.specs.Page.{items_of, item_at}
+use Rattle.be_tree_reading.specs.Tree.{IsTreeAt, child, pages_at, pages_below}
 use Rattle.be_tree.proofs.Removing.Clears.{swaps_none, swaps_until, gives_both, one_more, next_apart, next_in_use, next_names_page, none_below, take_count, node_readable, child_still, swaps_gives}
 use Rattle.be_tree.proofs.clearing.+clear.Goals as goal
 

@@ -1,7 +1,7 @@
 use Rattle.std.proofs.Common.{◌≡◌, ◌+◌, ◌*◌, [], take}
 use Rattle.be_pages.specs.Pages.{Swaps}
-use Rattle.be_tree.specs.Page.{items_of}
-use Rattle.be_tree.specs.Tree.{pages_below}
+use Rattle.be_tree_reading.specs.Page.{items_of}
+use Rattle.be_tree_reading.specs.Tree.{pages_below}
 use Rattle.be_tree.proofs.clearing.+clear.Given as goal
 
 -- the pages below the branches so far have been given up

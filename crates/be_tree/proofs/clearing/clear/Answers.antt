@@ -1,6 +1,6 @@
 use Rattle.std.proofs.Common.{[], sym, subst, refl}
 use Rattle.be_pages.specs.Pages.{Swaps}
-use Rattle.be_tree.specs.Tree.{pages}
+use Rattle.be_tree_reading.specs.Tree.{pages}
 use Rattle.be_tree.proofs.Removing.Clears.{swaps_none}
 use Rattle.be_tree.proofs.clearing.clear.Goals as goal
 

@@ -3,18 +3,21 @@ use Rattle.std.proofs.lemmas.Result.{IfOk-weaker}
 use Rattle.be_tree.specs.declared.path.Step.{Step}
 use Rattle.be_tree.specs.declared.slot.Slot.TheVariants.{New}
 use Rattle.be_tree.specs.declared.splicing.Cut.{Cut}
-use Rattle.be_tree.specs.Key.{put}
-use Rattle.be_tree.specs.Page.{items_of, level_of}
+use Rattle.be_tree_reading.specs.Key.{put}
+use Rattle.be_tree_reading.specs.Page.{items_of, level_of}
 use Rattle.be_tree.specs.Path.{IsInHand, whole}
 use Rattle.be_tree.specs.Slot.{IsReady, loaded, pair_of, pairs_of}
 use Rattle.be_tree.specs.Splicing.{spliced}
-use Rattle.be_tree.specs.Tree.{BecomesTree, pages, pairs, pairs_below}
+use Rattle.be_tree_reading.specs.Tree.{BecomesTree, pages, pairs, pairs_below}
 use Rattle.be_tree.proofs.Balances.{all_spliced, map_spliced}
-use Rattle.be_tree.proofs.Frame.{readable_kept, unchanged_start}
-use Rattle.be_tree.proofs.Leaves.{PutsAt, hand_tree, leaf_in_hand, puts_in, refuses_since}
-use Rattle.be_tree.proofs.Nodes.Slots.{items_count, loaded_pairs, loaded_ready}
-use Rattle.be_tree.proofs.Putting.Puts.{rising_put}
+use Rattle.be_tree_reading.proofs.Frame.{readable_kept}
+use Rattle.be_tree.proofs.Leaves.{PutsAt, hand_tree, leaf_in_hand, puts_in}
+use Rattle.be_tree_reading.proofs.Items.{items_count}
+use Rattle.be_tree.proofs.Nodes.Slots.{loaded_pairs, loaded_ready}
+use Rattle.be_tree_reading.proofs.Putting.Puts.{rising_put}
 use Rattle.be_tree.proofs.Shape.Parts.{all_one}
+use Rattle.be_tree.specs.Counting.{most_taken}
+use Rattle.be_tree.proofs.Sizes.Refusals.{refuses_read}
 use Rattle.be_tree.proofs.inserting.overflow.Given.{Over}
 use Rattle.be_tree.proofs.inserting.overflow.Goals as goal
 use Rattle.be_tree.proofs.inserting.overflow.Goals.{After-insert, Start}
@@ -111,5 +114,4 @@ returns-clause-ok g c =
 
 pub returns-clause-refused : goal.returns-clause-refused
 returns-clause-refused g c =
-    refuses_since g.R.Look.kept g.R.Look.standing g.R.Look.words g.R.Room.full c.settle.result c.args.room.now c.fill_slots.new.look c.settle.new.room
-    (unchanged_start g.R.Look.kept g.R.Look.standing g.R.Look.words c.args.room.now c.fill_slots.new.look c.fill_slots.ensures.unchanged) c.settle.ensures.refused
+    refuses_read g.R.Look.kept g.R.Look.standing g.R.Look.words g.R.Room.full (most_taken (length c.deref.result.now)) (most_taken (length c.args.path.now.above.items)) c.settle.result c.args.room.now c.fill_slots.new.look c.settle.new.room c.fill_slots.ensures.unchanged (omega (arith, ap length c.deref.ensures.0)) c.settle.ensures.refused

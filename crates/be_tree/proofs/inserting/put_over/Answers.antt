@@ -1,15 +1,17 @@
 use Rattle.std.proofs.Common.{◌≡◌, ◌∙◌, ◌+◌, ◌<◌, [], ◌∷◌, IfOk, get_or, length, drop, sym, subst, ap, arith}
 use Rattle.std.specs.declared.cmp.Ordering.TheVariants.{Equal}
 use Rattle.be_tree.specs.declared.slot.Slot.TheVariants.{New}
-use Rattle.be_tree.specs.Key.{key_cmp, put}
-use Rattle.be_tree.specs.Page.{item_at, item_place, items_of}
+use Rattle.be_tree_reading.specs.Key.{key_cmp, put}
+use Rattle.be_tree_reading.specs.Page.{item_at, item_place, items_of}
 use Rattle.be_tree.specs.Slot.{IsOff, IsReady, pairs_of}
 use Rattle.be_tree.specs.Splicing.{spliced}
-use Rattle.be_tree.specs.Tree.{BecomesTree, pages}
+use Rattle.be_tree_reading.specs.Tree.{BecomesTree, pages}
 use Rattle.be_tree.proofs.Leaves.{ChangesLeaf, all_is, all_rise, keeps_equal, length_spliced, put_equal, put_leaf}
-use Rattle.be_tree.proofs.Nodes.Slots.{item_get, items_count}
-use Rattle.be_tree.proofs.Putting.Puts.{rising_put}
+use Rattle.be_tree_reading.proofs.Items.{item_get, items_count}
+use Rattle.be_tree_reading.proofs.Putting.Puts.{rising_put}
 use Rattle.be_tree.proofs.Shape.Parts.{all_one}
+use Rattle.be_tree.specs.Counting.{most_taken}
+use Rattle.be_tree.proofs.Sizes.Refusals.{refuses_within}
 use Rattle.be_tree.proofs.inserting.put_over.Given.{Over}
 use Rattle.be_tree.proofs.inserting.put_over.Goals as goal
 use Rattle.be_tree.proofs.inserting.put_over.Goals.{Start}
@@ -68,3 +70,7 @@ returns-clause-ok g c =
     let words = g.R.Look.words c.args.room.now in
     let all = all_is (put pair) (rising_put pair) (g.R.Look.standing c.args.room.now) words c.args.root c.args.path.now.above.items c.args.path.now.leaf (record { at = c.args.at; gone = 1 }) (pair ∷ []) (leafy g at) (is g at) in
     subst (λ ps. IfOk c.change_leaf.result (λ new. BecomesTree g.R.Look.kept g.R.Look.standing g.R.Look.words (pages words c.args.root) ps new c.args.room.now c.change_leaf.new.room)) (sym all) c.change_leaf.ensures.ok
+
+pub returns-clause-refused : goal.returns-clause-refused
+returns-clause-refused g c =
+    refuses_within g.R.Look.kept g.R.Look.standing g.R.Look.words g.R.Room.full (length c.args.path.now.above.items + 1) (most_taken (length c.args.path.now.above.items)) c.change_leaf.result c.args.room.now c.change_leaf.new.room (omega arith) c.change_leaf.ensures.refused

@@ -1,4 +1,4 @@
-use Rattle.be_tree.proofs.Trees.{tree_beside}
+use Rattle.be_tree_reading.proofs.Trees.{tree_beside}
 use Rattle.be_tree.proofs.laws.tree_beside.Goals as goal
 
 pub returns : goal.returns

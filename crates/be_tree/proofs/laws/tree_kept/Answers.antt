@@ -1,5 +1,5 @@
 use Rattle.std.proofs.Common.{refl}
-use Rattle.be_tree.proofs.Trees.{tree_kept}
+use Rattle.be_tree_reading.proofs.Trees.{tree_kept}
 use Rattle.be_tree.proofs.laws.tree_kept.Goals as goal
 
 pub returns : goal.returns

@@ -1,4 +1,4 @@
-use Rattle.be_tree.proofs.Trees.{replaces}
+use Rattle.be_tree_reading.proofs.Trees.{replaces}
 use Rattle.be_tree.proofs.laws.tree_replaced.Goals as goal
 
 pub returns : goal.returns

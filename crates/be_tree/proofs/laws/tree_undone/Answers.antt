@@ -1,4 +1,4 @@
-use Rattle.be_tree.proofs.Trees.{tree_undone}
+use Rattle.be_tree_reading.proofs.Trees.{tree_undone}
 use Rattle.be_tree.proofs.laws.tree_undone.Goals as goal
 
 pub returns : goal.returns

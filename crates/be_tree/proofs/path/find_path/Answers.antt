@@ -3,17 +3,17 @@ use Rattle.std.proofs.lemmas.List.{length-append}
 use Rattle.std.proofs.lemmas.List.Elements.{All-append}
 use Rattle.std.specs.declared.cmp.Ordering.TheVariants.{Equal}
 use Rattle.be_tree.specs.declared.path.Step.{Step}
-use Rattle.be_tree.specs.Key.{IsBranchFor, IsGap, key_cmp}
-use Rattle.be_tree.specs.Page.{items_of, item_at, item_place, IsItem}
+use Rattle.be_tree_reading.specs.Key.{IsBranchFor, IsGap, key_cmp}
+use Rattle.be_tree_reading.specs.Page.{items_of, item_at, item_place, IsItem}
 use Rattle.be_tree.specs.Path.{IsStep, IsWay}
-use Rattle.be_tree.specs.Places.{IsBranchAt}
-use Rattle.be_tree.specs.Tree.{IsTreeAt, child, least_of_root}
-use Rattle.be_tree.proofs.Frame.{unchanged_trans}
-use Rattle.be_tree.proofs.Nodes.Slots.{items_count}
-use Rattle.be_tree.proofs.Reading.Starts.{number_back}
-use Rattle.be_tree.proofs.Shape.Heights.{height}
+use Rattle.be_tree_reading.specs.Places.{IsBranchAt}
+use Rattle.be_tree_reading.specs.Tree.{IsTreeAt, child, least_of_root}
+use Rattle.be_tree_reading.proofs.Frame.{unchanged_trans}
+use Rattle.be_tree_reading.proofs.Items.{items_count}
+use Rattle.be_tree_reading.proofs.Reading.Starts.{number_back}
+use Rattle.be_tree_reading.proofs.Shape.Heights.{height}
 use Rattle.be_tree.proofs.Shape.Parts.{all_one}
-use Rattle.be_tree.proofs.Shape.Roots.{root_tree, root_some}
+use Rattle.be_tree_reading.proofs.Shape.Roots.{root_tree, root_some}
 use Rattle.be_tree.proofs.Ways.{branch_child, branch_names, way_push}
 use Rattle.be_tree.proofs.path.find_path.Given.{Over}
 use Rattle.be_tree.proofs.path.find_path.Goals as goal

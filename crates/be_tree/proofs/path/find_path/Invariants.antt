@@ -1,9 +1,9 @@
 use Rattle.std.proofs.Common.{ℕ, ◌+◌, ◌-◌, ◌<◌, ◌≤◌, All, length}
 use Rattle.be_pages.specs.Pages.{IsUnchanged}
-use Rattle.be_tree.specs.Key.{IsBranchFor}
-use Rattle.be_tree.specs.Page.{items_of}
+use Rattle.be_tree_reading.specs.Key.{IsBranchFor}
+use Rattle.be_tree_reading.specs.Page.{items_of}
 use Rattle.be_tree.specs.Path.{IsWay}
-use Rattle.be_tree.specs.Tree.{IsTreeAt}
+use Rattle.be_tree_reading.specs.Tree.{IsTreeAt}
 use Rattle.be_tree.proofs.path.find_path.Given as goal
 
 -- the way so far leads to this page, and leaves room for a step of each level that is left

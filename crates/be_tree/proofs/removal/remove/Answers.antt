@@ -1,11 +1,14 @@
-use Rattle.std.proofs.Common.{◌≡◌, ℕ, List, None, refl, subst, sym}
+use Rattle.std.proofs.Common.{◌≡◌, ℕ, List, None, refl, subst, sym, length, arith}
 use Rattle.std.proofs.lemmas.Result.{IfOk-weaker}
-use Rattle.be_tree.specs.Pair.{Pair}
-use Rattle.be_tree.specs.Key.{payload_at, without}
-use Rattle.be_tree.specs.Tree.{BecomesTree, pages, pairs}
-use Rattle.be_tree.proofs.Frame.{unchanged_start}
-use Rattle.be_tree.proofs.Leaves.{path_absent, path_found, path_read, refuses_since, tree_since}
+use Rattle.be_tree_reading.specs.Pair.{Pair}
+use Rattle.be_tree_reading.specs.Key.{payload_at, without}
+use Rattle.be_tree_reading.specs.Tree.{BecomesTree, level_of_root, pages, pairs}
+use Rattle.be_tree.proofs.Leaves.{path_absent, path_found, path_read, tree_since}
 use Rattle.be_tree.proofs.Removing.Rests.{tree_same, tree_until, without_absent}
+use Rattle.be_tree.specs.Counting.{most_taken}
+use Rattle.be_tree.proofs.Sizes.InHand.{takes_same, takes_within}
+use Rattle.be_tree.proofs.Sizes.Paths.{path_levels}
+use Rattle.be_tree.proofs.Sizes.Refusals.{refuses_read, takes_since}
 use Rattle.be_tree.proofs.removal.remove.Goals as goal
 
 pub returns-then-root-eq0-clause-ok : goal.returns-then-root-eq0-clause-ok
@@ -44,11 +47,25 @@ returns-in-Ok-clause-still g c = λ none.
 
 pub returns-in-Ok-clause-err : goal.returns-in-Ok-clause-err
 returns-in-Ok-clause-err g c =
-    (refuses_since g.R.Look.kept g.R.Look.standing g.R.Look.words g.R.Room.full c.take_out.result c.args.room.now c.find_path.new.look c.take_out.new.room
-    (unchanged_start g.R.Look.kept g.R.Look.standing g.R.Look.words c.args.room.now c.find_path.new.look c.find_path.ensures.unchanged) c.take_out.ensures.refused).0
+    let b = most_taken (length c.find_path.new.path.above.items) in
+    (refuses_read g.R.Look.kept g.R.Look.standing g.R.Look.words g.R.Room.full b b c.take_out.result c.args.room.now c.find_path.new.look c.take_out.new.room c.find_path.ensures.unchanged (omega arith) c.take_out.ensures.refused).0
 
 pub returns-in-Ok-clause-full : goal.returns-in-Ok-clause-full
-returns-in-Ok-clause-full g c = c.take_out.ensures.refused.1
+returns-in-Ok-clause-full g c =
+    c.take_out.ensures.refused.1
+
+pub returns-in-Ok-clause-takes : goal.returns-in-Ok-clause-takes
+returns-in-Ok-clause-takes g c =
+    takes_since 0 (most_taken (length c.find_path.new.path.above.items)) (most_taken (level_of_root (g.R.Look.words c.args.room.now) c.args.root)) c.take_out.result (g.R.Look.standing c.args.room.now) (g.R.Look.standing c.find_path.new.look) (g.R.Look.standing c.take_out.new.room) (takes_same (g.R.Look.standing c.args.room.now) (g.R.Look.standing c.find_path.new.look) c.find_path.ensures.unchanged.standing)
+    (omega (arith, path_levels (g.R.Look.standing c.args.room.now) (g.R.Look.words c.args.room.now) c.args.root c.args.key.now c.find_path.new.path c.find_path.ensures.path)) c.take_out.ensures.refused.2
+
+pub returns-in-Err-clause-takes : goal.returns-in-Err-clause-takes
+returns-in-Err-clause-takes g c =
+    (takes_within 0 (most_taken (level_of_root (g.R.Look.words c.args.room.now) c.args.root)) (g.R.Look.standing c.args.room.now) (g.R.Look.standing c.find_path.new.look) (omega arith) (takes_same (g.R.Look.standing c.args.room.now) (g.R.Look.standing c.find_path.new.look) c.find_path.ensures.unchanged.standing), tt)
+
+pub returns-then-root-eq0-clause-takes : goal.returns-then-root-eq0-clause-takes
+returns-then-root-eq0-clause-takes g c =
+    (takes_within 0 (most_taken (level_of_root (g.R.Look.words c.args.room.now) c.args.root)) (g.R.Look.standing c.args.room.now) (g.R.Look.standing c.args.room.now) (omega arith) (takes_same (g.R.Look.standing c.args.room.now) (g.R.Look.standing c.args.room.now) refl), tt)
 
 pub returns-in-Err-clause-ok : goal.returns-in-Err-clause-ok
 returns-in-Err-clause-ok g c =

@@ -1,14 +1,17 @@
-use Rattle.std.proofs.Common.{ℕ, [], ◌∷◌, IfOk, List, sym, subst, ap}
+use Rattle.std.proofs.Common.{ℕ, [], ◌∷◌, IfOk, List, sym, subst, ap, ◌+◌, length, arith, rules}
 use Rattle.std.proofs.lemmas.Result.{IfOk-weaker}
 use Rattle.be_tree.specs.declared.path.Step.{Step}
 use Rattle.be_tree.specs.declared.rising.Changed.{Changed}
-use Rattle.be_tree.specs.Page.{items_of, level_of}
+use Rattle.be_tree_reading.specs.Page.{items_of, level_of}
 use Rattle.be_tree.specs.Path.{IsChanged, whole}
 use Rattle.be_tree.specs.Slot.{pairs_of}
 use Rattle.be_tree.specs.Splicing.{spliced}
-use Rattle.be_tree.specs.Tree.{BecomesTree, pages, pairs_at}
-use Rattle.be_tree.proofs.Frame.{swaps_start}
-use Rattle.be_tree.proofs.Leaves.{leaf_changed, leaf_pairs, refuses_since}
+use Rattle.be_tree_reading.specs.Tree.{BecomesTree, pages, pairs_at}
+use Rattle.be_tree_reading.proofs.Frame.{swaps_start}
+use Rattle.be_tree.proofs.Leaves.{leaf_changed, leaf_pairs}
+use Rattle.be_tree.proofs.Shape.Parts.{on_err}
+use Rattle.be_tree.proofs.Sizes.InHand.{fewer_within}
+use Rattle.be_tree.proofs.Sizes.Refusals.{refuses_since, takes_on}
 use Rattle.be_tree.proofs.rising.change_leaf.Given.{Over}
 use Rattle.be_tree.proofs.rising.change_leaf.Goals as goal
 use Rattle.be_tree.proofs.rising.change_leaf.Goals.{In_ok-page}
@@ -42,7 +45,12 @@ returns-clause-ok g c =
     c.requires.way c.requires.edit.is_leaf c.in_ok-page.ensures.ok c.requires.edit.enough c.requires.edit.rising)) (h c.args.room.now (changed g (goal.at.returns-clause-ok g c).In_ok-page)))
     (subst (λ xs. IfOk c.rise.result (becomes xs)) c.deref.ensures.0 c.rise.ensures.ok)
 
+pub returns-in_err-page-clause-refused : goal.returns-in_err-page-clause-refused
+returns-in_err-page-clause-refused g c =
+    (on_err _ (c.in_err-page.ensures.refused.0), search rules, takes_on (length c.args.path.now.above.items + 1) _ (g.R.Look.standing c.args.room.now) (g.R.Look.standing c.splice.new.room) (fewer_within 1 (length c.args.path.now.above.items + 1) (g.R.Look.standing c.args.room.now) (g.R.Look.standing c.splice.new.room) (omega arith) c.in_err-page.ensures.refused.2.1))
+
 pub returns-clause-refused : goal.returns-clause-refused
 returns-clause-refused g c =
-    refuses_since g.R.Look.kept g.R.Look.standing g.R.Look.words g.R.Room.full c.rise.result c.args.room.now c.splice.new.room c.rise.new.room
-    (swaps_start g.R.Look.kept g.R.Look.standing g.R.Look.words (c.args.path.now.leaf ∷ []) (c.in_ok-page.page ∷ []) c.args.room.now c.splice.new.room c.in_ok-page.ensures.ok.swaps) c.rise.ensures.refused
+    refuses_since g.R.Look.kept g.R.Look.standing g.R.Look.words g.R.Room.full 1 (length c.deref.result.now) (length c.args.path.now.above.items + 1) c.rise.result c.args.room.now c.splice.new.room c.rise.new.room
+    (swaps_start g.R.Look.kept g.R.Look.standing g.R.Look.words (c.args.path.now.leaf ∷ []) (c.in_ok-page.page ∷ []) c.args.room.now c.splice.new.room c.in_ok-page.ensures.ok.swaps) c.in_ok-page.ensures.refused.2.0
+    (omega (arith, ap length c.deref.ensures.0)) c.rise.ensures.refused

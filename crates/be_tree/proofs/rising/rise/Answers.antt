@@ -1,14 +1,16 @@
-use Rattle.std.proofs.Common.{◌≡◌, ◌∙◌, ℕ, suc, ◌+◌, ◌-◌, ◌<◌, ◌≤◌, [], ◌∷◌, ◌++◌, List, length, get_or, take, ap, sym, subst, arith, rules}
-use Rattle.std.proofs.Math.Seq.{take-suc}
+use Rattle.std.proofs.Common.{◌≡◌, ◌∙◌, ℕ, suc, ◌+◌, ◌-◌, ◌<◌, ◌≤◌, [], ◌∷◌, ◌++◌, List, length, get_or, take, ap, sym, subst, arith, rules, refl}
+use Rattle.std.proofs.Math.Seq.{take-length, take-suc}
 use Rattle.be_tree.specs.declared.path.Step.{Step}
 use Rattle.be_tree.specs.declared.rising.Changed.{Changed}
-use Rattle.be_tree.specs.Page.{level_of}
+use Rattle.be_tree_reading.specs.Page.{level_of}
 use Rattle.be_tree.specs.Path.{IsChanged, whole}
-use Rattle.be_tree.specs.Tree.{BecomesTree, pages, pairs_at}
-use Rattle.be_tree.proofs.Frame.{start_trans, swaps_start}
+use Rattle.be_tree_reading.specs.Tree.{BecomesTree, pages, pairs_at}
+use Rattle.be_tree_reading.proofs.Frame.{start_trans, swaps_start, unchanged_start}
 use Rattle.be_tree.proofs.Raises.{can_raise, changed_here, changed_root, raised, raised_whole}
-use Rattle.be_tree.proofs.Shape.Levels.{kept_not_free}
+use Rattle.be_tree_reading.proofs.Shape.Levels.{kept_not_free}
 use Rattle.be_tree.proofs.Shape.Parts.{on_err}
+use Rattle.be_tree.proofs.Sizes.InHand.{fewer_within, takes_fewer_then, takes_same, takes_then, takes_within}
+use Rattle.be_tree.proofs.Sizes.Refusals.{takes_on}
 use Rattle.be_tree.proofs.rising.rise.Goals as goal
 
 -- the lowest step that is left
@@ -19,6 +21,21 @@ last_step xs i lt =
 
 fewer : (xs : List Step) (i : ℕ) → length xs - (i + 1) ≡ length xs - 1 - i
 fewer xs i = omega arith
+
+pub loop-i-init : goal.loop-i-init
+loop-i-init g c =
+    let above = c.args.above.now in
+    let room = c.args.room.now in
+    let e : length above - 0 ≡ length above = omega arith in
+    let is : take (length above - 0) above ≡ above = ap (λ n. take n above) e ∙ take-length above in
+    record {
+      kept = refl;
+      starts = unchanged_start g.R.Look.kept g.R.Look.standing g.R.Look.words room room (record { kept = refl; standing = refl; words = refl });
+      within = omega arith;
+      takes = takes_same (g.R.Look.standing room) (g.R.Look.standing room) refl;
+      changed = λ start h. subst (λ xs. IsChanged g.R.Look.kept g.R.Look.standing g.R.Look.words c.args.root xs c.args.changed (level_of (g.R.Look.words start c.args.changed.was)) start room) (sym is) h;
+      same = λ start h. ap (λ xs. whole (g.R.Look.words start) xs (pairs_at (level_of (g.R.Look.words start c.args.changed.was)) (g.R.Look.words room) c.args.changed.page)) is;
+    }
 
 pub overflow_cast-below : goal.overflow_cast-below
 overflow_cast-below g c =
@@ -76,6 +93,8 @@ loop-i-preserved g c =
     record {
       kept = spliced.swaps.kept ∙ c.loop-i.invariant.kept;
       starts = start_trans g.R.Look.kept g.R.Look.standing g.R.Look.words c.args.room.now room new c.loop-i.invariant.starts (swaps_start g.R.Look.kept g.R.Look.standing g.R.Look.words (step.page ∷ []) (to ∷ []) room new spliced.swaps);
+      within = omega (arith, c.loop-i-test.true);
+      takes = takes_then i 1 (g.R.Look.standing c.args.room.now) (g.R.Look.standing room) (g.R.Look.standing new) c.loop-i.invariant.takes c.in_ok-page.ensures.refused.2.0;
       changed = λ start was.
           let h = c.loop-i.invariant.changed start was in
           let level = level_of (g.R.Look.words start below.was) in
@@ -94,6 +113,17 @@ loop-i-preserved g c =
     }
 
 pub returns-in_err-page-clause-refused : goal.returns-in_err-page-clause-refused
-returns-in_err-page-clause-refused g c =
-    let P = start_trans g.R.Look.kept g.R.Look.standing g.R.Look.words c.args.room.now c.loop-i.room c.splice.new.room c.loop-i.invariant.starts c.in_err-page.ensures.refused.0 in
-    (on_err _ P, search rules)
+returns-in_err-page-clause-refused g c = (
+  on_err _ (start_trans g.R.Look.kept g.R.Look.standing g.R.Look.words c.args.room.now c.loop-i.room c.splice.new.room c.loop-i.invariant.starts c.in_err-page.ensures.refused.0),
+  search rules,
+  takes_on (length c.args.above.now) _ (g.R.Look.standing c.args.room.now) (g.R.Look.standing c.splice.new.room) (fewer_within (c.loop-i.i + 1) (length c.args.above.now) (g.R.Look.standing c.args.room.now) (g.R.Look.standing c.splice.new.room) (omega (arith, c.loop-i-test.true))
+      (takes_fewer_then c.loop-i.i 1 (g.R.Look.standing c.args.room.now) (g.R.Look.standing c.loop-i.room) (g.R.Look.standing c.splice.new.room) c.loop-i.invariant.takes c.in_err-page.ensures.refused.2.1)),
+)
+
+pub returns-then-below-2-clause-refused : goal.returns-then-below-2-clause-refused
+returns-then-below-2-clause-refused g c =
+    (tt, tt, (takes_within c.loop-i.i (length c.args.above.now) (g.R.Look.standing c.args.room.now) (g.R.Look.standing c.loop-i.room) c.loop-i.invariant.within c.loop-i.invariant.takes, tt))
+
+pub returns-clause-refused : goal.returns-clause-refused
+returns-clause-refused g c =
+    (tt, tt, (takes_within c.loop-i.i (length c.args.above.now) (g.R.Look.standing c.args.room.now) (g.R.Look.standing c.loop-i.room) c.loop-i.invariant.within c.loop-i.invariant.takes, tt))

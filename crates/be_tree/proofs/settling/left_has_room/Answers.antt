@@ -1,8 +1,8 @@
 use Rattle.std.proofs.Common.{◌≡◌, ◌∙◌, ℕ, ◌-◌, ◌<◌, IsTrue, true, ltb, ap, sym, subst, arith}
 use Rattle.std.proofs.lemmas.Bool.Decides.{nat_tests}
 use Rattle.be_pages.specs.Pages.{is_readable}
-use Rattle.be_tree.specs.Page.{IsPage}
-use Rattle.be_tree.proofs.Frame.{readable_kept}
+use Rattle.be_tree_reading.specs.Page.{IsPage}
+use Rattle.be_tree_reading.proofs.Frame.{readable_kept}
 use Rattle.be_tree.proofs.Settles.{above_kept, above_names, above_page, above_same, before_page, before_readable}
 use Rattle.be_tree.proofs.settling.left_has_room.Given.{Over}
 use Rattle.be_tree.proofs.settling.left_has_room.Goals as goal

@@ -1,4 +1,4 @@
-use Rattle.std.proofs.Common.{◌≡◌, ◌∙◌, ℕ, ◌+◌, ◌-◌, ◌<◌, List, [], ◌∷◌, IsTrue, length, take, ap, sym, subst, arith, rules}
+use Rattle.std.proofs.Common.{◌≡◌, ◌∙◌, ℕ, ◌+◌, ◌-◌, ◌<◌, List, [], ◌∷◌, IsTrue, length, take, ap, sym, subst, arith, rules, ◌*◌, refl}
 use Rattle.std.proofs.Math.Seq.{take-length}
 use Rattle.std.proofs.lemmas.List.{length-take-le}
 use Rattle.std.proofs.lemmas.Result.{IfOk-weaker}
@@ -6,18 +6,21 @@ use Rattle.be_pages.specs.Pages.{IsUnchanged, KeepsStart}
 use Rattle.be_tree.specs.declared.path.Step.{Step}
 use Rattle.be_tree.specs.declared.settling.Turn.{Turn}
 use Rattle.be_tree.specs.declared.slot.Slot.{Slot}
-use Rattle.be_tree.specs.Page.{level_of}
-use Rattle.be_tree.specs.Pair.{Pair}
+use Rattle.be_tree_reading.specs.Page.{level_of}
+use Rattle.be_tree_reading.specs.Pair.{Pair}
 use Rattle.be_tree.specs.Path.{IsInHand, least_at, whole}
-use Rattle.be_tree.specs.Settling.{IsAbove, IsTurned}
+use Rattle.be_tree.specs.Settling.{IsAbove, IsTurned, taken_for}
 use Rattle.be_tree.specs.Slot.{pairs_of}
-use Rattle.be_tree.specs.Tree.{BecomesTree, pages, pages_below, pairs_below}
+use Rattle.be_tree_reading.specs.Tree.{BecomesTree, pages, pages_below, pairs_below}
 use Rattle.be_tree.proofs.Balances.{hand_apart, hand_rest, hand_tree_at, hands_start, read_hand, read_same, steps_above}
-use Rattle.be_tree.proofs.Frame.{readable_kept, start_trans, unchanged_start}
-use Rattle.be_tree.proofs.Leaves.{refuses_since}
-use Rattle.be_tree.proofs.Shape.Heights.{height}
+use Rattle.be_tree_reading.proofs.Frame.{readable_kept, start_trans, unchanged_start}
+use Rattle.be_tree_reading.proofs.Shape.Heights.{height}
 use Rattle.be_tree.proofs.Shape.Parts.{on_err}
-use Rattle.be_tree.proofs.Shape.Roots.{root_some}
+use Rattle.be_tree_reading.proofs.Shape.Roots.{root_some}
+use Rattle.be_tree.specs.Counting.{TakesAtMost, TakesFewer, in_hand, most_taken}
+use Rattle.be_pages.specs.declared.room.Standing.{Standing}
+use Rattle.be_tree.proofs.Sizes.InHand.{takes_same}
+use Rattle.be_tree.proofs.Sizes.Refusals.{refuses_since, takes_on}
 use Rattle.be_tree.proofs.settling.settle.Given.{Over}
 use Rattle.be_tree.proofs.settling.settle.Goals as goal
 use Rattle.be_tree.proofs.settling.settle.Goals.{After-deref, After-word-level}
@@ -32,6 +35,8 @@ loop-i-init g c =
     record {
       in_hand = λ start h. subst (λ xs. IsInHand g.R.Look.kept g.R.Look.standing g.R.Look.words c.args.root xs c.args.was c.args.pair.now c.args.in_hand.items (level_of (g.R.Look.words start c.args.was)) start c.args.room.now) (sym is) h;
       same = λ start h. ap (λ xs. whole (g.R.Look.words start) xs (pairs_below (level_of (g.R.Look.words start c.args.was)) (g.R.Look.words c.args.room.now) (pairs_of (g.R.Look.words c.args.room.now) c.args.pair.now c.args.in_hand.items))) is;
+      within = omega arith;
+      takes = takes_same (g.R.Look.standing c.args.room.now) (g.R.Look.standing c.args.room.now) refl;
       few = c.requires.few;
       some = c.requires.some;
     }
@@ -46,6 +51,16 @@ all g c start = whole (g.R.Look.words start) c.args.above.now (pairs_below (leve
 -- the steps that are left
 abbrev left : (xs : List Step) (i : ℕ) → List Step
 left xs i = take (length xs - i) xs
+
+-- how many pages are taken until the page above is in hand, and until the pages above are written
+one_more : (i : ℕ) (s t u : ℕ → Standing) → TakesAtMost (2 * i) s t → TakesAtMost 2 t u → TakesAtMost (2 * (i + 1)) s u
+one_more i s t u before two n = omega (arith, before n, two n)
+
+last_takes : (above : List Step) (i : ℕ) (s t u : ℕ → Standing) → i < length above → TakesAtMost (2 * i) s t → TakesAtMost (length (left above i) + 2) t u → TakesAtMost (most_taken (length above)) s u
+last_takes above i s t u lt before more n = omega (arith, lt, length-take-le (length above - i) above (omega arith), before n, more n)
+
+last_fewer : (above : List Step) (i : ℕ) (s t u : ℕ → Standing) → i < length above → TakesAtMost (2 * i) s t → TakesFewer (length (left above i) + 2) t u → TakesFewer (most_taken (length above)) s u
+last_fewer above i s t u lt before more n = omega (arith, lt, length-take-le (length above - i) above (omega arith), before n, more n)
 
 -- the node that is left
 module _ (g : Over) (c : After-deref g) (start : g.row.R.Denot) (h : Begun g c start) where
@@ -110,6 +125,9 @@ loop-i-preserved g c =
     record {
       in_hand = λ start h. (turned start h).in_hand;
       same = λ start h. (turned start h).same;
+      within = omega (arith, c.loop-i-test.true);
+      takes = one_more c.loop-i.i (g.R.Look.standing c.args.room.now) (g.R.Look.standing c.loop-i.room) (g.R.Look.standing new) c.loop-i.invariant.takes
+          (subst (λ (t : Turn). TakesAtMost (taken_for t (length (left c.args.above.now c.loop-i.i))) (g.R.Look.standing c.loop-i.room) (g.R.Look.standing new)) c.in-Above.is c.in_ok-turn.ensures.takes);
       few = first.few;
       some = λ lt. first.some (omega (arith, lt, length-take-le (length c.args.above.now - (c.loop-i.i + 1)) c.args.above.now (omega arith)));
     }
@@ -127,7 +145,18 @@ pub returns-in_err-turn-clause-refused : goal.returns-in_err-turn-clause-refused
 returns-in_err-turn-clause-refused g c =
     let at = (goal.at.returns-in_err-turn-clause-refused g c).After-deref in
     let P = start_trans g.R.Look.kept g.R.Look.standing g.R.Look.words c.args.room.now c.loop-i.room c.settle_once.new.room (starts g at c.requires.in_hand.0 c.requires.in_hand.1) c.in_err-turn.ensures.refused.0 in
-    (on_err _ P, search rules)
+    (on_err _ P, search rules, takes_on (most_taken (length c.args.above.now)) _ (g.R.Look.standing c.args.room.now) (g.R.Look.standing c.settle_once.new.room) (last_fewer c.args.above.now c.loop-i.i (g.R.Look.standing c.args.room.now) (g.R.Look.standing c.loop-i.room) (g.R.Look.standing c.settle_once.new.room) c.loop-i-test.true c.loop-i.invariant.takes c.in_err-turn.ensures.refused.2.1))
+
+pub returns-in-Whole-clause-refused : goal.returns-in-Whole-clause-refused
+returns-in-Whole-clause-refused g c = (
+  tt,
+  tt,
+  (
+    last_takes c.args.above.now c.loop-i.i (g.R.Look.standing c.args.room.now) (g.R.Look.standing c.loop-i.room) (g.R.Look.standing c.settle_once.new.room) c.loop-i-test.true c.loop-i.invariant.takes
+        (subst (λ (t : Turn). TakesAtMost (taken_for t (length (left c.args.above.now c.loop-i.i))) (g.R.Look.standing c.loop-i.room) (g.R.Look.standing c.settle_once.new.room)) c.in-Whole.is c.in_ok-turn.ensures.takes),
+    tt,
+  ),
+)
 
 pub word-level-requires-clause-readable : goal.word-level-requires-clause-readable
 word-level-requires-clause-readable g c =
@@ -224,5 +253,5 @@ returns-clause-ok g c =
 pub returns-clause-refused : goal.returns-clause-refused
 returns-clause-refused g c =
     let at = (goal.at.returns-clause-refused g c).After-word-level in
-    refuses_since g.R.Look.kept g.R.Look.standing g.R.Look.words g.R.Room.full c.write_rest.result c.args.room.now c.word-level.new.self c.write_rest.new.room (last_starts g at c.requires.in_hand.0 c.requires.in_hand.1)
-    (c.write_rest.ensures.err, c.write_rest.ensures.full)
+    refuses_since g.R.Look.kept g.R.Look.standing g.R.Look.words g.R.Room.full (2 * c.loop-i.i) 3 (most_taken (length c.args.above.now)) c.write_rest.result c.args.room.now c.word-level.new.self c.write_rest.new.room (last_starts g at c.requires.in_hand.0 c.requires.in_hand.1)
+    (λ n. omega (arith, c.loop-i.invariant.takes n, ap (in_hand n) c.word-level.ensures.standing)) (omega (arith, c.loop-i.invariant.within)) c.write_rest.ensures.refused

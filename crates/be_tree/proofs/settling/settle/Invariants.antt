@@ -1,8 +1,9 @@
-use Rattle.std.proofs.Common.{◌≡◌, ◌-◌, ◌<◌, ◌≤◌, length, take}
-use Rattle.be_tree.specs.Page.{level_of}
+use Rattle.std.proofs.Common.{◌≡◌, ◌-◌, ◌*◌, ◌<◌, ◌≤◌, length, take}
+use Rattle.be_tree.specs.Counting.{TakesAtMost}
+use Rattle.be_tree_reading.specs.Page.{level_of}
 use Rattle.be_tree.specs.Path.{IsInHand, whole}
 use Rattle.be_tree.specs.Slot.{pairs_of}
-use Rattle.be_tree.specs.Tree.{pairs_below}
+use Rattle.be_tree_reading.specs.Tree.{pairs_below}
 use Rattle.be_tree.proofs.settling.settle.Given as goal
 
 -- the node that is left to settle has come up so far, of whatever tree it is
@@ -13,6 +14,8 @@ invariant-loop-i g l = record {
   same : (start : g.row.R.Denot) → IsInHand g.R.Look.kept g.R.Look.standing g.R.Look.words l.root l.above l.fn.was l.pair l.fn.in_hand.items (level_of (g.R.Look.words start l.fn.was)) start l.fn.room
       → whole (g.R.Look.words start) (take (length l.above - l.i) l.above) (pairs_below (level_of (g.R.Look.words start l.was)) (g.R.Look.words l.room) (pairs_of (g.R.Look.words l.room) l.pair l.slots.items))
       ≡ whole (g.R.Look.words start) l.above (pairs_below (level_of (g.R.Look.words start l.fn.was)) (g.R.Look.words l.fn.room) (pairs_of (g.R.Look.words l.fn.room) l.pair l.fn.in_hand.items));
+  within : l.i ≤ length l.above;
+  takes : TakesAtMost (2 * l.i) (g.R.Look.standing l.fn.room) (g.R.Look.standing l.room);
   few : length l.slots.items ≤ 13;
   some : l.i < length l.above → 5 ≤ length l.slots.items;
 }

@@ -1,8 +1,9 @@
 use Rattle.std.proofs.Common.{ℕ, ◌+◌, ◌-◌, ◌<◌, ◌≤◌, IsTrue, length, refl, sym, subst, arith}
-use Rattle.be_tree.specs.Page.{item_at, item_place}
-use Rattle.be_tree.specs.Tree.{child}
-use Rattle.be_tree.proofs.Frame.{readable_kept}
+use Rattle.be_tree_reading.specs.Page.{item_at, item_place}
+use Rattle.be_tree_reading.specs.Tree.{child}
+use Rattle.be_tree_reading.proofs.Frame.{readable_kept}
 use Rattle.be_tree.proofs.Settles.{above_kept, above_page, before_page, child_beside, child_read, settled_since}
+use Rattle.be_tree.proofs.Sizes.Refusals.{refuses_read}
 use Rattle.be_tree.proofs.settling.settle_child.Goals as goal
 
 pub settle_left-requires-clause-child : goal.settle_left-requires-clause-child
@@ -79,3 +80,19 @@ returns-then-step-count_of-clause-ok g c =
 pub returns-clause-ok : goal.returns-clause-ok
 returns-clause-ok g c =
     settled_since g.R.Look.kept g.R.Look.standing g.R.Look.words c.args.step c.args.was c.args.node.level c.args.node.pair.now c.args.node.slots.now c.args.room.now c.count_of.new.look c.count_of.ensures.unchanged c.settle_left-2.result c.settle_left-2.new.room c.settle_left-2.ensures.ok
+
+pub returns-then-left_has_room-clause-refused : goal.returns-then-left_has_room-clause-refused
+returns-then-left_has_room-clause-refused g c =
+    refuses_read g.R.Look.kept g.R.Look.standing g.R.Look.words g.R.Room.full 2 2 c.settle_left.result c.args.room.now c.left_has_room.new.room c.settle_left.new.room c.left_has_room.ensures.unchanged (omega arith) c.settle_left.ensures.refused
+
+pub returns-then-node-gt-MOST_ITEMS-clause-refused : goal.returns-then-node-gt-MOST_ITEMS-clause-refused
+returns-then-node-gt-MOST_ITEMS-clause-refused g c =
+    refuses_read g.R.Look.kept g.R.Look.standing g.R.Look.words g.R.Room.full 2 2 c.settle_split.result c.args.room.now c.left_has_room.new.room c.settle_split.new.room c.left_has_room.ensures.unchanged (omega arith) c.settle_split.ensures.refused
+
+pub returns-then-step-count_of-clause-refused : goal.returns-then-step-count_of-clause-refused
+returns-then-step-count_of-clause-refused g c =
+    refuses_read g.R.Look.kept g.R.Look.standing g.R.Look.words g.R.Room.full 2 2 c.settle_right.result c.args.room.now c.count_of.new.look c.settle_right.new.room c.count_of.ensures.unchanged (omega arith) c.settle_right.ensures.refused
+
+pub returns-clause-refused : goal.returns-clause-refused
+returns-clause-refused g c =
+    refuses_read g.R.Look.kept g.R.Look.standing g.R.Look.words g.R.Room.full 2 2 c.settle_left-2.result c.args.room.now c.count_of.new.look c.settle_left-2.new.room c.count_of.ensures.unchanged (omega arith) c.settle_left-2.ensures.refused

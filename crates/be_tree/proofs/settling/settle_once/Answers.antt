@@ -4,16 +4,21 @@ use Rattle.be_pages.specs.Pages.{IsUnchanged, KeepsStart, is_readable}
 use Rattle.be_tree.specs.declared.path.Step.{Step}
 use Rattle.be_tree.specs.declared.settling.Settled.{Settled}
 use Rattle.be_tree.specs.declared.slot.Slot.{Slot}
-use Rattle.be_tree.specs.Page.{IsPage, items_of, level_of}
-use Rattle.be_tree.specs.Pair.{Pair}
+use Rattle.be_tree_reading.specs.Page.{IsPage, items_of, level_of}
+use Rattle.be_tree_reading.specs.Pair.{Pair}
 use Rattle.be_tree.specs.Path.{IsChanged, IsInHand, least_at, whole}
 use Rattle.be_tree.specs.Settling.{IsAbove, IsChildInHand, IsSettled, beside}
 use Rattle.be_tree.specs.Slot.{loaded, pairs_of}
 use Rattle.be_tree.specs.Splicing.{CanBeSpliced, IsSpliced, spliced}
-use Rattle.be_tree.specs.Tree.{BecomesTree, pages, pairs_at, pairs_below}
+use Rattle.be_tree_reading.specs.Tree.{BecomesTree, pages, pairs_at, pairs_below}
 use Rattle.be_tree.proofs.Balances.{can_settle, child_in_hand, hand_apart, least_front, now_kept, now_page, now_range, once_hand, once_same, out_above, settled_at, settled_count, settled_read, settled_start, settled_tree}
-use Rattle.be_tree.proofs.Frame.{readable_kept, start_trans, swaps_start, unchanged_start}
+use Rattle.be_tree_reading.proofs.Frame.{readable_kept, start_trans, swaps_start, unchanged_start}
 use Rattle.be_tree.proofs.Shape.Parts.{on_err}
+use Rattle.be_tree.specs.Counting.{TakesAtMost, TakesFewer, in_hand}
+use Rattle.be_pages.specs.declared.room.Standing.{Standing}
+use Rattle.std.proofs.lemmas.List.{length-take-le}
+use Rattle.be_tree.proofs.Sizes.InHand.{fewer_within, takes_fewer_then, takes_same, takes_then, takes_within}
+use Rattle.be_tree.proofs.Sizes.Refusals.{takes_on}
 use Rattle.be_tree.proofs.settling.settle_once.Given.{Over}
 use Rattle.be_tree.proofs.settling.settle_once.Goals as goal
 use Rattle.be_tree.proofs.settling.settle_once.Goals.{After-word-level}
@@ -27,6 +32,16 @@ last xs = get_or xs (length xs - 1) (record { page = 0; at = 0 })
 
 abbrev front : List Step → List Step
 front xs = take (length xs - 1) xs
+
+-- how many pages are taken until the node is settled, and until the pages above are written
+settled_takes : (s a b d : ℕ → Standing) → a ≡ s → TakesAtMost 2 a b → d ≡ b → TakesAtMost 2 s d
+settled_takes s a b d first two last n = omega (arith, ap (in_hand n) first, two n, ap (in_hand n) last)
+
+risen_takes : (above : List Step) (s d e f : ℕ → Standing) → 0 < length above → TakesAtMost 2 s d → TakesAtMost 1 d e → TakesAtMost (length (front above)) e f → TakesAtMost (length above + 2) s f
+risen_takes above s d e f some two one more n = omega (arith, some, length-take-le (length above - 1) above (omega arith), two n, one n, more n)
+
+risen_fewer : (above : List Step) (s d e f : ℕ → Standing) → 0 < length above → TakesAtMost 2 s d → TakesAtMost 1 d e → TakesFewer (length (front above)) e f → TakesFewer (length above + 2) s f
+risen_fewer above s d e f some two one more n = omega (arith, some, length-take-le (length above - 1) above (omega arith), two n, one n, more n)
 
 -- the node, of whatever tree it is, once its page's level was read
 abbrev Begun : (g : Over) (c : After-word-level g) (start : g.row.R.Denot) → Type 0
@@ -270,11 +285,27 @@ returns-then-fits-clause-ok g c = λ start h.
     tree g at start h settled now after c.deref.result.now c.deref.ensures.0 c.in_ok-page.page c.splice.new.room c.in_ok-page.ensures.ok many c.in_ok-whole.whole c.rise.new.room
     (c.in_ok-whole.ensures.ok start (changed g at start h settled now after c.deref.result.now c.deref.ensures.0 c.in_ok-page.page c.splice.new.room c.in_ok-page.ensures.ok many (ltb 0 settled.cut.at) (above_zero settled.cut.at)))
 
+pub returns-clause-takes : goal.returns-clause-takes
+returns-clause-takes g c =
+    takes_then 2 0 (g.R.Look.standing c.args.room.now) (g.R.Look.standing c.count_of.new.look) (g.R.Look.standing c.slots_with-slots.new.look) (settled_takes (g.R.Look.standing c.args.room.now) (g.R.Look.standing c.word-level.new.self) (g.R.Look.standing c.settle_child.new.room) (g.R.Look.standing c.count_of.new.look) c.word-level.ensures.standing c.in_ok-settled.ensures.refused.2.0 c.count_of.ensures.unchanged.standing) (takes_same (g.R.Look.standing c.count_of.new.look) (g.R.Look.standing c.slots_with-slots.new.look) c.slots_with-slots.ensures.unchanged.standing)
+
+pub returns-then-fits-clause-takes : goal.returns-then-fits-clause-takes
+returns-then-fits-clause-takes g c =
+    risen_takes c.args.above.now (g.R.Look.standing c.args.room.now) (g.R.Look.standing c.count_of.new.look) (g.R.Look.standing c.splice.new.room) (g.R.Look.standing c.rise.new.room) c.requires.below (settled_takes (g.R.Look.standing c.args.room.now) (g.R.Look.standing c.word-level.new.self) (g.R.Look.standing c.settle_child.new.room) (g.R.Look.standing c.count_of.new.look) c.word-level.ensures.standing c.in_ok-settled.ensures.refused.2.0 c.count_of.ensures.unchanged.standing) c.in_ok-page.ensures.refused.2.0 c.in_ok-whole.ensures.refused.2.0
+
+pub returns-clause-refused : goal.returns-clause-refused
+returns-clause-refused g c =
+    (tt, tt, (takes_within 2 (length c.args.above.now + 2) (g.R.Look.standing c.args.room.now) (g.R.Look.standing c.slots_with-slots.new.look) (omega arith) (takes_then 2 0 (g.R.Look.standing c.args.room.now) (g.R.Look.standing c.count_of.new.look) (g.R.Look.standing c.slots_with-slots.new.look) (settled_takes (g.R.Look.standing c.args.room.now) (g.R.Look.standing c.word-level.new.self) (g.R.Look.standing c.settle_child.new.room) (g.R.Look.standing c.count_of.new.look) c.word-level.ensures.standing c.in_ok-settled.ensures.refused.2.0 c.count_of.ensures.unchanged.standing) (takes_same (g.R.Look.standing c.count_of.new.look) (g.R.Look.standing c.slots_with-slots.new.look) c.slots_with-slots.ensures.unchanged.standing)), tt))
+
+pub returns-then-fits-clause-refused : goal.returns-then-fits-clause-refused
+returns-then-fits-clause-refused g c =
+    (tt, tt, (risen_takes c.args.above.now (g.R.Look.standing c.args.room.now) (g.R.Look.standing c.count_of.new.look) (g.R.Look.standing c.splice.new.room) (g.R.Look.standing c.rise.new.room) c.requires.below (settled_takes (g.R.Look.standing c.args.room.now) (g.R.Look.standing c.word-level.new.self) (g.R.Look.standing c.settle_child.new.room) (g.R.Look.standing c.count_of.new.look) c.word-level.ensures.standing c.in_ok-settled.ensures.refused.2.0 c.count_of.ensures.unchanged.standing) c.in_ok-page.ensures.refused.2.0 c.in_ok-whole.ensures.refused.2.0, tt))
+
 pub returns-in_err-settled-clause-refused : goal.returns-in_err-settled-clause-refused
 returns-in_err-settled-clause-refused g c =
     let at = (goal.at.returns-in_err-settled-clause-refused g c).After-word-level in
     let P = start_trans g.R.Look.kept g.R.Look.standing g.R.Look.words c.args.room.now c.word-level.new.self c.settle_child.new.room (unchanged_start g.R.Look.kept g.R.Look.standing g.R.Look.words c.args.room.now c.word-level.new.self (same g at)) c.in_err-settled.ensures.refused.0 in
-    (on_err _ P, search rules)
+    (on_err _ P, search rules, takes_on (length c.args.above.now + 2) _ (g.R.Look.standing c.args.room.now) (g.R.Look.standing c.settle_child.new.room) (fewer_within 2 (length c.args.above.now + 2) (g.R.Look.standing c.args.room.now) (g.R.Look.standing c.settle_child.new.room) (omega arith) (takes_fewer_then 0 2 (g.R.Look.standing c.args.room.now) (g.R.Look.standing c.word-level.new.self) (g.R.Look.standing c.settle_child.new.room) (takes_same (g.R.Look.standing c.args.room.now) (g.R.Look.standing c.word-level.new.self) c.word-level.ensures.standing) c.in_err-settled.ensures.refused.2.1)))
 
 pub returns-in_err-page-clause-refused : goal.returns-in_err-page-clause-refused
 returns-in_err-page-clause-refused g c =
@@ -284,7 +315,7 @@ returns-in_err-page-clause-refused g c =
     let s = c.in_ok-settled.ensures.ok start (node g at start h) in
     let after = read g at start h c.in_ok-settled.settled c.settle_child.new.room s c.count_of.new.look c.count_of.ensures.unchanged in
     let P = start_trans g.R.Look.kept g.R.Look.standing g.R.Look.words c.args.room.now c.count_of.new.look c.splice.new.room (starts g at start h c.in_ok-settled.settled c.count_of.new.look after) c.in_err-page.ensures.refused.0 in
-    (on_err _ P, search rules)
+    (on_err _ P, search rules, takes_on (length c.args.above.now + 2) _ (g.R.Look.standing c.args.room.now) (g.R.Look.standing c.splice.new.room) (fewer_within 3 (length c.args.above.now + 2) (g.R.Look.standing c.args.room.now) (g.R.Look.standing c.splice.new.room) (omega (arith, c.requires.below)) (takes_fewer_then 2 1 (g.R.Look.standing c.args.room.now) (g.R.Look.standing c.count_of.new.look) (g.R.Look.standing c.splice.new.room) (settled_takes (g.R.Look.standing c.args.room.now) (g.R.Look.standing c.word-level.new.self) (g.R.Look.standing c.settle_child.new.room) (g.R.Look.standing c.count_of.new.look) c.word-level.ensures.standing c.in_ok-settled.ensures.refused.2.0 c.count_of.ensures.unchanged.standing) c.in_err-page.ensures.refused.2.1)))
 
 pub returns-in_err-whole-clause-refused : goal.returns-in_err-whole-clause-refused
 returns-in_err-whole-clause-refused g c =
@@ -297,4 +328,4 @@ returns-in_err-whole-clause-refused g c =
     let P = start_trans g.R.Look.kept g.R.Look.standing g.R.Look.words c.args.room.now now c.rise.new.room (starts g at start h c.in_ok-settled.settled now after)
     (start_trans g.R.Look.kept g.R.Look.standing g.R.Look.words now c.splice.new.room c.rise.new.room
     (swaps_start g.R.Look.kept g.R.Look.standing g.R.Look.words ((last c.args.above.now).page ∷ []) (c.in_ok-page.page ∷ []) now c.splice.new.room c.in_ok-page.ensures.ok.swaps) c.in_err-whole.ensures.refused.0) in
-    (on_err _ P, search rules)
+    (on_err _ P, search rules, takes_on (length c.args.above.now + 2) _ (g.R.Look.standing c.args.room.now) (g.R.Look.standing c.rise.new.room) (risen_fewer c.args.above.now (g.R.Look.standing c.args.room.now) (g.R.Look.standing c.count_of.new.look) (g.R.Look.standing c.splice.new.room) (g.R.Look.standing c.rise.new.room) c.requires.below (settled_takes (g.R.Look.standing c.args.room.now) (g.R.Look.standing c.word-level.new.self) (g.R.Look.standing c.settle_child.new.room) (g.R.Look.standing c.count_of.new.look) c.word-level.ensures.standing c.in_ok-settled.ensures.refused.2.0 c.count_of.ensures.unchanged.standing) c.in_ok-page.ensures.refused.2.0 c.in_err-whole.ensures.refused.2.1))

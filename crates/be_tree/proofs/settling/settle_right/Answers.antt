@@ -1,14 +1,17 @@
-use Rattle.std.proofs.Common.{◌≡◌, ◌∙◌, ℕ, suc, ◌+◌, ◌++◌, List, IsTrue, length, map, ap, sym, subst, arith}
+use Rattle.std.proofs.Common.{◌≡◌, ◌∙◌, ℕ, suc, ◌+◌, ◌++◌, List, IsTrue, length, map, ap, sym, subst, arith, rules}
 use Rattle.std.specs.List.{range_with_len}
 use Rattle.be_pages.specs.Pages.{IsUnchanged, is_readable}
 use Rattle.be_tree.specs.declared.slot.Slot.{Slot}
 use Rattle.be_tree.specs.declared.slot.Slot.TheVariants.{At}
-use Rattle.be_tree.specs.Page.{IsPage, item_place}
+use Rattle.be_tree_reading.specs.Page.{IsPage, item_place}
 use Rattle.be_tree.specs.Settling.{IsChildInHand, beside}
 use Rattle.be_tree.specs.Slot.{pairs_of}
-use Rattle.be_tree.specs.Tree.{pairs_below}
-use Rattle.be_tree.proofs.Frame.{readable_kept, unchanged_trans}
+use Rattle.be_tree_reading.specs.Tree.{pairs_below}
+use Rattle.be_tree_reading.proofs.Frame.{readable_kept, start_trans, unchanged_start, unchanged_trans}
 use Rattle.be_tree.proofs.Settles.{TwoInHand, above_kept, above_names, above_page, above_same, after_count, after_in_hand, after_page, after_readable}
+use Rattle.be_tree.proofs.Shape.Parts.{on_err}
+use Rattle.be_tree.proofs.Sizes.InHand.{takes_fewer_then, takes_same, takes_then}
+use Rattle.be_tree.proofs.Sizes.Refusals.{takes_on}
 use Rattle.be_tree.proofs.settling.settle_right.Given.{Over}
 use Rattle.be_tree.proofs.settling.settle_right.Goals as goal
 use Rattle.be_tree.proofs.settling.settle_right.Goals.{After-deref-2}
@@ -104,3 +107,13 @@ returns-clause-ok g c = λ start h.
       branches = c.in_ok-branches.ensures.branches;
       becomes = (two g at start h).settled (pairs_of (g.R.Look.words new) given branches) new c.in_ok-branches.ensures.ok;
     }
+
+pub returns-in_err-branches-clause-refused : goal.returns-in_err-branches-clause-refused
+returns-in_err-branches-clause-refused g c =
+    let at = (goal.at.returns-in_err-branches-clause-refused g c).After-deref-2 in
+    (on_err _ (start_trans g.R.Look.kept g.R.Look.standing g.R.Look.words c.args.room.now c.fill_slots.new.look c.pack_two.new.room (unchanged_start g.R.Look.kept g.R.Look.standing g.R.Look.words c.args.room.now c.fill_slots.new.look (same g at)) c.in_err-branches.ensures.refused.0), search rules, takes_on 2 _ (g.R.Look.standing c.args.room.now) (g.R.Look.standing c.pack_two.new.room) (takes_fewer_then 0 2 (g.R.Look.standing c.args.room.now) (g.R.Look.standing c.fill_slots.new.look) (g.R.Look.standing c.pack_two.new.room) (takes_same (g.R.Look.standing c.args.room.now) (g.R.Look.standing c.fill_slots.new.look) (same g at).standing) c.in_err-branches.ensures.refused.2.1))
+
+pub returns-clause-refused : goal.returns-clause-refused
+returns-clause-refused g c =
+    let at = (goal.at.returns-clause-refused g c).After-deref-2 in
+    (tt, tt, (takes_then 0 2 (g.R.Look.standing c.args.room.now) (g.R.Look.standing c.fill_slots.new.look) (g.R.Look.standing c.pack_two.new.room) (takes_same (g.R.Look.standing c.args.room.now) (g.R.Look.standing c.fill_slots.new.look) (same g at).standing) c.in_ok-branches.ensures.refused.2.0, tt))

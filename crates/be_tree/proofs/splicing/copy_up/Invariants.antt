@@ -1,6 +1,6 @@
 use Rattle.std.proofs.Common.{◌+◌, ◌-◌, ℕ, ◌<◌, ◌≤◌}
 use Rattle.be_pages.specs.Pages.{OnlyWrites}
-use Rattle.be_tree.specs.Page.{item_place}
+use Rattle.be_tree_reading.specs.Page.{item_place}
 use Rattle.be_tree.specs.Splicing.{IsCopy}
 use Rattle.be_tree.proofs.splicing.copy_up.Given as goal
 

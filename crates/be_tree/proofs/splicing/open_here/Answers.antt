@@ -1,6 +1,6 @@
 use Rattle.std.proofs.Common.{◌≡◌, ℕ, ◌+◌, ◌-◌, ◌<◌, ◌∙◌, ap, inl, inr, arith}
 use Rattle.be_pages.specs.Pages.{OnlyWrites}
-use Rattle.be_tree.specs.Page.{IsItem, item_at, item_place}
+use Rattle.be_tree_reading.specs.Page.{IsItem, item_at, item_place}
 use Rattle.be_tree.specs.Splicing.{AreCopies}
 use Rattle.be_tree.proofs.Splices.{fill_only, filled_word, gap_of, only_since, there}
 use Rattle.be_tree.proofs.splicing.open_here.Given.{Over}

@@ -2,13 +2,15 @@ use Rattle.std.proofs.Common.{ℕ, ◌+◌, ◌<◌, [], ◌∷◌, ◌∙◌, a
 use Rattle.be_pages.specs.declared.room.Standing.TheVariants.{Filled}
 use Rattle.be_pages.specs.Pages.{Swaps, after_give_up}
 use Rattle.be_tree.specs.declared.slot.Slot.{Slot}
-use Rattle.be_tree.specs.Page.{IsPage, items_of, level_of}
+use Rattle.be_tree_reading.specs.Page.{IsPage, items_of, level_of}
 use Rattle.be_tree.specs.Slot.{pair_of}
 use Rattle.be_tree.specs.Splicing.{IsStored}
-use Rattle.be_tree.proofs.Frame.{filled_is, rewritten_swaps, written_swaps}
+use Rattle.be_tree_reading.proofs.Frame.{filled_is, rewritten_swaps, written_swaps}
 use Rattle.be_tree.proofs.Nodes.Stands.{stands_at, stands_else}
-use Rattle.be_tree.proofs.Putting.Puts.{held_after, swaps_given_up}
+use Rattle.be_tree_reading.proofs.Putting.Puts.{held_after, swaps_given_up}
 use Rattle.be_tree.proofs.Splices.{off_free, off_pair, off_ready, spliced_items, spliced_page}
+use Rattle.be_tree.proofs.Sizes.InHand.{takes_given_up, takes_still, takes_then, takes_within}
+use Rattle.be_tree.proofs.Sizes.Refusals.{takes_page}
 use Rattle.be_tree.proofs.splicing.splice.Given.{Over}
 use Rattle.be_tree.proofs.splicing.splice.Goals as goal
 use Rattle.be_tree.proofs.splicing.splice.Goals.{After-store_slots-2}
@@ -112,3 +114,19 @@ returns-clause-ok g c =
       swaps = swaps_given_up g.R.Look.kept g.R.Look.standing g.R.Look.words [] (copy ∷ []) page c.args.room.now c.store_slots-2.new.room c.give_up.new.self (copied g at) (omega arith) c.requires.cut.in_use
           c.give_up.ensures.kept c.give_up.ensures.words (stands_at mid new page (after_give_up (mid page)) c.give_up.ensures.standing) (stands_else mid new page (after_give_up (mid page)) c.give_up.ensures.standing);
     }
+
+pub returns-then-is_taken-clause-refused : goal.returns-then-is_taken-clause-refused
+returns-then-is_taken-clause-refused g c =
+    (tt, tt, (takes_within 0 1 (g.R.Look.standing c.args.room.now) (g.R.Look.standing c.store_slots.new.room) (omega arith) (takes_still (g.R.Look.standing c.args.room.now) (g.R.Look.standing c.store_slots.new.room) (λ q. c.store_slots.ensures.only.standing q ∙ c.open_here.ensures.only.standing q)), tt))
+
+pub returns-clause-refused : goal.returns-clause-refused
+returns-clause-refused g c =
+    let at = (goal.at.returns-clause-refused g c).After-store_slots-2 in (
+      tt,
+      tt,
+      (
+        takes_then 1 0 (g.R.Look.standing c.args.room.now) (g.R.Look.standing c.store_slots-2.new.room) (g.R.Look.standing c.give_up.new.self) (takes_page g.R.Look.kept g.R.Look.standing g.R.Look.words [] c.in_ok-copy.copy c.args.room.now c.store_slots-2.new.room (copied g at))
+            (takes_given_up (g.R.Look.standing c.store_slots-2.new.room) (g.R.Look.standing c.give_up.new.self) c.args.page c.give_up.ensures.standing),
+        tt,
+      ),
+    )

@@ -2,7 +2,7 @@ use Rattle.std.proofs.Common.{◌≡◌, ◌+◌, ◌<◌, ◌∙◌, ap, get_or
 use Rattle.std.proofs.lemmas.Bool.{cases_lt}
 use Rattle.std.proofs.lemmas.List.{get_or_default}
 use Rattle.be_tree.specs.declared.slot.Slot.{Slot}
-use Rattle.be_tree.specs.Page.{item_place}
+use Rattle.be_tree_reading.specs.Page.{item_place}
 use Rattle.be_tree.specs.Slot.{pair_of}
 use Rattle.be_tree.specs.Splicing.{IsStored}
 use Rattle.be_tree.proofs.Splices.{off_pair, off_ready, only_then, there}
@@ -23,7 +23,7 @@ loop-i-preserved g c =
     let here = item_place (c.args.at + i) in
     let old = g.R.Look.words c.args.room.now in
     let only = c.loop-i.invariant.only in
-    let this = λ (d : Slot). c.store_slot.ensures.item
+    let this = λ (d : Slot). c.store_slot.ensures.stored.0
     ∙ off_pair c.args.page (g.R.Look.standing c.args.room.now) (g.R.Look.standing c.loop-i.room) old (g.R.Look.words c.loop-i.room) (λ q ne. only.standing q) only.others c.args.pair.now _ (c.requires.off i _ lt)
     ∙ ap (pair_of old c.args.pair.now) (get_or_default c.args.slots.now i _ d lt) in
     record {
@@ -36,7 +36,7 @@ loop-i-preserved g c =
         | inr past ↦
             let e : i ≡ k = omega (arith, past, less) in
             subst (λ n. IsStored (g.R.Look.words c.store_slot.new.room c.args.page) (c.args.at + n) (pair_of old c.args.pair.now (get_or c.args.slots.now n d))) e
-            (this d, c.store_slot.ensures.fits)
+            (this d, c.store_slot.ensures.stored.1)
       ];
       only = only_then g.R.Look.kept g.R.Look.standing g.R.Look.words c.args.page (item_place c.args.at) here c.args.room.now c.loop-i.room only
           here (here + 42) (item_place c.args.at) (item_place (c.args.at + (i + 1))) c.store_slot.new.room c.store_slot.ensures.only (omega arith) (omega arith) (omega arith) (omega arith);

@@ -1,7 +1,7 @@
 use Rattle.std.proofs.Common.{◌+◌, ℕ, ◌<◌, get_or}
 use Rattle.be_pages.specs.Pages.{OnlyWrites}
 use Rattle.be_tree.specs.declared.slot.Slot.{Slot}
-use Rattle.be_tree.specs.Page.{item_place}
+use Rattle.be_tree_reading.specs.Page.{item_place}
 use Rattle.be_tree.specs.Slot.{pair_of}
 use Rattle.be_tree.specs.Splicing.{IsStored}
 use Rattle.be_tree.proofs.splicing.store_slots.Given as goal

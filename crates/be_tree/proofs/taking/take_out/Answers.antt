@@ -1,14 +1,16 @@
 use Rattle.std.proofs.Common.{◌≡◌, ℕ, true, ltb, ◌+◌, ◌<◌, [], IfOk, length, drop, ap, sym, subst, arith}
 use Rattle.std.proofs.lemmas.Bool.Decides.{nat_tests}
 use Rattle.std.proofs.lemmas.Result.{IfOk-weaker}
-use Rattle.be_tree.specs.Key.{without}
-use Rattle.be_tree.specs.Page.{items_of}
+use Rattle.be_tree_reading.specs.Key.{without}
+use Rattle.be_tree_reading.specs.Page.{items_of}
 use Rattle.be_tree.specs.Path.{IsPathTo, least_at}
-use Rattle.be_tree.specs.Tree.{BecomesTree, pages, pairs}
-use Rattle.be_tree.proofs.Frame.{readable_kept, unchanged_start}
-use Rattle.be_tree.proofs.Leaves.{TakesAt, all_is, all_rise, keeps_front, length_spliced, path_read, refuses_since, takes_at, tree_since}
-use Rattle.be_tree.proofs.Nodes.Slots.{items_count}
+use Rattle.be_tree_reading.specs.Tree.{BecomesTree, pages, pairs}
+use Rattle.be_tree_reading.proofs.Frame.{readable_kept}
+use Rattle.be_tree.proofs.Leaves.{TakesAt, all_is, all_rise, keeps_front, length_spliced, path_read, takes_at, tree_since}
+use Rattle.be_tree_reading.proofs.Items.{items_count}
 use Rattle.be_tree.proofs.Removing.Removes.{rising_without}
+use Rattle.be_tree.specs.Counting.{most_taken}
+use Rattle.be_tree.proofs.Sizes.Refusals.{refuses_read}
 use Rattle.be_tree.proofs.taking.take_out.Given.{Over}
 use Rattle.be_tree.proofs.taking.take_out.Goals as goal
 use Rattle.be_tree.proofs.taking.take_out.Goals.{After-count_of, Start}
@@ -93,7 +95,10 @@ returns-clause-ok g c =
     (λ new h. tree_since g.R.Look.kept g.R.Look.standing g.R.Look.words c.args.room.now read c.count_of.ensures.unchanged (without key) c.args.root new c.change_leaf.new.room h)
     (subst (λ ps. IfOk c.change_leaf.result (λ new. BecomesTree g.R.Look.kept g.R.Look.standing g.R.Look.words (pages words c.args.root) ps new read c.change_leaf.new.room)) (sym all) c.change_leaf.ensures.ok)
 
+pub returns-then-count_of-least_of_leaf-clause-refused : goal.returns-then-count_of-least_of_leaf-clause-refused
+returns-then-count_of-least_of_leaf-clause-refused g c =
+    refuses_read g.R.Look.kept g.R.Look.standing g.R.Look.words g.R.Room.full (most_taken (length c.args.path.now.above.items)) (most_taken (length c.args.path.now.above.items)) c.underflow.result c.args.room.now c.count_of.new.look c.underflow.new.room c.count_of.ensures.unchanged (omega arith) c.underflow.ensures.refused
+
 pub returns-clause-refused : goal.returns-clause-refused
 returns-clause-refused g c =
-    refuses_since g.R.Look.kept g.R.Look.standing g.R.Look.words g.R.Room.full c.change_leaf.result c.args.room.now c.count_of.new.look c.change_leaf.new.room
-    (unchanged_start g.R.Look.kept g.R.Look.standing g.R.Look.words c.args.room.now c.count_of.new.look c.count_of.ensures.unchanged) c.change_leaf.ensures.refused
+    refuses_read g.R.Look.kept g.R.Look.standing g.R.Look.words g.R.Room.full (length c.args.path.now.above.items + 1) (most_taken (length c.args.path.now.above.items)) c.change_leaf.result c.args.room.now c.count_of.new.look c.change_leaf.new.room c.count_of.ensures.unchanged (omega arith) c.change_leaf.ensures.refused

@@ -2,17 +2,20 @@ use Rattle.std.proofs.Common.{◌≡◌, ◌∙◌, ℕ, suc, ◌+◌, ◌≤◌
 use Rattle.std.proofs.lemmas.Result.{IfOk-weaker}
 use Rattle.be_tree.specs.declared.path.Step.{Step}
 use Rattle.be_tree.specs.declared.splicing.Cut.{Cut}
-use Rattle.be_tree.specs.Key.{without}
-use Rattle.be_tree.specs.Page.{items_of, level_of}
+use Rattle.be_tree_reading.specs.Key.{without}
+use Rattle.be_tree_reading.specs.Page.{items_of, level_of}
 use Rattle.be_tree.specs.Path.{IsInHand, whole}
 use Rattle.be_tree.specs.Slot.{IsReady, loaded, pair_of, pairs_of}
 use Rattle.be_tree.specs.Splicing.{spliced}
-use Rattle.be_tree.specs.Tree.{BecomesTree, pages, pairs, pairs_below}
+use Rattle.be_tree_reading.specs.Tree.{BecomesTree, pages, pairs, pairs_below}
 use Rattle.be_tree.proofs.Balances.{all_spliced, least_six, map_spliced}
-use Rattle.be_tree.proofs.Frame.{readable_kept, unchanged_start}
-use Rattle.be_tree.proofs.Leaves.{TakesAt, hand_tree, leaf_in_hand, takes_at, refuses_since}
-use Rattle.be_tree.proofs.Nodes.Slots.{items_count, loaded_pairs, loaded_ready}
+use Rattle.be_tree_reading.proofs.Frame.{readable_kept}
+use Rattle.be_tree.proofs.Leaves.{TakesAt, hand_tree, leaf_in_hand, takes_at}
+use Rattle.be_tree_reading.proofs.Items.{items_count}
+use Rattle.be_tree.proofs.Nodes.Slots.{loaded_pairs, loaded_ready}
 use Rattle.be_tree.proofs.Removing.Removes.{rising_without}
+use Rattle.be_tree.specs.Counting.{most_taken}
+use Rattle.be_tree.proofs.Sizes.Refusals.{refuses_read}
 use Rattle.be_tree.proofs.taking.underflow.Given.{Over}
 use Rattle.be_tree.proofs.taking.underflow.Goals as goal
 use Rattle.be_tree.proofs.taking.underflow.Goals.{After-remove, Start}
@@ -109,5 +112,4 @@ returns-clause-ok g c =
 
 pub returns-clause-refused : goal.returns-clause-refused
 returns-clause-refused g c =
-    refuses_since g.R.Look.kept g.R.Look.standing g.R.Look.words g.R.Room.full c.settle.result c.args.room.now c.fill_slots.new.look c.settle.new.room
-    (unchanged_start g.R.Look.kept g.R.Look.standing g.R.Look.words c.args.room.now c.fill_slots.new.look c.fill_slots.ensures.unchanged) c.settle.ensures.refused
+    refuses_read g.R.Look.kept g.R.Look.standing g.R.Look.words g.R.Room.full (most_taken (length c.deref.result.now)) (most_taken (length c.args.path.now.above.items)) c.settle.result c.args.room.now c.fill_slots.new.look c.settle.new.room c.fill_slots.ensures.unchanged (omega (arith, ap length c.deref.ensures.0)) c.settle.ensures.refused

@@ -1,7 +1,7 @@
 use Rattle.std.proofs.Common.{◌∙◌, ap, sym, subst}
 use Rattle.be_tree.specs.declared.slot.Slot.{Slot}
 use Rattle.be_tree.specs.Slot.{IsReady, pair_of}
-use Rattle.be_tree.specs.Tree.{child}
+use Rattle.be_tree_reading.specs.Tree.{child}
 use Rattle.be_tree.proofs.Nodes.Slots.{child_branch}
 use Rattle.be_tree.proofs.writing.child_of.Goals as goal
 

@@ -1,11 +1,12 @@
 use Rattle.std.proofs.Common.{ℕ, suc, [], ◌∷◌, ◌≡◌, List, sym, subst, arith}
 use Rattle.be_pages.specs.Pages.{after_give_up, times}
 use Rattle.be_tree.specs.Slot.{pairs_of}
-use Rattle.be_tree.specs.Tree.{Becomes, pages_below, pairs_below}
-use Rattle.be_tree.proofs.Frame.{times_append, times_other}
+use Rattle.be_tree_reading.specs.Tree.{Becomes, pages_below, pairs_below}
+use Rattle.be_tree_reading.proofs.Frame.{times_append, times_other}
 use Rattle.be_tree.proofs.Nodes.Neighbours.{becomes_times}
 use Rattle.be_tree.proofs.Nodes.Stands.{stands_at, stands_else}
-use Rattle.be_tree.proofs.Putting.Puts.{becomes_given_up, held_after}
+use Rattle.be_tree_reading.proofs.Putting.Puts.{becomes_given_up, held_after}
+use Rattle.be_tree.proofs.Sizes.InHand.{takes_given_up, takes_then}
 use Rattle.be_tree.proofs.writing.pack_two.Goals as goal
 
 -- the second page is none of those that were replaced
@@ -45,3 +46,14 @@ returns-clause-ok g c =
     subst (λ (w : ℕ → ℕ → ℕ). Becomes g.R.Look.kept g.R.Look.standing g.R.Look.words (l ∷ r ∷ before) all (suc level) (pairs_of w given branches) c.args.room.now c.give_up.new.self) (sym c.give_up.ensures.words)
     (becomes_times g.R.Look.kept g.R.Look.standing g.R.Look.words (r ∷ l ∷ before) (l ∷ r ∷ before) all (suc level) (pairs_of mid given branches) c.args.room.now c.give_up.new.self
     (λ q. swapped q l r before) gone)
+
+pub returns-clause-refused : goal.returns-clause-refused
+returns-clause-refused g c = (
+  tt,
+  tt,
+  (
+    takes_then 2 0 (g.R.Look.standing c.args.room.now) (g.R.Look.standing c.pack.new.room) (g.R.Look.standing c.give_up.new.self) c.in_ok-branches.ensures.refused.2.0
+        (takes_given_up (g.R.Look.standing c.pack.new.room) (g.R.Look.standing c.give_up.new.self) c.args.right c.give_up.ensures.standing),
+    tt,
+  ),
+)

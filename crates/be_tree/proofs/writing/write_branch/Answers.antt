@@ -1,7 +1,7 @@
 use Rattle.std.proofs.Common.{[], ◌∷◌}
 use Rattle.be_tree.specs.Slot.{pairs_of}
-use Rattle.be_tree.specs.Tree.{pages_below}
-use Rattle.be_tree.proofs.Frame.{one_beside}
+use Rattle.be_tree_reading.specs.Tree.{pages_below}
+use Rattle.be_tree_reading.proofs.Frame.{one_beside}
 use Rattle.be_tree.proofs.Nodes.Writes.{one_written}
 use Rattle.be_tree.proofs.writing.write_branch.Goals as goal
 

@@ -2,8 +2,8 @@ use Rattle.std.proofs.Common.{ℕ, [], ◌∷◌, sym, subst, arith}
 use Rattle.std.proofs.lemmas.List.{length-map}
 use Rattle.be_pages.specs.Pages.{Swaps}
 use Rattle.be_tree.specs.Slot.{branch_to, pair_of, pairs_of}
-use Rattle.be_tree.specs.Tree.{BecomesTree}
-use Rattle.be_tree.proofs.Shape.Roots.{root_written}
+use Rattle.be_tree_reading.specs.Tree.{BecomesTree}
+use Rattle.be_tree_reading.proofs.Shape.Roots.{root_written}
 use Rattle.be_tree.proofs.Nodes.Slots.{child_branch}
 use Rattle.be_tree.proofs.writing.write_first_root.Goals as goal
 

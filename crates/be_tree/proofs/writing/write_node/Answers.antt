@@ -3,13 +3,14 @@ use Rattle.std.proofs.lemmas.List.{length-map}
 use Rattle.be_pages.specs.declared.room.Standing.TheVariants.{Filled, Taken}
 use Rattle.be_tree.specs.declared.slot.Slot.{Slot}
 use Rattle.be_tree.specs.declared.slot.Slot.TheVariants.{New}
-use Rattle.be_tree.specs.Page.{IsPage, item_at, item_place}
+use Rattle.be_tree_reading.specs.Page.{IsPage, item_at, item_place}
 use Rattle.be_tree.specs.Slot.{pair_of, pairs_of}
 use Rattle.be_tree.specs.Splicing.{IsStored}
-use Rattle.be_tree.proofs.Frame.{written_swaps}
+use Rattle.be_tree_reading.proofs.Frame.{written_swaps}
 use Rattle.be_tree.proofs.Nodes.Slots.{stored_map, written_at}
 use Rattle.be_tree.proofs.Nodes.Stands.{stands_at, stands_else}
 use Rattle.be_tree.proofs.Splices.{filled_word, off_free, off_pair, off_ready, other_word}
+use Rattle.be_tree.proofs.Sizes.InHand.{takes_one}
 use Rattle.be_tree.proofs.writing.write_node.Given.{Over}
 use Rattle.be_tree.proofs.writing.write_node.Goals as goal
 use Rattle.be_tree.proofs.writing.write_node.Goals.{After-fill-2}
@@ -43,12 +44,12 @@ store_slots-requires-clause-ready g c = λ i d lt.
     let s = g.R.Look.standing c.args.room.now in
     let v = g.R.Look.words c.args.room.now in
     let slot = get_or c.args.node.slots.now i d in
-    let ready = c.requires.ready i d lt in
+    let ready = c.requires.ready.0 i d lt in
     off_ready page s (g.R.Look.standing c.fill-2.new.self) v (g.R.Look.words c.fill-2.new.self) (stands g at) (others g at) slot (off_free page s v slot c.in_ok-page.ensures.page.1 ready) ready
 
 pub store_slots-requires-clause-off : goal.store_slots-requires-clause-off
 store_slots-requires-clause-off g c = λ i d lt.
-    off_free c.in_ok-page.page (g.R.Look.standing c.args.room.now) (g.R.Look.words c.args.room.now) (get_or c.args.node.slots.now i d) c.in_ok-page.ensures.page.1 (c.requires.ready i d lt)
+    off_free c.in_ok-page.page (g.R.Look.standing c.args.room.now) (g.R.Look.words c.args.room.now) (get_or c.args.node.slots.now i d) c.in_ok-page.ensures.page.1 (c.requires.ready.0 i d lt)
 
 pub store_slots-requires-clause-open : goal.store_slots-requires-clause-open
 store_slots-requires-clause-open g c =
@@ -70,12 +71,12 @@ returns-clause-ok g c =
     let less : k < length slots = omega (arith, lt, counted) in
     let this = subst (λ (n : ℕ). IsStored w n (pair_of (g.R.Look.words c.fill-2.new.self) given (get_or slots k d))) (zero-add k) (c.store_slots.ensures.items k d less) in (
       this.0 ∙ off_pair page s (g.R.Look.standing c.fill-2.new.self) v (g.R.Look.words c.fill-2.new.self) (stands g at) (others g at) given (get_or slots k d)
-          (off_free page s v (get_or slots k d) c.in_ok-page.ensures.page.1 (c.requires.ready k d less)),
+          (off_free page s v (get_or slots k d) c.in_ok-page.ensures.page.1 (c.requires.ready.0 k d less)),
       this.1,
     ) in
-    let is_page : IsPage w = record { few = omega (arith, counted, c.requires.few); each = λ j lt. (stored j New lt).1 } in
+    let is_page : IsPage w = record { few = omega (arith, counted, c.requires.size.1); each = λ j lt. (stored j New lt).1 } in
     written_at c.args.node.level (g.R.Look.words c.store_slots.new.room) (pairs_of v given slots) page c.in_ok-page.ensures.page.0 is_page (only.before 0 (omega arith) ∙ level g at)
-    (stored_map f (λ (k : ℕ). item_at w (item_place k)) slots (w 1) counted (λ k d lt. (stored k d lt).0)) (omega (arith, length-map slots f, c.requires.some))
+    (stored_map f (λ (k : ℕ). item_at w (item_place k)) slots (w 1) counted (λ k d lt. (stored k d lt).0)) (omega (arith, length-map slots f, c.requires.size.0))
 
 pub returns-clause-swaps : goal.returns-clause-swaps
 returns-clause-swaps g c =
@@ -88,3 +89,8 @@ returns-clause-swaps g c =
     (only.standing page ∙ stands_at (g.R.Look.standing c.fill.new.self) (g.R.Look.standing c.fill-2.new.self) page Filled c.fill-2.ensures.standing)
     (λ q ne. only.standing q ∙ stands g at q ne)
     (λ q ne. only.others q ne ∙ others g at q ne)
+
+pub returns-clause-refused : goal.returns-clause-refused
+returns-clause-refused g c =
+    let at = (goal.at.returns-clause-refused g c).After-fill-2 in
+    (tt, tt, (takes_one (g.R.Look.standing c.args.room.now) (g.R.Look.standing c.store_slots.new.room) c.in_ok-page.page (λ q ne. c.store_slots.ensures.only.standing q ∙ stands g at q ne), tt))

@@ -2,13 +2,14 @@ use Rattle.std.proofs.Common.{◌≡◌, ℕ, suc, ◌+◌, [], ◌∷◌, ◌�
 use Rattle.std.proofs.lemmas.List.{get_or_default, length-map}
 use Rattle.be_tree.specs.declared.slot.Slot.{Slot}
 use Rattle.be_tree.specs.declared.slot.Slot.TheVariants.{New}
-use Rattle.be_tree.specs.Pair.{Pair}
+use Rattle.be_tree_reading.specs.Pair.{Pair}
 use Rattle.be_tree.specs.Slot.{pair_of, pairs_of}
-use Rattle.be_tree.specs.Tree.{child, pages, pages_below, pairs_below, BecomesTree}
-use Rattle.be_tree.proofs.Putting.Puts.{held_after}
-use Rattle.be_tree.proofs.Shape.Levels.{kept_not_free}
-use Rattle.be_tree.proofs.Shape.Roots.{tree_given_up}
+use Rattle.be_tree_reading.specs.Tree.{child, pages, pages_below, pairs_below, BecomesTree}
+use Rattle.be_tree_reading.proofs.Putting.Puts.{held_after}
+use Rattle.be_tree_reading.proofs.Shape.Levels.{kept_not_free}
+use Rattle.be_tree_reading.proofs.Shape.Roots.{tree_given_up}
 use Rattle.be_tree.proofs.Removing.Rests.{one_mapped, one_used, tree_none, tree_one, tree_until}
+use Rattle.be_tree.proofs.Sizes.InHand.{takes_given_up, takes_same, takes_then, takes_within}
 use Rattle.be_tree.proofs.writing.write_rest.Given.{Over}
 use Rattle.be_tree.proofs.writing.write_rest.Goals as goal
 use Rattle.be_tree.proofs.writing.write_rest.Goals.{After-child_of-child}
@@ -77,3 +78,18 @@ returns-then-slots-eq1-clause-ok g c =
     let items = pairs_of words c.args.node.pair.now c.args.node.slots.now in
     tree_given_up g.R.Look.kept g.R.Look.standing g.R.Look.words (pages_below c.args.node.level words items) (pairs_below c.args.node.level words items) (c.child_of-child.result + 1) c.args.old c.args.room.now c.child_of-child.new.look c.give_up-then-slots-eq1.new.self
     (one_left g (goal.at.returns-then-slots-eq1-clause-ok g c).After-child_of-child) c.requires.old.1 c.requires.old.0 c.give_up-then-slots-eq1.ensures.kept c.give_up-then-slots-eq1.ensures.words c.give_up-then-slots-eq1.ensures.standing
+
+pub returns-then-slots-eq0-clause-refused : goal.returns-then-slots-eq0-clause-refused
+returns-then-slots-eq0-clause-refused g c =
+    (tt, tt, (takes_within 0 3 (g.R.Look.standing c.args.room.now) (g.R.Look.standing c.give_up.new.self) (omega arith) (takes_given_up (g.R.Look.standing c.args.room.now) (g.R.Look.standing c.give_up.new.self) c.args.old c.give_up.ensures.standing), tt))
+
+pub returns-then-slots-eq1-clause-refused : goal.returns-then-slots-eq1-clause-refused
+returns-then-slots-eq1-clause-refused g c = (
+  tt,
+  tt,
+  (
+    takes_within 0 3 (g.R.Look.standing c.args.room.now) (g.R.Look.standing c.give_up-then-slots-eq1.new.self) (omega arith) (takes_then 0 0 (g.R.Look.standing c.args.room.now) (g.R.Look.standing c.child_of-child.new.look) (g.R.Look.standing c.give_up-then-slots-eq1.new.self)
+        (takes_same (g.R.Look.standing c.args.room.now) (g.R.Look.standing c.child_of-child.new.look) c.child_of-child.ensures.unchanged.standing) (takes_given_up (g.R.Look.standing c.child_of-child.new.look) (g.R.Look.standing c.give_up-then-slots-eq1.new.self) c.args.old c.give_up-then-slots-eq1.ensures.standing)),
+    tt,
+  ),
+)

@@ -1,5 +1,5 @@
 use Rattle.std.proofs.Common.{◌≡◌}
-use Rattle.be_tree.specs.Tree.{IsTree}
+use Rattle.be_tree_reading.specs.Tree.{IsTree}
 use Rattle.be_base_tests.proofs.tests.stored_words.take_all.Given as goal
 
 abbrev pub invariant-loop-i : goal.invariant-loop-i

@@ -1,5 +1,5 @@
 use Rattle.be_pages.specs.Pages.{IsUnchanged}
-use Rattle.be_tree.specs.Cursor.{IsPath}
+use Rattle.be_tree_reading.specs.Cursor.{IsPath}
 use Rattle.be_base_tests.proofs.tests.tree.has_nodes.Given as goal
 
 abbrev pub invariant-loop-node : goal.invariant-loop-node

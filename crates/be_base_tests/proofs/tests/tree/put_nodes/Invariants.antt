@@ -1,6 +1,6 @@
 use Rattle.be_pages.specs.PagePool.{places}
 use Rattle.be_pages.specs.VecRoom.{standing_in, pool_word}
-use Rattle.be_tree.specs.Tree.{IsTree}
+use Rattle.be_tree_reading.specs.Tree.{IsTree}
 use Rattle.be_base_tests.proofs.tests.tree.put_nodes.Given as goal
 
 abbrev pub invariant-loop-node : goal.invariant-loop-node

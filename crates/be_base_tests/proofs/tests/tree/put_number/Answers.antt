@@ -1,7 +1,7 @@
 use Rattle.std.proofs.Common.{ℕ, ap, ◌∙◌}
 use Rattle.be_pages.specs.PagePool.{places}
 use Rattle.be_pages.specs.VecRoom.{standing_in, pool_word}
-use Rattle.be_tree.proofs.Trees.{tree_kept, tree_undone}
+use Rattle.be_tree_reading.proofs.Trees.{tree_kept, tree_undone}
 use Rattle.be_base_tests.proofs.tests.tree.put_number.Goals as goal
 
 pub returns-in-Ok-clause-ok : goal.returns-in-Ok-clause-ok

@@ -1,7 +1,7 @@
 use Rattle.be_pages.specs.PagePool.{places}
 use Rattle.be_pages.specs.VecRoom.{standing_in, pool_word}
-use Rattle.be_tree.specs.Forest.{IsWriteStart}
-use Rattle.be_tree.specs.Tree.{IsTree}
+use Rattle.be_tree_reading.specs.Forest.{IsWriteStart}
+use Rattle.be_tree_reading.specs.Tree.{IsTree}
 use Rattle.be_base_tests.proofs.tests.tree.put_numbers.Given as goal
 
 abbrev pub invariant-loop-i : goal.invariant-loop-i

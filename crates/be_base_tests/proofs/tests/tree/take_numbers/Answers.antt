@@ -1,6 +1,6 @@
 use Rattle.be_pages.specs.PagePool.{places}
 use Rattle.be_pages.specs.VecRoom.{standing_in, pool_word}
-use Rattle.be_tree.proofs.Trees.{tree_kept}
+use Rattle.be_tree_reading.proofs.Trees.{tree_kept}
 use Rattle.be_base_tests.proofs.tests.tree.take_numbers.Goals as goal
 
 pub loop-i-preserved : goal.loop-i-preserved

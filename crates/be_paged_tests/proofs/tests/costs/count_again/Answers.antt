@@ -1,4 +1,4 @@
-use Rattle.be_paged.proofs.Versions.{version_since}
+use Rattle.be_paged_reading.proofs.Versions.{version_since}
 use Rattle.be_paged_tests.proofs.tests.costs.count_again.Goals as goal
 
 pub answer_decided-requires : goal.answer_decided-requires

@@ -2,11 +2,11 @@ use Rattle.std.proofs.Common.{ℕ, [], ◌∷◌, ap, sym, subst, ◌∙◌}
 use Rattle.be_pages.specs.PagePool.{places}
 use Rattle.be_pages.specs.Pages.{after_undo}
 use Rattle.be_pages.specs.VecRoom.{standing_in, pool_word}
-use Rattle.be_tree.specs.Forest.{IsUndone}
-use Rattle.be_tree.proofs.Frame.{swaps_start}
+use Rattle.be_tree_reading.specs.Forest.{IsUndone}
+use Rattle.be_tree_reading.proofs.Frame.{swaps_start}
 use Rattle.be_volume.specs.Volume.{State, steps}
 use Rattle.be_volume.specs.declared.ops.Op.TheVariants.{Drop}
-use Rattle.be_paged.specs.Version.{IsVersion}
+use Rattle.be_paged_reading.specs.Version.{IsVersion}
 use Rattle.be_paged.proofs.Standing.{version_stands}
 use Rattle.be_paged_tests.proofs.Since.{one_made}
 use Rattle.be_paged_tests.proofs.tests.look_tests.drop_first.Goals as goal

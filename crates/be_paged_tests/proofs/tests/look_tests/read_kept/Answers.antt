@@ -1,7 +1,7 @@
 use Rattle.std.proofs.Common.{ℕ, sym, subst}
 use Rattle.be_pages.specs.PagePool.{places}
 use Rattle.be_pages.specs.VecRoom.{standing_in, pool_word}
-use Rattle.be_paged.specs.Version.{IsVersion}
+use Rattle.be_paged_reading.specs.Version.{IsVersion}
 use Rattle.be_paged.proofs.Standing.{version_kept}
 use Rattle.be_paged_tests.proofs.tests.look_tests.read_kept.Goals as goal
 

@@ -4,7 +4,7 @@ use Rattle.be_pages.specs.Pages.{is_kept}
 use Rattle.be_pages.specs.VecRoom.{standing_in, pool_word}
 use Rattle.be_pages.specs.declared.room.Standing.{Standing}
 use Rattle.be_volume.specs.Volume.{empty}
-use Rattle.be_paged.specs.Version.{IsVersion}
+use Rattle.be_paged_reading.specs.Version.{IsVersion}
 use Rattle.be_paged.proofs.Standing.{version_kept}
 use Rattle.be_paged_tests.proofs.tests.writing.room_of.Goals as goal
 

@@ -1,7 +1,8 @@
-use Rattle.std.proofs.Common.{◌≡◌, ◌∙◌, ◌<◌, ◌≤◌, ◌++◌, ◌∷◌, [], ℕ, sym, ap, subst, arith, length, refl, true, false, slice_set}
+use Rattle.std.proofs.Common.{◌≡◌, ◌∙◌, ◌<◌, ◌≤◌, ◌∷◌, [], sym, ap, subst, arith, length, refl, true, false, slice_set}
 use Rattle.std.proofs.lemmas.List.{get_or_default, length-set, length-append}
 use Rattle.be_pages.specs.declared.page_pool.Place.TheVariants.{Current}
 use Rattle.be_pages.specs.Pages.{times}
+use Rattle.be_pages.specs.FreePages.{has_free}
 use Rattle.be_pages.specs.Place.{IsOldestFirst, is_free, is_idle, is_retired, retired_number, retired_at, place_of, place_after}
 use Rattle.be_pages.proofs.PageSets.{flagged_below}
 use Rattle.be_pages.proofs.Pools.{active, after_idle, idle_after, newest_after, other_place, retired_busy, places_map, flags_same, flags_to, touches_to, touches_less, count_same, count_more, count_room, retires_same, retires_more, order_same, order_more, done_to, done_less, waiting_to, waiting_less, newest_set}
@@ -13,7 +14,7 @@ invariant_of-self-in-Free c =
     let pool = c.loop-page.self in
     let P = pool.places.items in
     let p = c.in-Some.page in
-    let lt : p < length P = omega (arith, flagged_below pool.touched.has.items p c.in-Some.ensures.some, pool.touched_pages, pool.places.ok.0) in
+    let lt : p < length P = omega (arith, flagged_below pool.touched.places.items p c.in-Some.ensures.some, pool.touched_pages, pool.places.ok.0) in
     let at : place_of P p ≡ c.index-old.result.now = get_or_default P p Current _ lt ∙ sym c.index-old.ensures in
     let un : is_idle (place_of P p) ≡ false = ap is_idle at ∙ sym c.is_idle.ensures ∙ c.if-is_idle.false in
     let act = active (place_of P p) un in
@@ -27,8 +28,8 @@ invariant_of-self-in-Free c =
       touched_pages = c.pop.ensures.pages ∙ pool.touched_pages;
       retired_room = pool.retired_room;
       retired_count = pool.retired_count ∙ sym (count_same P p s lt kept);
-      frees = flags_to P p s lt is_free true pool.free.has.items c.insert.new.self.has.items pool.frees c.insert.ensures.has free;
-      touches = touches_to P p s lt false pool.touched.has.items c.pop.new.self.has.items pool.touches c.in-Some.ensures.has (λ e. absurd (false≢true (sym e ∙ idle)));
+      frees = flags_to P p s lt is_free true (has_free pool.free) (has_free c.insert.new.self) pool.frees c.insert.ensures.has free;
+      touches = touches_to P p s lt false pool.touched.places.items c.pop.new.self.places.items pool.touches c.in-Some.ensures.has (λ e. absurd (false≢true (sym e ∙ idle)));
       retires = retires_same P p s lt pool.retired.items pool.retires kept;
       oldest_first = order_same P p s lt pool.retired.items pool.retires act.1 pool.oldest_first;
     }
@@ -38,7 +39,7 @@ loop-page-preserved-in-Free c =
     let pool = c.loop-page.self in
     let P = pool.places.items in
     let p = c.in-Some.page in
-    let lt : p < length P = omega (arith, flagged_below pool.touched.has.items p c.in-Some.ensures.some, pool.touched_pages, pool.places.ok.0) in
+    let lt : p < length P = omega (arith, flagged_below pool.touched.places.items p c.in-Some.ensures.some, pool.touched_pages, pool.places.ok.0) in
     let at : place_of P p ≡ c.index-old.result.now = get_or_default P p Current _ lt ∙ sym c.index-old.ensures in
     let un : is_idle (place_of P p) ≡ false = ap is_idle at ∙ sym c.is_idle.ensures ∙ c.if-is_idle.false in
     let act = active (place_of P p) un in
@@ -46,9 +47,9 @@ loop-page-preserved-in-Free c =
     let is : s ≡ place_after c.args.ending (place_of P p) = c.settled-place.ensures ∙ ap (place_after c.args.ending) (sym at) in
     let idle : is_idle s ≡ true = ap is_idle is ∙ after_idle c.args.ending (place_of P p) in
     record {
-      done = done_to P p s lt (place_after c.args.ending) c.args.self.now.places.items pool.touched.has.items c.pop.new.self.has.items c.loop-page.invariant.done c.in-Some.ensures.has
+      done = done_to P p s lt (place_after c.args.ending) c.args.self.now.places.items pool.touched.places.items c.pop.new.self.places.items c.loop-page.invariant.done c.in-Some.ensures.has
           (is ∙ ap (place_after c.args.ending) (c.loop-page.invariant.waiting p c.in-Some.ensures.some));
-      waiting = waiting_to P p s lt c.args.self.now.places.items pool.touched.has.items c.pop.new.self.has.items c.loop-page.invariant.waiting c.in-Some.ensures.has;
+      waiting = waiting_to P p s lt c.args.self.now.places.items pool.touched.places.items c.pop.new.self.places.items c.loop-page.invariant.waiting c.in-Some.ensures.has;
       len = length-set P p s ∙ c.loop-page.invariant.len;
       newest = newest_set P p s lt c.args.ending c.loop-page.invariant.newest is;
     }
@@ -58,7 +59,7 @@ push_back_reserved-requires c =
     let pool = c.loop-page.self in
     let P = pool.places.items in
     let p = c.in-Some.page in
-    let lt : p < length P = omega (arith, flagged_below pool.touched.has.items p c.in-Some.ensures.some, pool.touched_pages, pool.places.ok.0) in
+    let lt : p < length P = omega (arith, flagged_below pool.touched.places.items p c.in-Some.ensures.some, pool.touched_pages, pool.places.ok.0) in
     let at : place_of P p ≡ c.index-old.result.now = get_or_default P p Current _ lt ∙ sym c.index-old.ensures in
     let un : is_idle (place_of P p) ≡ false = ap is_idle at ∙ sym c.is_idle.ensures ∙ c.if-is_idle.false in
     let act = active (place_of P p) un in
@@ -72,7 +73,7 @@ invariant_of-self-in-Retired c =
     let pool = c.loop-page.self in
     let P = pool.places.items in
     let p = c.in-Some.page in
-    let lt : p < length P = omega (arith, flagged_below pool.touched.has.items p c.in-Some.ensures.some, pool.touched_pages, pool.places.ok.0) in
+    let lt : p < length P = omega (arith, flagged_below pool.touched.places.items p c.in-Some.ensures.some, pool.touched_pages, pool.places.ok.0) in
     let at : place_of P p ≡ c.index-old.result.now = get_or_default P p Current _ lt ∙ sym c.index-old.ensures in
     let un : is_idle (place_of P p) ≡ false = ap is_idle at ∙ sym c.is_idle.ensures ∙ c.if-is_idle.false in
     let act = active (place_of P p) un in
@@ -87,8 +88,8 @@ invariant_of-self-in-Retired c =
       touched_pages = c.pop.ensures.pages ∙ pool.touched_pages;
       retired_room = omega (arith, c.push_back_reserved.ensures.capacity, pool.retired_room);
       retired_count = omega (arith, ap length items, length-append queue (p ∷ []), pool.retired_count, count_more P p s lt act.1 kept);
-      frees = flags_same P p s lt is_free pool.free.has.items pool.frees (act.0 ∙ sym (retired_busy s kept));
-      touches = touches_to P p s lt false pool.touched.has.items c.pop.new.self.has.items pool.touches c.in-Some.ensures.has (λ e. absurd (false≢true (sym e ∙ idle)));
+      frees = flags_same P p s lt is_free (has_free pool.free) pool.frees (act.0 ∙ sym (retired_busy s kept));
+      touches = touches_to P p s lt false pool.touched.places.items c.pop.new.self.places.items pool.touches c.in-Some.ensures.has (λ e. absurd (false≢true (sym e ∙ idle)));
       retires = λ q. ap (times q) items ∙ retires_more P p s lt queue pool.retires act.1 kept q;
       oldest_first = subst (IsOldestFirst (retired_at (slice_set P p s))) (sym items) (order_more P p s lt queue pool.retires act.1
           (λ q. subst (λ x. retired_at P q ≤ retired_number x) (sym is) (newest_after c.args.ending (place_of P p) (retired_at P) c.loop-page.invariant.newest un (sym (ap is_retired is) ∙ kept) q)) pool.oldest_first);
@@ -99,7 +100,7 @@ loop-page-preserved-in-Retired c =
     let pool = c.loop-page.self in
     let P = pool.places.items in
     let p = c.in-Some.page in
-    let lt : p < length P = omega (arith, flagged_below pool.touched.has.items p c.in-Some.ensures.some, pool.touched_pages, pool.places.ok.0) in
+    let lt : p < length P = omega (arith, flagged_below pool.touched.places.items p c.in-Some.ensures.some, pool.touched_pages, pool.places.ok.0) in
     let at : place_of P p ≡ c.index-old.result.now = get_or_default P p Current _ lt ∙ sym c.index-old.ensures in
     let un : is_idle (place_of P p) ≡ false = ap is_idle at ∙ sym c.is_idle.ensures ∙ c.if-is_idle.false in
     let act = active (place_of P p) un in
@@ -107,9 +108,9 @@ loop-page-preserved-in-Retired c =
     let is : s ≡ place_after c.args.ending (place_of P p) = c.settled-place.ensures ∙ ap (place_after c.args.ending) (sym at) in
     let idle : is_idle s ≡ true = ap is_idle is ∙ after_idle c.args.ending (place_of P p) in
     record {
-      done = done_to P p s lt (place_after c.args.ending) c.args.self.now.places.items pool.touched.has.items c.pop.new.self.has.items c.loop-page.invariant.done c.in-Some.ensures.has
+      done = done_to P p s lt (place_after c.args.ending) c.args.self.now.places.items pool.touched.places.items c.pop.new.self.places.items c.loop-page.invariant.done c.in-Some.ensures.has
           (is ∙ ap (place_after c.args.ending) (c.loop-page.invariant.waiting p c.in-Some.ensures.some));
-      waiting = waiting_to P p s lt c.args.self.now.places.items pool.touched.has.items c.pop.new.self.has.items c.loop-page.invariant.waiting c.in-Some.ensures.has;
+      waiting = waiting_to P p s lt c.args.self.now.places.items pool.touched.places.items c.pop.new.self.places.items c.loop-page.invariant.waiting c.in-Some.ensures.has;
       len = length-set P p s ∙ c.loop-page.invariant.len;
       newest = newest_set P p s lt c.args.ending c.loop-page.invariant.newest is;
     }
@@ -119,7 +120,7 @@ invariant_of-self-in_default-place c =
     let pool = c.loop-page.self in
     let P = pool.places.items in
     let p = c.in-Some.page in
-    let lt : p < length P = omega (arith, flagged_below pool.touched.has.items p c.in-Some.ensures.some, pool.touched_pages, pool.places.ok.0) in
+    let lt : p < length P = omega (arith, flagged_below pool.touched.places.items p c.in-Some.ensures.some, pool.touched_pages, pool.places.ok.0) in
     let at : place_of P p ≡ c.index-old.result.now = get_or_default P p Current _ lt ∙ sym c.index-old.ensures in
     let un : is_idle (place_of P p) ≡ false = ap is_idle at ∙ sym c.is_idle.ensures ∙ c.if-is_idle.false in
     let act = active (place_of P p) un in
@@ -133,8 +134,8 @@ invariant_of-self-in_default-place c =
       touched_pages = c.pop.ensures.pages ∙ pool.touched_pages;
       retired_room = pool.retired_room;
       retired_count = pool.retired_count ∙ sym (count_same P p s lt kept);
-      frees = flags_same P p s lt is_free pool.free.has.items pool.frees (act.0 ∙ sym other.0);
-      touches = touches_to P p s lt false pool.touched.has.items c.pop.new.self.has.items pool.touches c.in-Some.ensures.has (λ e. absurd (false≢true (sym e ∙ idle)));
+      frees = flags_same P p s lt is_free (has_free pool.free) pool.frees (act.0 ∙ sym other.0);
+      touches = touches_to P p s lt false pool.touched.places.items c.pop.new.self.places.items pool.touches c.in-Some.ensures.has (λ e. absurd (false≢true (sym e ∙ idle)));
       retires = retires_same P p s lt pool.retired.items pool.retires kept;
       oldest_first = order_same P p s lt pool.retired.items pool.retires act.1 pool.oldest_first;
     }
@@ -144,7 +145,7 @@ loop-page-preserved c =
     let pool = c.loop-page.self in
     let P = pool.places.items in
     let p = c.in-Some.page in
-    let lt : p < length P = omega (arith, flagged_below pool.touched.has.items p c.in-Some.ensures.some, pool.touched_pages, pool.places.ok.0) in
+    let lt : p < length P = omega (arith, flagged_below pool.touched.places.items p c.in-Some.ensures.some, pool.touched_pages, pool.places.ok.0) in
     let at : place_of P p ≡ c.index-old.result.now = get_or_default P p Current _ lt ∙ sym c.index-old.ensures in
     let un : is_idle (place_of P p) ≡ false = ap is_idle at ∙ sym c.is_idle.ensures ∙ c.if-is_idle.false in
     let act = active (place_of P p) un in
@@ -152,9 +153,9 @@ loop-page-preserved c =
     let is : s ≡ place_after c.args.ending (place_of P p) = c.settled-place.ensures ∙ ap (place_after c.args.ending) (sym at) in
     let idle : is_idle s ≡ true = ap is_idle is ∙ after_idle c.args.ending (place_of P p) in
     record {
-      done = done_to P p s lt (place_after c.args.ending) c.args.self.now.places.items pool.touched.has.items c.pop.new.self.has.items c.loop-page.invariant.done c.in-Some.ensures.has
+      done = done_to P p s lt (place_after c.args.ending) c.args.self.now.places.items pool.touched.places.items c.pop.new.self.places.items c.loop-page.invariant.done c.in-Some.ensures.has
           (is ∙ ap (place_after c.args.ending) (c.loop-page.invariant.waiting p c.in-Some.ensures.some));
-      waiting = waiting_to P p s lt c.args.self.now.places.items pool.touched.has.items c.pop.new.self.has.items c.loop-page.invariant.waiting c.in-Some.ensures.has;
+      waiting = waiting_to P p s lt c.args.self.now.places.items pool.touched.places.items c.pop.new.self.places.items c.loop-page.invariant.waiting c.in-Some.ensures.has;
       len = length-set P p s ∙ c.loop-page.invariant.len;
       newest = newest_set P p s lt c.args.ending c.loop-page.invariant.newest is;
     }
@@ -164,7 +165,7 @@ invariant_of-self c =
     let pool = c.loop-page.self in
     let P = pool.places.items in
     let p = c.in-Some.page in
-    let lt : p < length P = omega (arith, flagged_below pool.touched.has.items p c.in-Some.ensures.some, pool.touched_pages, pool.places.ok.0) in
+    let lt : p < length P = omega (arith, flagged_below pool.touched.places.items p c.in-Some.ensures.some, pool.touched_pages, pool.places.ok.0) in
     let at : place_of P p ≡ c.index-old.result.now = get_or_default P p Current _ lt ∙ sym c.index-old.ensures in
     let idle : is_idle (place_of P p) ≡ true = ap is_idle at ∙ sym c.is_idle.ensures ∙ c.if-is_idle.true in
     record {
@@ -173,7 +174,7 @@ invariant_of-self c =
       retired_room = pool.retired_room;
       retired_count = pool.retired_count;
       frees = pool.frees;
-      touches = touches_less P p pool.touched.has.items c.pop.new.self.has.items pool.touches c.in-Some.ensures.has idle;
+      touches = touches_less P p pool.touched.places.items c.pop.new.self.places.items pool.touches c.in-Some.ensures.has idle;
       retires = pool.retires;
       oldest_first = pool.oldest_first;
     }
@@ -183,13 +184,13 @@ loop-page-preserved-then-is_idle c =
     let pool = c.loop-page.self in
     let P = pool.places.items in
     let p = c.in-Some.page in
-    let lt : p < length P = omega (arith, flagged_below pool.touched.has.items p c.in-Some.ensures.some, pool.touched_pages, pool.places.ok.0) in
+    let lt : p < length P = omega (arith, flagged_below pool.touched.places.items p c.in-Some.ensures.some, pool.touched_pages, pool.places.ok.0) in
     let at : place_of P p ≡ c.index-old.result.now = get_or_default P p Current _ lt ∙ sym c.index-old.ensures in
     let idle : is_idle (place_of P p) ≡ true = ap is_idle at ∙ sym c.is_idle.ensures ∙ c.if-is_idle.true in
     record {
-      done = done_less (place_after c.args.ending) P c.args.self.now.places.items p pool.touched.has.items c.pop.new.self.has.items c.loop-page.invariant.done c.in-Some.ensures.has
+      done = done_less (place_after c.args.ending) P c.args.self.now.places.items p pool.touched.places.items c.pop.new.self.places.items c.loop-page.invariant.done c.in-Some.ensures.has
           (sym (idle_after c.args.ending (place_of P p) idle) ∙ ap (place_after c.args.ending) (c.loop-page.invariant.waiting p c.in-Some.ensures.some));
-      waiting = waiting_less P c.args.self.now.places.items p pool.touched.has.items c.pop.new.self.has.items c.loop-page.invariant.waiting c.in-Some.ensures.has;
+      waiting = waiting_less P c.args.self.now.places.items p pool.touched.places.items c.pop.new.self.places.items c.loop-page.invariant.waiting c.in-Some.ensures.has;
       len = c.loop-page.invariant.len;
       newest = c.loop-page.invariant.newest;
     }

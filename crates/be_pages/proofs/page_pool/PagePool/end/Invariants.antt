@@ -6,8 +6,8 @@ use Rattle.be_pages.proofs.page_pool.PagePool.end.Given as goal
 -- the pages that no longer wait are settled, and the others are where they were
 abbrev pub invariant-loop-page : goal.invariant-loop-page
 invariant-loop-page l = record {
-  done : (q : ℕ) → has_page l.self.touched.has.items q ≡ false → place_of l.self.places.items q ≡ place_after l.ending (place_of l.initial.self.places.items q);
-  waiting : (q : ℕ) → has_page l.self.touched.has.items q ≡ true → place_of l.self.places.items q ≡ place_of l.initial.self.places.items q;
+  done : (q : ℕ) → has_page l.self.touched.places.items q ≡ false → place_of l.self.places.items q ≡ place_after l.ending (place_of l.initial.self.places.items q);
+  waiting : (q : ℕ) → has_page l.self.touched.places.items q ≡ true → place_of l.self.places.items q ≡ place_of l.initial.self.places.items q;
   len : length l.self.places.items ≡ length l.initial.self.places.items;
   newest : IsNewest l.ending (retired_at l.self.places.items);
 }

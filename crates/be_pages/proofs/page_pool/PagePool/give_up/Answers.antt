@@ -1,6 +1,7 @@
 use Rattle.std.proofs.Common.{◌∙◌, sym, refl, true}
 use mathlib.Core.Bool.{false≢true}
 use Rattle.be_pages.specs.declared.page_pool.Place.TheVariants.{Free}
+use Rattle.be_pages.specs.FreePages.{has_free}
 use Rattle.be_pages.specs.Place.{is_free, place_of}
 use Rattle.be_pages.proofs.Pools.{held_unretired, flags_to, touches_same, count_same, retires_same, order_same}
 use Rattle.be_pages.proofs.page_pool.PagePool.give_up.Goals as goal
@@ -17,8 +18,8 @@ invariant_of-self-in_default c =
       touched_pages = pool.touched_pages;
       retired_room = pool.retired_room;
       retired_count = pool.retired_count ∙ sym (count_same P p Free lt is);
-      frees = flags_to P p Free lt is_free true pool.free.has.items c.insert-in_default.new.self.has.items pool.frees c.insert-in_default.ensures.has refl;
-      touches = touches_same P p Free lt pool.touched.has.items pool.touches (λ e. absurd (false≢true (sym e)));
+      frees = flags_to P p Free lt is_free true (has_free pool.free) (has_free c.insert-in_default.new.self) pool.frees c.insert-in_default.ensures.has refl;
+      touches = touches_same P p Free lt pool.touched.places.items pool.touches (λ e. absurd (false≢true (sym e)));
       retires = retires_same P p Free lt pool.retired.items pool.retires is;
       oldest_first = order_same P p Free lt pool.retired.items pool.retires is pool.oldest_first;
     }

@@ -1,4 +1,4 @@
-use Rattle.std.proofs.Common.{◌≡◌, ◌∙◌, ℕ, ◌<◌, ◌≤◌, inl, inr, sym, ap, length, arith, refl, true, false}
+use Rattle.std.proofs.Common.{◌≡◌, ◌∙◌, ℕ, inl, inr, sym, ap, length, arith, refl, true, false}
 use Rattle.std.proofs.lemmas.Bool.{cases_lt}
 use Rattle.std.proofs.lemmas.List.{get_or_past}
 use mathlib.Core.Bool.{false≢true}
@@ -7,6 +7,7 @@ use Rattle.be_pages.specs.declared.page_pool.Place.TheVariants.{Free, Current}
 use Rattle.be_pages.specs.Pages.{times}
 use Rattle.be_pages.specs.PageSet.{one_if}
 use Rattle.be_pages.specs.Place.{is_free, is_idle, place_of, is_retired}
+use Rattle.be_pages.proofs.FreePages.{not_free}
 use Rattle.be_pages.proofs.Pools.{count_none}
 use Rattle.be_pages.proofs.page_pool.PagePool.new.Goals as goal
 
@@ -30,7 +31,7 @@ invariant_of-result c =
         | inl below ↦ c.in_ok-free.ensures.out q below ∙ sym (ap is_free (c.in_ok-places.ensures.used q below))
         | inr past ↦ elim (cases_lt q c.args.pages) [
           | inl within ↦ c.in_ok-free.ensures.in_set q past within ∙ sym (ap is_free (c.in_ok-places.ensures.free q past within))
-          | inr out ↦ get_or_past c.in_ok-free.free.has.items q false (omega (arith, out, c.in_ok-free.ensures.pages)) ∙ sym (ap is_free (get_or_past P q Current (omega (arith, out, len))))
+          | inr out ↦ not_free c.in_ok-free.free q (omega (arith, out, c.in_ok-free.ensures.pages)) ∙ sym (ap is_free (get_or_past P q Current (omega (arith, out, len))))
         ]
       ];
       touches = λ q un. absurd (false≢true (sym un ∙ of _ is_idle true refl refl q));

@@ -1,7 +1,8 @@
-use Rattle.std.proofs.Common.{◌≡◌, ◌∙◌, ◌<◌, ◌+◌, sym, ap, subst, arith, length, refl, true, false, slice_set}
+use Rattle.std.proofs.Common.{◌∙◌, sym, ap, subst, arith, length, refl, true, slice_set}
 use Rattle.std.proofs.lemmas.List.{length-set, length-drop}
 use Rattle.be_pages.specs.declared.page_pool.Place.TheVariants.{Free}
 use Rattle.be_pages.specs.Pages.{times}
+use Rattle.be_pages.specs.FreePages.{has_free}
 use Rattle.be_pages.specs.Place.{IsOldestFirst, is_free, retired_at, swept_place}
 use Rattle.be_pages.proofs.Pools.{places_map, retired_inside, flags_to, touches_same, count_less, retires_less, order_less, swept_set}
 use mathlib.Core.Bool.{false≢true}
@@ -22,8 +23,8 @@ invariant_of-self c =
       touched_pages = pool.touched_pages;
       retired_room = omega (arith, c.pop_front.ensures.capacity, pool.retired_room);
       retired_count = omega (arith, ap length rest, length-drop 1 queue, pool.retired_count, count_less P p Free lt is refl);
-      frees = flags_to P p Free lt is_free true pool.free.has.items c.insert.new.self.has.items pool.frees c.insert.ensures.has refl;
-      touches = touches_same P p Free lt pool.touched.has.items pool.touches (λ e. absurd (false≢true (sym e)));
+      frees = flags_to P p Free lt is_free true (has_free pool.free) (has_free c.insert.new.self) pool.frees c.insert.ensures.has refl;
+      touches = touches_same P p Free lt pool.touched.places.items pool.touches (λ e. absurd (false≢true (sym e)));
       retires = λ q. ap (times q) rest ∙ retires_less P p Free lt queue pool.retires first.0 first.1 refl is q;
       oldest_first = subst (IsOldestFirst (retired_at (slice_set P p Free))) (sym rest) (order_less P p Free lt queue pool.retires first.0 first.1 is pool.oldest_first);
     }

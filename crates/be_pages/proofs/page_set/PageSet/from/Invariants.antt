@@ -5,7 +5,7 @@ use Rattle.be_pages.proofs.page_set.PageSet.from.Given as goal
 -- the last pages are in
 abbrev pub invariant-loop-i : goal.invariant-loop-i
 invariant-loop-i l = record {
-  pages : length l.set.has.items ≡ l.pages;
-  in_set : (q : ℕ) → l.pages ≤ q + l.i → q < l.pages → has_page l.set.has.items q ≡ true;
-  out : (q : ℕ) → q + l.i < l.pages → has_page l.set.has.items q ≡ false;
+  pages : length l.set.places.items ≡ l.pages;
+  in_set : (q : ℕ) → l.pages ≤ q + l.i → q < l.pages → has_page l.set.places.items q ≡ true;
+  out : (q : ℕ) → q + l.i < l.pages → has_page l.set.places.items q ≡ false;
 }

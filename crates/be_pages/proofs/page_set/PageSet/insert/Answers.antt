@@ -1,20 +1,23 @@
-use Rattle.std.proofs.Common.{◌≡◌, ℕ, ◌+◌, ◌<◌, ◌∙◌, sym, false, arith}
+use Rattle.std.proofs.Common.{◌≡◌, arith}
 use Rattle.std.proofs.lemmas.List.{get_or_default}
-use Rattle.be_pages.specs.PageSet.{has_page}
-use Rattle.be_pages.proofs.PageSets.{room_left, counted_in, once_in}
+use Rattle.be_pages.specs.PageSet.{place_in}
+use Rattle.be_pages.proofs.PageSets.{hasnot_if, room_left, counted_in, listed_in}
 use Rattle.be_pages.proofs.page_set.PageSet.insert.Goals as goal
 
 pub index_mut-requires : goal.index_mut-requires
 index_mut-requires c =
-    let not : has_page c.args.self.now.has.items c.args.page ≡ false = get_or_default c.args.self.now.has.items c.args.page false _ c.requires ∙ sym c.index.ensures ∙ c.if-index.false in
-    omega (arith, room_left c.args.self.now.has.items c.args.page c.requires not, c.args.self.now.counted, c.args.self.now.same, c.args.self.now.has.ok.0)
+    let s = c.args.self.now in
+    let not : place_in s.places.items c.args.page ≡ 0 = omega (arith, get_or_default s.places.items c.args.page 0 c.index.result.now c.requires, c.index.ensures, c.if-index-gt0.false) in
+    omega (arith, room_left s.places.items c.args.page c.requires (hasnot_if s.places.items c.args.page not), s.counted, s.same, s.places.ok.0)
 
 pub invariant_of-self : goal.invariant_of-self
 invariant_of-self c =
-    let not : has_page c.args.self.now.has.items c.args.page ≡ false = get_or_default c.args.self.now.has.items c.args.page false _ c.requires ∙ sym c.index.ensures ∙ c.if-index.false in
+    let s = c.args.self.now in
+    let not : place_in s.places.items c.args.page ≡ 0 = omega (arith, get_or_default s.places.items c.args.page 0 c.index.result.now c.requires, c.index.ensures, c.if-index-gt0.false) in
+    let out = hasnot_if s.places.items c.args.page not in
     record {
-      same = c.args.self.now.same;
-      counted = omega (arith, counted_in c.args.self.now.has.items c.args.page c.requires not, c.args.self.now.counted);
-      once = once_in c.args.self.now.list.items c.args.self.now.has.items c.args.self.now.len c.args.page
-          (omega (arith, room_left c.args.self.now.has.items c.args.page c.requires not, c.args.self.now.counted, c.args.self.now.same, c.args.self.now.has.ok.0, c.args.self.now.list.ok.0)) c.requires not c.args.self.now.once;
+      same = s.same;
+      counted = omega (arith, counted_in s.places.items c.args.page s.len c.requires out, s.counted);
+      listed = listed_in s.list.items s.places.items s.len c.args.page
+          (omega (arith, room_left s.places.items c.args.page c.requires out, s.counted, s.same, s.places.ok.0, s.list.ok.0)) c.requires not s.listed;
     }

@@ -1,6 +1,9 @@
 use Rattle.std.proofs.Common.{◌≡◌, ◌+◌, ◌-◌, Some, sym, ap, ◌∙◌, subst, arith}
 use Rattle.be_table.specs.declared.pass.Knowledge.{Knowledge}
+use Rattle.be_table.specs.History.{StartsWith}
+use Rattle.be_table.specs.Seats.{pin_of}
 use Rattle.be_table.specs.Trace.{upto_lock}
+use Rattle.be_table.proofs.Meetings.{met_pin}
 use Rattle.be_table.proofs.Locks.{locks_as, gained, late, is_out}
 use Rattle.be_table.specs.Rule.{pass_of}
 use Rattle.be_table.specs.Steps.{finds_held}
@@ -35,3 +38,12 @@ of-requires-clause-begun c =
     let g = gained c.into_base-base.result.0.me c.compare_exchange-found.result c.compare_exchange-found.new.seat.me _ c.compare_exchange-found.ensures.2 c.if-found-eq0.true in
     subst (λ (x : Knowledge). upto_lock x.number x.history ≡ x.history) (sym (ap (λ m. pass_of m.0) c.exchange.ensures.3 ∙ ap (λ m. pass_of m.0) g.3.3.0))
     (upto_now a.number a.history g.0 g.1)
+
+pub of-requires-clause-pin : goal.of-requires-clause-pin
+of-requires-clause-pin c =
+    let a = c.args.seat.knows in
+    let g = gained c.into_base-base.result.0.me c.compare_exchange-found.result c.compare_exchange-found.new.seat.me _ c.compare_exchange-found.ensures.2 c.if-found-eq0.true in
+    let e : pass_of c.into_base-base.result.0.me.0 ≡ a = ap (λ m. pass_of m.0) c.into_base-base.ensures.pass.1 in
+    met_pin a g.3.1 c.into_base-base.result.1.pin c.into_base-base.ensures.told.1.pass c.into_base-base.ensures.pin (subst (λ (x : Knowledge). StartsWith g.3.1 x.seen) e g.3.3.1)
+    ∙ ap (λ (x : Knowledge). pin_of x.phase g.3.1) (sym e)
+    ∙ sym (ap (λ (x : Knowledge). pin_of x.phase x.seen) (ap (λ m. pass_of m.0) c.exchange.ensures.3 ∙ ap (λ m. pass_of m.0) g.3.3.0))

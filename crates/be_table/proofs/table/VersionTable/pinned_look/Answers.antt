@@ -1,6 +1,6 @@
 use Rattle.std.proofs.Common.{take, sym, subst}
 use Rattle.be_journal.specs.Journal.{replay}
-use Rattle.be_paged.specs.Version.{IsVersion}
+use Rattle.be_paged_reading.specs.Version.{IsVersion}
 use Rattle.be_table.specs.declared.pass.Knowledge.{Knowledge}
 use Rattle.be_table.specs.Reading.{pinned_standing, word_of_page}
 use Rattle.be_table.specs.Rule.{entries, page_at}

@@ -2,6 +2,7 @@ use Rattle.std.proofs.Common.{◌≡◌, false, arith, refl, sym, subst, inl, in
 use Rattle.be_table.specs.Place.{Work}
 use Rattle.be_table.specs.Steps.{IsOwnLeast}
 use Rattle.be_table.specs.Works.{HasNoFree, MakesScan, FindsNone}
+use Rattle.be_table.proofs.Announced.{held_still, was_announced}
 use Rattle.be_table.proofs.Opened.{all_held}
 use Rattle.be_table.proofs.writing.Writing.take.Goals as goal
 
@@ -21,7 +22,20 @@ returns-in-None-clause-full c =
     let h = subst (λ (w : Work). MakesScan w c.scan-least.new.self c.scan-least.result) c.in_default.ensures.same c.scan-least.ensures in (
       c.scan-least.result,
       refl,
-      subst (λ (w : Work). FindsNone c.args.self.now w c.scan-least.result) (sym e.same) (record { before = c.in_default.ensures.none; scan = h; none = e.none; spent = (sym h.least_is, λ p lt. all_held c.args.self.now c.scan-least.new.self c.scan-least.result h e.none p (let count = e.count in omega arith), subst (λ (w : Work). IsOwnLeast w.knows c.scan-least.result) (sym h.same) h.own) }),
+      subst (λ (w : Work). FindsNone c.args.self.now w c.scan-least.result) (sym e.same) (record {
+        before = c.in_default.ensures.none;
+        scan = h;
+        none = e.none;
+        full = (
+          (
+            sym h.least_is,
+            λ p lt. all_held c.args.self.now c.scan-least.new.self c.scan-least.result h e.none p (let count = e.count in omega arith),
+            subst (λ (w : Work). IsOwnLeast w.knows c.scan-least.result) (sym h.same) h.own,
+            was_announced c.args.self.now c.scan-least.new.self c.scan-least.result h,
+          ),
+          held_still c.args.self.now c.scan-least.new.self c.scan-least.result h,
+        );
+      }),
     )
 
 pub scan-least-requires : goal.scan-least-requires

@@ -2,8 +2,8 @@ use Rattle.std.proofs.Common.{◌≡◌, ℕ, length, Ok, sym, ap, ◌∙◌, su
 use Rattle.be_core.specs.Machine.{bit}
 use Rattle.be_journal.specs.Journal.{replay}
 use Rattle.be_pages.specs.Pages.{is_kept, times}
-use Rattle.be_paged.specs.Page.{reach}
-use Rattle.be_paged.specs.Version.{IsVersion}
+use Rattle.be_paged_reading.specs.Page.{reach}
+use Rattle.be_paged_reading.specs.Version.{IsVersion}
 use Rattle.be_volume.specs.Ahead.{state_after, reached}
 use Rattle.be_volume.specs.Volume.{State, steps}
 use Rattle.be_table.specs.declared.pass.Knowledge.{Knowledge}

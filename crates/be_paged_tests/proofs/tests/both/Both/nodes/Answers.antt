@@ -1,5 +1,5 @@
 use Rattle.std.proofs.Common.{◌∙◌}
-use Rattle.be_paged.proofs.Versions.{version_since}
+use Rattle.be_paged_reading.proofs.Versions.{version_since}
 use Rattle.be_paged_tests.proofs.Since.{stands_since}
 use Rattle.be_paged_tests.proofs.tests.both.Both.nodes.Goals as goal
 

@@ -1,9 +1,9 @@
 use Rattle.std.proofs.Common.{ℕ, ap, sym, subst, ◌∙◌}
 use Rattle.be_pages.specs.PagePool.{places}
 use Rattle.be_pages.specs.VecRoom.{standing_in, pool_word}
-use Rattle.be_tree.specs.Forest.{IsUndone}
+use Rattle.be_tree_reading.specs.Forest.{IsUndone}
 use Rattle.be_volume.specs.Volume.{State}
-use Rattle.be_paged.specs.Version.{IsVersion}
+use Rattle.be_paged_reading.specs.Version.{IsVersion}
 use Rattle.be_paged.proofs.Standing.{version_stands, version_kept}
 use Rattle.be_paged_tests.proofs.Since.{one_made, refused_start, kept_start, undone_start}
 use Rattle.be_paged_tests.proofs.tests.both.Both.write.Goals as goal

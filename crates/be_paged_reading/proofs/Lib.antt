@@ -1,0 +1,6 @@
+pub mod Versions
+pub mod Stored
+pub mod CatalogPairs
+pub mod IndexEntries
+pub mod Asking
+pub mod Told

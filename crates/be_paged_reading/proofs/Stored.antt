@@ -1,0 +1,4 @@
+-- A version as its page stores it, and what the page tells.
+pub mod Codec
+pub mod UsedWords
+pub mod PageIndices

@@ -1,0 +1,66 @@
+-- What the pairs of the catalog's tree and of an index's tree say.
+use Rattle.std.specs.Prelude.{◌≡◌, ℕ, ◌^◌, ◌<◌, List, [], ◌∷◌, ◌++◌, All, Some}
+use Rattle.std.specs.Option.{option_map, option_and_then}
+use Rattle.std.specs.Int.{to_be_bytes, cast_unsigned, w32, w64}
+use Rattle.std.specs.FinMap as map
+use Rattle.std.specs.declared.option.Option.{Option}
+use Rattle.be_value.specs.Key.{key}
+use Rattle.be_value.specs.declared.values.Value.{Value}
+use Rattle.be_value.specs.declared.values.Value.TheVariants.{Cstr, Long, Llng, Mims, Rawt, Ulng}
+use Rattle.be_value.specs.declared.values.Value.TheVariants.{Ullg}
+use Rattle.be_volume.specs.Maps.{Nodes}
+use Rattle.be_volume.specs.declared.maps.Index.{Index}
+use Rattle.be_tree_reading.specs.Pair.{Pair}
+use Rattle.be_tree_reading.specs.Key.{payload_at}
+
+-- the key of a node's attribute; with no name it is that of the node's mark
+abbrev pub catalog_key : ℕ → List ℕ → List ℕ
+catalog_key node name = to_be_bytes w64 node ++ name
+
+-- the payload of a value: the number of its kind, and its data
+abbrev pub payload_of : Value → List ℕ
+payload_of (Cstr text) = 1 ∷ text
+payload_of (Long n) = 2 ∷ to_be_bytes w32 (cast_unsigned w32 n)
+payload_of (Llng n) = 3 ∷ to_be_bytes w64 (cast_unsigned w64 n)
+payload_of (Mims text) = 4 ∷ text
+payload_of (Rawt bytes) = 5 ∷ bytes
+payload_of (Ulng n) = 6 ∷ to_be_bytes w32 n
+payload_of (Ullg n) = 7 ∷ to_be_bytes w64 n
+
+-- the value that a node has at a name
+abbrev pub value_at : Nodes → ℕ → List ℕ → Option Value
+value_at nodes node name = option_and_then (λ attributes. map.get attributes name)
+    (map.get nodes node)
+
+-- the payload at the key of a node and a name: a mark's payload is empty
+abbrev pub stored : Nodes → ℕ → List ℕ → Option (List ℕ)
+stored nodes node [] = option_map (λ _. []) (map.get nodes node)
+stored nodes node (c ∷ name) = option_map payload_of (value_at nodes node (c ∷ name))
+
+-- some node and some name have this key
+pub record IsCatalogKey (k : List ℕ) : Type 0 where
+  pub node : ℕ
+  pub name : List ℕ
+  pub fits : node < 2 ^ 64
+  pub is : k ≡ catalog_key node name
+
+-- The pairs are exactly the marks of the nodes and their attributes: each key has what the nodes
+-- have there, and there are no other keys.
+pub record IsCatalog (pairs : List Pair) (nodes : Nodes) : Type 0 where
+  pub each : (node : ℕ) (name : List ℕ) → node < 2 ^ 64 → payload_at pairs (catalog_key node name)
+      ≡ stored nodes node name
+  pub only : All (λ pair. IsCatalogKey pair.key) pairs
+
+-- the pair is the key of a node and a value that the index has for it
+pub record IsPairOf (index : Index) (pair : Pair) : Type 0 where
+  pub node : ℕ
+  pub value : Value
+  pub there : map.get index.pairs node ≡ Some value
+  pub is : pair.key ≡ key value node
+  pub empty : pair.payload ≡ []
+
+-- The pairs are exactly the keys of the index, with no payload.
+pub record IsIndexOf (pairs : List Pair) (index : Index) : Type 0 where
+  pub each : (node : ℕ) (value : Value) → map.get index.pairs node ≡ Some value
+      → payload_at pairs (key value node) ≡ Some []
+  pub only : All (IsPairOf index) pairs

@@ -1,0 +1,12 @@
+pub mod Entry
+pub mod Page
+pub mod Catalog
+pub mod Texts
+pub mod Version
+pub mod Reading
+pub mod Nodes
+pub mod Facts
+pub mod Source
+pub mod Place
+pub mod Entries
+pub mod Cells

@@ -1,0 +1,79 @@
+-- What a source over a version has in hand.
+use Rattle.std.specs.Prelude.{◌≡◌, ℕ, ◌+◌, ◌<◌, ◌≤◌, ◌&&◌, Bool, IsTrue, IfSome, IfNone, List, true}
+use Rattle.std.specs.Prelude.{is_some, length, slice_index_or}
+use Rattle.std.specs.declared.option.Option.{Option}
+use Rattle.be_pages.specs.declared.room.Standing.{Standing}
+use Rattle.be_pages.specs.Pages.{is_readable}
+use Rattle.be_tree_reading.specs.Page.{IsItem, item_at}
+use Rattle.be_tree_reading.specs.Cursor.{IsCursor, remaining}
+use Rattle.be_tree_reading.specs.Key.{payload_at}
+use Rattle.be_tree_reading.specs.Pair.{Pair}
+use Rattle.be_tree_reading.specs.Range.{pairs_from}
+use Rattle.be_tree_reading.specs.Tree.{pairs}
+use Rattle.be_tree_reading.specs.declared.cursor.Cursor.{Cursor}
+use Rattle.be_value.specs.Key.{IsValue, key}
+use Rattle.be_value.specs.Value.{kind_of, is_indexable}
+use Rattle.be_value.specs.declared.values.Value.{Value}
+use Rattle.be_volume.specs.Volume.{State}
+use Rattle.be_paged_reading.specs.Catalog.{payload_of}
+use Rattle.be_paged_reading.specs.Entry.{Entry}
+use Rattle.be_paged_reading.specs.Page.{contents_of, IsGapAt, IsNamedAt}
+use Rattle.be_paged_reading.specs.Version.{IsVersion}
+use Rattle.be_paged_reading.specs.declared.on_page.FoundIndex.{FoundIndex}
+
+-- an item that can be read lies at a place of a page
+pub record IsItemAt (standing : ℕ → Standing) (words : ℕ → ℕ → ℕ) (page at : ℕ) : Type 0 where
+  pub readable : IsTrue (is_readable (standing page))
+  pub in_page : at + 42 ≤ 512
+  pub fits : IsItem (words page) at
+
+-- an item lies where a look-up found one
+abbrev pub HasItem : (standing : ℕ → Standing) (words : ℕ → ℕ → ℕ) → Option (ℕ × ℕ) → Type 0
+HasItem standing words place = IfSome place (λ at. IsItemAt standing words at.0 at.1)
+
+-- the cursor is in the tree of the index at a place, after the key of the item at a place of a
+-- page; at a place past the indices it is in no tree
+pub record StandsAfter (standing : ℕ → Standing) (words : ℕ → ℕ → ℕ) (entries : List Entry)
+    (cursor : Cursor) (place : ℕ) (last_page last_at : ℕ) : Type 0 where
+  pub can_go_on : place < length entries → IsCursor standing words cursor
+  pub last : place < length entries → IsItemAt standing words last_page last_at
+  pub rest : (d : Entry) → place < length entries → remaining words cursor
+      ≡ pairs_from (pairs words (slice_index_or entries place d).root)
+      (item_at (words last_page) last_at).key true
+
+-- the index of a name among the entries, or that there is none
+pub record IsFound (entries : List Entry) (name : List ℕ) (found : Option FoundIndex) : Type 0 where
+  pub named : IfSome found (λ index. IsNamedAt entries name index.place)
+  pub kind : IfSome found (λ index. (d : Entry) → index.kind
+      ≡ (slice_index_or entries index.place d).kind)
+  pub root : IfSome found (λ index. (d : Entry) → index.root
+      ≡ (slice_index_or entries index.place d).root)
+  pub absent : IfNone found ((i : ℕ) × IsGapAt entries name i)
+
+-- what is remembered of an index is what the entries say
+pub record IsIndexOf (entries : List Entry) (index : FoundIndex) : Type 0 where
+  pub in_range : index.place < length entries
+  pub kind : (d : Entry) → index.kind ≡ (slice_index_or entries index.place d).kind
+  pub root : (d : Entry) → index.root ≡ (slice_index_or entries index.place d).root
+
+abbrev pub IsKnown : List Entry → Option FoundIndex → Type 0
+IsKnown entries known = IfSome known (λ last. IsIndexOf entries last)
+
+-- whether the pairs of an index have the key of the value and the node
+abbrev pub has_pair : List Pair → ℕ → Value → Bool
+has_pair items node v = is_indexable (kind_of v) && is_some (payload_at items (key v node))
+
+-- whether an index has the pair of a node and of the value that an item encodes
+abbrev pub DecidesPair : (words : ℕ → ℕ → ℕ) (index node page at : ℕ) → Bool → Type 0
+DecidesPair words index node page at has = (v : Value) → IsValue v
+    → (item_at (words page) at).payload ≡ payload_of v
+    → has ≡ has_pair (pairs words index) node v
+
+-- the page encodes the volume, what is remembered is of that page, and the cursor is where it says
+pub record SourceOf (standing : ℕ → Standing) (words : ℕ → ℕ → ℕ) (page : ℕ)
+    (known : Option FoundIndex)
+    (cursor : Cursor) (place : ℕ) (last_page last_at : ℕ) (volume : State) : Type 0 where
+  pub version : IsVersion standing words page volume
+  pub known_is : IsKnown (contents_of (words page)).entries known
+  pub beyond : StandsAfter standing words (contents_of (words page)).entries cursor place last_page
+      last_at

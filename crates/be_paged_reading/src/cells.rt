@@ -1,0 +1,325 @@
+//! Values written into a caller's room: a cell for each, and the bytes of texts one after the
+//! other.
+ghost use Rattle.std.specs.Prelude.{◌≡◌, ◌+◌, ◌-◌, ◌*◌, ◌^◌, ◌<◌, ◌≤◌, ℕ, ℤ, List, [], ◌∷◌, ◌++◌};
+ghost use Rattle.std.specs.Prelude.{Ok, Err, Some, drop, length};
+ghost use Rattle.std.specs.Int.{cast_unsigned, w32, w64};
+ghost use Rattle.std.specs.Int.RustNames.{FitsSigned};
+ghost use Rattle.std.specs.declared.result.Result.{Result as AnyResult};
+ghost use Rattle.be_pages.specs.Pages.{IsUnchanged};
+ghost use Rattle.be_tree_reading.specs.Page.{item_at};
+ghost use Rattle.be_value.specs.Key.{IsValue};
+ghost use Rattle.be_value.specs.Value.{code_of};
+ghost use Rattle.be_value.specs.declared.refusals.Refusal.{Refusal as AnyRefusal};
+ghost use Rattle.be_value.specs.declared.values.Value.{Value as AnyValue};
+ghost use Rattle.be_paged_reading.specs.Catalog.{catalog_key as key_in_catalog};
+ghost use Rattle.be_paged_reading.specs.Catalog.{payload_of as payload};
+ghost use Rattle.be_paged_reading.specs.Cells.{AreTold, IsFew, cell_of, data_in};
+ghost use Rattle.be_paged_reading.specs.Cells.{data_of, name_in, over};
+ghost use Rattle.be_paged_reading.specs.Source.{IsItemAt};
+ghost use Rattle.be_paged_reading.specs.declared.cells.Cell.{Cell as AnyCell};
+
+use crate::catalog::{kind_at, number32_at, number64_at};
+use arrayvec::ArrayVec;
+use be_pages::Look;
+use be_tree_reading::{fill_payload, payload_len_at};
+use be_value::{Kind, Name, Refusal};
+
+/// A name as a caller holds it: its length, and its bytes at the front of the others. Nothing else
+/// is required of it: bytes that are no name are no attribute's.
+#[repr(C)]
+#[derive(Clone, Copy)]
+pub struct HeldName {
+    pub length: u64,
+    pub bytes: [u8; 64],
+}
+
+/// The cell of a node's attribute: error 0 and the value's type code, its number, and where its
+/// bytes begin and how many they are; or the number of the refusal. A signed number is in two's
+/// complement.
+#[repr(C)]
+#[derive(Clone, Copy)]
+pub struct Cell {
+    pub error: u32,
+    pub code: u32,
+    pub number: u64,
+    pub offset: u64,
+    pub length: u64,
+}
+
+/// How many cells were written, and how many bytes.
+#[derive(Clone, Copy)]
+pub struct Filled {
+    pub cells: usize,
+    pub bytes: usize,
+}
+
+impl HeldName {
+    /// A name that is held.
+    pub fn new(name: &Name) -> HeldName
+        ensures { name_in result ≡ name.now }
+    {
+        let text = name.as_str().as_bytes();
+        let mut bytes = [0; 64];
+        bytes[..text.len()].copy_from_slice(text);
+        HeldName {
+            length: text.len() as u64,
+            bytes,
+        }
+    }
+}
+
+/// The key of a node's attribute whose name is held.
+pub(crate) fn held_key(node: u64, name: &HeldName) -> ArrayVec<u8, 72>
+    ensures key { result.items ≡ key_in_catalog node (name_in name.now) }
+{
+    let length = name.length.min(64) as usize;
+    let mut key = ArrayVec::new();
+    key.try_extend_from_slice(&node.to_be_bytes()).unwrap();
+    key.try_extend_from_slice(&name.bytes[..length]).unwrap();
+    key
+}
+
+/// Puts items at a place after those that were put, as many as there are places.
+fn put_at<T: Copy>(places: &mut [T], at: usize, items: &[T])
+    ensures { (before all : List T) → length before ≡ at → places.old ≡ over before all → places.new
+        ≡ over (before ++ items.now) all }
+{
+    if at >= places.len() {
+        return;
+    }
+    let room = places.len() - at;
+    if items.len() <= room {
+        places[at..at + items.len()].copy_from_slice(items);
+    } else {
+        places[at..].copy_from_slice(&items[..room]);
+    }
+}
+
+/// Tells one thing more that was found, by its cell and its bytes.
+pub(crate) fn tell(
+    cells: &mut [Cell],
+    bytes: &mut [u8],
+    filled: &mut Filled,
+    cell: Cell,
+    content: &[u8],
+)
+    requires cells { filled.old.cells < 2 ^ 32 }
+    requires few { IsFew filled.old }
+    requires short { length content.now ≤ 512 }
+    ensures told { (x : AnyResult AnyValue AnyRefusal)
+        (found : List (AnyResult AnyValue AnyRefusal)) (cell_places : List AnyCell)
+        (byte_places : List ℕ)
+        → cell ≡ cell_of filled.old.bytes x → content.now ≡ data_in x
+        → AreTold found cell_places cells.old byte_places bytes.old filled.old
+        → AreTold (found ++ x ∷ []) cell_places cells.new byte_places bytes.new filled.new }
+    ensures one { filled.new.cells ≡ filled.old.cells + 1 }
+    ensures few { IsFew filled.new }
+{
+    put_at(cells, filled.cells, &[cell]);
+    put_at(bytes, filled.bytes, content);
+    *filled = Filled {
+        cells: filled.cells + 1,
+        bytes: filled.bytes + content.len(),
+    };
+}
+
+/// The cell of an attribute that isn't there.
+pub(crate) fn empty_cell(why: &Refusal, offset: usize) -> Cell
+    ensures { result ≡ cell_of offset (Err why.now) }
+{
+    Cell {
+        error: why.number() as u32,
+        code: 0,
+        number: 0,
+        offset: offset as u64,
+        length: 0,
+    }
+}
+
+/// The cell of a number.
+fn number_cell(kind: Kind, number: u64, offset: usize) -> Cell
+    ensures { result ≡ record {
+      error = 0;
+      code = code_of kind;
+      number = number;
+      offset = offset;
+      length = 0;
+    } }
+{
+    Cell {
+        error: 0,
+        code: kind.code(),
+        number,
+        offset: offset as u64,
+        length: 0,
+    }
+}
+
+/// The cell of a text, of whose payload the first byte is the kind.
+fn data_cell(kind: Kind, payload_len: usize, offset: usize) -> Cell
+    requires { 1 ≤ payload_len }
+    ensures { result ≡ record {
+      error = 0;
+      code = code_of kind;
+      number = 0;
+      offset = offset;
+      length = payload_len - 1;
+    } }
+{
+    Cell {
+        error: 0,
+        code: kind.code(),
+        number: 0,
+        offset: offset as u64,
+        length: payload_len as u64 - 1,
+    }
+}
+
+/// A signed number of four bytes as one of eight.
+fn widened(number: u32) -> u64
+    ensures { (n : ℤ) → FitsSigned w32 n → number ≡ cast_unsigned w32 n → result
+        ≡ cast_unsigned w64 n }
+{
+    (number.cast_signed() as i64).cast_unsigned()
+}
+
+/// The cell of the value at a place of the catalog, if its payload encodes a value. The value's
+/// bytes begin at this offset.
+fn value_cell<L: Look>(look: &mut L, page: u64, at: usize, offset: usize) -> Option<Cell>
+    requires item { IsItemAt (L.standing look.old) (L.words look.old) page at }
+    ensures cell { (v : AnyValue) → IsValue v → (item_at (L.words look.old page) at).payload
+        ≡ payload v → result ≡ Some (cell_of offset (Ok v)) }
+    ensures unchanged { IsUnchanged L.kept L.standing L.words look.old look.new }
+{
+    let kind = kind_at(look, page, at)?;
+    let payload_len = payload_len_at(look, page, at);
+    if payload_len == 0 {
+        return None;
+    }
+    match kind {
+        Kind::Cstr | Kind::Mims | Kind::Rawt => Some(data_cell(kind, payload_len, offset)),
+        Kind::Long => {
+            let number = number32_at(look, page, at)?;
+            Some(number_cell(kind, widened(number), offset))
+        }
+        Kind::Llng | Kind::Ullg => Some(number_cell(kind, number64_at(look, page, at)?, offset)),
+        Kind::Ulng => {
+            let number = number32_at(look, page, at)?;
+            Some(number_cell(kind, number as u64, offset))
+        }
+    }
+}
+
+/// The bytes after the first one.
+fn after_first(payload: &[u8]) -> &[u8]
+    ensures { result.now ≡ drop 1 payload.now }
+{
+    match payload.split_first() {
+        Some((_, rest)) => rest,
+        None => payload,
+    }
+}
+
+/// Tells the bytes of the text at a place of the catalog, by its cell.
+fn tell_data<L: Look>(
+    look: &mut L,
+    item: (u64, usize),
+    cell: Cell,
+    cells: &mut [Cell],
+    bytes: &mut [u8],
+    filled: &mut Filled,
+)
+    requires item { IsItemAt (L.standing look.old) (L.words look.old) item.0 item.1 }
+    requires cells { filled.old.cells < 2 ^ 32 }
+    requires few { IsFew filled.old }
+    ensures told { (x : AnyResult AnyValue AnyRefusal)
+        (found : List (AnyResult AnyValue AnyRefusal)) (cell_places : List AnyCell)
+        (byte_places : List ℕ)
+        → cell ≡ cell_of filled.old.bytes x
+        → drop 1 (item_at (L.words look.old item.0) item.1).payload ≡ data_in x
+        → AreTold found cell_places cells.old byte_places bytes.old filled.old
+        → AreTold (found ++ x ∷ []) cell_places cells.new byte_places bytes.new filled.new }
+    ensures one { filled.new.cells ≡ filled.old.cells + 1 }
+    ensures few { IsFew filled.new }
+    ensures unchanged { IsUnchanged L.kept L.standing L.words look.old look.new }
+{
+    let (page, at) = item;
+    let mut payload = ArrayVec::new();
+    fill_payload(look, page, at, &mut payload);
+    let content = after_first(payload.as_slice());
+    tell(cells, bytes, filled, cell, content);
+}
+
+/// Tells the value of the item at a place of the catalog: a text's bytes go from the page to the
+/// caller.
+pub(crate) fn tell_value<L: Look>(
+    look: &mut L,
+    page: u64,
+    at: usize,
+    cells: &mut [Cell],
+    bytes: &mut [u8],
+    filled: &mut Filled,
+)
+    requires item { IsItemAt (L.standing look.old) (L.words look.old) page at }
+    requires cells { filled.old.cells < 2 ^ 32 }
+    requires few { IsFew filled.old }
+    ensures told { (v : AnyValue) (found : List (AnyResult AnyValue AnyRefusal))
+        (cell_places : List AnyCell) (byte_places : List ℕ)
+        → IsValue v → (item_at (L.words look.old page) at).payload ≡ payload v
+        → AreTold found cell_places cells.old byte_places bytes.old filled.old
+        → AreTold (found ++ Ok v ∷ []) cell_places cells.new byte_places bytes.new filled.new }
+    ensures one { filled.new.cells ≡ filled.old.cells + 1 }
+    ensures few { IsFew filled.new }
+    ensures unchanged { IsUnchanged L.kept L.standing L.words look.old look.new }
+{
+    let Some(cell) = value_cell(look, page, at, filled.bytes) else {
+        let offset = filled.bytes;
+        tell(
+            cells,
+            bytes,
+            filled,
+            empty_cell(&Refusal::NoAttr, offset),
+            b"",
+        );
+        return;
+    };
+    if cell.length == 0 {
+        tell(cells, bytes, filled, cell, b"");
+        return;
+    }
+    tell_data(look, (page, at), cell, cells, bytes, filled);
+}
+
+/// The cell of the value at a place of the catalog, if its payload encodes one. The value's bytes
+/// are written to the front of the places.
+pub(crate) fn read_into<L: Look>(
+    look: &mut L,
+    page: u64,
+    at: usize,
+    bytes: &mut [u8],
+) -> Option<Cell>
+    requires item { IsItemAt (L.standing look.old) (L.words look.old) page at }
+    ensures cell { (v : AnyValue) → IsValue v → (item_at (L.words look.old page) at).payload
+        ≡ payload v → result ≡ Some (cell_of 0 (Ok v)) }
+    ensures bytes { (v : AnyValue) → IsValue v → (item_at (L.words look.old page) at).payload
+        ≡ payload v → bytes.new ≡ over (data_of v) bytes.old }
+    ensures unchanged { IsUnchanged L.kept L.standing L.words look.old look.new }
+{
+    let cell = value_cell(look, page, at, 0)?;
+    if cell.length > 0 {
+        put_payload(look, page, at, bytes);
+    }
+    Some(cell)
+}
+
+/// Puts the bytes of the text at a place of the catalog to the front of the places.
+fn put_payload<L: Look>(look: &mut L, page: u64, at: usize, bytes: &mut [u8])
+    requires item { IsItemAt (L.standing look.old) (L.words look.old) page at }
+    ensures bytes { bytes.new ≡ over (drop 1 (item_at (L.words look.old page) at).payload)
+        bytes.old }
+    ensures unchanged { IsUnchanged L.kept L.standing L.words look.old look.new }
+{
+    let mut payload = ArrayVec::new();
+    fill_payload(look, page, at, &mut payload);
+    put_at(bytes, 0, after_first(payload.as_slice()));
+}

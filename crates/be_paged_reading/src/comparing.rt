@@ -1,0 +1,112 @@
+//! Comparisons with values in place.
+//!
+//! A value in hand has room for the longest text, and costs that room at each move, whatever it is.
+//! So a comparison is asked of the item: an integer is read as a number, and of a text no more than
+//! its bytes is filled.
+ghost use Rattle.std.specs.Prelude.{◌≡◌, ◌+◌, ◌≤◌, ℕ, List, ◌∷◌, Ok, IsTrue, IsUtf8};
+ghost use Rattle.be_pages.specs.Pages.{IsUnchanged, is_readable};
+ghost use Rattle.be_query.specs.View.{literal as literal_of};
+ghost use Rattle.be_tree_reading.specs.Page.{IsItem, item_at};
+ghost use Rattle.be_value.specs.Key.{IsValue};
+ghost use Rattle.be_value.specs.Name.{text_from};
+ghost use Rattle.be_value.specs.declared.values.Value.{Value as AnyValue};
+ghost use Rattle.be_volume.specs.Query.{holds, holds_of_number, holds_of_text, literal_number};
+ghost use Rattle.be_paged_reading.specs.Catalog.{payload_of as payload};
+
+use crate::catalog::{kind_at, number32_at, number64_at};
+use arrayvec::ArrayVec;
+use be_pages::Look;
+use be_query::{Cmp, Comparison, Literal};
+use be_tree_reading::fill_payload;
+use be_value::Kind;
+use be_volume::{is_true_of, literal_number};
+use std::str;
+
+/// Whether a comparison is true of the value that the payload of the item at a place encodes.
+pub(crate) fn holds_at<L: Look>(look: &mut L, page: u64, at: usize, comparison: &Comparison) -> bool
+    requires readable { IsTrue (is_readable (L.standing look.old page)) }
+    requires in_page { at + 42 ≤ 512 }
+    requires item { IsItem (L.words look.old page) at }
+    ensures holds { (v : AnyValue) → IsValue v → (item_at (L.words look.old page) at).payload
+        ≡ payload v →
+        result ≡ holds comparison.now.op v (literal_of comparison.now.literal) }
+    ensures unchanged { IsUnchanged L.kept L.standing L.words look.old look.new }
+{
+    let Some(kind) = kind_at(look, page, at) else {
+        return false;
+    };
+    match kind {
+        Kind::Cstr | Kind::Mims => text_holds_at(look, page, at, comparison),
+        Kind::Long => match number32_at(look, page, at) {
+            Some(n) => number_holds(comparison, i128::from(n.cast_signed())),
+            None => false,
+        },
+        Kind::Llng => match number64_at(look, page, at) {
+            Some(n) => number_holds(comparison, i128::from(n.cast_signed())),
+            None => false,
+        },
+        Kind::Ulng => match number32_at(look, page, at) {
+            Some(n) => number_holds(comparison, i128::from(n)),
+            None => false,
+        },
+        Kind::Ullg => match number64_at(look, page, at) {
+            Some(n) => number_holds(comparison, i128::from(n)),
+            None => false,
+        },
+        Kind::Rawt => false,
+    }
+}
+
+/// Whether a comparison is true of the text after a payload's first byte.
+fn text_holds_at<L: Look>(look: &mut L, page: u64, at: usize, comparison: &Comparison) -> bool
+    requires readable { IsTrue (is_readable (L.standing look.old page)) }
+    requires in_page { at + 42 ≤ 512 }
+    requires item { IsItem (L.words look.old page) at }
+    ensures holds { (k : ℕ) (t : List ℕ) → text_from t ≡ Ok t → IsUtf8 t
+        → (item_at (L.words look.old page) at).payload ≡ k ∷ t →
+        result ≡ holds_of_text comparison.now.op t (literal_of comparison.now.literal) }
+    ensures unchanged { IsUnchanged L.kept L.standing L.words look.old look.new }
+{
+    let mut payload = ArrayVec::new();
+    fill_payload(look, page, at, &mut payload);
+    payload_holds(comparison, &payload)
+}
+
+/// Whether a comparison is true of the text after the first byte of a payload in hand.
+fn payload_holds(comparison: &Comparison, payload: &[u8]) -> bool
+    ensures { (k : ℕ) (t : List ℕ) → IsUtf8 t → payload.now ≡ k ∷ t → result
+        ≡ holds_of_text comparison.now.op t (literal_of comparison.now.literal) }
+{
+    match payload.split_first() {
+        Some((_, text)) => text_holds(comparison, text),
+        None => false,
+    }
+}
+
+/// Whether a comparison is true of a text, given by its bytes.
+fn text_holds(comparison: &Comparison, text: &[u8]) -> bool
+    ensures { IsUtf8 text.now → result
+        ≡ holds_of_text comparison.now.op text.now (literal_of comparison.now.literal) }
+{
+    match &comparison.literal {
+        Literal::Text(words) => is_true_of(comparison.op, text.cmp(&words.as_str().as_bytes())),
+        Literal::Pattern(pattern) => match str::from_utf8(text) {
+            Ok(text) => match comparison.op {
+                Cmp::Eq => pattern.matches(text),
+                _ => !pattern.matches(text),
+            },
+            Err(_) => false,
+        },
+    }
+}
+
+/// Whether a comparison is true of a number.
+fn number_holds(comparison: &Comparison, n: i128) -> bool
+    ensures { result ≡ holds_of_number comparison.now.op n
+        (literal_number (literal_of comparison.now.literal)) }
+{
+    match literal_number(&comparison.literal) {
+        Some(m) => is_true_of(comparison.op, n.cmp(&m)),
+        None => false,
+    }
+}

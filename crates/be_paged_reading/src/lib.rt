@@ -1,0 +1,46 @@
+//! Reading of a volume in pages.
+//!
+//! # Versions
+//! A version of a volume is one page: the next node number, the root of the catalog's tree, and for
+//! each index its name, its kind and the root of its tree. The catalog has a pair for each node and
+//! one for each attribute; an index has a pair for each node that is in it. All calls read through
+//! `Look`, so they serve a pool in memory and a shared table alike.
+//!
+//! # What a page says
+//! That a page encodes a volume is a relation, `IsVersion`: its pairs are exactly the volume's
+//! nodes, attributes and index keys. A reader can't compute that volume, so a contract speaks of
+//! every volume that the page encodes. be_paged writes versions.
+#![tactic(auto)]
+
+mod asked;
+mod attributes;
+mod catalog;
+mod cells;
+mod comparing;
+mod entries;
+mod entry;
+mod facts;
+mod indexed;
+mod marks;
+mod on_page;
+mod paged_source;
+mod paged_whole;
+mod prepared;
+mod reading;
+mod rows;
+mod texts;
+mod version;
+
+pub use asked::{Asked, known_of};
+pub use attributes::first_attribute;
+pub use catalog::{catalog_key, payload_of};
+pub use cells::{Cell, HeldName};
+pub use entries::{index_at, search, set_root};
+pub use entry::Entry;
+pub use facts::PageFacts;
+pub use paged_source::{PagedSource, source};
+pub use paged_whole::{PagedWhole, whole};
+pub use prepared::answer_decided;
+pub use reading::{attrs, get, indices, next, nodes, value_in};
+pub use rows::{columns, get_into};
+pub use version::{Version, fill_version, store_version};

@@ -1,0 +1,81 @@
+//! Walks over the nodes of the catalog.
+//!
+//! A node's mark is the key of its eight bytes alone, and its attributes follow with longer keys.
+//! So a walk from a node's key on comes to marks and to attributes, and the first word of an item
+//! says which it is. The walk steps over the attributes, since a step reads two words and a descent
+//! to the next mark some dozens; a node has at most 64 attributes to step over.
+ghost use Rattle.std.specs.Prelude.{◌≡◌, ◌∷◌, ◌+◌, ◌≤◌, [], IsTrue, IfNone, IfOk, IfSome, false};
+ghost use Rattle.std.specs.Prelude.{take, true};
+ghost use Rattle.std.specs.Int.{from_be_bytes, to_be_bytes, w64};
+ghost use Rattle.be_pages.specs.Pages.{IsUnchanged, is_readable};
+ghost use Rattle.be_tree_reading.specs.Cursor.{IsCursor, remaining};
+ghost use Rattle.be_tree_reading.specs.Page.{IsItem, item_at};
+ghost use Rattle.be_tree_reading.specs.Range.{pairs_from};
+ghost use Rattle.be_tree_reading.specs.Tree.{IsTree, pairs};
+ghost use Rattle.be_paged_reading.specs.Nodes.{is_mark, marked};
+
+use be_pages::Look;
+use be_tree_reading::{Cursor, LENGTH_BITS};
+use std::alloc::{AllocError, Global};
+
+/// The node whose mark the item at a place of the catalog is, if it is one. Its first word decides,
+/// and the second is the node.
+fn mark_at<L: Look>(look: &mut L, page: u64, at: usize) -> Option<u64>
+    requires readable { IsTrue (is_readable (L.standing look.old page)) }
+    requires in_page { at + 42 ≤ 512 }
+    requires item { IsItem (L.words look.old page) at }
+    ensures mark { IfSome result (λ _. is_mark (item_at (L.words look.old page) at).key ≡ true) }
+    ensures node { IfSome result (λ node. node
+        ≡ from_be_bytes w64 (item_at (L.words look.old page) at).key) }
+    ensures none { IfNone result (is_mark (item_at (L.words look.old page) at).key ≡ false) }
+    ensures unchanged { IsUnchanged L.kept L.standing L.words look.old look.new }
+{
+    let key_len = look.word(page, at) >> LENGTH_BITS;
+    if key_len != 8 {
+        return None;
+    }
+    Some(look.word(page, at + 1))
+}
+
+/// The node of the next mark, and a step past it; None if no mark is left.
+fn next_mark<L: Look>(look: &mut L, cursor: &mut Cursor) -> Option<u64>
+    requires cursor { IsCursor (L.standing look.old) (L.words look.old) cursor.old }
+    ensures none { IfNone result (marked (remaining (L.words look.old) cursor.old) ≡ []) }
+    ensures node { IfSome result (λ node. marked (remaining (L.words look.old) cursor.old)
+        ≡ node ∷ marked (remaining (L.words look.old) cursor.new)) }
+    ensures cursor { IsCursor (L.standing look.old) (L.words look.old) cursor.new }
+    ensures unchanged { IsUnchanged L.kept L.standing L.words look.old look.new }
+{
+    'steps: while let Some((page, at)) = cursor.step(look) {
+        if let Some(node) = mark_at(look, page, at) {
+            return Some(node);
+        }
+    }
+    None
+}
+
+/// The nodes of up to `most` marks, from that of a node on, in a vector.
+pub(crate) fn list_nodes<L: Look>(
+    alloc: Global,
+    look: &mut L,
+    catalog: u64,
+    from: u64,
+    most: usize,
+) -> Result<Vec<u64>, AllocError>
+    requires tree { IsTree (L.standing look.old) (L.words look.old) catalog }
+    ensures list { IfOk result (λ list. list.items
+        ≡ take most (marked (pairs_from (pairs (L.words look.old) catalog) (to_be_bytes w64 from)
+        false))) }
+    ensures unchanged { IsUnchanged L.kept L.standing L.words look.old look.new }
+{
+    let mut list = Vec::new(alloc);
+    let mut cursor = Cursor::new();
+    cursor.seek(look, catalog, &from.to_be_bytes(), false);
+    for _ in 0..most {
+        let Some(node) = next_mark(look, &mut cursor) else {
+            return Ok(list);
+        };
+        list.push(node)?;
+    }
+    Ok(list)
+}

@@ -1,0 +1,199 @@
+//! A version as a source of queries.
+//!
+//! A walk over an index asks for one key after the other. So the source keeps a cursor of the tree
+//! that it walked last, and the place of the item whose key it gave last: where the next key is
+//! asked from that very key, it goes on from there and makes no descent. The nodes of a range are
+//! read leaf by leaf, and texts are tested so: no key is unpacked. A query asks for the same index
+//! again and again, so the source keeps what it found last.
+ghost use Rattle.std.specs.Prelude.{◌≡◌, true};
+ghost use Rattle.be_pages.specs.Pages.{IsUnchanged};
+ghost use Rattle.be_tree_reading.specs.Cursor.{IsCursor, remaining};
+ghost use Rattle.be_tree_reading.specs.Range.{pairs_from};
+ghost use Rattle.be_tree_reading.specs.Tree.{IsTree, pairs};
+ghost use Rattle.be_value.specs.declared.values.Kind.TheVariants.{Cstr};
+ghost use Rattle.be_volume.specs.Volume.{State};
+ghost use Rattle.be_paged_reading.specs.Page.{contents_of};
+ghost use Rattle.be_paged_reading.specs.Source.{IsIndexOf, StandsAfter};
+ghost use Rattle.be_paged_reading.specs.Version.{HasVersion, IsVersion};
+
+use crate::on_page::{FoundIndex, known_index};
+use crate::reading::{get, holds_in};
+use crate::texts::nodes_passing;
+use arrayvec::ArrayVec;
+use be_pages::Look;
+use be_plan::{KeyRange, Source, TextTest};
+use be_query::Comparison;
+use be_tree_reading::{Cursor, has_key, is_key_at, key_at, numbers_within};
+use be_value::{Kind, Name, Refusal, Value};
+
+/// A place that no index has.
+const NOWHERE: usize = 32;
+
+/// A reader of one version, by its page, and its look. It takes no memory besides its own.
+#[derive(Drop)]
+pub struct PagedSource<L> {
+    look: L,
+    page: u64,
+    known: Option<FoundIndex>,
+    cursor: Cursor,
+    place: usize,
+    last: (u64, usize),
+}
+
+/// Whether the keys of an index of a kind have texts.
+fn has_texts(kind: Kind) -> bool
+    ensures { result ≡ true → kind ≡ Cstr }
+{
+    kind == Kind::Cstr
+}
+
+/// About how many keys a tree has. A page has 6 to 12 items, so it takes eight for each page below
+/// the root.
+fn about_keys<L: Look>(look: &mut L, root: u64) -> u64
+    requires tree { IsTree (L.standing look.old) (L.words look.old) root }
+    ensures unchanged { IsUnchanged L.kept L.standing L.words look.old look.new }
+{
+    if root == 0 {
+        return 0;
+    }
+    let level = look.word(root - 1, 0);
+    let count = look.word(root - 1, 1);
+    count.saturating_mul(8u64.saturating_pow(level.min(32) as u32))
+}
+
+/// The version of a page as a source. It reads nothing yet, and keeps the look until `into_look`.
+pub fn source<L: Look>(look: L, version_page: u64) -> PagedSource<L>
+    requires version { HasVersion L.standing L.words look version_page }
+    ensures answers { (volume : State)
+        → IsVersion (L.standing look) (L.words look) version_page volume
+        → ⟦<PagedSource<L> as Source>⟧.answers_for result volume }
+    ensures look { ⟦<PagedSource<L> as Source>⟧.kept result
+        ≡ (L.kept look, (L.standing look, L.words look)) }
+{
+    PagedSource {
+        look,
+        page: version_page,
+        known: None,
+        cursor: Cursor::new(),
+        place: NOWHERE,
+        last: (0, 0),
+    }
+}
+
+impl<L: Look> PagedSource<L> {
+    /// The look back, with the facts that it had.
+    pub fn into_look(self) -> L
+        ensures look { (L.kept result, (L.standing result, L.words result))
+            ≡ ⟦<PagedSource<L> as Source>⟧.kept self }
+    {
+        self.look
+    }
+
+    /// Brings the cursor before the least key of an index at `from` or after it, or strictly after
+    /// it. If it is just after that very key, nothing moves.
+    fn walk_to(&mut self, index: FoundIndex, from: &[u8], after: bool)
+        requires index { IsIndexOf (contents_of (L.words self.old.look self.old.page)).entries
+            index }
+        requires tree { IsTree (L.standing self.old.look) (L.words self.old.look) index.root }
+        requires beyond { StandsAfter (L.standing self.old.look) (L.words self.old.look)
+            (contents_of (L.words self.old.look self.old.page)).entries self.old.cursor
+            self.old.place self.old.last.0 self.old.last.1 }
+        ensures cursor { IsCursor (L.standing self.new.look) (L.words self.new.look)
+            self.new.cursor }
+        ensures rest { remaining (L.words self.new.look) self.new.cursor
+            ≡ pairs_from (pairs (L.words self.new.look) index.root) from.now after }
+        ensures page { self.new.page ≡ self.old.page }
+        ensures known { self.new.known ≡ self.old.known }
+        ensures unchanged { IsUnchanged L.kept L.standing L.words self.old.look self.new.look }
+    {
+        if after && index.place == self.place {
+            let (page, at) = self.last;
+            if is_key_at(&mut self.look, page, at, from) {
+                return;
+            }
+        }
+        self.cursor.seek(&mut self.look, index.root, from, after);
+    }
+}
+
+impl<L: Look> Source for PagedSource<L> {
+    ghost use Rattle.std.specs.Prelude.{ℕ};
+    ghost use Rattle.be_pages.specs.declared.room.Standing.{Standing as Stands};
+    ghost use Rattle.be_paged_reading.specs.Source.{SourceOf};
+
+    ghost Kept = { L.Kept × ((ℕ → Stands) × (ℕ → ℕ → ℕ)) };
+
+    ghost kept = { λ s. (L.kept s.look, (L.standing s.look, L.words s.look)) };
+
+    ghost answers_for = { λ s volume. SourceOf (L.standing s.look) (L.words s.look) s.page s.known
+        s.cursor s.place s.last.0 s.last.1 volume };
+
+    ghost sound = { λ s volume is. is.version.sound };
+
+    fn kind_of(&mut self, name: &Name) -> Option<Kind> {
+        match known_index(&mut self.look, self.page, name, &mut self.known) {
+            Some(index) => Some(index.kind),
+            None => None,
+        }
+    }
+
+    fn next_key(&mut self, name: &Name, from: &[u8], after: bool) -> Option<ArrayVec<u8, 264>> {
+        let Some(index) = known_index(&mut self.look, self.page, name, &mut self.known) else {
+            return None;
+        };
+        self.walk_to(index, from, after);
+        self.place = NOWHERE;
+        let (page, at) = self.cursor.step(&mut self.look)?;
+        self.place = index.place;
+        self.last = (page, at);
+        Some(key_at(&mut self.look, page, at))
+    }
+
+    fn nodes_within(&mut self, keys: KeyRange<'_>, found: &mut Vec<u64>) -> Result<(), Refusal> {
+        let Some(index) = known_index(&mut self.look, self.page, keys.name, &mut self.known) else {
+            return Ok(());
+        };
+        numbers_within(&mut self.look, index.root, keys.low, keys.high, found)?;
+        Ok(())
+    }
+
+    fn nodes_passing(
+        &mut self,
+        keys: KeyRange<'_>,
+        test: &TextTest<'_>,
+        found: &mut Vec<u64>,
+    ) -> Result<bool, Refusal> {
+        let Some(index) = known_index(&mut self.look, self.page, keys.name, &mut self.known) else {
+            return Ok(false);
+        };
+        if !has_texts(index.kind) {
+            return Ok(false);
+        }
+        nodes_passing(&mut self.look, index.root, keys.low, keys.high, test, found)?;
+        Ok(true)
+    }
+
+    fn has_key(&mut self, name: &Name, key: &[u8]) -> bool {
+        match known_index(&mut self.look, self.page, name, &mut self.known) {
+            Some(index) => has_key(&mut self.look, index.root, key),
+            None => false,
+        }
+    }
+
+    // It is a function of its own, so that a caller that asks for values alone has room for one.
+    #[inline(never)]
+    fn value(&mut self, node: u64, name: &Name) -> Option<Value> {
+        get(&mut self.look, self.page, node, name)
+    }
+
+    fn holds(&mut self, node: u64, comparison: &Comparison) -> bool {
+        holds_in(&mut self.look, self.page, node, comparison, &mut self.known)
+    }
+
+    fn estimate(&mut self, name: &Name) -> u64 {
+        match known_index(&mut self.look, self.page, name, &mut self.known) {
+            Some(index) => about_keys(&mut self.look, index.root),
+            None => 0,
+        }
+    }
+}

@@ -1,0 +1,214 @@
+//! Reading a volume from its version page.
+ghost use Rattle.std.specs.Prelude.{◌≡◌, IsOk, IfErr, IfSome, Ok, is_some};
+ghost use Rattle.std.specs.FinMap as map;
+ghost use Rattle.be_pages.specs.Pages.{IsUnchanged};
+ghost use Rattle.be_query.specs.Grammar.{Leaf};
+ghost use Rattle.be_query.specs.View.{literal};
+ghost use Rattle.be_tree_reading.specs.Tree.{IsTree, pairs};
+ghost use Rattle.be_volume.specs.Maps.{Nodes as AllNodes, attributes_of};
+ghost use Rattle.be_value.specs.Refusal.{Answers};
+ghost use Rattle.be_value.specs.declared.refusals.Refusal.TheVariants.{OutOfMemory};
+ghost use Rattle.be_volume.specs.Query.{sat};
+ghost use Rattle.be_volume.specs.Reading.{attribute, attributes_at, index_kinds};
+ghost use Rattle.be_volume.specs.Volume.{State};
+ghost use Rattle.be_paged_reading.specs.Catalog.{IsCatalog, catalog_key as key_in_catalog};
+ghost use Rattle.be_paged_reading.specs.Catalog.{value_at};
+ghost use Rattle.be_paged_reading.specs.Page.{contents_of};
+ghost use Rattle.be_paged_reading.specs.Source.{IsKnown};
+ghost use Rattle.be_paged_reading.specs.Nodes.{nodes_from};
+ghost use Rattle.be_paged_reading.specs.Place.{IsFoundAt, IsKnownOf};
+ghost use Rattle.be_paged_reading.specs.Reading.{AreValid};
+ghost use Rattle.be_paged_reading.specs.Version.{HasVersion, IsVersion};
+
+use crate::attributes::list_attributes;
+use crate::catalog::{catalog_key, value_at};
+use crate::comparing::holds_at;
+use crate::entries::kinds;
+use crate::indexed::is_indexed_at;
+use crate::marks::list_nodes;
+use crate::on_page::{FoundIndex, known_index};
+use crate::version::{Version, fill_version};
+use be_pages::Look;
+use be_query::Comparison;
+use be_tree_reading::{find_place, has_key};
+use be_value::{Kind, Name, Refusal, Value};
+use std::alloc::Global;
+
+/// The page and the place of a node's attribute in the catalog's tree, if the node has it. It costs
+/// one descent.
+pub(crate) fn attribute_place<L: Look>(
+    look: &mut L,
+    catalog: u64,
+    node: u64,
+    name: &Name,
+) -> Option<(u64, usize)>
+    requires tree { IsTree (L.standing look.old) (L.words look.old) catalog }
+    ensures there { (nodes : AllNodes) → IsCatalog (pairs (L.words look.old) catalog) nodes
+        → is_some result ≡ map.contains_key (attributes_of nodes node) name.now }
+    ensures found { IsFoundAt (L.standing look.new) (L.words look.new) catalog
+        (key_in_catalog node name.now) result }
+    ensures unchanged { IsUnchanged L.kept L.standing L.words look.old look.new }
+{
+    find_place(look, catalog, &catalog_key(node, name))
+}
+
+/// The place of the item of a key, which is known or looked up.
+#[inline(always)]
+fn place_of<L: Look>(
+    look: &mut L,
+    catalog: u64,
+    key: &[u8],
+    known: Option<Option<(u64, usize)>>,
+) -> Option<(u64, usize)>
+    requires tree { IsTree (L.standing look.old) (L.words look.old) catalog }
+    requires known { IfSome known (IsFoundAt (L.standing look.old) (L.words look.old) catalog
+        key.now) }
+    ensures found { IsFoundAt (L.standing look.new) (L.words look.new) catalog key.now result }
+    ensures unchanged { IsUnchanged L.kept L.standing L.words look.old look.new }
+{
+    match known {
+        Some(found) => found,
+        None => find_place(look, catalog, key),
+    }
+}
+
+/// A node's value at a name, from the catalog's tree. If the caller knows whether the attribute is
+/// there, and its place, it makes no descent.
+#[inline(always)]
+pub fn value_in<L: Look>(
+    look: &mut L,
+    catalog: u64,
+    node: u64,
+    name: &Name,
+    known: Option<Option<(u64, usize)>>,
+) -> Option<Value>
+    requires tree { IsTree (L.standing look.old) (L.words look.old) catalog }
+    requires known { IsKnownOf (L.standing look.old) (L.words look.old) catalog node name.now
+        known }
+    ensures value { (nodes : AllNodes) → IsCatalog (pairs (L.words look.old) catalog) nodes
+        → AreValid nodes → result ≡ value_at nodes node name.now }
+    ensures unchanged { IsUnchanged L.kept L.standing L.words look.old look.new }
+{
+    let key = catalog_key(node, name);
+    let (page, at) = place_of(look, catalog, &key, known)?;
+    value_at(look, page, at)
+}
+
+/// Whether a comparison is true of what it sees of a node: of the node's value at its name, if no
+/// index has that name or its index has the value. The value is compared in place, and the index
+/// that was found last is looked at first.
+pub(crate) fn holds_in<L: Look>(
+    look: &mut L,
+    version_page: u64,
+    node: u64,
+    comparison: &Comparison,
+    known: &mut Option<FoundIndex>,
+) -> bool
+    requires version { HasVersion L.standing L.words look.old version_page }
+    requires known { IsKnown (contents_of (L.words look.old version_page)).entries known.old }
+    ensures answer { (volume : State) → IsVersion (L.standing look.old) (L.words look.old)
+        version_page volume →
+        result ≡ sat volume (Leaf comparison.now.name comparison.now.op
+        (literal comparison.now.literal)) node }
+    ensures known { IsKnown (contents_of (L.words look.new version_page)).entries known.new }
+    ensures unchanged { IsUnchanged L.kept L.standing L.words look.old look.new }
+{
+    let catalog = look.word(version_page, 3);
+    let key = catalog_key(node, &comparison.name);
+    let Some((page, at)) = find_place(look, catalog, &key) else {
+        return false;
+    };
+    if !holds_at(look, page, at, comparison) {
+        return false;
+    }
+    match known_index(look, version_page, &comparison.name, known) {
+        Some(index) => is_indexed_at(look, index.root, page, at, node),
+        None => true,
+    }
+}
+
+/// The number that the next node gets. It costs one load.
+pub fn next<L: Look>(look: &mut L, version_page: u64) -> u64
+    requires version { HasVersion L.standing L.words look.old version_page }
+    ensures next { (volume : State) → IsVersion (L.standing look.old) (L.words look.old)
+        version_page volume → result ≡ volume.next }
+    ensures unchanged { IsUnchanged L.kept L.standing L.words look.old look.new }
+{
+    look.word(version_page, 2)
+}
+
+/// The value of an attribute, if the node is there and has it. It costs one descent of the
+/// catalog's tree, and takes no memory.
+#[inline(always)]
+pub fn get<L: Look>(look: &mut L, version_page: u64, node: u64, name: &Name) -> Option<Value>
+    requires version { HasVersion L.standing L.words look.old version_page }
+    ensures value { (volume : State) → IsVersion (L.standing look.old) (L.words look.old)
+        version_page volume → result ≡ attribute volume node name.now }
+    ensures unchanged { IsUnchanged L.kept L.standing L.words look.old look.new }
+{
+    let catalog = look.word(version_page, 3);
+    value_in(look, catalog, node, name, None)
+}
+
+/// The attributes of a node, by ascending bytes of their names. The errors are NoNode if the node
+/// isn't there, and OutOfMemory only if it is. It walks over the node's pairs in the catalog's
+/// tree.
+pub fn attrs<L: Look>(
+    alloc: Global,
+    look: &mut L,
+    version_page: u64,
+    node: u64,
+) -> Result<Vec<(Name, Value)>, Refusal>
+    requires version { HasVersion L.standing L.words look.old version_page }
+    ensures answer { (volume : State) → IsVersion (L.standing look.old) (L.words look.old)
+        version_page volume →
+        Answers (λ list. list.items) result (attributes_at volume node) }
+    ensures wanted { (volume : State) → IsVersion (L.standing look.old) (L.words look.old)
+        version_page volume →
+        IfErr result (λ e. e ≡ OutOfMemory → IsOk (attributes_at volume node)) }
+    ensures unchanged { IsUnchanged L.kept L.standing L.words look.old look.new }
+{
+    let catalog = look.word(version_page, 3);
+    if !has_key(look, catalog, &node.to_be_bytes()) {
+        return Err(Refusal::NoNode);
+    }
+    Ok(list_attributes(alloc, look, catalog, node)?)
+}
+
+/// The names and kinds of the indices, by ascending bytes of the names; refused with OutOfMemory
+/// alone. It reads the version page and no other.
+pub fn indices<L: Look>(
+    alloc: Global,
+    look: &mut L,
+    version_page: u64,
+) -> Result<Vec<(Name, Kind)>, Refusal>
+    requires version { HasVersion L.standing L.words look.old version_page }
+    ensures answer { (volume : State) → IsVersion (L.standing look.old) (L.words look.old)
+        version_page volume →
+        Answers (λ list. list.items) result (Ok (index_kinds volume)) }
+    ensures unchanged { IsUnchanged L.kept L.standing L.words look.old look.new }
+{
+    let mut version = Version::new();
+    fill_version(look, version_page, &mut version);
+    Ok(kinds(alloc, &version.entries)?)
+}
+
+/// Up to `most` nodes from a number on, ascending. The only error is OutOfMemory. It costs one
+/// descent of the catalog's tree, and a step for each node that it returns and for each of their
+/// attributes.
+pub fn nodes<L: Look>(
+    alloc: Global,
+    look: &mut L,
+    version_page: u64,
+    from: u64,
+    most: usize,
+) -> Result<Vec<u64>, Refusal>
+    requires version { HasVersion L.standing L.words look.old version_page }
+    ensures answer { (volume : State) → IsVersion (L.standing look.old) (L.words look.old)
+        version_page volume →
+        Answers (λ list. list.items) result (Ok (nodes_from volume from most)) }
+    ensures unchanged { IsUnchanged L.kept L.standing L.words look.old look.new }
+{
+    let catalog = look.word(version_page, 3);
+    Ok(list_nodes(alloc, look, catalog, from, most)?)
+}

@@ -1,0 +1,215 @@
+//! Texts of an index, tested where they are.
+//!
+//! The keys of an index of texts are read leaf by leaf. The bytes of a key's text are put in place
+//! of those of the one before it and tested there; the bound and the node are read from the key's
+//! words. So no key moves, and of one whose text doesn't pass nothing else is read.
+ghost use Rattle.std.specs.Prelude.{◌≡◌, ◌+◌, ◌-◌, ◌*◌, ◌<◌, ◌≤◌, ◌++◌, IsTrue, IfErr, IfOk, OnOk};
+ghost use Rattle.std.specs.Prelude.{false, length, take, drop};
+ghost use Rattle.std.specs.Int.{to_be_bytes, w64};
+ghost use Rattle.std.specs.List.{list_any};
+ghost use Rattle.std.specs.Option.{option_copied};
+ghost use Rattle.be_pages.specs.Pages.{IsUnchanged, is_readable};
+ghost use Rattle.be_plan.specs.Texts.{text_in};
+ghost use Rattle.be_tree_reading.specs.Cursor.{IsCursor, remaining};
+ghost use Rattle.be_tree_reading.specs.Page.{IsItem, bytes_at, item_at, items_of, words_for};
+ghost use Rattle.be_tree_reading.specs.Range.{HasFirst, is_past, pairs_from};
+ghost use Rattle.be_tree_reading.specs.Tree.{IsTree, IsTreeAt, pairs};
+ghost use Rattle.be_paged_reading.specs.Texts.{AreTexts, IsTextKey};
+ghost use Rattle.be_paged_reading.specs.Texts.{node_if_passing, nodes_passing_to};
+
+use be_pages::Look;
+use be_plan::TextTest;
+use be_tree_reading::{
+    Cursor, HEADER_WORDS, ITEM_WORDS, LENGTH_BITS, first_of, is_past_at, number_at,
+};
+use std::alloc::AllocError;
+
+/// Room for the longest text, of 255 bytes, in whole words.
+const ROOM: usize = 256;
+
+/// How long the text of the key at a place of a page is.
+#[inline(always)]
+fn text_len_at<L: Look>(look: &mut L, page: u64, at: usize) -> usize
+    requires readable { IsTrue (is_readable (L.standing look.old page)) }
+    requires in_page { at + 42 ≤ 512 }
+    requires item { IsItem (L.words look.old page) at }
+    ensures len { result ≡ length (item_at (L.words look.old page) at).key - 9 }
+    ensures short { result ≤ 255 }
+    ensures unchanged { IsUnchanged L.kept L.standing L.words look.old look.new }
+{
+    let key_len = (look.word(page, at) >> LENGTH_BITS) as usize;
+    key_len.saturating_sub(9)
+}
+
+/// Puts the eight bytes of a word in place of those from one on.
+#[inline(always)]
+fn put_word(room: &mut [u8], at: usize, word: u64)
+    requires { at + 8 ≤ length room.old }
+    ensures { take (at + 8) room.new ≡ take at room.old ++ to_be_bytes w64 word }
+{
+    room[at..at + 8].copy_from_slice(&word.to_be_bytes());
+}
+
+/// Puts the `n` bytes that begin with a word in place of the first ones.
+#[inline(always)]
+fn put_bytes<L: Look>(look: &mut L, page: u64, at: usize, n: usize, room: &mut [u8])
+    requires readable { IsTrue (is_readable (L.standing look.old page)) }
+    requires in_page { at + words_for n ≤ 512 }
+    requires fits { 8 * words_for n ≤ length room.old }
+    ensures bytes { take n room.new ≡ bytes_at (L.words look.old page) at n }
+    ensures unchanged { IsUnchanged L.kept L.standing L.words look.old look.new }
+{
+    for i in 0..(n + 7) / 8 {
+        let word = look.word(page, at + i);
+        put_word(room, 8 * i, word);
+    }
+}
+
+/// Puts the text of the key at a place of a page in place of the first bytes, and returns how long
+/// it is.
+#[inline(always)]
+fn put_text<L: Look>(look: &mut L, page: u64, at: usize, room: &mut [u8]) -> usize
+    requires readable { IsTrue (is_readable (L.standing look.old page)) }
+    requires in_page { at + 42 ≤ 512 }
+    requires item { IsItem (L.words look.old page) at }
+    requires fits { length room.old ≡ 256 }
+    ensures text { take result room.new ≡ text_in (item_at (L.words look.old page) at).key }
+    ensures short { result ≤ 255 }
+    ensures unchanged { IsUnchanged L.kept L.standing L.words look.old look.new }
+{
+    let length = text_len_at(look, page, at);
+    put_bytes(look, page, at + 1, length, room);
+    length
+}
+
+/// The first bytes.
+#[inline(always)]
+fn front(room: &[u8], n: usize) -> &[u8]
+    requires { n ≤ length room.now }
+    ensures { result.now ≡ take n room.now }
+{
+    &room[..n]
+}
+
+/// Adds the node of the key at a place of a page, if its text passes the test. At an error the list
+/// is as before.
+#[inline(always)]
+fn test_item<L: Look>(
+    look: &mut L,
+    page: u64,
+    at: usize,
+    test: &TextTest<'_>,
+    room: &mut [u8],
+    found: &mut Vec<u64>,
+) -> Result<(), AllocError>
+    requires readable { IsTrue (is_readable (L.standing look.old page)) }
+    requires in_page { at + 42 ≤ 512 }
+    requires item { IsItem (L.words look.old page) at }
+    requires is_text { IsTextKey (item_at (L.words look.old page) at).key }
+    requires fits { length room.old ≡ 256 }
+    ensures added { OnOk result (found.new.items ≡ found.old.items
+        ++ node_if_passing test.now.0 test.now.1 (item_at (L.words look.old page) at)) }
+    ensures kept { IfErr result (λ _. found.new.items ≡ found.old.items) }
+    ensures unchanged { IsUnchanged L.kept L.standing L.words look.old look.new }
+{
+    let length = put_text(look, page, at, room);
+    let passes = test.passes(front(room, length));
+    if passes {
+        let number = number_at(look, page, at);
+        found.push(number)?;
+    }
+    Ok(())
+}
+
+/// Adds the nodes of a leaf's keys, from the item of a number on, up to the bound, whose texts
+/// pass the test, and returns whether a key is above the bound. The leaf is named by its page and
+/// that number.
+fn test_leaf<L: Look>(
+    look: &mut L,
+    leaf: (u64, usize),
+    high: Option<&[u8]>,
+    test: &TextTest<'_>,
+    room: &mut [u8],
+    found: &mut Vec<u64>,
+) -> Result<bool, AllocError>
+    requires leaf { IsTreeAt 0 1 (L.standing look.old) (L.words look.old) leaf.0 }
+    requires left { leaf.1 < L.words look.old leaf.0 1 }
+    requires texts { AreTexts (drop leaf.1 (items_of (L.words look.old leaf.0))) }
+    requires fits { length room.old ≡ 256 }
+    ensures first { HasFirst found.old.items (nodes_passing_to test.now.0 test.now.1
+        (drop leaf.1 (items_of (L.words look.old leaf.0))) (option_copied high.entry))
+        found.new.items }
+    ensures found { OnOk result (found.new.items ≡ found.old.items
+        ++ nodes_passing_to test.now.0 test.now.1
+        (drop leaf.1 (items_of (L.words look.old leaf.0))) (option_copied high.entry)) }
+    ensures past { IfOk result (λ past. past
+        ≡ list_any (λ x. is_past (option_copied high.entry) x.key)
+        (drop leaf.1 (items_of (L.words look.old leaf.0)))) }
+    ensures unchanged { IsUnchanged L.kept L.standing L.words look.old look.new }
+{
+    let (page, from) = leaf;
+    let first = first_of(high);
+    let count = look.word(page, 1) as usize;
+    for i in from..count {
+        let at = HEADER_WORDS + ITEM_WORDS * i;
+        let is_past = is_past_at(look, page, at, high, first);
+        if is_past {
+            return Ok(true);
+        }
+        test_item(look, page, at, test, room, found)?;
+    }
+    Ok(false)
+}
+
+/// Adds the nodes of the keys that a cursor has still to give, up to the bound, whose texts pass
+/// the test, leaf by leaf.
+fn test_rest<L: Look>(
+    look: &mut L,
+    cursor: &mut Cursor,
+    high: Option<&[u8]>,
+    test: &TextTest<'_>,
+    found: &mut Vec<u64>,
+) -> Result<(), AllocError>
+    requires cursor { IsCursor (L.standing look.old) (L.words look.old) cursor.old }
+    requires texts { AreTexts (remaining (L.words look.old) cursor.old) }
+    ensures first { HasFirst found.old.items (nodes_passing_to test.now.0 test.now.1
+        (remaining (L.words look.old) cursor.old) (option_copied high.entry)) found.new.items }
+    ensures found { OnOk result (found.new.items ≡ found.old.items
+        ++ nodes_passing_to test.now.0 test.now.1
+        (remaining (L.words look.old) cursor.old) (option_copied high.entry)) }
+    ensures unchanged { IsUnchanged L.kept L.standing L.words look.old look.new }
+{
+    let mut room = [0u8; ROOM];
+    'leaves: while let Some((page, from)) = cursor.step_leaf(look) {
+        let is_last = test_leaf(look, (page, from), high, test, &mut room, found)?;
+        if is_last {
+            return Ok(());
+        }
+    }
+    Ok(())
+}
+
+/// Adds the nodes of the keys from `low` to `high`, both included, or to the last key, whose texts
+/// pass the test, in the order of the keys. It costs one descent, and reads the words of each text.
+pub(crate) fn nodes_passing<L: Look>(
+    look: &mut L,
+    root: u64,
+    low: &[u8],
+    high: Option<&[u8]>,
+    test: &TextTest<'_>,
+    found: &mut Vec<u64>,
+) -> Result<(), AllocError>
+    requires tree { IsTree (L.standing look.old) (L.words look.old) root }
+    requires texts { AreTexts (pairs (L.words look.old) root) }
+    ensures first { HasFirst found.old.items (nodes_passing_to test.now.0 test.now.1
+        (pairs_from (pairs (L.words look.old) root) low.now false) (option_copied high.entry))
+        found.new.items }
+    ensures found { OnOk result (found.new.items ≡ found.old.items
+        ++ nodes_passing_to test.now.0 test.now.1
+        (pairs_from (pairs (L.words look.old) root) low.now false) (option_copied high.entry)) }
+    ensures unchanged { IsUnchanged L.kept L.standing L.words look.old look.new }
+{
+    let mut cursor = Cursor::new();
+    cursor.seek(look, root, low, false);
+    test_rest(look, &mut cursor, high, test, found)
+}

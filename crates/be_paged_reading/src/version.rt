@@ -1,0 +1,73 @@
+//! Version pages, read and written.
+ghost use Rattle.std.specs.Prelude.{◌≡◌, ◌≢◌, ℕ, ◌+◌, ◌<◌, [], All, IsTrue};
+ghost use Rattle.be_volume.specs.Sound.{IsName};
+ghost use Rattle.be_pages.specs.Pages.{is_readable, is_taken, IsUnchanged, StandsAt};
+ghost use Rattle.be_pages.specs.declared.room.Standing.TheVariants.{Filled};
+ghost use Rattle.be_paged_reading.specs.Page.{contents, contents_of, IsVersionPage};
+
+use crate::entry::Entry;
+use arrayvec::ArrayVec;
+use be_pages::{Look, Room};
+
+/// A version page's contents in hand. It is large, so a writer keeps one from one write to the
+/// next, whatever its contents are then.
+#[derive(Drop)]
+pub struct Version {
+    pub next: u64,
+    pub catalog: u64,
+    pub entries: ArrayVec<Entry, 32>,
+}
+
+impl Version {
+    /// Contents that have no index yet.
+    pub fn new() -> Version
+        ensures next { result.next ≡ 0 }
+        ensures catalog { result.catalog ≡ 0 }
+        ensures indices { result.entries.items ≡ [] }
+    {
+        Version {
+            next: 0,
+            catalog: 0,
+            entries: ArrayVec::new(),
+        }
+    }
+}
+
+/// Reads a version page into contents, whatever they were. They are filled in place, since contents
+/// that are passed by value cost their whole capacity.
+pub fn fill_version<L: Look>(look: &mut L, page: u64, version: &mut Version)
+    requires readable { IsTrue (is_readable (L.standing look.old page)) }
+    requires page { IsVersionPage (L.words look.old page) }
+    ensures contents { contents version.new ≡ contents_of (L.words look.old page) }
+    ensures unchanged { IsUnchanged L.kept L.standing L.words look.old look.new }
+{
+    let count = look.word(page, 1) as usize;
+    let next = look.word(page, 2);
+    let catalog = look.word(page, 3);
+    version.next = next;
+    version.catalog = catalog;
+    version.entries.clear();
+    for i in 0..count {
+        version.entries.push(Entry::load(look, page, 4 + 11 * i));
+    }
+}
+
+/// Writes a version page that was taken: the words that it uses, and no others.
+pub fn store_version<R: Room>(room: &mut R, page: u64, version: &Version)
+    requires taken { IsTrue (is_taken (R.standing room.old page)) }
+    requires named { All (λ e. IsName e.name) version.now.entries.items }
+    requires open { IsTrue (R.is_open (R.kept room.old)) }
+    ensures contents { contents_of (R.words room.new page) ≡ contents version.now }
+    ensures page { IsVersionPage (R.words room.new page) }
+    ensures standing { StandsAt (R.standing room.old) (R.standing room.new) page Filled }
+    ensures others { (q : ℕ) → q ≢ page → R.words room.new q ≡ R.words room.old q }
+    ensures kept { R.kept room.new ≡ R.kept room.old }
+{
+    room.fill(page, 0, 255);
+    room.fill(page, 1, version.entries.len() as u64);
+    room.fill(page, 2, version.next);
+    room.fill(page, 3, version.catalog);
+    for i in 0..version.entries.len() {
+        version.entries[i].store(room, page, 4 + 11 * i);
+    }
+}

@@ -1,0 +1,140 @@
+//! The free pages of a pool, some of which are spared for the copy of one page.
+//!
+//! # Spared pages
+//! A write copies each page of a tree that it changes. Writes that change the same pages again and
+//! again copy each back and forth between two, and a copy has most of the words that its page held
+//! before. So a page that was copied is spared once it is free, for the next copy of its own copy,
+//! which then stores only the words that differ. A spared page is taken for something else only if
+//! no other page is free.
+ghost use Rattle.std.specs.Prelude.{◌≡◌, ℕ, ◌+◌, ◌<◌, ◌≤◌, ◌==◌, if◌then◌else◌, Bool, true, false};
+ghost use Rattle.std.specs.Prelude.{length, vec_len, count_by, IfOk, IfSome, IfNone};
+ghost use Rattle.be_pages.specs.PageSet.{has_page, is_place};
+
+use crate::page_set::PageSet;
+use std::alloc::{AllocError, Global};
+
+/// Of a page that was copied from none. No pool has a page of this number.
+const NO_PAGE: u64 = u64::MAX;
+
+/// The free pages of those below a number. No call but `new` takes memory.
+#[derive(Drop)]
+pub(crate) struct FreePages {
+    plain: PageSet,
+    spare: PageSet,
+    /// Of each page, the one that it was copied from last.
+    earlier: Vec<u64>,
+    /// Whether a page is spared once it is free.
+    spared: Vec<bool>,
+    ghost spare_pages: { length spare.places.items ≡ length plain.places.items },
+    ghost earlier_pages: { vec_len earlier ≡ length plain.places.items },
+    ghost spared_pages: { vec_len spared ≡ length plain.places.items },
+    ghost apart: { (q : ℕ) → has_page plain.places.items q ≡ true
+        → has_page spare.places.items q ≡ false },
+}
+
+impl FreePages {
+    ghost use Rattle.be_pages.specs.FreePages.{has_free};
+
+    /// The pages from one on that are below `pages`. The lowest is the first to go out.
+    #[tactic(auto, unfolding(crate::specs::FreePages::has_free))]
+    pub(crate) fn from(alloc: Global, first: usize, pages: usize) -> Result<FreePages, AllocError>
+        requires { first ≤ pages }
+        ensures in_set { IfOk result (λ s. (q : ℕ) → first ≤ q → q < pages
+            → has_free s q ≡ true) }
+        ensures out { IfOk result (λ s. (q : ℕ) → q < first → has_free s q ≡ false) }
+        ensures pages { IfOk result (λ s. length s.plain.places.items ≡ pages) }
+    {
+        let plain = PageSet::from(alloc, first, pages)?;
+        let spare = PageSet::new(alloc, pages)?;
+        let earlier = vec![in alloc; NO_PAGE; pages]?;
+        let spared = vec![in alloc; false; pages]?;
+        Ok(FreePages {
+            plain,
+            spare,
+            earlier,
+            spared,
+        })
+    }
+
+    /// Adds a page that is not there.
+    #[tactic(auto, unfolding(crate::specs::FreePages::has_free))]
+    pub(crate) fn insert(&mut self, page: u64)
+        requires inside { page < length self.old.plain.places.items }
+        requires out { has_free self.old page ≡ false }
+        ensures has { (q : ℕ) → has_free self.new q
+            ≡ (if q == page then true else has_free self.old q) }
+        ensures pages { length self.new.plain.places.items ≡ length self.old.plain.places.items }
+    {
+        if self.spared[page as usize] {
+            self.spare.insert(page);
+        } else {
+            self.plain.insert(page);
+        }
+    }
+
+    /// Takes the last page that came in, and a spared one only if there is no other.
+    #[tactic(auto, unfolding(crate::specs::FreePages::has_free))]
+    pub(crate) fn pop(&mut self) -> Option<u64>
+        ensures some { IfSome result (λ page. has_free self.old page ≡ true) }
+        ensures inside { IfSome result (λ page. page < length self.old.plain.places.items) }
+        ensures has { IfSome result (λ page. (q : ℕ) → has_free self.new q
+            ≡ (if q == page then false else has_free self.old q)) }
+        ensures none { IfNone result ((q : ℕ) → has_free self.old q ≡ false) }
+        ensures still_none { IfNone result ((q : ℕ) → has_free self.new q ≡ has_free self.old q) }
+        ensures pages { length self.new.plain.places.items ≡ length self.old.plain.places.items }
+    {
+        if let Some(page) = self.plain.pop() {
+            return Some(page);
+        }
+        let page = self.spare.pop()?;
+        self.spared[page as usize] = false;
+        Some(page)
+    }
+
+    /// Takes a page for a copy of a page: the one that this page was copied from, if it is spared.
+    /// Otherwise it takes the one that `pop` does.
+    #[tactic(auto, unfolding(crate::specs::FreePages::has_free))]
+    pub(crate) fn pop_like(&mut self, page: u64) -> Option<u64>
+        ensures some { IfSome result (λ copy. has_free self.old copy ≡ true) }
+        ensures inside { IfSome result (λ copy. copy < length self.old.plain.places.items) }
+        ensures has { IfSome result (λ copy. (q : ℕ) → has_free self.new q
+            ≡ (if q == copy then false else has_free self.old q)) }
+        ensures none { IfNone result ((q : ℕ) → has_free self.old q ≡ false) }
+        ensures still_none { IfNone result ((q : ℕ) → has_free self.new q ≡ has_free self.old q) }
+        ensures pages { length self.new.plain.places.items ≡ length self.old.plain.places.items }
+    {
+        let Some(&earlier) = self.earlier.get(page as usize) else {
+            return self.pop();
+        };
+        let copy = self.pop_spared(earlier)?;
+        self.earlier[copy as usize] = page;
+        self.spared[page as usize] = true;
+        Some(copy)
+    }
+
+    /// Takes a page if it is spared, and otherwise the one that `pop` does.
+    #[tactic(auto, unfolding(crate::specs::FreePages::has_free))]
+    fn pop_spared(&mut self, page: u64) -> Option<u64>
+        ensures some { IfSome result (λ copy. has_free self.old copy ≡ true) }
+        ensures inside { IfSome result (λ copy. copy < length self.old.plain.places.items) }
+        ensures has { IfSome result (λ copy. (q : ℕ) → has_free self.new q
+            ≡ (if q == copy then false else has_free self.old q)) }
+        ensures none { IfNone result ((q : ℕ) → has_free self.old q ≡ false) }
+        ensures still_none { IfNone result ((q : ℕ) → has_free self.new q ≡ has_free self.old q) }
+        ensures pages { length self.new.plain.places.items ≡ length self.old.plain.places.items }
+    {
+        if !self.spare.has(page) {
+            return self.pop();
+        }
+        self.spare.remove(page);
+        Some(page)
+    }
+
+    /// How many pages there are.
+    pub(crate) fn len(&self) -> usize
+        ensures { result ≡ count_by is_place self.now.plain.places.items
+            + count_by is_place self.now.spare.places.items }
+    {
+        self.plain.len() + self.spare.len()
+    }
+}

@@ -1,0 +1,48 @@
+use Rattle.std.proofs.Common.{◌≡◌, List, ℕ, true, ap, subst, inl, inr}
+use Rattle.std.specs.Option.{option_copied, option_map}
+use Rattle.std.specs.declared.option.Option.{Option}
+use Rattle.std.specs.declared.option.Option.TheVariants.{None}
+use Rattle.be_query.specs.Grammar.{Formula}
+use Rattle.be_query.specs.View.{formula}
+use Rattle.be_volume.specs.Query.{sat}
+use Rattle.be_plan.specs.Narrow.{LeavesRest, high_of}
+use Rattle.be_plan.specs.Walk.{HasNodes, HasOnly}
+use Rattle.be_plan.proofs.Reaching.{on_ok}
+use Rattle.be_plan.proofs.Seen.{left_key}
+use Rattle.be_plan.proofs.walks.walk_alone.Goals as goal
+
+pub nodes_within-requires : goal.nodes_within-requires
+nodes_within-requires g c = (g.volume, c.requires.1.0)
+
+pub pass_keys-requires : goal.pass_keys-requires
+pass_keys-requires g c κs within =
+    let R : Option Formula → Type 0 = λ r. LeavesRest (formula c.args.tree.now) c.args.name.now c.args.kind c.args.range.now.low.items (high_of c.args.range.now) r in
+    (within, (c.requires.1.0, (c.requires.1.1.0, subst R (ap (λ r. option_map formula (option_copied r)) c.in-Some.is) c.requires.1.1.1)))
+
+pub returns-in-None-clause-only : goal.returns-in-None-clause-only
+returns-in-None-clause-only g c = λ n h.
+    let f = formula c.args.tree.now in
+    let name = c.args.name.now in
+    let low = c.args.range.now.low.items in
+    let high = high_of c.args.range.now in
+    let sound = g.met.S.Source.sound c.args.source.now g.volume c.requires.1.0 in
+    let L : List ℕ → Type 0 = λ l. HasOnly g.volume name l (option_copied c.high.result) c.args.found.now.items c.nodes_within.new.found.items in
+    let H : Option (List ℕ) → Type 0 = λ b. HasOnly g.volume name low b c.args.found.now.items c.nodes_within.new.found.items in
+    let only : HasOnly g.volume name low high c.args.found.now.items c.nodes_within.new.found.items =
+    subst H c.high.ensures (subst L c.low.ensures (c.nodes_within.ensures.only g.volume c.requires.1.0)) in
+    let R : Option Formula → Type 0 = λ r. LeavesRest f name c.args.kind low high r in
+    let leaves : LeavesRest f name c.args.kind low high None = subst R (ap (λ r. option_map formula (option_copied r)) c.in-None.is) c.requires.1.1.1 in
+    let P : ℕ → Type 0 = λ m. sat g.volume f m ≡ true in
+    elim (only n h) [
+      | inl there ↦ inl there
+      | inr w ↦ inr (subst P w.node_is (left_key g.volume sound name w.key w.is_key c.args.kind c.requires.1.1.0 f low high None leaves w.within))
+    ]
+
+pub returns-in-None-clause-has : goal.returns-in-None-clause-has
+returns-in-None-clause-has g c =
+    let name = c.args.name.now in
+    let low = c.args.range.now.low.items in
+    let found = c.nodes_within.new.found.items in
+    let L : List ℕ → Type 0 = λ l. HasNodes g.volume name l (option_copied c.high.result) found in
+    let H : Option (List ℕ) → Type 0 = λ b. HasNodes g.volume name low b found in
+    on_ok c.nodes_within.result (λ has k h w _. subst H c.high.ensures (subst L c.low.ensures (has g.volume c.requires.1.0)) k h w) c.nodes_within.ensures.has

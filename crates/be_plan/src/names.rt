@@ -1,0 +1,37 @@
+//! The name that comparisons are on.
+ghost use Rattle.std.specs.Prelude.{◌≡◌, true, IfSome};
+ghost use Rattle.std.specs.Option.{option_copied};
+ghost use Rattle.be_query.specs.View.{formula};
+ghost use Rattle.be_plan.specs.Walk.{AreAllOn};
+
+use be_query::Tree;
+use be_value::Name;
+
+/// Whether each comparison is on this name, and none is under `||`.
+fn are_all_on(tree: &Tree, name: &Name) -> bool
+    ensures { result ≡ true → AreAllOn (formula tree.now) name.now }
+{
+    match tree {
+        Tree::Leaf(comparison) => comparison.name == *name,
+        Tree::And(a, b) => are_all_on(a, name) && are_all_on(b, name),
+        Tree::Or(_, _) => false,
+    }
+}
+
+/// The name that each comparison is on, if it is one, and none is under `||`.
+pub(crate) fn only_name(tree: &Tree) -> Option<&Name>
+    ensures { IfSome (option_copied result) (λ name. AreAllOn (formula tree.now) name) }
+{
+    match tree {
+        Tree::Leaf(comparison) => Some(&comparison.name),
+        Tree::And(a, b) => {
+            let name = only_name(a)?;
+            if are_all_on(b, name) {
+                Some(name)
+            } else {
+                None
+            }
+        }
+        Tree::Or(_, _) => None,
+    }
+}

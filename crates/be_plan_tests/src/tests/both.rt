@@ -1,0 +1,155 @@
+//! Both sides of an `&&` of two names with indices: at so many hits of one that the source is asked
+//! of each, and at one hit more, where the other's index is walked too.
+
+ghost use Rattle.be_volume.specs.Volume.{State};
+ghost use Rattle.be_plan.specs.Sources.{IsVolume};
+
+use super::write;
+use arrayvec::ArrayVec;
+use be_plan::{KeyRange, Source, VolumeSource, answer, volume_source};
+use be_query::parse;
+use be_value::{Kind, Name, Refusal, Value};
+use be_volume::{Op, Volume};
+use std::alloc::Global;
+use std::test::Fail;
+
+/// A volume's source that estimates each index at this many keys, and counts what it is asked of
+/// nodes.
+#[derive(Drop)]
+struct Estimating<'a> {
+    source: VolumeSource<'a>,
+    keys: u64,
+    values: u64,
+}
+
+/// A source that was asked nothing yet.
+fn start_estimating(volume: &Volume, keys: u64) -> Estimating<'_>
+    ensures { IsVolume result.source volume.now }
+{
+    Estimating {
+        source: volume_source(volume),
+        keys,
+        values: 0,
+    }
+}
+
+impl Source for Estimating<'_> {
+    ghost use Rattle.be_volume.specs.Volume.{State};
+    ghost use Rattle.be_plan.specs.Sources.{IsVolume};
+
+    ghost Kept = { State };
+
+    ghost kept = { λ s. s.source };
+
+    ghost answers_for = { λ s volume. IsVolume s.source volume };
+
+    ghost sound = { λ s volume is. is.sound };
+
+    fn kind_of(&mut self, name: &Name) -> Option<Kind> {
+        self.source.kind_of(name)
+    }
+
+    fn next_key(&mut self, name: &Name, from: &[u8], after: bool) -> Option<ArrayVec<u8, 264>> {
+        self.source.next_key(name, from, after)
+    }
+
+    fn nodes_within(&mut self, keys: KeyRange<'_>, found: &mut Vec<u64>) -> Result<(), Refusal> {
+        self.source.nodes_within(keys, found)
+    }
+
+    fn has_key(&mut self, name: &Name, key: &[u8]) -> bool {
+        self.source.has_key(name, key)
+    }
+
+    fn value(&mut self, node: u64, name: &Name) -> Option<Value> {
+        self.values = self.values.wrapping_add(1);
+        self.source.value(node, name)
+    }
+
+    fn estimate(&mut self, _name: &Name) -> u64 {
+        self.keys
+    }
+}
+
+/// Does a list of operations, again if it is refused memory.
+fn write_again(volume: &mut Volume, ops: &[Op]) -> Result<(), Refusal> {
+    match write(volume, ops) {
+        Err(Refusal::OutOfMemory) => write(volume, ops),
+        done => done,
+    }
+}
+
+/// Nodes 1 to 130: k is the node's number and m falls from 130 to 1, and both have an index.
+fn crossing(alloc: Global) -> Result<Volume, Refusal> {
+    let mut volume = Volume::new(alloc);
+    write_again(&mut volume, &[Op::MkIndex(Name::new("k")?, Kind::Ullg)])?;
+    write_again(&mut volume, &[Op::MkIndex(Name::new("m")?, Kind::Ullg)])?;
+    for node in 1..=130 {
+        let rises = Op::Set(node, Name::new("k")?, Value::uint64(node));
+        let falls = Op::Set(node, Name::new("m")?, Value::uint64(131 - node));
+        write_again(&mut volume, &[Op::New, rises, falls])?;
+    }
+    Ok(volume)
+}
+
+/// The nodes and how often a value was asked for, as `FIRST LAST COUNT asks ASKED`.
+fn told(alloc: Global, volume: &Volume, text: &str, keys: u64) -> Result<String, Refusal> {
+    let query = parse(alloc, text)?;
+    let mut source = start_estimating(volume, keys);
+    let nodes = answer(alloc, &query, &mut source)?;
+    let first = nodes.first().copied().unwrap_or(0);
+    let last = nodes.last().copied().unwrap_or(0);
+    Ok(format!(in alloc; "{first} {last} {} asks {}", nodes.len(), source.values)?)
+}
+
+/// Whether it is this text, at the second try if memory is refused.
+fn tells(
+    alloc: Global,
+    volume: &Volume,
+    text: &str,
+    keys: u64,
+    wanted: &str,
+) -> Result<bool, Refusal> {
+    let told = match told(alloc, volume, text, keys) {
+        Err(Refusal::OutOfMemory) => told(alloc, volume, text, keys)?,
+        told => told?,
+    };
+    Ok(told.as_str() == wanted)
+}
+
+/// The query, the estimate of an index, and the text.
+const CASES: &[(&str, u64, &str)] = &[
+    // 64 hits are asked one by one, and of 65 the other index is walked.
+    ("k<=64 && m>=70", 130, "1 61 61 asks 64"),
+    ("k<=65 && m>=70", 130, "1 61 61 asks 0"),
+    // The first and the last of both lists are the same, or one of them is.
+    ("k<=65 && m>=66", 130, "1 65 65 asks 0"),
+    ("k>=66 && m<=65", 130, "66 130 65 asks 0"),
+    ("k<=65 && m<=130", 130, "1 65 65 asks 0"),
+    ("k>=60 && m>=65", 130, "60 66 7 asks 0"),
+    // One list or both are empty.
+    ("k<=65 && m>=131", 130, "0 0 0 asks 0"),
+    ("k>=131 && m>=1", 130, "0 0 0 asks 0"),
+    ("k<=65 && m<=65", 130, "0 0 0 asks 0"),
+    // Two ends of the other one's range, and of the first one's.
+    ("k<=70 && (m>=70 && m<=120)", 130, "11 61 51 asks 0"),
+    ("k>=3 && k<=67 && m>=70", 130, "3 61 59 asks 0"),
+    // An index that is large beside the hits isn't walked.
+    ("k<=65 && m>=70", 527, "1 61 61 asks 0"),
+    ("k<=65 && m>=70", 528, "1 61 61 asks 65"),
+    ("k<=65 && m>=70", u64::MAX, "1 61 61 asks 65"),
+    // An `||` is asked of each.
+    ("k<=65 && (m>=70 || m==1)", 130, "1 61 61 asks 69"),
+];
+
+#[test]
+fn both_sides(rt: HostRuntime) -> Result<(), Fail> {
+    let alloc = rt.alloc();
+    let volume = crossing(alloc)?;
+    for (text, keys, wanted) in CASES {
+        if !tells(alloc, &volume, text, *keys, wanted)? {
+            return Err(Fail::new(text));
+        }
+    }
+    Ok(())
+}

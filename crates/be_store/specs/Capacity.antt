@@ -1,0 +1,61 @@
+-- A write that finds no page: what fills the pool then, and which pool is large enough.
+use Rattle.std.specs.FinMap as map
+use Rattle.std.specs.Prelude.{◌≡◌, ℕ, suc, ◌+◌, ◌*◌, ◌^◌, ◌<◌, ◌≤◌, List, length}
+use Rattle.be_core.specs.Machine.{has}
+use Rattle.be_table.specs.Counts.{count_below}
+use Rattle.be_table.specs.Rule.{reach_at}
+use Rattle.be_table.specs.Works.{HadAnnounced, IsSpent}
+use Rattle.be_table.specs.declared.pass.Knowledge.{Knowledge}
+use Rattle.be_volume.specs.Items.{StaysWithin, items}
+use Rattle.be_volume.specs.Volume.{State}
+use Rattle.be_volume.specs.declared.ops.Op.{Op}
+use Rattle.be_store.specs.Passes.{IsBetweenCalls, IsPinnedTo, volume_seen}
+
+-- how many pages of the pool the current version has
+abbrev pub current_pages : Knowledge → ℕ
+current_pages c = count_below (has (reach_at c.seen (length c.seen))) c.limits.pages
+
+-- how many pages of the pool the write held where it found none free
+abbrev pub held_pages : Knowledge → ℕ
+held_pages c = count_below (has c.held) c.limits.pages
+
+-- A version of this volume has at most so many pages: one for each five items, one for each index,
+-- and one more.
+abbrev pub AreFewFor : State → (pages : ℕ) → Type 0
+AreFewFor volume pages = 5 * pages ≤ items volume + 4 * map.len volume.indices + 9
+
+-- So many pages are no more than a write may hold, whose operations keep the volume within any
+-- number of items and indices: one for each five items, one for each index, two for each level of a
+-- tree of so many items, and three.
+abbrev pub AreFewToHold : State → List Op → (pages : ℕ) → Type 0
+AreFewToHold volume ops pages = (most indices high : ℕ) → StaysWithin most indices volume ops
+    → most + 1 < 2 * 6 ^ suc high → 5 * pages ≤ most + 4 * indices + 10 * high + 15
+
+-- Why no page was left for this write, and the number that the refusal carries: the least of the
+-- write's last whole scan. The write held each page that no version from there on has. The current
+-- version has few pages, and the write held few.
+pub record IsShort (c : Knowledge) (ops : List Op) (least : ℕ) : Type 0 where
+  pub spent : IsSpent c least
+  pub current : AreFewFor (volume_seen c) (current_pages c)
+  pub few : AreFewToHold (volume_seen c) ops (held_pages c)
+
+-- While the pass had the lock, no pass had announced a version before the current one: each was
+-- unpinned, or pinned to the current version.
+abbrev pub NoneIsEarlier : Knowledge → Type 0
+NoneIsEarlier c = (j n : ℕ) → j < c.limits.passes → HadAnnounced c j n → length c.seen ≤ n
+
+-- the pass is unpinned, or pinned to the current version
+abbrev pub IsAtCurrent : Knowledge → Type 0
+IsAtCurrent c = IsBetweenCalls c.limits.passes c.phase
+    × ((n : ℕ) → IsPinnedTo c n → n ≡ length c.seen)
+
+-- The pool is large enough for these operations. Before, between and after them the volume has at
+-- most so many items and indices, and a tree of so many items is no higher than this. The pool has
+-- more than two pages for each five items, two for each index, two for each level, and five.
+pub record HasLargePool (c : Knowledge) (ops : List Op) : Type 0 where
+  pub most : ℕ
+  pub indices : ℕ
+  pub high : ℕ
+  pub within : StaysWithin most indices (volume_seen c) ops
+  pub height : most + 1 < 2 * 6 ^ suc high
+  pub pages : 2 * most + 8 * indices + 10 * high + 24 < 5 * c.limits.pages

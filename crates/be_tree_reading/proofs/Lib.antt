@@ -1,0 +1,13 @@
+pub mod Codec
+pub mod Padded
+pub mod Order
+pub mod Ranges
+pub mod Frame
+pub mod TreeFacts
+pub mod Trees
+pub mod Bytes
+pub mod Shape
+pub mod Putting
+pub mod Reading
+pub mod Searching
+pub mod Items

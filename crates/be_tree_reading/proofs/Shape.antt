@@ -1,0 +1,5 @@
+-- The shape of a tree: what stands below a node, and how high it is.
+pub mod Below
+pub mod Levels
+pub mod Heights
+pub mod Roots

@@ -1,0 +1,9 @@
+pub mod Pair
+pub mod Key
+pub mod Page
+pub mod Tree
+pub mod Range
+pub mod Cursor
+pub mod Forest
+pub mod Words
+pub mod Places

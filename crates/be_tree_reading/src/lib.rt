@@ -1,0 +1,32 @@
+//! Reading of B+trees over pages of words.
+//!
+//! # What a tree is
+//! A sorted list of pairs, each a key of at most 264 bytes and a payload. A tree is named by its
+//! root: 0 for the empty tree, otherwise the number of its root's page + 1. A leaf has pairs; an
+//! inner page has branches, each with the least key below it and the number of a page. A page has
+//! at most 12 items, and each but the root has at least 6.
+//!
+//! # What is proved
+//! Reading decodes the list from the words (`specs/Tree.antt`). `find_into`, `range` and `Cursor`
+//! are look-up, next pair and walk on it (`specs/Key.antt`, `specs/Range.antt`,
+//! `specs/Cursor.antt`). be_tree changes trees.
+#![tactic(auto)]
+
+mod cursor;
+mod lookup;
+mod numbers;
+mod page;
+mod payload;
+mod walk;
+
+pub use cursor::Cursor;
+pub use lookup::{branch_in, find, find_into, find_place, has_key, is_key_at, item_number, search};
+pub use numbers::{first_of, is_past_at, number_at, numbers_within};
+pub use page::{
+    HEADER_WORDS, ITEM_WORDS, LEAST_ITEMS, LENGTH_BITS, MOST_ITEMS, child_at, extend, fill_bytes,
+    first_word, number_beyond, straddled, word_from,
+};
+pub use payload::{
+    fill_payload, payload_byte_at, payload_len_at, payload_number_at, payload_number32_at,
+};
+pub use walk::{TreeItem, key_at, range};
