@@ -337,8 +337,8 @@ uint32_t bes_unpin(bes_pass *pass);
  * If that is an older snapshot, the write succeeds once it is unpinned; bes_apply_or_retry tries again for a time. Otherwise the
  * store has no room for the batch: write a smaller one, remove nodes a few at a time, or carry the state on to a larger store.
  * Cost: memory for the operations and for their entry in the journal, and new pages on the way to each change of a tree. If no page
- * is free, or 32 pages were retired since the last scan, it scans: a look at each pass, and work for each page that becomes free. At
- * BES_BUSY it is one step, and the memory for the operations. */
+ * is free, or a page was retired since the last scan (32, if that had to leave pages to readers), it scans: a look at each pass, and
+ * work for each page that becomes free. At BES_BUSY it is one step, and the memory for the operations. */
 uint32_t bes_apply(bes_pass *pass, const bes_operation *operations, size_t operations_count, const uint8_t *bytes,
                    size_t bytes_count, uint64_t *made, size_t made_room, uint64_t *number);
 

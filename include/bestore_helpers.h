@@ -447,7 +447,8 @@ static inline void bes_put_operation_(bes_sink_ *sink, const bes_operation *it, 
     }
 }
 
-/* As bes_batch_to_bytes, for operations as bes_apply takes them. */
+/* As bes_batch_to_bytes, for operations as bes_apply takes them. BES_BAD_COUNT also if there are more than 64. BES_NAME_LENGTH,
+ * BES_DATA_LENGTH: a name has more than 63 bytes, a text or raw value more than 255. */
 static inline uint32_t bes_operations_to_bytes(const bes_operation *operations, size_t operations_count, const uint8_t *parts,
                                                size_t parts_count, uint8_t *bytes, size_t bytes_room, uint64_t *count)
 {

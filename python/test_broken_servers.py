@@ -6,13 +6,15 @@ import os
 import pickle
 import shutil
 import socket
+import sys
 import tempfile
 import threading
 import time
 import unittest
+from unittest import mock
 
 import bestore
-from bestore import saved
+from bestore import _connection, connected, saved
 
 PATIENCE = 30  # seconds that anything may take on a busy machine
 
@@ -180,6 +182,144 @@ class Broken(unittest.TestCase):
                 self.assertTrue(store._receive(PATIENCE))
             self.assertEqual((watch.wait(0), watch.commit), (([3], [2]), 3))
             self.assertEqual((watch.refresh(), watch.commit), (([5], [3]), 5))
+
+
+    def test_push_at_once(self):
+        """A new watch takes what is pushed while its call gives up the pin of a version that went within it."""
+        read_first, pinned = connected.Watch._read_first, []
+
+        def forget_and_read(watch, ok):
+            pinned.clear()
+            return read_first(watch, ok)
+        for last, seen in [(push(2, [2], [1]), ([2], [])), (push(2, [], [], error={"name": "NoWatch", "message": "why"}), ([1], []))]:
+            with Fake([line(2, {"commit": 0, "next": 1})], [line(3, {"watch": 1, "commit": 1, "nodes": [1]})],
+                      [last + line(4, {})]) as fake, fake.connect() as store:
+                pinned.append(store.pin())
+                with mock.patch.object(connected.Watch, "_read_first", forget_and_read):
+                    watch = store.watch("k==1")
+                self.assertEqual(("unpin" in fake.asked[-1], watch.commit), (True, 1))
+                self.assertEqual((watch.wait(0), watch.commit), (seen, 2))
+                if "error" in json.loads(last):
+                    self.assertRaises(bestore.NoWatch, watch.wait, 0)
+
+
+    def reach(self, within, times, *answers):
+        """What `reach` returns, how long the server was asked to wait, and what is raised. The clock shows these times."""
+        clock = mock.Mock(monotonic=mock.Mock(side_effect=times))
+        with Fake(*([json.dumps({"id": number, **answer}).encode() + b"\n"] for number, answer in enumerate(answers, 2))) as fake:
+            with fake.connect(timeout=PATIENCE) as store:
+                store._timeout = 2
+                raised = reached = None
+                with mock.patch.object(connected, "time", clock):
+                    try:
+                        reached = store.reach(7, within)
+                    except bestore.Error as error:
+                        raised = error
+                self.assertTrue(store._is_open)
+                return reached, [it["reach"] for it in fake.asked[1:]], raised
+
+    def test_reach(self):
+        """The server is asked again and again, so that no reply comes after the time of the connection."""
+        later = {"error": {"name": "NotReached", "message": "why", "expected": 7, "found": 5}}
+        reached, asked, raised = self.reach(2.5, [10, 10, 11, 12], later, later, later)
+        self.assertEqual((reached, [it["within"] for it in asked]), (None, [1000, 1000, 500]))
+        self.assertEqual((type(raised), raised.expected, raised.found), (bestore.NotReached, (7,), (5,)))
+        reached, asked, raised = self.reach(float("inf"), range(9), later, later, {"ok": {"commit": 8}})
+        self.assertEqual((reached, asked, raised), ((8,), [{"commit": 7, "within": 1000}] * 3, None))
+        for within in (0, -1):
+            self.assertEqual(self.reach(within, [10, 10], {"ok": {"commit": 8}})[1], [{"commit": 7, "within": 0}])
+
+
+class Interrupt:
+    """Raises KeyboardInterrupt once, as a signal may: in the package for Python where its functions begin, and in those that take
+    pushes at each line too."""
+
+    files = {_connection.__file__, connected.__file__}
+    taking = {it.__code__ for it in (
+        _connection.Connection.receive_pushes, _connection._can_receive, _connection.Connection._take_line,
+        _connection.Connection._receive, _connection.Connection._take_other, connected.Watch._take)}
+
+    def __init__(self, place):
+        self.left = place  # how many places it passes by
+
+    def __enter__(self):
+        sys.settrace(self.trace)
+
+    def __exit__(self, *_):
+        sys.settrace(None)
+
+    def trace(self, frame, event, _):
+        if frame.f_code.co_filename in self.files and event == "call" or frame.f_code in self.taking and event == "line":
+            self.left -= 1
+            if self.left < 0:
+                raise KeyboardInterrupt
+        return self.trace
+
+
+class Interrupted(unittest.TestCase):
+    """Calls that an exception ends somewhere."""
+
+    answers = {1: {1}, 2: {2}, 3: {3, 4}, 4: {5}}  # what the watched query finds at each commit
+    pushes = push(2, [2], [1]) + push(3, [3], [2], more=True) + push(3, [4], []), push(4, [5], [3, 4])
+
+    def fake(self):
+        first, last = self.pushes
+        return Fake([line(2, {"watch": 1, "commit": 1, "nodes": [1]}), 0.002, first + last[:9], 0.002, last[9:]])
+
+    def waits(self, place):
+        """Waits for what is pushed, and is interrupted at a place. Returns whether it was, and whether the connection is there."""
+        found, was_interrupted = set(), False
+        with self.fake() as fake, fake.connect() as store, store.watch("k==1") as watch:
+            while watch.commit < 4 or not found:
+                try:
+                    with contextlib.nullcontext() if was_interrupted else Interrupt(place):
+                        changes = watch.wait(PATIENCE)
+                except KeyboardInterrupt:
+                    was_interrupted = True
+                except bestore.Disconnected:
+                    break
+                else:
+                    self.assertIsNotNone(changes, f"what was pushed is lost by an interrupt at place {place}")
+                    found = found.union(changes.created).difference(changes.removed)
+                    self.assertEqual(found, self.answers[watch.commit], place)
+            return was_interrupted, store._is_open
+
+    def test_waits(self):
+        """What was pushed is taken whole, or the connection is closed."""
+        kept, place, was_interrupted = [], 0, True
+        while was_interrupted:
+            was_interrupted, is_open = self.waits(place)
+            kept.append(is_open)
+            place += 1
+        self.assertIn(True, kept[:-1])
+        self.assertIn(False, kept)
+
+    def test_asks(self):
+        """The pass is of use after it, or is disconnected."""
+        place, was_interrupted = 0, True
+        while was_interrupted:
+            was_interrupted = False
+            with Fake([line(2, {})], [line(3, {"commit": 1, "nodes": [1]})]) as fake, fake.connect() as store:
+                try:
+                    with Interrupt(place):
+                        store.flush()
+                except KeyboardInterrupt:
+                    was_interrupted = True
+                with contextlib.suppress(bestore.Disconnected):
+                    store.flush()
+            place += 1
+
+    def test_a_handler_that_raises(self):
+        """Its error may be one that the system raises too."""
+        with self.fake() as fake, fake.connect(timeout=None) as store, store.watch("k==1") as watch:
+            store._connection._take_push = lambda push: self.fail_by(TimeoutError("by a handler"))
+            watch.wait(0)
+            with self.assertRaises(bestore.Disconnected) as fault:
+                watch.wait(PATIENCE)
+            self.assertIn("by a handler", str(fault.exception))
+
+    def fail_by(self, error):
+        raise error
 
 
 class Errors(unittest.TestCase):

@@ -300,6 +300,16 @@ class Writing(WithServer):
             with server.connect() as store, store.pin() as version:
                 self.assertEqual(version.nodes(), [1, 2, 3])
 
+    def test_reach_takes_longer_than_a_reply(self):
+        with self.server.connect(timeout=1) as store:
+            with self.assertRaises(bestore.NotReached) as fault:
+                store.reach(2, 1.2)
+            self.assertEqual((fault.exception.expected, fault.exception.found), ((2,), (1,)))
+            timer = threading.Timer(0.1, self.store.new_node)
+            timer.start()
+            self.assertEqual(store.reach(2, float("inf")), (2,))
+            timer.join()
+
     def test_another_run(self):
         self.server.kill()
         self.server.start()

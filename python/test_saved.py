@@ -1,5 +1,6 @@
 """Tests of stores that are kept in a file: opened again, refused, on a full disk, and after the process was killed."""
 
+import gc
 import glob
 import os
 import random
@@ -13,6 +14,7 @@ import threading
 import time
 import unittest
 import warnings
+import weakref
 from contextlib import closing, contextmanager
 from unittest import mock
 
@@ -25,6 +27,7 @@ from bestore._saved_line import Line, Turn
 
 HERE = os.path.dirname(os.path.abspath(__file__))
 MEMORY = "/dev/shm" if os.access("/dev/shm", os.W_OK) else None  # where a commit waits for no disk
+PATIENCE = 30  # seconds that anything may take on a busy machine
 WRITERS, ROUNDS = 3, 6  # of the processes that are killed
 
 
@@ -362,6 +365,23 @@ class Timed(Files):
             store.close()
         writing.join()
         self.assertEqual((refused, self.count()), ([f"{self.path}: write 1 is not saved: the file is closed"], 0))
+
+    def test_close_that_fails(self):
+        """The thread that saves ends, and nothing keeps what is closed."""
+        others = self.threads()
+        store = saved.open(self.path, 64, every=3600)
+        store.new_node()
+        saving, saver = self.threads() - others, weakref.ref(store._saver)
+        with mock.patch.object(File, "append", side_effect=saved.DiskFull(self.path)), self.assertRaises(saved.Stopped):
+            store.close()
+        saving.pop().join(PATIENCE)
+        self.assertLessEqual(self.threads(), others)
+        del store
+        gc.collect()
+        self.assertIsNone(saver())
+
+    def threads(self):
+        return {it for it in threading.enumerate() if it.name == "bestore-saving"}
 
     def test_saving_that_ends(self):
         """After an error the thread that saves is gone, and writes are refused."""

@@ -8,11 +8,12 @@ import sys
 import tempfile
 import threading
 import unittest
-import unittest.mock
+from unittest import mock
 
 import bestore
 import test_changes
 from bestore import nodes, saved
+from bestore._saved_file import File
 from servers import BESTORED, MEMORY, Server
 
 
@@ -399,6 +400,44 @@ class Kept(Indexed, unittest.TestCase):
         os.replace(second + "-away", second)
         self.assertEqual(self.found(self.shelf()), made)
 
+    def test_index_that_is_not_made(self):
+        """The files are free after that, also while the error is there with all that it has seen."""
+        made = self.three()
+        try:
+            with mock.patch.object(File, "append", side_effect=saved.DiskFull("disk")):
+                saved.open_shelf(self.path, 4, pages=64)
+        except saved.NotSaved as error:
+            refused = error
+        self.assertEqual(self.found(self.shelf(4)), made)
+        self.assertEqual((refused.path, refused.number), (os.path.join(self.path, "3.bestore"), 1))
+
+    def refused(self, name, call):
+        """The error of a call while what the files do under a name fails in all volumes but the second one."""
+        do = getattr(File, name)
+
+        def fail(file, *given):
+            if os.path.basename(file.path) != "1.bestore":
+                raise saved.DiskFull(file.path)
+            return do(file, *given)
+        with mock.patch.object(File, name, fail), self.assertRaises(saved.SavedError) as refused:
+            call()
+        return type(refused.exception), os.path.basename(refused.exception.path)
+
+    def test_volumes_that_are_not_saved(self):
+        """The error is that of the first one, and the others are saved."""
+        self.three()
+        store = saved.open_shelf(self.path, pages=64, every=3600)
+        for volume in range(3):
+            self.sized(store, volume, 5)
+        file = store.volume(1)._saver._file
+        self.assertEqual(self.refused("write_state", store.compact), (saved.DiskFull, "0.bestore"))
+        self.assertEqual(file.about().entries, store.volume(1).number_in_file(store.statuses()[1].entries))
+        for volume in range(3):
+            self.sized(store, volume, 5)
+        self.assertEqual(self.refused("append", store.flush), (saved.Stopped, "0.bestore"))
+        self.assertEqual(list(file.entries())[-1][0], store.volume(1).number_in_file(store.statuses()[1].entries))
+        self.assertEqual(self.refused("append", store.close), (saved.Stopped, "0.bestore"))
+
     def test_no_folder(self):
         self.assertRaises(FileNotFoundError, saved.open_shelf, self.path)
         os.mkdir(self.path)
@@ -444,7 +483,7 @@ class ShelfOfOne(test_changes.Changes):
     """The tests of changes on a shelf of one volume."""
 
     def setUp(self):
-        patched = unittest.mock.patch.object(bestore, "open", lambda *limits, **named: bestore.open_shelf(1, *limits, **named))
+        patched = mock.patch.object(bestore, "open", lambda *limits, **named: bestore.open_shelf(1, *limits, **named))
         patched.start()
         self.addCleanup(patched.stop)
         super().setUp()

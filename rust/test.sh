@@ -101,8 +101,8 @@ else
     if ! command -v Xvfb >/dev/null || ! python3 -c 'import tkinter' 2>/dev/null; then
         echo "the query window, over the server: skipped, there is no Xvfb or python3 has no Tk"
     elif ! (cd ../python && timeout -k 10 600 env BESTORE_LIBRARY="$BESTORE_LIB_DIR/libbestore.so" PYTHONDONTWRITEBYTECODE=1 \
-        PYTHONPATH=.:window_tests python3 -W error -m unittest test_window.OverServer test_window.OverVolumes test_sixty_thousand.SixtyThousand.test_of_a_server) \
-        >"$work/said" 2>&1; then
+        PYTHONPATH=.:window_tests python3 -W error -m unittest test_asker.OverServer test_window.OverServer test_window.OverVolumes \
+        test_sixty_thousand.SixtyThousand.test_of_a_server) >"$work/said" 2>&1; then
         cat "$work/said" >&2
         echo "the query window, over the server: failed, or not at its end after 600 seconds" >&2
         exit 1

@@ -19,6 +19,7 @@ _Result = TypeVar("_Result")
 _ROOM = 1 << 16  # how many bytes are received at a time
 _LONGEST = 2_000_000.0  # seconds; the system's clocks end after some more, and a longer time is without an end
 _CLOSED = "the server closed the connection"
+_INTERRUPTED = "an earlier call was interrupted"
 _CLOSING = ("LineTooLong", "Timeout")  # errors after which the server closes the connection
 
 
@@ -49,7 +50,8 @@ def _can_receive(connected: socket.socket, until: Optional[float]) -> bool:
 class Connection:
     """A connection. Whoever uses it makes one call at a time.
 
-    Once a call was interrupted, or a line can't be read, nobody knows which reply comes next: the connection is closed."""
+    Once a call was interrupted, or a line can't be read, nobody knows which line comes next: the connection is closed. An
+    interrupt while nothing comes leaves it open."""
 
     def __init__(self, path: str, timeout: Optional[float], take_push: Callable[[JSON], None]) -> None:
         self.path, self._timeout, self._take_push = path, _limited(timeout), take_push
@@ -89,7 +91,7 @@ class Connection:
     def _fail(self, error: Exception, may_be_done: bool = False) -> NoReturn:
         """Closes the connection, and raises why."""
         failed: Type[BrokenConnection] = Disconnected
-        if isinstance(error, socket.timeout):
+        if isinstance(error, socket.timeout) and self._timeout is not None:
             failed, reason = TimedOut, f"no reply within {self._timeout:g} seconds"
         elif isinstance(error, EOFError):
             reason = str(error)
@@ -124,7 +126,7 @@ class Connection:
         except (OSError, EOFError, ArithmeticError, LookupError, TypeError, ValueError) as error:
             self._fail(error, is_write and is_sent)
         except BaseException:
-            self.drop("an earlier call was interrupted")
+            self.drop(_INTERRUPTED)
             raise
         raise error_of(self.path, reply["error"], query)
 
@@ -185,11 +187,14 @@ class Connection:
         connected = self._live_socket()
         timeout = _limited(timeout)
         until = None if timeout is None else time.monotonic() + timeout
+        is_idle = False
         try:
             line = self._take_line()
             while line is None:
+                is_idle = True
                 if not _can_receive(connected, until):
                     return False
+                is_idle = False
                 line = self._receive(connected.recv(_ROOM))
             while line is not None:
                 self._take_other(decode_line(line), None)
@@ -199,6 +204,10 @@ class Connection:
             raise
         except (OSError, EOFError, ArithmeticError, LookupError, TypeError, ValueError) as error:
             self._fail(error)
+        except BaseException:
+            if not is_idle:
+                self.drop(_INTERRUPTED)
+            raise
         return True
 
 

@@ -20,6 +20,7 @@ have been made.
 
 from __future__ import annotations
 
+import math
 import operator
 import os
 import time
@@ -36,7 +37,7 @@ from ._journal import line_of
 from ._wire import (
     JSON, PROTOCOL, operations_of, read_entry, read_kind, read_nodes, read_operation, read_value)
 from .errors import (
-    BadCount, Closed, Error, Forked, NameLength, NoAttribute, NoNode, NotCovered, NotPinned, NoVolume, Pinned, TooLong,
+    BadCount, Closed, Error, Forked, NameLength, NoAttribute, NoNode, NotCovered, NotPinned, NotReached, NoVolume, Pinned, TooLong,
     encoded, encoded_query)
 from .handles import LockOwner
 from .local import refreshed
@@ -57,6 +58,7 @@ _Result = TypeVar("_Result")
 
 TIMEOUT = 60.0
 """How many seconds a reply may take, if nothing else is said."""
+_MOST_WAITED = 30.0  # seconds that the server waits by itself
 
 
 class Server(NamedTuple):
@@ -332,7 +334,8 @@ class ConnectedPass(LockOwner, ThreadPass):
             try:
                 return connection.ask(command, parameters, read, is_write, query)
             finally:
-                self._end()
+                self._is_asking = False  # here, as an interrupt may keep a call from being made
+                self._unpin_left()
 
     def _begin(self) -> Connection:
         """The connection, for one call."""
@@ -342,11 +345,6 @@ class ConnectedPass(LockOwner, ThreadPass):
             raise RuntimeError("a call on this pass is made within another one, as by the handler of a signal")
         self._is_asking = True
         return self._connection
-
-    def _end(self) -> None:
-        self._is_asking = False
-        if self._is_left:
-            self._unpin_left()
 
     @property
     def _is_open(self) -> bool:
@@ -480,9 +478,21 @@ class ConnectedPass(LockOwner, ThreadPass):
         return self._ask("status", {}, _read_statuses)
 
     def reach(self, numbers: Union[int, Sequence[int]], within: float = 5) -> Tuple[int, ...]:
-        """As in a store of this process. The server waits, up to a minute."""
-        wanted = numbers if isinstance(numbers, int) else list(numbers)
-        parameters = {"commit": wanted, "within": max(int(within * 1000), 0)}
+        """As in a store of this process. The server waits, and is asked anew before its reply would be late."""
+        wanted: Union[int, List[int]] = numbers if isinstance(numbers, int) else list(numbers)
+        most = _MOST_WAITED if self._timeout is None else min(self._timeout / 2, _MOST_WAITED)
+        until = time.monotonic() + within
+        while True:
+            left = max(until - time.monotonic(), 0)
+            try:
+                return self._reach(wanted, min(left, most))
+            except NotReached:
+                if left <= most:
+                    raise
+
+    def _reach(self, wanted: Union[int, List[int]], within: float) -> Tuple[int, ...]:
+        """Has the server wait once."""
+        parameters = {"commit": wanted, "within": math.ceil(within * 1000)}
         return self._ask("reach", parameters, lambda ok: tuple(ok.get("commits", (ok["commit"],))))
 
     def flush(self) -> None:
@@ -515,7 +525,8 @@ class ConnectedPass(LockOwner, ThreadPass):
         try:
             return connection.receive_pushes(timeout)
         finally:
-            self._end()
+            self._is_asking = False
+            self._unpin_left()
 
     def _end_watches(self) -> None:
         """Ends the watches that nothing names any more."""
@@ -555,6 +566,8 @@ class Watch:
         self._last = 0  # the commit to which all that was received leads
         self._error: Optional[Error] = None  # what has ended the watch
         self._number: Optional[int] = None
+        self.commit = 0
+        """The commit number of the snapshot to which what was returned leads, and at first that of the first answer."""
         parameters = {} if query is None else {"query": query}
         if query is not None:
             encoded_query(query)
@@ -562,14 +575,11 @@ class Watch:
         with user._lock:
             user._end_watches()
             try:
-                number = user._ask("watch", parameters, self._read_first, query=query)
+                user._ask("watch", parameters, self._read_first, query=query)
             except NotCovered:
                 raise self._not_covered() from None
             except LineTooLong:
                 raise TooLong(query=query) from None
-            self._number, self.commit = number, self._last
-            """The commit number of the snapshot to which what was returned leads, and at first that of the first answer."""
-            user._watches[number] = self
 
     def __repr__(self) -> str:
         return f"<watch of {self.query or 'each commit'} at commit {self.commit}>"
@@ -591,12 +601,15 @@ class Watch:
             assert changes is not None
             yield changes
 
-    def _read_first(self, ok: JSON) -> int:
+    def _read_first(self, ok: JSON) -> None:
+        """Takes the first answer in. From then on pushes come, also before the call ends."""
         nodes = ok.get("nodes")
         if nodes is not None:
             self._created.update(read_nodes(nodes))
-        self._last, self._is_new, self._is_partial = int(ok["commit"]), bool(nodes), bool(ok.get("more"))
-        return int(ok["watch"])
+        self.commit = self._last = int(ok["commit"])
+        self._is_new, self._is_partial = bool(nodes), bool(ok.get("more"))
+        self._number = int(ok["watch"])
+        self._user._watches[self._number] = self
 
     def _take(self, push: JSON) -> bool:
         """Takes changes in. Returns whether more belong to them."""
@@ -604,9 +617,10 @@ class Watch:
         if error is not None:
             self._error, self._number = error_of(self._user.path, error, self.query), None
         created, removed = set(read_nodes(push["created"])), set(read_nodes(push["removed"]))
-        self._created, self._removed = (
-            self._created - removed | created - self._removed, self._removed - created | removed - self._created)
-        self._last, self._is_new, self._is_partial = int(push["commit"]), True, bool(push.get("more"))
+        # All at once, as an interrupt may come between two statements.
+        self._created, self._removed, self._last, self._is_new, self._is_partial = (
+            self._created - removed | created - self._removed, self._removed - created | removed - self._created,
+            int(push["commit"]), True, bool(push.get("more")))
         return self._is_partial
 
     def _returned(self) -> Changes:

@@ -212,11 +212,17 @@ class _Saver:
                 self._save_all()
             finally:
                 self._file = None
-                file.close()
-                self.own.close()
-        self._ending.set()
-        self._work.set()
-        atexit.unregister(self.close)
+                self._close(file)
+
+    def _close(self, file: File) -> None:
+        """Closes the file, and ends the thread that saves."""
+        try:
+            file.close()
+        finally:
+            self.own.close()
+            self._ending.set()
+            self._work.set()
+            atexit.unregister(self.close)
 
 
 class SavedPass(_local.LocalPass):
@@ -344,13 +350,14 @@ class SavedShelf(_shelf.Shelf):
         """Returns when all that was written before the call is in the files. `Stopped`, of the first volume that can't be saved;
         the others are saved."""
         with ExitStack() as calls_of_all:
-            for user in reversed(self._saved):
+            for user in self._saved:  # the last one begins, so that the error of the first one is raised
                 calls_of_all.callback(user.flush)
 
     def compact(self) -> None:
-        """Puts the current snapshots into the files, as `SavedPass.compact` of each volume."""
+        """Puts the current snapshots into the files, as `SavedPass.compact` of each volume. Errors are those of the first volume
+        that fails; the others are compacted."""
         with ExitStack() as calls_of_all:
-            for user in reversed(self._saved):
+            for user in self._saved:  # as in `flush`
                 calls_of_all.callback(user.compact)
 
     def _index_new(self) -> None:
@@ -402,7 +409,12 @@ def open_shelf(folder: Union[str, bytes, "os.PathLike[Any]"], volumes: Optional[
         raise Fewer(path, found, wanted)
     files = (_file_of(path, volume) for volume in range(wanted))
     store = SavedShelf(_shelf.taken(partial(open, file, pages, passes, commits, every) for file in files))
-    store._index_new()
+    try:
+        store._index_new()
+    except BaseException:
+        with suppress(SavedError):  # which would say the same again
+            store.close()
+        raise
     return store
 
 

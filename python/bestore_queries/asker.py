@@ -6,7 +6,8 @@ from __future__ import annotations
 import queue
 import threading
 import time
-from typing import Dict, Iterable, List, Mapping, NamedTuple, Optional, Sequence, Set, Tuple, Union
+from collections import deque
+from typing import Deque, Dict, Iterable, List, Mapping, NamedTuple, Optional, Sequence, Set, Union
 
 import bestore
 
@@ -163,7 +164,7 @@ class _Requests:
     def __init__(self) -> None:
         self._came = threading.Condition()
         self._ask: Optional[Ask] = None
-        self._writes: List[Write] = []
+        self._writes: Deque[Write] = deque()
         self._is_ended = False
 
     def put(self, request: Union[Ask, Write, None]) -> None:
@@ -177,12 +178,26 @@ class _Requests:
                 self._is_ended = True
             self._came.notify()
 
-    def take(self, timeout: float) -> Tuple[Optional[Ask], List[Write]]:
-        """Takes what there is. If there is nothing, waits up to so many seconds."""
+    def put_back(self, write: Write) -> None:
+        """Gives a write back that wasn't made, as the next one."""
+        with self._came:
+            self._writes.appendleft(write)
+
+    def wait(self, timeout: float) -> None:
+        """If there is nothing, waits up to so many seconds."""
         with self._came:
             self._came.wait_for(lambda: self._ask or self._writes or self._is_ended, timeout)
-            ask, writes, self._ask, self._writes = self._ask, self._writes, None, []
-            return ask, writes
+
+    def take_ask(self) -> Optional[Ask]:
+        """Takes the query."""
+        with self._came:
+            ask, self._ask = self._ask, None
+            return ask
+
+    def take_write(self) -> Optional[Write]:
+        """Takes the first write."""
+        with self._came:
+            return self._writes.popleft() if self._writes else None
 
 
 class Asker(threading.Thread):
@@ -197,6 +212,7 @@ class Asker(threading.Thread):
         self._following: Optional[_Following] = None
         self._indices: Mapping[str, bestore.Kind] = {}
         self._places = Places()
+        self._store: Optional[str] = None  # the one that was open last
         self._has_news = False
         self._all, self._counted_at = 0, 0.0
 
@@ -241,18 +257,27 @@ class Asker(threading.Thread):
     def _serve(self, session: Session) -> None:
         """Does what the window asks for, and follows the query."""
         self._places, self._counted_at = Places(), 0.0
+        self._check_store(session.store)
         with session.user.pin() as version:
             self._indices = version.indices()
         self._report(Opened(self._indices))
         while not self._ended.is_set():
             is_busy = self._following is not None and (self._following.waiting or self._following.seen is None)
-            ask, writes = self._requests.take(0 if is_busy else PAUSE)
-            for write in writes:
+            self._requests.wait(0 if is_busy else PAUSE)
+            for write in iter(self._requests.take_write, None):
                 self._write(session, write)
+            ask = self._requests.take_ask()
             if ask is not None:
                 self._ask(session, ask)
             if self._following is not None:
                 self._step(session, self._following)
+
+    def _check_store(self, store: str) -> None:
+        """Refuses the writes that wait if their nodes are those of another store."""
+        if self._store not in (None, store):
+            for write in iter(self._requests.take_write, None):
+                self._report(Written(write, "another store is there now"))
+        self._store = store
 
     def _ask(self, session: Session, ask: Ask) -> None:
         """Follows a query instead of the one before."""
@@ -334,11 +359,18 @@ class Asker(threading.Thread):
         return self._all
 
     def _write(self, session: Session, write: Write) -> None:
+        """Makes a write. If the store goes before it is made, it waits until the store is there again."""
         fault: Optional[str] = None
         try:
             session.user.change(lambda change: self._set(change, write))
+        except bestore.ProtocolError as error:  # which the same write might bring again
+            self._report(Written(write, str(error)))
+            raise
         except bestore.BrokenConnection as error:
-            self._report(Written(write, f"{error}. It may be written all the same" if error.may_be_done else str(error)))
+            if error.may_be_done:
+                self._report(Written(write, str(error)))
+            else:
+                self._requests.put_back(write)
             raise
         except (NotWritten, columns.NotAValue, bestore.Error) as error:
             fault = str(error)

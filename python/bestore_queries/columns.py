@@ -4,6 +4,7 @@ from __future__ import annotations
 
 import re
 import time
+from datetime import datetime
 from typing import Callable, Dict, Iterable, List, Literal, Mapping, NamedTuple, Optional
 
 import bestore
@@ -128,9 +129,15 @@ def edited_text(attribute: str, value: Optional[bestore.Value]) -> str:
         return ""
     if isinstance(value, bytes):
         return value.hex()
-    if isinstance(value, int) and is_time(attribute):
-        return time.strftime("%Y-%m-%d %H:%M:%S", time.localtime(value))
-    return str(value)
+    return _edited_time(value) if isinstance(value, int) and is_time(attribute) else str(value)
+
+
+def _edited_time(seconds: int) -> str:
+    """A time as a date that is read again. What the calendar doesn't have is edited as it is."""
+    try:
+        return datetime.fromtimestamp(seconds).isoformat(" ")
+    except (ValueError, OverflowError, OSError):
+        return str(seconds)
 
 
 def typed_value(attribute: str, text: str, kind: bestore.Kind) -> bestore.Value:

@@ -47,6 +47,8 @@ class Session(ABC):
     """A store that is open. Its calls are made by one thread."""
 
     user: bestore.Pass
+    store: str = ""
+    """Of sessions with the same text nodes are the same."""
 
     @abstractmethod
     def begin(self, text: str) -> LiveAnswer:
@@ -141,6 +143,8 @@ class _FolderSession(Session):
 class _ServerSession(Session):
     def __init__(self, user: ConnectedPass) -> None:
         self.user, self._connected = user, user
+        if user.server.kept != "each":  # another run may make other nodes
+            self.store = user.server.run
         self._commits = user.watch()
 
     def begin(self, text: str) -> LiveAnswer:

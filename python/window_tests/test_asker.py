@@ -9,8 +9,10 @@ from unittest import mock
 import bestore
 from bestore_queries import asker
 from bestore_queries.asker import Accepted, Ask, Asker, Came, Counted, Lost, Opened, Refused, Went, Write, Written
+from bestore_queries.sources import ServerSource, Session, _ServerSession
 
-from common import MadeSource, file_of, files_store, wait_for
+import servers
+from common import PATIENCE, MadeSource, file_of, files_store, wait_for
 
 
 class Asking(unittest.TestCase):
@@ -126,6 +128,98 @@ class Asking(unittest.TestCase):
             self.asker.start()
             self.assertTrue(wait_for(lambda: self.has(Lost)))
         self.assertTrue(wait_for(lambda: self.has(Opened)))
+
+    def breaks(self, *errors: Optional[bestore.Error]) -> "mock._patch[object]":
+        """Lets the next writes end so, in the place of being made. None lets one be made."""
+        change, left = bestore.Pass.change, list(errors)
+
+        def broken(user: bestore.Pass, *given: object) -> object:
+            error = left.pop(0) if left else None
+            if error is not None:
+                raise error
+            return change(user, *given)  # type: ignore[arg-type]
+        return mock.patch.object(bestore.Pass, "change", broken)
+
+    def written(self, *errors: Optional[bestore.Error], count: int) -> List[Written]:
+        """What is reported of three writes, given at once, of which some end so: so many reports."""
+        self.nodes = [self.file(name) for name in "abc"]
+        for node in self.nodes:
+            self.asker.send(Write(node, "BEOS:TYPE", "x", None))
+        with mock.patch.object(asker, "RETRY", 0.01), self.breaks(*errors):
+            self.start("size==1")
+            self.becomes("a", "b", "c")
+            self.assertTrue(wait_for(lambda: self.take() is not None and len(self.reported()) >= count))
+        return self.reported()
+
+    def reported(self) -> List[Written]:
+        return [it for it in self.others if isinstance(it, Written)]
+
+    def types(self) -> List[object]:
+        with self.store.pin() as version:
+            return version.column(self.nodes, "BEOS:TYPE")
+
+    def test_writes_of_a_store_that_goes(self) -> None:
+        """A write that surely wasn't made, and those after it, are made once the store is there again."""
+        reports = self.written(None, bestore.Disconnected("p", "gone"), bestore.TimedOut("p", "late"), count=3)
+        self.assertEqual([(it.write.node, it.fault) for it in reports], [(node, None) for node in self.nodes])
+        self.assertEqual((self.types(), self.has(Lost)), (["x"] * 3, True))
+
+    def test_write_that_may_be_made(self) -> None:
+        """It is reported, and not made again. Neither is one that broke the protocol, which it may do again."""
+        for error in (bestore.Disconnected("p", "gone", True), bestore.ProtocolError("p", "junk")):
+            with self.subTest(error=error):
+                self.setUp()
+                reports = self.written(error, count=3)
+                self.assertEqual([it.write.node for it in reports], self.nodes)
+                self.assertTrue(str(reports[0].fault).startswith(str(error)))
+                self.assertEqual(([it.fault for it in reports[1:]], self.types()), ([None, None], [None, "x", "x"]))
+
+    def test_writes_of_another_store(self) -> None:
+        """What was typed for a store isn't written to another one that is there later, whose nodes are others."""
+        opened, stores = MadeSource.open, iter("12")
+
+        def open_another(source: MadeSource) -> Session:
+            session = opened(source)
+            session.store = next(stores)
+            return session
+        with mock.patch.object(MadeSource, "open", open_another):
+            reports = self.written(bestore.Disconnected("p", "gone"), count=3)
+        self.assertEqual({it.fault for it in reports}, {"another store is there now"})
+        self.assertEqual(self.types(), [None] * 3)
+
+    def test_stores_of_servers(self) -> None:
+        """Nodes that a server keeps are the same in its next run."""
+        for kept, store in [("each", ""), ("every", "r"), ("no", "r")]:
+            user = mock.Mock(server=mock.Mock(kept=kept, run="r"))
+            self.assertEqual(_ServerSession(user).store, store)
+
+
+@unittest.skipUnless(servers.BESTORED, "BESTORED names no bestored")
+class OverServer(unittest.TestCase):
+    def reports(self, *options: object) -> List[Written]:
+        """What is reported of two writes that are sent once the server is killed, and before it is started again."""
+        with servers.Server(*options) as server:
+            with server.connect() as store:
+                nodes = store.new_nodes(2)
+            asking = Asker(ServerSource(server.path))
+            self.addCleanup(asking.end)
+            asking.start()
+            self.assertIsInstance(asking.reports.get(timeout=PATIENCE), Opened)
+            server.kill()
+            for node in nodes:
+                asking.send(Write(node, "BEOS:TYPE", "x", None))
+            self.assertIsInstance(asking.reports.get(timeout=PATIENCE), Lost)
+            server.start()
+            found: List[asker.Report] = []
+            while sum(isinstance(it, Written) for it in found) < 2:
+                found.append(asking.reports.get(timeout=PATIENCE))
+            asking.end()
+        return [it for it in found if isinstance(it, Written)]
+
+    def test_writes(self) -> None:
+        """They are made in the next run if that has the same nodes."""
+        self.assertEqual([it.fault for it in self.reports("--keep", "FOLDER/file")], [None, None])
+        self.assertEqual([it.fault for it in self.reports()], ["another store is there now"] * 2)
 
 
 if __name__ == "__main__":

@@ -206,6 +206,15 @@ class Values(LocalTime):
             kind = {int: bestore.INT64, str: bestore.STRING, bytes: bestore.RAW}[type(value)]
             self.assertEqual(columns.typed_value(name, columns.edited_text(name, value), kind), value)
 
+    def test_edited_times(self) -> None:
+        """A time that no date means is edited as it is."""
+        for seconds, text in [
+            (1700000000, "2023-11-14 23:13:20"), (-40000000000, "0702-06-15 01:46:48"), (253402297200, "253402297200"),
+            (10**18, str(10**18)), (-2**63, str(-2**63)), (2**63 - 1, str(2**63 - 1)),
+        ]:
+            self.assertEqual(columns.edited_text("MAIL:when", seconds), text)
+            self.assertEqual(columns.typed_value("MAIL:when", text, bestore.INT64), seconds)
+
     def test_columns(self) -> None:
         self.assertEqual([it.attribute for it in columns.default_columns(INDICES)], ["name", "size", "last_modified", "folder"])
         self.assertEqual([it.attribute for it in columns.default_columns({"a": bestore.STRING})], ["a"])

@@ -45,9 +45,9 @@ Grows kept_of standing_of words_of more before after old new =
 
 -- If a write is refused, what was there when it began is there again once it is undone, no page was
 -- left, and this is so of where it stopped.
-abbrev pub Refuses : {S K A : Type 0} → (S → K) → (S → ℕ → Standing) → (S → ℕ → ℕ → ℕ)
+abbrev pub RefusesAt : {S K A : Type 0} → (S → K) → (S → ℕ → Standing) → (S → ℕ → ℕ → ℕ)
     → (full : S → ℕ → Type 0) → (stop : S → S → Type 0) → Result A Refusal → (old new : S) → Type 0
-Refuses kept_of standing_of words_of full stop result old new =
+RefusesAt kept_of standing_of words_of full stop result old new =
     OnErr result (KeepsStart kept_of standing_of words_of old new)
     × IfErr result (IsFullOf (full new)) × OnErr result (stop old new)
 
@@ -89,7 +89,7 @@ abbrev pub RefusesNear : {S K A : Type 0} → (S → K) → (S → ℕ → Stand
     → (full : S → ℕ → Type 0) → (more : ℕ) (before : Contents) → Result A Refusal → (old new : S)
     → Type 0
 RefusesNear kept_of standing_of words_of full more before result old new =
-    Refuses kept_of standing_of words_of full (StopsNear kept_of standing_of words_of more before)
+    RefusesAt kept_of standing_of words_of full (StopsNear kept_of standing_of words_of more before)
     result old new
 
 -- A list of operations stops, which the volume of the contents accepts: they had become others with

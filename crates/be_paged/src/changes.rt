@@ -24,7 +24,7 @@ ghost use Rattle.be_paged_reading.specs.Catalog.{IsIndexOf};
 ghost use Rattle.be_paged.specs.Changes.{IsReady, repaired, with_indices, key_turned};
 ghost use Rattle.be_paged_reading.specs.Page.{contents, IsNamedAt};
 ghost use Rattle.be_paged_reading.specs.Place.{IsKnownIn};
-ghost use Rattle.be_paged.specs.Stops.{Grows, GrowsTree, Refuses, RefusesNear, StopsTree};
+ghost use Rattle.be_paged.specs.Stops.{Grows, GrowsTree, RefusesAt, RefusesNear, StopsTree};
 ghost use Rattle.be_paged_reading.specs.Version.{IsInHand, Spells};
 
 use arrayvec::ArrayVec;
@@ -135,7 +135,7 @@ fn change_root<R: Room>(
         × IsUnchanged R.kept R.standing R.words room.old room.new) }
     ensures apart { IfOk result (λ r. (v : AnyValue) → (kind_in v ≡ kind → ⊥) →
         option_copied old.entry ≡ Some v → option_copied new.entry ≡ Some v → r ≡ root) }
-    ensures refused { Refuses R.kept R.standing R.words R.full
+    ensures refused { RefusesAt R.kept R.standing R.words R.full
         (StopsTree R.kept R.standing R.words root) result room.old room.new }
 {
     let leaves = key_in(kind, old, node);

@@ -12,7 +12,7 @@ ghost use Rattle.be_paged.specs.Changes.{Changes, IsBare, IsInHandFor, Reaches};
 ghost use Rattle.be_paged.specs.Changes.{SetsWhatStands, Steps};
 ghost use Rattle.be_paged_reading.specs.Page.{contents};
 ghost use Rattle.be_paged_reading.specs.Place.{IsAsked, IsKnownIn};
-ghost use Rattle.be_paged.specs.Stops.{Grows, Refuses, RefusesNear, StopsList};
+ghost use Rattle.be_paged.specs.Stops.{Grows, RefusesAt, RefusesNear, StopsList};
 ghost use Rattle.be_paged_reading.specs.Version.{IsInHand, Spells};
 
 use crate::changes::change_entry;
@@ -253,7 +253,7 @@ pub(crate) fn edit_all<R: Room>(
         → Spells (R.words room.old) (contents version.old) volume → IsSound volume →
         All (SetsWhatStands volume) ops.now → version.new.entries.items
         ≡ version.old.entries.items) }
-    ensures refused { Refuses R.kept R.standing R.words R.full
+    ensures refused { RefusesAt R.kept R.standing R.words R.full
         (StopsList R.kept R.standing R.words ops.now (contents version.old)) result room.old
         room.new }
 {

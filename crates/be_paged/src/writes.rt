@@ -10,7 +10,7 @@ ghost use Rattle.be_volume.specs.Volume.{State, steps};
 ghost use Rattle.be_paged.specs.Changes.{Applies, IsRefusedList};
 ghost use Rattle.be_paged_reading.specs.Facts.{AnswersFor};
 ghost use Rattle.be_paged_reading.specs.Place.{IsAsked};
-ghost use Rattle.be_paged.specs.Stops.{Refuses, TakesFew};
+ghost use Rattle.be_paged.specs.Stops.{RefusesAt, TakesFew};
 ghost use Rattle.be_paged_reading.specs.Version.{IsVersion};
 ghost use Rattle.be_paged_reading.specs.Page.{contents, contents_of, IsVersionPage};
 
@@ -49,7 +49,7 @@ fn refusal<L: Look>(
     first_refusal(&mut facts, ops)
 }
 
-/// Writes a version page in the place of an old one.
+/// Writes a version to a page that is taken for it, as a copy of the old version page.
 fn write_version<R: Room>(room: &mut R, old_page: u64, version: &Version) -> Result<u64, Refusal>
     requires named { All (λ e. IsName e.name) version.now.entries.items }
     requires open { IsTrue (R.is_open (R.kept room.old)) }
@@ -58,7 +58,7 @@ fn write_version<R: Room>(room: &mut R, old_page: u64, version: &Version) -> Res
     ensures taken { IfOk result (λ page. R.standing room.new page ≡ Filled) }
     ensures swaps { IfOk result (λ page. Swaps R.kept R.standing R.words [] (page ∷ []) room.old
         room.new) }
-    ensures refused { Refuses R.kept R.standing R.words R.full
+    ensures refused { RefusesAt R.kept R.standing R.words R.full
         (λ old new. TakesFewer 1 (R.standing old) (R.standing new)) result room.old room.new }
 {
     let page = room.take_like(old_page)?;
@@ -76,7 +76,7 @@ fn replace_version<R: Room>(room: &mut R, old_page: u64, version: &Version) -> R
     ensures taken { IfOk result (λ page. R.standing room.new page ≡ Filled) }
     ensures swaps { IfOk result (λ page. Swaps R.kept R.standing R.words (old_page ∷ []) (page ∷ [])
         room.old room.new) }
-    ensures refused { Refuses R.kept R.standing R.words R.full
+    ensures refused { RefusesAt R.kept R.standing R.words R.full
         (λ old new. TakesFewer 1 (R.standing old) (R.standing new)) result room.old room.new }
 {
     room.give_up(old_page);

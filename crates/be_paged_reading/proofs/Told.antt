@@ -19,7 +19,7 @@ use Rattle.be_pages.specs.declared.room.Standing.{Standing}
 use Rattle.be_tree_reading.specs.Cursor.{remaining}
 use Rattle.be_tree_reading.specs.Key.{payload_at, key_cmp, IsRising}
 use Rattle.be_tree_reading.specs.Pair.{Pair}
-use Rattle.be_tree_reading.specs.Page.{item_at}
+use Rattle.be_tree_reading.specs.Page.{IsReadableAt, item_at}
 use Rattle.be_tree_reading.specs.Range.{is_from, pairs_from}
 use Rattle.be_tree_reading.specs.Tree.{IsTree, pairs}
 use Rattle.be_tree_reading.specs.declared.cursor.Cursor.{Cursor}
@@ -34,7 +34,6 @@ use Rattle.be_paged_reading.specs.Catalog.{IsCatalog, catalog_key, payload_of, s
 use Rattle.be_paged_reading.specs.Cells.{AreTold, HasPayload, IsAmong, StartsElsewhere, WalksIn, all_data, cell_of, cells_from, data_in, data_of, found_at, found_in, name_in, over, why_none}
 use Rattle.be_paged_reading.specs.Place.{IsFoundAt, IsPlaceOf}
 use Rattle.be_paged_reading.specs.Reading.{AreValid}
-use Rattle.be_paged_reading.specs.Source.{IsItemAt}
 use Rattle.be_paged_reading.specs.declared.cells.Cell.{Cell}
 use Rattle.be_paged_reading.specs.declared.cells.Filled.{Filled}
 use Rattle.be_paged_reading.specs.declared.cells.HeldName.{HeldName}
@@ -225,7 +224,7 @@ pub over_none : {T : Type 0} (places : List T) → places ≡ over [] places
 over_none places = ap (λ l. l ++ places) (sym (take_none (length places)))
 
 -- where an attribute is met, it stands in the tree
-pub place_met : (s t : ℕ → Standing) (v w : ℕ → ℕ → ℕ) (root : ℕ) (key : List ℕ) (cursor : Cursor) (found : ℕ × ℕ) → t ≡ s → w ≡ v → IsAmong v root cursor → IsItemAt s v found.0 found.1
+pub place_met : (s t : ℕ → Standing) (v w : ℕ → ℕ → ℕ) (root : ℕ) (key : List ℕ) (cursor : Cursor) (found : ℕ × ℕ) → t ≡ s → w ≡ v → IsAmong v root cursor → IsReadableAt s v found.0 found.1
     → slice_get (remaining v cursor) 0 ≡ Some (item_at (v found.0) found.1) → (item_at (v found.0) found.1).key ≡ key → IsPlaceOf t w root key found.0 found.1
 place_met s t v w root key cursor found standing words among item first same =
     found_since s t v w root key (Some found) standing words (record {
@@ -235,7 +234,7 @@ place_met s t v w root key cursor found standing words among item first same =
 
 -- what a step finds right after a descent to the key
 pub place_sought : (s t : ℕ → Standing) (v w : ℕ → ℕ → ℕ) (root : ℕ) (key : List ℕ) (cursor : Cursor) (found : Option (ℕ × ℕ)) → t ≡ s → w ≡ v → IsRising (pairs v root)
-    → remaining v cursor ≡ pairs_from (pairs v root) key false → IfSome found (λ at. IsItemAt s v at.0 at.1) → IfSome found (λ at. slice_get (remaining v cursor) 0 ≡ Some (item_at (v at.0) at.1))
+    → remaining v cursor ≡ pairs_from (pairs v root) key false → IfSome found (λ at. IsReadableAt s v at.0 at.1) → IfSome found (λ at. slice_get (remaining v cursor) 0 ≡ Some (item_at (v at.0) at.1))
     → IfSome found (λ at. (item_at (v at.0) at.1).key ≡ key) → IfNone found (StartsElsewhere key (remaining v cursor)) → IsFoundAt t w root key found
 place_sought s t v w root key cursor None standing words rising rest item first same none =
     found_since s t v w root key None standing words (absent_from (pairs v root) key rising (subst (StartsElsewhere key) rest none))
@@ -260,7 +259,7 @@ value_missing s v w root nodes node name key (Some at) catalog fits some is word
 pub key_length : (node : ℕ) (name key : List ℕ) → key ≡ catalog_key node name → length key ≡ 8 + length name
 key_length node name key is = ap length is ∙ length-append (to_be_bytes w64 node) name
 
-pub item_of_place : (s : ℕ → Standing) (w : ℕ → ℕ → ℕ) (root : ℕ) (key : List ℕ) (found : Option (ℕ × ℕ)) → IsFoundAt s w root key found → IfSome found (λ at. IsItemAt s w at.0 at.1)
+pub item_of_place : (s : ℕ → Standing) (w : ℕ → ℕ → ℕ) (root : ℕ) (key : List ℕ) (found : Option (ℕ × ℕ)) → IsFoundAt s w root key found → IfSome found (λ at. IsReadableAt s w at.0 at.1)
 item_of_place s w root key None found = tt
 item_of_place s w root key (Some at) found = found.item
 

@@ -4,17 +4,16 @@ use Rattle.std.specs.declared.option.Option.{Option}
 use Rattle.std.specs.declared.option.Option.TheVariants as options
 use Rattle.be_pages.specs.declared.room.Standing.{Standing}
 use Rattle.be_tree_reading.specs.Key.{payload_at}
-use Rattle.be_tree_reading.specs.Page.{item_at}
+use Rattle.be_tree_reading.specs.Page.{IsReadableAt, item_at}
 use Rattle.be_tree_reading.specs.Tree.{pairs}
 use Rattle.be_paged_reading.specs.Catalog.{catalog_key}
-use Rattle.be_paged_reading.specs.Source.{IsItemAt}
 use Rattle.be_paged_reading.specs.declared.asked.Asked.{Asked}
 use Rattle.be_paged_reading.specs.declared.version.Version.{Version}
 
 -- an item lies at the place of the page, and its payload is what the tree has at the key
 pub record IsPlaceOf (standing : ℕ → Standing) (words : ℕ → ℕ → ℕ) (root : ℕ) (key : List ℕ)
     (page at : ℕ) : Type 0 where
-  pub item : IsItemAt standing words page at
+  pub item : IsReadableAt standing words page at
   pub there : payload_at (pairs words root) key ≡ Some (item_at (words page) at).payload
 
 -- what a look-up of the key found: such a page and place, or that the tree hasn't the key

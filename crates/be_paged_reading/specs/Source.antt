@@ -1,10 +1,9 @@
 -- What a source over a version has in hand.
-use Rattle.std.specs.Prelude.{◌≡◌, ℕ, ◌+◌, ◌<◌, ◌≤◌, ◌&&◌, Bool, IsTrue, IfSome, IfNone, List, true}
+use Rattle.std.specs.Prelude.{◌≡◌, ℕ, ◌<◌, ◌&&◌, Bool, IfSome, IfNone, List, true}
 use Rattle.std.specs.Prelude.{is_some, length, slice_index_or}
 use Rattle.std.specs.declared.option.Option.{Option}
 use Rattle.be_pages.specs.declared.room.Standing.{Standing}
-use Rattle.be_pages.specs.Pages.{is_readable}
-use Rattle.be_tree_reading.specs.Page.{IsItem, item_at}
+use Rattle.be_tree_reading.specs.Page.{IsReadableAt, item_at}
 use Rattle.be_tree_reading.specs.Cursor.{IsCursor, remaining}
 use Rattle.be_tree_reading.specs.Key.{payload_at}
 use Rattle.be_tree_reading.specs.Pair.{Pair}
@@ -21,22 +20,16 @@ use Rattle.be_paged_reading.specs.Page.{contents_of, IsGapAt, IsNamedAt}
 use Rattle.be_paged_reading.specs.Version.{IsVersion}
 use Rattle.be_paged_reading.specs.declared.on_page.FoundIndex.{FoundIndex}
 
--- an item that can be read lies at a place of a page
-pub record IsItemAt (standing : ℕ → Standing) (words : ℕ → ℕ → ℕ) (page at : ℕ) : Type 0 where
-  pub readable : IsTrue (is_readable (standing page))
-  pub in_page : at + 42 ≤ 512
-  pub fits : IsItem (words page) at
-
 -- an item lies where a look-up found one
 abbrev pub HasItem : (standing : ℕ → Standing) (words : ℕ → ℕ → ℕ) → Option (ℕ × ℕ) → Type 0
-HasItem standing words place = IfSome place (λ at. IsItemAt standing words at.0 at.1)
+HasItem standing words place = IfSome place (λ at. IsReadableAt standing words at.0 at.1)
 
 -- the cursor is in the tree of the index at a place, after the key of the item at a place of a
 -- page; at a place past the indices it is in no tree
 pub record StandsAfter (standing : ℕ → Standing) (words : ℕ → ℕ → ℕ) (entries : List Entry)
     (cursor : Cursor) (place : ℕ) (last_page last_at : ℕ) : Type 0 where
   pub can_go_on : place < length entries → IsCursor standing words cursor
-  pub last : place < length entries → IsItemAt standing words last_page last_at
+  pub last : place < length entries → IsReadableAt standing words last_page last_at
   pub rest : (d : Entry) → place < length entries → remaining words cursor
       ≡ pairs_from (pairs words (slice_index_or entries place d).root)
       (item_at (words last_page) last_at).key true

@@ -10,7 +10,7 @@ ghost use Rattle.be_pages.specs.Pages.{IsUnchanged, is_readable};
 ghost use Rattle.be_value.specs.Key.{IsValue};
 ghost use Rattle.be_value.specs.declared.values.Value.{Value as AnyValue};
 ghost use Rattle.be_tree_reading.specs.Cursor.{IsCursor, remaining};
-ghost use Rattle.be_tree_reading.specs.Page.{IsItem, item_at};
+ghost use Rattle.be_tree_reading.specs.Page.{IsItem, IsReadableAt, item_at};
 ghost use Rattle.be_tree_reading.specs.Tree.{IsTree, pairs};
 ghost use Rattle.be_volume.specs.Maps.{Nodes as AllNodes, attributes_of};
 ghost use Rattle.be_volume.specs.Sound.{IsName};
@@ -18,7 +18,7 @@ ghost use Rattle.be_paged_reading.specs.Catalog.{IsCatalog, catalog_key};
 ghost use Rattle.be_paged_reading.specs.Facts.{count_of};
 ghost use Rattle.be_paged_reading.specs.Place.{IsPlaceOf};
 ghost use Rattle.be_paged_reading.specs.Reading.{AreValid, attribute_pair, front_of_node, is_of};
-ghost use Rattle.be_paged_reading.specs.Source.{HasItem, IsItemAt};
+ghost use Rattle.be_paged_reading.specs.Source.{HasItem};
 
 use crate::catalog::value_at;
 use be_pages::Look;
@@ -201,7 +201,7 @@ fn next_name<L: Look>(look: &mut L, cursor: &mut Cursor, node: u64) -> Option<(N
     ensures item { IfSome result (λ found. slice_get
         (front_of_node node (remaining (L.words look.old) cursor.old)) 0
         ≡ Some (item_at (L.words look.old found.1.0) found.1.1)) }
-    ensures fits { IfSome result (λ found. IsItemAt (L.standing look.old) (L.words look.old)
+    ensures fits { IfSome result (λ found. IsReadableAt (L.standing look.old) (L.words look.old)
         found.1.0 found.1.1) }
     ensures beyond { IfSome result (λ found. found.0
         ≡ drop 8 (item_at (L.words look.old found.1.0) found.1.1).key) }

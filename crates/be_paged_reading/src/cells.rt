@@ -6,7 +6,7 @@ ghost use Rattle.std.specs.Int.{cast_unsigned, w32, w64};
 ghost use Rattle.std.specs.Int.RustNames.{FitsSigned};
 ghost use Rattle.std.specs.declared.result.Result.{Result as AnyResult};
 ghost use Rattle.be_pages.specs.Pages.{IsUnchanged};
-ghost use Rattle.be_tree_reading.specs.Page.{item_at};
+ghost use Rattle.be_tree_reading.specs.Page.{IsReadableAt, item_at};
 ghost use Rattle.be_value.specs.Key.{IsValue};
 ghost use Rattle.be_value.specs.Value.{code_of};
 ghost use Rattle.be_value.specs.declared.refusals.Refusal.{Refusal as AnyRefusal};
@@ -15,7 +15,6 @@ ghost use Rattle.be_paged_reading.specs.Catalog.{catalog_key as key_in_catalog};
 ghost use Rattle.be_paged_reading.specs.Catalog.{payload_of as payload};
 ghost use Rattle.be_paged_reading.specs.Cells.{AreTold, IsFew, cell_of, data_in};
 ghost use Rattle.be_paged_reading.specs.Cells.{data_of, name_in, over};
-ghost use Rattle.be_paged_reading.specs.Source.{IsItemAt};
 ghost use Rattle.be_paged_reading.specs.declared.cells.Cell.{Cell as AnyCell};
 
 use crate::catalog::{kind_at, number32_at, number64_at};
@@ -186,7 +185,7 @@ fn widened(number: u32) -> u64
 /// The cell of the value at a place of the catalog, if its payload encodes a value. The value's
 /// bytes begin at this offset.
 fn value_cell<L: Look>(look: &mut L, page: u64, at: usize, offset: usize) -> Option<Cell>
-    requires item { IsItemAt (L.standing look.old) (L.words look.old) page at }
+    requires item { IsReadableAt (L.standing look.old) (L.words look.old) page at }
     ensures cell { (v : AnyValue) → IsValue v → (item_at (L.words look.old page) at).payload
         ≡ payload v → result ≡ Some (cell_of offset (Ok v)) }
     ensures unchanged { IsUnchanged L.kept L.standing L.words look.old look.new }
@@ -229,7 +228,7 @@ fn tell_data<L: Look>(
     bytes: &mut [u8],
     filled: &mut Filled,
 )
-    requires item { IsItemAt (L.standing look.old) (L.words look.old) item.0 item.1 }
+    requires item { IsReadableAt (L.standing look.old) (L.words look.old) item.0 item.1 }
     requires cells { filled.old.cells < 2 ^ 32 }
     requires few { IsFew filled.old }
     ensures told { (x : AnyResult AnyValue AnyRefusal)
@@ -260,7 +259,7 @@ pub(crate) fn tell_value<L: Look>(
     bytes: &mut [u8],
     filled: &mut Filled,
 )
-    requires item { IsItemAt (L.standing look.old) (L.words look.old) page at }
+    requires item { IsReadableAt (L.standing look.old) (L.words look.old) page at }
     requires cells { filled.old.cells < 2 ^ 32 }
     requires few { IsFew filled.old }
     ensures told { (v : AnyValue) (found : List (AnyResult AnyValue AnyRefusal))
@@ -298,7 +297,7 @@ pub(crate) fn read_into<L: Look>(
     at: usize,
     bytes: &mut [u8],
 ) -> Option<Cell>
-    requires item { IsItemAt (L.standing look.old) (L.words look.old) page at }
+    requires item { IsReadableAt (L.standing look.old) (L.words look.old) page at }
     ensures cell { (v : AnyValue) → IsValue v → (item_at (L.words look.old page) at).payload
         ≡ payload v → result ≡ Some (cell_of 0 (Ok v)) }
     ensures bytes { (v : AnyValue) → IsValue v → (item_at (L.words look.old page) at).payload
@@ -314,7 +313,7 @@ pub(crate) fn read_into<L: Look>(
 
 /// Puts the bytes of the text at a place of the catalog to the front of the places.
 fn put_payload<L: Look>(look: &mut L, page: u64, at: usize, bytes: &mut [u8])
-    requires item { IsItemAt (L.standing look.old) (L.words look.old) page at }
+    requires item { IsReadableAt (L.standing look.old) (L.words look.old) page at }
     ensures bytes { bytes.new ≡ over (drop 1 (item_at (L.words look.old page) at).payload)
         bytes.old }
     ensures unchanged { IsUnchanged L.kept L.standing L.words look.old look.new }

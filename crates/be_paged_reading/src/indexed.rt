@@ -7,8 +7,9 @@ ghost use Rattle.std.specs.Prelude.{◌≡◌, ◌≤◌, ◌++◌, is_some, len
 ghost use Rattle.std.specs.Int.{to_be_bytes, w64};
 ghost use Rattle.be_pages.specs.Pages.{IsUnchanged};
 ghost use Rattle.be_tree_reading.specs.Key.{payload_at};
+ghost use Rattle.be_tree_reading.specs.Page.{IsReadableAt};
 ghost use Rattle.be_tree_reading.specs.Tree.{IsTree, pairs};
-ghost use Rattle.be_paged_reading.specs.Source.{DecidesPair, IsItemAt};
+ghost use Rattle.be_paged_reading.specs.Source.{DecidesPair};
 
 use crate::catalog::{kind_at, number64_at, value_at};
 use arrayvec::ArrayVec;
@@ -36,7 +37,7 @@ fn has_number<L: Look>(look: &mut L, index: u64, number: &[u8], node: u64) -> bo
 #[inline(never)]
 fn any_is_indexed_at<L: Look>(look: &mut L, index: u64, page: u64, at: usize, node: u64) -> bool
     requires tree { IsTree (L.standing look.old) (L.words look.old) index }
-    requires item { IsItemAt (L.standing look.old) (L.words look.old) page at }
+    requires item { IsReadableAt (L.standing look.old) (L.words look.old) page at }
     ensures has { DecidesPair (L.words look.old) index node page at result }
     ensures unchanged { IsUnchanged L.kept L.standing L.words look.old look.new }
 {
@@ -57,7 +58,7 @@ pub(crate) fn is_indexed_at<L: Look>(
     node: u64,
 ) -> bool
     requires tree { IsTree (L.standing look.old) (L.words look.old) index }
-    requires item { IsItemAt (L.standing look.old) (L.words look.old) page at }
+    requires item { IsReadableAt (L.standing look.old) (L.words look.old) page at }
     ensures has { DecidesPair (L.words look.old) index node page at result }
     ensures unchanged { IsUnchanged L.kept L.standing L.words look.old look.new }
 {

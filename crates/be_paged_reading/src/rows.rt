@@ -10,7 +10,7 @@ ghost use Rattle.std.specs.FinMap as map;
 ghost use Rattle.be_pages.specs.Pages.{IsUnchanged};
 ghost use Rattle.be_pages.specs.declared.room.Standing.{Standing as Stands};
 ghost use Rattle.be_tree_reading.specs.Cursor.{IsCursor, remaining};
-ghost use Rattle.be_tree_reading.specs.Page.{item_at};
+ghost use Rattle.be_tree_reading.specs.Page.{IsReadableAt, item_at};
 ghost use Rattle.be_tree_reading.specs.Tree.{IsTree, pairs};
 ghost use Rattle.be_volume.specs.Maps.{Nodes as AllNodes};
 ghost use Rattle.be_volume.specs.Reading.{attribute};
@@ -21,7 +21,7 @@ ghost use Rattle.be_paged_reading.specs.Cells.{IsValuePlace, StartsElsewhere, Te
 ghost use Rattle.be_paged_reading.specs.Cells.{WalksIn, cell_of, found_at, name_in, why_none};
 ghost use Rattle.be_paged_reading.specs.Place.{IsFoundAt};
 ghost use Rattle.be_paged_reading.specs.Reading.{AreValid};
-ghost use Rattle.be_paged_reading.specs.Source.{HasItem, IsItemAt};
+ghost use Rattle.be_paged_reading.specs.Source.{HasItem};
 ghost use Rattle.be_paged_reading.specs.Version.{HasVersion, IsVersion};
 
 use crate::cells::{Cell, Filled, HeldName, empty_cell, held_key, read_into, tell, tell_value};
@@ -62,7 +62,7 @@ impl Row {
 /// A step of the cursor, and the place of the item that it passed, if that has the key.
 fn step_to<L: Look>(look: &mut L, cursor: &mut Cursor, key: &[u8]) -> Option<(u64, usize)>
     requires cursor { IsCursor (L.standing look.old) (L.words look.old) cursor.old }
-    ensures item { IfSome result (λ at. IsItemAt (L.standing look.old) (L.words look.old) at.0
+    ensures item { IfSome result (λ at. IsReadableAt (L.standing look.old) (L.words look.old) at.0
         at.1) }
     ensures found { IfSome result (λ at. slice_get (remaining (L.words look.old) cursor.old) 0
         ≡ Some (item_at (L.words look.old at.0) at.1)) }

@@ -16,7 +16,7 @@ use std::alloc::{AllocError, Global};
 /// Of a page that was copied from none. No pool has a page of this number.
 const NO_PAGE: u64 = u64::MAX;
 
-/// The free pages of those below a number. No call but `new` takes memory.
+/// The free pages of those below a number. No call but `from` takes memory.
 #[derive(Drop)]
 pub(crate) struct FreePages {
     plain: PageSet,

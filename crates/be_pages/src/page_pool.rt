@@ -143,8 +143,8 @@ impl PagePool {
         Some(page)
     }
 
-    /// Takes a free page for a copy of a page: the one that this page was copied from, if it is
-    /// spared for that, and has most of its words. Otherwise it takes the page that `take` does.
+    /// Takes a free page for a copy of a page: the one that this page was copied from, if that is
+    /// spared. Otherwise it takes the page that `take` does.
     pub fn take_like(&mut self, page: u64) -> Option<u64>
         ensures free { IfSome result (λ copy. (copy < length (places self.old))
             × (place_of (places self.old) copy ≡ Free)) }

@@ -1,11 +1,11 @@
-//! A set of pages, of which the last that came in is the first to go out.
+//! A set of pages, of which the last that came in is the first that `pop` takes out.
 ghost use Rattle.std.specs.Prelude.{◌≡◌, ◌≢◌, ℕ, ◌<◌, ◌≤◌, ◌==◌, if◌then◌else◌, Bool, true, false};
 ghost use Rattle.std.specs.Prelude.{length, vec_len, count_by, IfOk, IfSome, IfNone};
 ghost use Rattle.be_pages.specs.PageSet.{has_page, is_place, IsListed};
 
 use std::alloc::{AllocError, Global};
 
-/// A set of the pages below a number. No call but `new` takes memory.
+/// A set of the pages below a number. No call but `new` and `from` takes memory.
 #[derive(Drop)]
 pub(crate) struct PageSet {
     list: Vec<u64>,
@@ -65,7 +65,7 @@ impl PageSet {
         self.places[at] = self.len;
     }
 
-    /// Takes the last page that came in.
+    /// Takes the last page of the list: the one that came in last, if none was removed since.
     #[tactic(auto, unfolding(crate::specs::PageSet::has_page))]
     pub(crate) fn pop(&mut self) -> Option<u64>
         ensures some { IfSome result (λ page. has_page self.old.places.items page ≡ true) }

@@ -84,8 +84,8 @@ pub trait Room: Look {
         ensures words { Self.words self.new ≡ Self.words self.old }
         ensures kept { Self.kept self.new ≡ Self.kept self.old };
 
-    /// Takes a free page as `take` does, for a copy of a page: one that has most of its words
-    /// already, if there is such a one.
+    /// Takes a free page as `take` does, for a copy of a page. A room may prefer one that has most
+    /// of that page's words already.
     fn take_like(&mut self, page: u64) -> Result<u64, Refusal>
         requires open { IsTrue (Self.is_open (Self.kept self.old)) }
         ensures page { IfOk result (λ page. (page < 2 ^ 32)

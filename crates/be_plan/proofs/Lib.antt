@@ -2,6 +2,7 @@ pub mod Answering
 pub mod Beside
 pub mod Bounds
 pub mod Choice
+pub mod Collecting
 pub mod Decided
 pub mod Ends
 pub mod Fronts

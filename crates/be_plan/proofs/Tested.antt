@@ -1,5 +1,5 @@
 -- What a comparison with the text of a key tells of the key's node.
-use Rattle.std.proofs.Common.{◌≡◌, ◌+◌, ◌-◌, ◌≤◌, ◌<◌, ◌^◌, ◌++◌, ◌∷◌, [], ℕ, Bool, true, false, List, Some, length, take, refl, sym, ap, ◌∙◌, subst, arith, append_assoc}
+use Rattle.std.proofs.Common.{◌≡◌, ◌-◌, ◌≤◌, ◌++◌, ◌∷◌, [], ℕ, Bool, false, List, Some, length, take, sym, ap, ◌∙◌, subst, arith, append_assoc}
 use Rattle.std.specs.Int.{to_be_bytes, w64}
 use Rattle.std.specs.Option.{option_map, option_map_or}
 use Rattle.std.specs.Prelude.{IsUtf8}
@@ -8,7 +8,6 @@ use Rattle.std.proofs.lemmas.List.{length-append}
 use Rattle.std.proofs.lemmas.Option.{same_Some}
 use Rattle.be_value.specs.Key.{key, value_key, IsValue}
 use Rattle.be_value.specs.Value.{kind_of}
-use Rattle.be_value.specs.declared.values.Kind.{Kind}
 use Rattle.be_value.specs.declared.values.Kind.TheVariants as kinds
 use Rattle.be_value.specs.declared.values.Value.{Value}
 use Rattle.be_value.specs.declared.values.Value.TheVariants.{Cstr, Long, Llng, Mims, Rawt, Ulng, Ullg}

@@ -1,10 +1,10 @@
 -- The parts of a query that are under "or" alone.
-use Rattle.std.specs.Prelude.{◌≡◌, ◌<◌, ◌≤◌, ◌+◌, ℕ, Bool, true, false, List, slice_get}
+use Rattle.std.specs.Prelude.{◌≡◌, ◌<◌, ◌≤◌, ◌+◌, ◌-◌, ℕ, Bool, true, false, List, slice_get}
 use Rattle.be_value.specs.declared.values.Value.{Value}
 use Rattle.be_query.specs.Grammar.{Formula, Leaf, And, Or, comparisons}
-use Rattle.be_volume.specs.Query.{sat}
+use Rattle.be_volume.specs.Query.{has_index, sat}
 use Rattle.be_volume.specs.Volume.{State}
-use Rattle.be_plan.specs.Cover.{leaves}
+use Rattle.be_plan.specs.Cover.{leaves, rests_on}
 use Rattle.be_plan.specs.Narrow.{Allows}
 
 -- whether the formula is an "or"
@@ -29,3 +29,16 @@ pub record StandsIn (whole : Formula) (pick from : ℕ) (part : Formula) : Type 
   pub under : IsUnderOr whole from part
   pub first : from ≤ pick
   pub last : pick < from + comparisons part
+
+-- The part begins with the first comparison of the whole and is under "or" alone; it has so many
+-- comparisons.
+pub record IsFrontOf (whole part : Formula) (count : ℕ) : Type 0 where
+  pub end : count ≡ comparisons part
+  pub few : count ≤ 256
+  pub under : IsUnderOr whole 0 part
+
+-- The pick is a place of such a part, and the comparison there is on a name that has an index.
+pub record IsPickOf (s : State) (whole : Formula) (pick from : ℕ) (part : Formula) : Type 0 where
+  pub few : from + comparisons part ≤ 256
+  pub rests : rests_on (has_index s) part (pick - from) ≡ true
+  pub stands : StandsIn whole pick from part

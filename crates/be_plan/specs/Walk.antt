@@ -6,6 +6,7 @@ use Rattle.std.specs.Ordering.{is_lt}
 use Rattle.std.specs.declared.option.Option.{Option}
 use Rattle.be_value.specs.declared.refusals.Refusal.{Refusal}
 use Rattle.be_value.specs.declared.refusals.Refusal.TheVariants.{OutOfMemory, NotCovered}
+use Rattle.be_value.specs.declared.values.Kind.{Kind}
 use Rattle.be_value.specs.declared.values.Value.{Value}
 use Rattle.be_query.specs.Grammar.{Formula, Leaf, And, Or}
 use Rattle.be_plan.specs.Cover.{Comparison, leaves}
@@ -14,7 +15,8 @@ use Rattle.be_volume.specs.Query.{covered, sat, sees}
 use Rattle.be_volume.specs.Volume.{State}
 use Rattle.be_volume.specs.Keys.{IsKey, IsNextKey}
 use Rattle.be_volume.specs.PairKeys.{is_at_or_after}
-use Rattle.be_plan.specs.Narrow.{Within, Allows}
+use Rattle.be_volume.specs.Reading.{index_kind}
+use Rattle.be_plan.specs.Narrow.{Within, Allows, LeavesRest}
 
 -- a comparison of the formula is on this name
 abbrev pub asks_name : Formula → List ℕ → Bool
@@ -28,6 +30,23 @@ AreAllOn (Leaf own op literal) name = own ≡ name
 AreAllOn (And a b) name = AreAllOn a name × AreAllOn b name
 AreAllOn (Or a b) name = ⊥
 
+-- each comparison of the formula is on this name, whose index has this kind
+pub record AreOnIndex (s : State) (f : Formula) (name : List ℕ) (kind : Kind) : Type 0 where
+  pub named : AreAllOn f name
+  pub kind_is : index_kind s name ≡ Some kind
+
+-- the bytes are a key of the index of that name, which has this kind
+pub record IsKeyOfKind (s : State) (name : List ℕ) (kind : Kind) (bytes : List ℕ) : Type 0 where
+  pub kind_is : index_kind s name ≡ Some kind
+  pub is_key : IsKey s name bytes
+
+-- The index of that name has this kind, and of the nodes of its keys from `low` to `high` the
+-- formula is true exactly if what is left to ask is.
+pub record LeavesInIndex (s : State) (f : Formula) (name : List ℕ) (kind : Kind) (low : List ℕ)
+    (high : Option (List ℕ)) (rest : Option Formula) : Type 0 where
+  pub kind_is : index_kind s name ≡ Some kind
+  pub leaves : LeavesRest f name kind low high rest
+
 -- each of the nodes is still there
 abbrev pub Keeps : List ℕ → List ℕ → Type 0
 Keeps before after = (n : ℕ) → Contains before n → Contains after n
@@ -35,6 +54,11 @@ Keeps before after = (n : ℕ) → Contains before n → Contains after n
 -- each of the nodes was there before, or the formula is true of it
 abbrev pub AddsTrue : State → Formula → List ℕ → List ℕ → Type 0
 AddsTrue s f before after = (n : ℕ) → Contains after n → Contains before n ⊎ (sat s f n ≡ true)
+
+-- No node is lost, and of each node that came the formula is true.
+pub record Collects (s : State) (f : Formula) (before after : List ℕ) : Type 0 where
+  pub keeps : Keeps before after
+  pub only : AddsTrue s f before after
 
 -- each node of which the formula is true is there
 abbrev pub HasAllTrue : State → Formula → List ℕ → Type 0

@@ -4,24 +4,23 @@
 //! under `||` alone, as most are, has nothing to choose from. Neither have comparisons of one name
 //! under `&&`, as the two ends of a range: their index is asked for once, and no cover is made. Of
 //! any other side under `&&` the choice is made as for a query of its own.
-ghost use Rattle.std.specs.Prelude.{◌≡◌, ◌≤◌, true, OnOk, IfOk, IfErr, IfSome};
-ghost use Rattle.std.specs.Option.{option_copied};
+ghost use Rattle.std.specs.Prelude.{◌≡◌, ◌≤◌, true, OnOk, IfOk, IfErr};
 ghost use Rattle.std.specs.List.Sorted.{IsStrictlyIncreasing};
 ghost use Rattle.be_value.specs.Refusal.{Answers};
 ghost use Rattle.be_query.specs.Grammar.{comparisons};
 ghost use Rattle.be_query.specs.View.{formula};
 ghost use Rattle.be_volume.specs.Query.{covered, scan};
 ghost use Rattle.be_volume.specs.Volume.{State};
-ghost use Rattle.be_plan.specs.Walk.{AddsTrue, AreAllOn, HasAllTrue, IsNoAnswer, Keeps};
+ghost use Rattle.be_plan.specs.Walk.{AddsTrue, AreAllOn, Collects, HasAllTrue, IsNoAnswer};
 
 use crate::Source;
 use crate::choosing::choose_by_source;
 use crate::names::only_name;
 use crate::ranges::Range;
 use crate::running::walk_picks;
-use crate::sifting::{Index, walk_index};
+use crate::sifting::walk_index;
 use crate::sorting::put_in_order;
-use crate::walks::ROOM;
+use crate::walks::{Index, ROOM};
 use be_query::{Query, Tree};
 use be_value::{Name, Refusal};
 use std::alloc::Global;
@@ -40,8 +39,7 @@ fn collect_named<S: Source>(
     requires named { AreAllOn (formula tree.now) name.now }
     ensures stays { S.kept source.new ≡ S.kept source.old }
     ensures answers { S.answers_for source.new volume }
-    ensures keeps { Keeps found.old.items found.new.items }
-    ensures only { AddsTrue volume (formula tree.now) found.old.items found.new.items }
+    ensures collects { Collects volume (formula tree.now) found.old.items found.new.items }
     ensures has { OnOk result (HasAllTrue volume (formula tree.now) found.new.items) }
     ensures covered { OnOk result (covered volume (formula tree.now) ≡ true) }
     ensures refused { IfErr result (λ e. IsNoAnswer volume (formula tree.now) e) }
@@ -68,8 +66,7 @@ fn collect_chosen<S: Source>(
     requires few { comparisons (formula tree.now) ≤ 256 }
     ensures stays { S.kept source.new ≡ S.kept source.old }
     ensures answers { S.answers_for source.new volume }
-    ensures keeps { Keeps found.old.items found.new.items }
-    ensures only { AddsTrue volume (formula tree.now) found.old.items found.new.items }
+    ensures collects { Collects volume (formula tree.now) found.old.items found.new.items }
     ensures has { OnOk result (HasAllTrue volume (formula tree.now) found.new.items) }
     ensures covered { OnOk result (covered volume (formula tree.now) ≡ true) }
     ensures refused { IfErr result (λ e. IsNoAnswer volume (formula tree.now) e) }
@@ -93,8 +90,7 @@ fn collect_side<S: Source>(
     requires few { comparisons (formula tree.now) ≤ 256 }
     ensures stays { S.kept source.new ≡ S.kept source.old }
     ensures answers { S.answers_for source.new volume }
-    ensures keeps { Keeps found.old.items found.new.items }
-    ensures only { AddsTrue volume (formula tree.now) found.old.items found.new.items }
+    ensures collects { Collects volume (formula tree.now) found.old.items found.new.items }
     ensures has { OnOk result (HasAllTrue volume (formula tree.now) found.new.items) }
     ensures covered { OnOk result (covered volume (formula tree.now) ≡ true) }
     ensures refused { IfErr result (λ e. IsNoAnswer volume (formula tree.now) e) }
@@ -136,9 +132,10 @@ fn collect<S: Source>(
 /// come from comparisons that the source's own indices choose; `explain` of the cover that
 /// `choose_from` gives shows which. A query that rests on no index is refused by `NotCovered`. The
 /// function asks for the index of each comparison once, or once for all of one name under `&&`, and
-/// of others under `&&` a second time for each pick, and once more if the index of the other side
-/// is walked as well. A list with room for the nodes takes no
-/// memory. After an error the source is still that of the volume, and the list has any numbers.
+/// of others under `&&` a second time for each pick. If more than 64 nodes of a walk are left to be
+/// asked of one other name, it asks for the `estimate` of that index, and for the index once more
+/// unless that is too large. A list with room for the nodes takes no memory. After an error the
+/// source is still that of the volume, and the list has any numbers.
 pub fn answer_into<S: Source>(
     alloc: Global,
     query: &Query,

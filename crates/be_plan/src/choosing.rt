@@ -14,7 +14,7 @@ ghost use Rattle.be_volume.specs.Query.{covered, has_index};
 ghost use Rattle.be_volume.specs.Volume.{State};
 ghost use Rattle.be_plan.specs.Explain.{are_places};
 ghost use Rattle.be_plan.specs.Sources.{StillAnswers};
-ghost use Rattle.be_plan.specs.Cover.{chosen, choice, covers, cheaper, both_covers, score_of};
+ghost use Rattle.be_plan.specs.Cover.{chosen, choice, covers, cheaper, score_of};
 
 use crate::{Cover, Picks, Source};
 use be_query::{Cmp, Comparison, Literal, Query, Tree};

@@ -14,7 +14,7 @@
 //! The functions that narrow a range return whether that leaves no value of which the comparison,
 //! or the whole query, is false. Then the node of each key is an answer, and nothing is asked of
 //! it. A pattern is decided by the range if it only says how a text begins.
-ghost use Rattle.std.specs.Prelude.{◌≡◌, ◌<◌, ◌≤◌, ◌+◌, ◌^◌, ℕ, ℤ, ◌≤ℤ◌, true, false, List, []};
+ghost use Rattle.std.specs.Prelude.{◌≡◌, ◌<◌, ◌≤◌, ◌+◌, ℕ, ℤ, ◌≤ℤ◌, true, false, List, []};
 ghost use Rattle.std.specs.Prelude.{◌∷◌, ◌++◌, ◌&&◌};
 ghost use Rattle.std.specs.Prelude.{Some, None, IfSome, IfOk, IfErr, IsUtf8, length};
 ghost use Rattle.std.specs.Option.{option_copied, option_map};

@@ -1,12 +1,14 @@
-//! Nodes of one index of which other comparisons are asked.
+//! Walks that leave only other names to ask.
 //!
-//! A walk that has given the nodes of a range may leave a part of the query to ask of them, as does
-//! one side of an `&&`. Of a few nodes the source is asked, one by one. Of many, if the part is all
-//! on one name whose index is not much larger than they are many, the nodes of the part are
+//! If the range of a walk decides all that the query says of the index's name, as one side of an
+//! `&&` may, the source gives the nodes of its keys by one call, and the rest is asked of them, the
+//! least number first. Of a few nodes the source is asked, one by one. Of many, if the rest is all
+//! on one name whose index is not much larger than they are many, the nodes of the rest are
 //! collected too, by a walk over that index, and those that are in both lists are the answer. Such
-//! a walk passes several keys in the time of one question about a node.
-ghost use Rattle.std.specs.Prelude.{◌≡◌, ◌⊎◌, ◌<◌, ◌≤◌, ℕ, true, Some, OnOk, IfErr, IfSome};
-ghost use Rattle.std.specs.Prelude.{length, slice_index};
+//! a walk passes several keys in the time of one question about a node. Every other walk goes as
+//! `walks` says.
+ghost use Rattle.std.specs.Prelude.{◌≡◌, ◌⊎◌, ◌<◌, ◌≤◌, ℕ, true, Some, OnOk, IfErr, IfOk};
+ghost use Rattle.std.specs.Prelude.{IfSome, length, slice_index};
 ghost use Rattle.std.specs.Option.{option_copied, option_map};
 ghost use Rattle.std.specs.List.{Contains};
 ghost use Rattle.std.specs.List.Sorted.{IsStrictlyIncreasing};
@@ -15,19 +17,20 @@ ghost use Rattle.be_query.specs.View.{formula};
 ghost use Rattle.be_volume.specs.Query.{sat};
 ghost use Rattle.be_volume.specs.Reading.{index_kind};
 ghost use Rattle.be_volume.specs.Volume.{State};
-ghost use Rattle.be_plan.specs.Narrow.{LeavesRest, high_of};
-ghost use Rattle.be_plan.specs.Walk.{AddsTrue, AddsTrueOf, AreAllOn, HasAllTrue, HasTrueOf};
-ghost use Rattle.be_plan.specs.Walk.{HasWithin, IsNodeWithin, Keeps};
+ghost use Rattle.be_plan.specs.Narrow.{high_of};
+ghost use Rattle.be_plan.specs.Walk.{AddsTrueOf, AreAllOn, AreOnIndex, Collects};
+ghost use Rattle.be_plan.specs.Walk.{HasAllTrue, HasTrueOf, HasWithin, IsNodeWithin, Keeps};
+ghost use Rattle.be_plan.specs.Walk.{LeavesInIndex};
 
 use crate::evaluating::{asks_name, is_true};
 use crate::names::only_name;
 use crate::narrowing::narrow_alone;
 use crate::ranges::Range;
 use crate::sorting::put_in_order;
-use crate::walks::{ROOM, walk_alone};
+use crate::walks::{Index, ROOM, Walk, walk_alone};
 use crate::{KeyRange, Source};
 use be_query::Tree;
-use be_value::{Kind, Name, Refusal};
+use be_value::{Name, Refusal};
 use std::alloc::{AllocError, Global};
 
 /// So many nodes are few: of these the source is asked.
@@ -35,13 +38,6 @@ const FEW: usize = 64;
 
 /// A question about a node takes the time in which a walk passes so many keys, or more.
 const KEYS_A_NODE: u64 = 8;
-
-/// The index of a name, and its kind.
-#[derive(Clone, Copy)]
-pub(crate) struct Index<'a> {
-    pub(crate) name: &'a Name,
-    pub(crate) kind: Kind,
-}
 
 /// Adds the node, if the tree is true of it. The source is asked for each comparison.
 fn add_if_true<S: Source>(
@@ -169,50 +165,42 @@ pub(crate) fn walk_index<S: Source>(
 ) -> Result<(), Refusal>
     ghost volume: { State }
     requires answers { S.answers_for source.old volume }
-    requires named { AreAllOn (formula tree.now) index.name.now }
-    requires kind { index_kind volume index.name.now ≡ Some index.kind }
+    requires index { AreOnIndex volume (formula tree.now) index.name.now index.kind }
     ensures stays { S.kept source.new ≡ S.kept source.old }
     ensures answers { S.answers_for source.new volume }
     ensures memory { IfErr result (λ e. e ≡ OutOfMemory) }
-    ensures keeps { Keeps found.old.items found.new.items }
-    ensures only { AddsTrue volume (formula tree.now) found.old.items found.new.items }
+    ensures collects { Collects volume (formula tree.now) found.old.items found.new.items }
     ensures has { OnOk result (HasAllTrue volume (formula tree.now) found.new.items) }
 {
     range.open();
     let rest = narrow_alone(range, tree, index.kind);
-    walk_alone(
-        alloc, source, tree, index.name, index.kind, range, rest, found,
-    )
+    walk_alone(alloc, source, Walk { tree, index, range }, rest, found)
 }
 
-/// Adds those of the nodes of which a part is true whose comparisons are all on the name of this
-/// index: the nodes of the part are collected by a walk over the index.
-fn add_from_index<S: Source>(
+/// The nodes, in order, of which a part is true whose comparisons are all on the name of this
+/// index.
+fn nodes_of_index<S: Source>(
     alloc: Global,
     source: &mut S,
     tree: &Tree,
     index: Index<'_>,
-    nodes: &[u64],
-    found: &mut Vec<u64>,
-) -> Result<(), Refusal>
+) -> Result<Vec<u64>, Refusal>
     ghost volume: { State }
     requires answers { S.answers_for source.old volume }
-    requires named { AreAllOn (formula tree.now) index.name.now }
-    requires kind { index_kind volume index.name.now ≡ Some index.kind }
-    requires rising { IsStrictlyIncreasing nodes.now }
+    requires index { AreOnIndex volume (formula tree.now) index.name.now index.kind }
     ensures stays { S.kept source.new ≡ S.kept source.old }
     ensures answers { S.answers_for source.new volume }
     ensures memory { IfErr result (λ e. e ≡ OutOfMemory) }
-    ensures keeps { Keeps found.old.items found.new.items }
-    ensures only { AddsTrueOf volume (formula tree.now) nodes.now found.old.items found.new.items }
-    ensures has { OnOk result (HasTrueOf volume (formula tree.now) nodes.now found.new.items) }
+    ensures rising { IfOk result (λ nodes. IsStrictlyIncreasing nodes.items) }
+    ensures only { IfOk result (λ nodes. (n : ℕ) → Contains nodes.items n
+        → sat volume (formula tree.now) n ≡ true) }
+    ensures has { IfOk result (λ nodes. HasAllTrue volume (formula tree.now) nodes.items) }
 {
-    let mut others = Vec::with_capacity(alloc, ROOM)?;
+    let mut nodes = Vec::with_capacity(alloc, ROOM)?;
     let mut range = Range::whole();
-    walk_index(alloc, source, &mut range, tree, index, &mut others)?;
-    put_in_order(alloc, &mut others)?;
-    add_common(nodes, &others, found)?;
-    Ok(())
+    walk_index(alloc, source, &mut range, tree, index, &mut nodes)?;
+    put_in_order(alloc, &mut nodes)?;
+    Ok(nodes)
 }
 
 /// Adds those of the nodes, in order, of which the tree is true.
@@ -234,7 +222,11 @@ fn add_true<S: Source>(
     ensures has { OnOk result (HasTrueOf volume (formula tree.now) nodes.now found.new.items) }
 {
     match index_to_walk(source, tree, nodes.len()) {
-        Some(index) => add_from_index(alloc, source, tree, index, nodes, found),
+        Some(index) => {
+            let others = nodes_of_index(alloc, source, tree, index)?;
+            add_common(nodes, &others, found)?;
+            Ok(())
+        }
         None => ask_all(source, tree, nodes, found),
     }
 }
@@ -286,35 +278,33 @@ fn asked_apart<'t>(rest: Option<&'t Tree>, name: &Name) -> Option<&'t Tree>
     Some(rest)
 }
 
-/// Adds the nodes of the keys in the range of which the tree is true, if this is left to ask of
-/// them: nothing, if the range decides the tree. If no comparison on the index's name is left, only
-/// the nodes of the keys are needed.
+/// Adds the nodes of the keys of a walk of which its tree is true, if this is left to ask of them:
+/// nothing, if the range decides the tree. If no comparison on the index's name is left, only the
+/// nodes of the keys are needed.
 #[inline]
 pub(crate) fn walk<S: Source>(
     alloc: Global,
     source: &mut S,
-    tree: &Tree,
-    name: &Name,
-    kind: Kind,
-    range: &Range,
+    walk: Walk<'_>,
     rest: Option<&Tree>,
     found: &mut Vec<u64>,
 ) -> Result<(), Refusal>
     ghost volume: { State }
     requires answers { S.answers_for source.old volume }
-    requires kind { index_kind volume name.now ≡ Some kind }
-    requires leaves { LeavesRest (formula tree.now) name.now kind range.now.low.items
-        (high_of range.now) (option_map formula (option_copied rest)) }
+    requires leaves { LeavesInIndex volume (formula walk.tree.now) walk.index.name.now
+        walk.index.kind walk.range.now.low.items (high_of walk.range.now)
+        (option_map formula (option_copied rest)) }
     ensures stays { S.kept source.new ≡ S.kept source.old }
     ensures answers { S.answers_for source.new volume }
     ensures memory { IfErr result (λ e. e ≡ OutOfMemory) }
-    ensures keeps { Keeps found.old.items found.new.items }
-    ensures only { AddsTrue volume (formula tree.now) found.old.items found.new.items }
-    ensures has { OnOk result (HasWithin volume (formula tree.now) name.now range.now.low.items
-        (high_of range.now) found.new.items) }
+    ensures collects { Collects volume (formula walk.entry.tree.now) found.old.items
+        found.new.items }
+    ensures has { OnOk result (HasWithin volume (formula walk.entry.tree.now)
+        walk.entry.index.name.now walk.entry.range.now.low.items (high_of walk.entry.range.now)
+        found.new.items) }
 {
-    match asked_apart(rest, name) {
-        Some(apart) => ask_each(alloc, source, apart, name, range, found),
-        None => walk_alone(alloc, source, tree, name, kind, range, rest, found),
+    match asked_apart(rest, walk.index.name) {
+        Some(apart) => ask_each(alloc, source, apart, walk.index.name, walk.range, found),
+        None => walk_alone(alloc, source, walk, rest, found),
     }
 }

@@ -149,8 +149,9 @@ pub trait Source {
         value.kind().indexable() && self.has_key(name, key_of(&value, node).as_slice())
     }
 
-    /// About how many keys the index of that name has, 0 without an index. It decides only which
-    /// way a query goes, so any number is right.
+    /// About how many keys the index of that name has. It decides only which way a query goes, so
+    /// any number is right, as it is without an index. A source with no body of its own gives the
+    /// largest, and so that index isn't walked for what another walk leaves to ask.
     fn estimate(&mut self, _name: &Name) -> u64
         requires { (volume : State) × answers_for self.old volume }
         ensures stays { kept self.new ≡ kept self.old }

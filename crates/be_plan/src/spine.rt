@@ -8,7 +8,7 @@
 ghost use Rattle.std.specs.Prelude.{◌≡◌, ◌≤◌, ◌<◌, ◌+◌};
 ghost use Rattle.be_query.specs.Grammar.{Formula, comparisons};
 ghost use Rattle.be_query.specs.View.{formula};
-ghost use Rattle.be_plan.specs.Spine.{IsUnderOr, StandsIn};
+ghost use Rattle.be_plan.specs.Spine.{IsFrontOf, IsUnderOr, StandsIn};
 
 use crate::choosing::count;
 use be_query::Tree;
@@ -27,9 +27,7 @@ pub(crate) struct Front<'a> {
 /// The whole query, as the first front to look in.
 pub(crate) fn whole_front(tree: &Tree) -> Front<'_>
     requires { comparisons (formula tree.now) ≤ 256 }
-    ensures end { result.end ≡ comparisons (formula result.tree.now) }
-    ensures few { result.end ≤ 256 }
-    ensures under { IsUnderOr (formula tree.now) 0 (formula result.tree.now) }
+    ensures { IsFrontOf (formula tree.now) (formula result.tree.now) result.end }
 {
     Front {
         tree,
@@ -78,14 +76,10 @@ fn cut_after(tree: &Tree, end: usize, pick: usize) -> Front<'_>
 /// The front in whose last side the pick is. It is looked for in the front before, or in the whole
 /// if the pick is beyond that.
 pub(crate) fn front_for<'a>(whole: &'a Tree, before: &Front<'a>, pick: usize) -> Front<'a>
-    requires end { before.now.end ≡ comparisons (formula before.now.tree.now) }
-    requires few { before.now.end ≤ 256 }
+    requires front { IsFrontOf (formula whole.now) (formula before.now.tree.now) before.now.end }
     requires whole { comparisons (formula whole.now) ≤ 256 }
-    requires under { IsUnderOr (formula whole.now) 0 (formula before.now.tree.now) }
     requires within { pick < comparisons (formula whole.now) }
-    ensures under { IsUnderOr (formula whole.now) 0 (formula result.tree.now) }
-    ensures end { result.end ≡ comparisons (formula result.tree.now) }
-    ensures few { result.end ≤ 256 }
+    ensures front { IsFrontOf (formula whole.now) (formula result.tree.now) result.end }
     ensures stands { StandsIn (formula whole.now) pick result.from (formula result.side.now) }
     ensures side { result.from + comparisons (formula result.side.now) ≡ result.end }
 {

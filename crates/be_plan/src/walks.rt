@@ -1,12 +1,12 @@
 //! Walks over indices.
 //!
 //! A walk collects the nodes of the keys in a range of which the query is true. If the range
-//! decides the query, all of them are answers, and the source gives them by one call. If it decides
-//! all that the query says of the index's name, the source gives them too, and is asked the rest of
-//! each, the least number first. If one comparison with a text is left, the source is asked for the
-//! nodes of which it is true. Otherwise, and if the source doesn't test texts, the walk goes from
-//! key to key by `next_key`, from the range's low end to the first key above its high end, and asks
-//! the query of each node. It asks for one key more than it passes.
+//! decides the query, all of them are answers, and the source gives them by one call. If one
+//! comparison with a text is left to ask, the source is asked for the nodes of which it is true.
+//! Otherwise, and if the source doesn't test texts, the walk goes from key to key by `next_key`,
+//! from the range's low end to the first key above its high end, and asks the query of each node.
+//! It asks for one key more than it passes. A walk that leaves only other names to ask is in
+//! `sifting`.
 ghost use Rattle.std.specs.Prelude.{◌≡◌, ◌⊎◌, ◌<◌, ◌^◌, ℕ, true, Some, OnOk, IfErr, IfSome};
 ghost use Rattle.std.specs.Option.{option_copied, option_map};
 ghost use Rattle.std.specs.List.{Contains};
@@ -21,13 +21,13 @@ ghost use Rattle.be_volume.specs.Query.{sat};
 ghost use Rattle.be_volume.specs.Reading.{index_kind};
 ghost use Rattle.be_volume.specs.Sound.{IsSound};
 ghost use Rattle.be_volume.specs.Volume.{State};
-ghost use Rattle.be_plan.specs.Narrow.{LeavesRest, high_of};
+ghost use Rattle.be_plan.specs.Narrow.{high_of};
 ghost use Rattle.be_plan.specs.Texts.{IsKeyOf};
-ghost use Rattle.be_plan.specs.Walk.{AddsTrue, HasOnlyTrue, HasWithin, IsNodeWithin, Keeps};
+ghost use Rattle.be_plan.specs.Walk.{Collects, HasOnlyTrue, HasWithin, IsKeyOfKind, IsNodeWithin};
+ghost use Rattle.be_plan.specs.Walk.{Keeps, LeavesInIndex};
 
-use crate::evaluating::{asks_name, is_true, satisfies};
+use crate::evaluating::satisfies;
 use crate::ranges::Range;
-use crate::sorting::put_in_order;
 use crate::texts::{TextTest, text_of};
 use crate::{KeyRange, Source};
 use be_query::{Comparison, Tree};
@@ -38,63 +38,70 @@ use std::alloc::Global;
 /// 1,024 bytes are the most that an allocator gives as fast as a few.
 pub(crate) const ROOM: usize = 128;
 
-/// Adds the node of a key of the index of that name and kind, if the tree is true of it.
+/// The index of a name, and its kind.
+#[derive(Clone, Copy)]
+pub(crate) struct Index<'a> {
+    pub(crate) name: &'a Name,
+    pub(crate) kind: Kind,
+}
+
+/// The keys of an index from one end of a range to the other, and the query that is asked of their
+/// nodes.
+#[derive(Clone, Copy)]
+pub(crate) struct Walk<'a> {
+    pub(crate) tree: &'a Tree,
+    pub(crate) index: Index<'a>,
+    pub(crate) range: &'a Range,
+}
+
+/// Adds the node of a key of the index, if the tree is true of it.
 fn visit<S: Source>(
     source: &mut S,
     tree: &Tree,
-    name: &Name,
-    kind: Kind,
+    index: Index<'_>,
     key: &[u8],
     found: &mut Vec<u64>,
 ) -> Result<(), Refusal>
     ghost volume: { State }
     requires answers { S.answers_for source.old volume }
-    requires kind { index_kind volume name.now ≡ Some kind }
-    requires is_key { IsKey volume name.now key.now }
+    requires is_key { IsKeyOfKind volume index.name.now index.kind key.now }
     ensures stays { S.kept source.new ≡ S.kept source.old }
     ensures answers { S.answers_for source.new volume }
     ensures memory { IfErr result (λ e. e ≡ OutOfMemory) }
-    ensures keeps { Keeps found.old.items found.new.items }
-    ensures only { AddsTrue volume (formula tree.now) found.old.items found.new.items }
+    ensures collects { Collects volume (formula tree.now) found.old.items found.new.items }
     ensures has { OnOk result ((v : AnyValue) (n : ℕ) → n < 2 ^ 64 → key.now ≡ key_bytes v n →
         sat volume (formula tree.now) n ≡ true → Contains found.new.items n) }
 {
-    let Some((value, node)) = &read_key(kind, key) else {
+    let Some((value, node)) = &read_key(index.kind, key) else {
         unreachable!()
     };
-    if satisfies(source, tree, name, value, *node) {
+    if satisfies(source, tree, index.name, value, *node) {
         found.push(*node)?;
     }
     Ok(())
 }
 
-/// Adds the nodes of the keys in the range of which the tree is true, from key to key.
-fn visit_all<S: Source>(
-    source: &mut S,
-    tree: &Tree,
-    name: &Name,
-    kind: Kind,
-    range: &Range,
-    found: &mut Vec<u64>,
-) -> Result<(), Refusal>
+/// Adds the nodes of the keys of a walk of which its tree is true, from key to key.
+fn visit_all<S: Source>(source: &mut S, walk: Walk<'_>, found: &mut Vec<u64>) -> Result<(), Refusal>
     ghost volume: { State }
     requires answers { S.answers_for source.old volume }
-    requires kind { index_kind volume name.now ≡ Some kind }
+    requires kind { index_kind volume walk.index.name.now ≡ Some walk.index.kind }
     ensures stays { S.kept source.new ≡ S.kept source.old }
     ensures answers { S.answers_for source.new volume }
     ensures memory { IfErr result (λ e. e ≡ OutOfMemory) }
-    ensures keeps { Keeps found.old.items found.new.items }
-    ensures only { AddsTrue volume (formula tree.now) found.old.items found.new.items }
-    ensures has { OnOk result (HasWithin volume (formula tree.now) name.now range.now.low.items
-        (high_of range.now) found.new.items) }
+    ensures collects { Collects volume (formula walk.entry.tree.now) found.old.items
+        found.new.items }
+    ensures has { OnOk result (HasWithin volume (formula walk.entry.tree.now)
+        walk.entry.index.name.now walk.entry.range.now.low.items (high_of walk.entry.range.now)
+        found.new.items) }
 {
-    let mut next = source.next_key(name, range.low(), false);
+    let mut next = source.next_key(walk.index.name, walk.range.low(), false);
     'keys: while let Some(key) = &next {
-        if range.ends_before(key.as_slice()) {
+        if walk.range.ends_before(key.as_slice()) {
             return Ok(());
         }
-        visit(source, tree, name, kind, key.as_slice(), found)?;
-        next = source.next_key(name, key.as_slice(), true);
+        visit(source, walk.tree, walk.index, key.as_slice(), found)?;
+        next = source.next_key(walk.index.name, key.as_slice(), true);
     }
     Ok(())
 }
@@ -209,75 +216,71 @@ fn asked_of_texts<'t>(rest: &'t Tree, name: &Name, kind: Kind) -> Option<&'t Com
     }
 }
 
-/// Adds the nodes of the keys in the range of which the tree is true, if this part is left to ask
-/// of them, from what the keys hold. It is a function of its own, so that a walk whose range
-/// decides the tree needs no room for keys.
+/// Adds the nodes of the keys of a walk of which its tree is true, if this part is left to ask of
+/// them, from what the keys hold. It is a function of its own, so that a walk whose range decides
+/// the tree needs no room for keys.
 #[inline(never)]
 fn pass_keys<S: Source>(
     alloc: Global,
     source: &mut S,
-    tree: &Tree,
-    name: &Name,
-    kind: Kind,
-    range: &Range,
+    walk: Walk<'_>,
     rest: &Tree,
     found: &mut Vec<u64>,
 ) -> Result<(), Refusal>
     ghost volume: { State }
     requires answers { S.answers_for source.old volume }
-    requires kind { index_kind volume name.now ≡ Some kind }
-    requires leaves { LeavesRest (formula tree.now) name.now kind range.now.low.items
-        (high_of range.now) (Some (formula rest.now)) }
+    requires leaves { LeavesInIndex volume (formula walk.tree.now) walk.index.name.now
+        walk.index.kind walk.range.now.low.items (high_of walk.range.now)
+        (Some (formula rest.now)) }
     ensures stays { S.kept source.new ≡ S.kept source.old }
     ensures answers { S.answers_for source.new volume }
     ensures memory { IfErr result (λ e. e ≡ OutOfMemory) }
-    ensures keeps { Keeps found.old.items found.new.items }
-    ensures only { AddsTrue volume (formula tree.now) found.old.items found.new.items }
-    ensures has { OnOk result (HasWithin volume (formula tree.now) name.now range.now.low.items
-        (high_of range.now) found.new.items) }
+    ensures collects { Collects volume (formula walk.entry.tree.now) found.old.items
+        found.new.items }
+    ensures has { OnOk result (HasWithin volume (formula walk.entry.tree.now)
+        walk.entry.index.name.now walk.entry.range.now.low.items (high_of walk.entry.range.now)
+        found.new.items) }
 {
-    if let Some(comparison) = asked_of_texts(rest, name, kind) {
+    if let Some(comparison) = asked_of_texts(rest, walk.index.name, walk.index.kind) {
         let test = TextTest::new(alloc, comparison)?;
-        return test_texts(source, &test, name, range, found);
+        return test_texts(source, &test, walk.index.name, walk.range, found);
     }
-    visit_all(source, tree, name, kind, range, found)
+    visit_all(source, walk, found)
 }
 
-/// Adds the nodes of the keys in the range of which the tree is true, if this is left to ask of
-/// them: nothing, if the range decides the tree. What is left is asked from key to key.
+/// Adds the nodes of the keys of a walk of which its tree is true, if this is left to ask of them:
+/// nothing, if the range decides the tree. What is left is asked from key to key.
 #[inline]
 pub(crate) fn walk_alone<S: Source>(
     alloc: Global,
     source: &mut S,
-    tree: &Tree,
-    name: &Name,
-    kind: Kind,
-    range: &Range,
+    walk: Walk<'_>,
     rest: Option<&Tree>,
     found: &mut Vec<u64>,
 ) -> Result<(), Refusal>
     ghost volume: { State }
     requires answers { S.answers_for source.old volume }
-    requires kind { index_kind volume name.now ≡ Some kind }
-    requires leaves { LeavesRest (formula tree.now) name.now kind range.now.low.items
-        (high_of range.now) (option_map formula (option_copied rest)) }
+    requires leaves { LeavesInIndex volume (formula walk.tree.now) walk.index.name.now
+        walk.index.kind walk.range.now.low.items (high_of walk.range.now)
+        (option_map formula (option_copied rest)) }
     ensures stays { S.kept source.new ≡ S.kept source.old }
     ensures answers { S.answers_for source.new volume }
     ensures memory { IfErr result (λ e. e ≡ OutOfMemory) }
-    ensures keeps { Keeps found.old.items found.new.items }
-    ensures only { AddsTrue volume (formula tree.now) found.old.items found.new.items }
-    ensures has { OnOk result (HasWithin volume (formula tree.now) name.now range.now.low.items
-        (high_of range.now) found.new.items) }
+    ensures collects { Collects volume (formula walk.entry.tree.now) found.old.items
+        found.new.items }
+    ensures has { OnOk result (HasWithin volume (formula walk.entry.tree.now)
+        walk.entry.index.name.now walk.entry.range.now.low.items (high_of walk.entry.range.now)
+        found.new.items) }
 {
     match rest {
         None => {
             let keys = KeyRange {
-                name,
-                low: range.low(),
-                high: range.high(),
+                name: walk.index.name,
+                low: walk.range.low(),
+                high: walk.range.high(),
             };
             source.nodes_within(keys, found)
         }
-        Some(rest) => pass_keys(alloc, source, tree, name, kind, range, rest, found),
+        Some(rest) => pass_keys(alloc, source, walk, rest, found),
     }
 }

@@ -1,8 +1,7 @@
 -- An operation that makes or removes no index changes what a query sees at one node alone.
-use Rattle.std.proofs.Common.{◌≡◌, ◌<◌, ◌≤◌, ◌+◌, ◌-◌, ◌&&◌, ◌||◌, ℕ, zero, suc, Bool, true, false, if◌then◌else◌, List, [], ◌∷◌, ◌++◌, All, fold, get_or, length, map, refl, sym, ap, subst, take, ◌∙◌, inl, inr, arith, Some, None, Ok, Err, IsOk, is_some, is_ok, option_map, append_assoc}
+use Rattle.std.proofs.Common.{◌≡◌, ◌<◌, ◌≤◌, ◌+◌, ◌-◌, ◌&&◌, ◌||◌, ℕ, zero, suc, Bool, true, false, if◌then◌else◌, List, [], ◌∷◌, ◌++◌, fold, get_or, length, map, refl, sym, ap, subst, take, ◌∙◌, inl, inr, arith, Some, None, Ok, Err, is_some, is_ok, option_map, append_assoc}
 use Rattle.std.proofs.lemmas.Grind.{fold-append}
 use Rattle.std.proofs.lemmas.List.{append-nil, append_cancel_left, get_or_default, take_more}
-use Rattle.std.proofs.lemmas.List.Elements.{All-head, All-tail}
 use Rattle.std.specs.Cmp.{nat_cmp_total}
 use Rattle.std.specs.FinMap as fin
 use Rattle.std.specs.FinMap.{get-entries, get-from_entries, nat_cmp-IsAntisymmetric}
@@ -26,14 +25,14 @@ use Rattle.be_volume.specs.Indices.{Indices, paired, paired_at, same_kind, unpai
 use Rattle.be_volume.specs.Maps.{Attributes, attributes_of, name_cmp}
 use Rattle.be_volume.specs.Query.{covered, has_index, holds, sat, seen_in, sees}
 use Rattle.be_volume.specs.Reading.{attribute}
-use Rattle.be_volume.specs.Volume.{State, advance, step, steps}
+use Rattle.be_volume.specs.Volume.{State, advance, step}
 use Rattle.be_volume.specs.declared.maps.Index.{Index}
 use Rattle.be_volume.specs.declared.ops.Done.{Done}
-use Rattle.be_volume.specs.declared.ops.Done.TheVariants.{Node, Unit as Nothing}
+use Rattle.be_volume.specs.declared.ops.Done.TheVariants.{Node}
 use Rattle.be_volume.specs.declared.ops.Op.{Op}
 use Rattle.be_volume.specs.declared.ops.Op.TheVariants.{New, Drop, Set, Unset, MkIndex, RmIndex}
 use Rattle.be_store.specs.Live.{IsAnswer, IsAnswerBut, is_among}
-use Rattle.be_store.specs.Named.{AreNamedAmong, IsNamedAmong, NamesAmong, node_made, node_named}
+use Rattle.be_store.specs.Named.{AreNamedAmong, IsNamedAmong, NamesAmong, node_made}
 
 -- two volumes have indices of the same names, and a comparison sees the same of each node but these
 pub record AreSame (nodes : List ℕ) (s t : State) : Type 0 where

@@ -39,8 +39,8 @@ pub record IsShort (c : Knowledge) (ops : List Op) (least : ℕ) : Type 0 where
   pub current : AreFewFor (volume_seen c) (current_pages c)
   pub few : AreFewToHold (volume_seen c) ops (held_pages c)
 
--- While the pass had the lock, no pass had announced a version before the current one: each was
--- unpinned, or pinned to the current version.
+-- While the pass had the lock, no pass had announced a version before the current one: none was
+-- pinned to an earlier version, or about to pin one.
 abbrev pub NoneIsEarlier : Knowledge → Type 0
 NoneIsEarlier c = (j n : ℕ) → j < c.limits.passes → HadAnnounced c j n → length c.seen ≤ n
 

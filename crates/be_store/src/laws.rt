@@ -112,9 +112,9 @@ pub fn alone_pins_seen()
 {}
 
 /// A pool that is large enough for a write never refuses it by Full while no pass is pinned to an
-/// earlier version, whatever the store has done before. Half of such a pool is for the current
-/// version, and half for a write that changes all of it. How much a volume has in it between its
-/// operations, `be_volume::laws::stays_within` bounds.
+/// earlier version or about to pin one, whatever the store has done before. Half of such a pool is
+/// for the current version, and half for a write that changes all of it. How much a volume has in
+/// it between its operations, `be_volume::laws::stays_within` bounds.
 pub fn large_enough()
     ensures { (c : Knowledge) (ops : List Op) (least : ℕ) → NoneIsEarlier c → HasLargePool c ops
         → ¬ (IsRefusedAt c ops (Full least)) }

@@ -20,9 +20,9 @@
 //! of a write's outcomes are items of the crates below, and this crate exports them, too.
 //!
 //! # How it uses the crates below
-//! The volume is in pages: be_paged reads and writes it over any reader and any room of pages. The
-//! open write and the pinned reader of be_table are such. Nothing here looks at a page or at a
-//! word.
+//! The volume is in pages: be_paged_reading reads it by any reader of pages, and be_paged writes it
+//! in any room of pages. The pinned reader and the open write of be_table are such. Nothing here
+//! looks at a page or at a word.
 #![tactic(auto)]
 
 mod answers;

@@ -110,9 +110,9 @@ impl Store {
     ///
     /// It costs one compare-exchange to begin, new pages on the way to each change, one store to
     /// publish and one to unlock. Each word that it reads is a load, and each that it changes a
-    /// store. If no page is free, or 32 were retired since the last scan, it reads each reader
-    /// slot, and works on each page that this frees. It takes memory for its entry alone. Busy
-    /// costs the compare-exchange.
+    /// store. If no page is free, or a page was retired since the last scan (32, if that had to
+    /// leave pages to readers), it reads each reader slot, and works on each page that this frees.
+    /// It takes memory for its entry alone. Busy costs the compare-exchange.
     ///
     /// The list is filled in place, because one that is returned by value costs its whole capacity
     /// at each move.

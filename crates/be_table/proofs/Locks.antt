@@ -6,7 +6,7 @@ use mathlib.Core.Logic.{dite}
 use native.Mathlib.Decide.{ℕ_discrete}
 use prog.Atomic.{either}
 use lib.ListN.{get_elem?}
-use Rattle.atomic_table.specs.Table.{Act, keeps, takes, gives, step, stepped, carried_after, Valid, Allows}
+use Rattle.atomic_table.specs.Table.{keeps, takes, gives, step, carried_after, Allows}
 use Rattle.be_core.specs.Machine.{has, World, Holder, MayLock, after_lock, after_unlock}
 use Rattle.be_core.proofs.Writers.{after_lock-sound, after_unlock-sound}
 use Rattle.be_table.specs.declared.ledger.Ledger.{Ledger}

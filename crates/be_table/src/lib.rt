@@ -21,9 +21,9 @@
 //!
 //! # What a version says
 //! The pages of version n, with the words that they had when it was published, encode the volume
-//! after the first n entries of the journal. They are exactly the pages that be_paged reaches from
-//! the version page (`specs/Versions.antt`). So `publish` asks for both, a pinned pass reads that
-//! volume, and a write begins with that of the whole journal.
+//! after the first n entries of the journal. They are exactly the pages that be_paged_reading
+//! reaches from the version page (`specs/Versions.antt`). So `publish` asks for both, a pinned pass
+//! reads that volume, and a write begins with that of the whole journal.
 //!
 //! # What is proved
 //! Between any two steps one rule holds (`specs/Rule.antt`), in four parts: the words and the slot

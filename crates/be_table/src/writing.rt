@@ -263,9 +263,9 @@ impl<'a> Writing<'a> {
         Some(page)
     }
 
-    /// Takes a free page for a copy of a page: the one that this page was copied from, if it is
-    /// free. While readers keep pages, what a write gives up isn't free at the next one, so no page
-    /// is spared for a copy, and the page is taken that was freed last.
+    /// Takes a free page for a copy of a page: the one that this page was copied from, if that is
+    /// free and spared. While readers keep pages, what a write gives up isn't free at the next one,
+    /// so then it takes the page that `take_free` does.
     fn take_free_like(&mut self, page: u64) -> Option<u64>
         requires open { self.old.knows.published ≡ false }
         ensures some { IfSome result (λ page. (page < length self.old.knows.places)
@@ -308,8 +308,8 @@ impl<'a> Writing<'a> {
     }
 
     /// Takes a free page for a copy of a page: the one that this page was copied from, if that is
-    /// free, since it has most of the words already. Otherwise it takes the page that `take` does,
-    /// at the same cost.
+    /// free and spared, since it has most of the words already, and if the last whole scan left no
+    /// page to readers. Otherwise it takes the page that `take` does, at the same cost.
     pub fn take_like(&mut self, page: u64) -> Result<u64, Refusal>
         requires open { self.old.knows.published ≡ false }
         ensures ok { IfOk result (λ page. TakesPage self.old self.new page) }

@@ -1,4 +1,4 @@
-//! Items read from a page and written to it.
+//! Items read from a page.
 ghost use Rattle.std.specs.Prelude.{◌≡◌, [], ◌+◌, ◌-◌, ◌*◌, ◌/◌, ◌%◌, ◌<◌, ◌≤◌, ◌++◌};
 ghost use Rattle.std.specs.Prelude.{IsTrue, length, drop, map, slice_index};
 ghost use Rattle.std.specs.List.{range_with_len};

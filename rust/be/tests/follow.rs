@@ -1,11 +1,13 @@
 //! `import --follow`: what it makes of changes.
 
 use crate::common::files::Folder;
+use crate::common::refuser::Refuser;
 use crate::common::{Said, Server};
 use std::fs;
-use std::io::{BufRead, BufReader};
+use std::io::{BufRead, BufReader, Read};
 use std::os::unix::fs::PermissionsExt;
-use std::process::{Child, Command, Stdio};
+use std::path::{Path, PathBuf};
+use std::process::{Child, ChildStdout, Command, Stdio};
 use std::thread;
 use std::time::{Duration, Instant};
 
@@ -15,19 +17,33 @@ const WITHIN: Duration = Duration::from_secs(20);
 /// An import that follows its folder.
 struct Follower {
     child: Child,
+    out: BufReader<ChildStdout>,
 }
 
 impl Follower {
     /// Begins, and returns once the folder was read.
     fn start(server: &Server, folder: &Folder) -> Self {
-        let mut command = server.command(&["import", "--follow", "--json", &folder.all()]);
+        Self::run(server.command(&["import", "--follow", "--json", &folder.all()]))
+    }
+
+    /// Runs this import.
+    fn run(mut command: Command) -> Self {
         let mut child = command.stdout(Stdio::piped()).stderr(Stdio::piped()).spawn().unwrap();
+        let mut out = BufReader::new(child.stdout.take().unwrap());
         let mut line = String::new();
-        BufReader::new(child.stdout.take().unwrap())
-            .read_line(&mut line)
-            .unwrap();
-        assert!(line.starts_with("{\"files\":"), "{line}");
-        Self { child }
+        while !line.starts_with("{\"files\":") {
+            line.clear();
+            assert_ne!(out.read_line(&mut line).unwrap(), 0, "the import has ended");
+        }
+        Self { child, out }
+    }
+
+    /// Ends the import, and returns what it has printed since the folder was read.
+    fn said(mut self) -> String {
+        self.child.kill().unwrap();
+        let mut said = String::new();
+        self.out.read_to_string(&mut said).unwrap();
+        said
     }
 
     fn signal(&self, signal: &str) {
@@ -46,7 +62,7 @@ impl Follower {
             thread::sleep(Duration::from_millis(10));
         }
         let mut error = String::new();
-        std::io::Read::read_to_string(&mut self.child.stderr.take().unwrap(), &mut error).unwrap();
+        self.child.stderr.take().unwrap().read_to_string(&mut error).unwrap();
         let status = self.child.wait().unwrap().code().unwrap_or(-1);
         Said {
             status,
@@ -229,4 +245,94 @@ fn a_follower_ends_if_its_folder_or_server_is_gone() {
     let said = follower.end();
     assert_eq!(said.status, 1);
     assert!(said.error.contains("the server closed the connection"), "{said:?}");
+}
+
+#[test]
+fn what_is_refused_for_a_moment_is_written_later() {
+    let server = server!(Server::start());
+    let refuser = Refuser::start(&server);
+    let folder = Folder::new();
+    folder.file("changed", "x");
+    folder.file("removed", "");
+    let mut command = server.command(&["import", "--follow", "--json", "--verbose", &folder.all()]);
+    command.env("BESTORE_SOCKET", refuser.socket());
+    let follower = Follower::run(command);
+    refuser.refuse("[");
+    folder.file("changed", "more of it");
+    folder.file("new", "");
+    fs::remove_file(folder.path("removed")).unwrap();
+    soon("refusals", || {
+        let operations = [r#"["set","#, r#"["new"]"#, r#"["remove","#];
+        operations.iter().all(|operation| refuser.has_refused(operation))
+    });
+    refuser.accept();
+    soon("what was refused", || {
+        same(&server, &folder) && server.paths("size==10").len() == 1
+    });
+    let said = follower.said();
+    for (fate, name) in [("changed", "changed"), ("new", "new"), ("removed", "removed")] {
+        let line = format!("{fate} {}", folder.word(name));
+        assert_eq!(said.lines().filter(|said| **said == line).count(), 1, "{line}: {said}");
+    }
+}
+
+#[test]
+fn a_node_that_is_not_removed_goes_later_though_its_file_is_there_again() {
+    let server = server!(Server::start());
+    let refuser = Refuser::start(&server);
+    let folder = Folder::new();
+    let file = folder.file("x", "");
+    let mut command = server.command(&["import", "--follow", "--json", &folder.all()]);
+    command.env("BESTORE_SOCKET", refuser.socket());
+    let _follower = Follower::run(command);
+    let count = |query: &str| server.done(&["query", "--count", query]);
+    refuser.refuse(r#"["remove","#);
+    fs::remove_file(&file).unwrap();
+    soon("a refusal", || refuser.has_refused(r#"["remove","#));
+    folder.file("x", "another");
+    soon("another file", || count("size==7") == "1\n");
+    refuser.accept();
+    soon("the first one's end", || count("name==x") == "1\n");
+    assert_eq!(server.paths("size==7"), [file].into());
+    assert!(same(&server, &folder));
+}
+
+#[test]
+fn a_file_system_that_is_mounted_later_is_not_read() {
+    let server = server!(Server::start());
+    let folder = Folder::new();
+    let follower = Follower::run(server.command(&["import", "--follow", "-x", "--json", &folder.all()]));
+    // The folder is made and mounted before it can be read.
+    follower.signal("-STOP");
+    let disk = folder.folder("disk");
+    let _mount = match Mount::over(&disk) {
+        Some(mount) => mount,
+        None => return println!("be, a file system that is mounted later: skipped, this user can mount nothing"),
+    };
+    folder.folder("disk/inner");
+    folder.file("disk/file", "");
+    follower.signal("-CONT");
+    soon("the folder", || server.paths("name==disk").len() == 1);
+    folder.file("later", "");
+    soon("a later file", || server.paths("name==later").len() == 1);
+    assert_eq!(server.paths("name==inner || name==file"), Default::default());
+}
+
+/// A file system in memory over a folder.
+struct Mount(PathBuf);
+
+impl Mount {
+    /// Mounts it, if this user may do so.
+    fn over(folder: &Path) -> Option<Self> {
+        let mut command = Command::new("mount");
+        command.args(["-t", "tmpfs", "tmpfs"]).arg(folder).stderr(Stdio::null());
+        let is_mounted = command.status().map_or(false, |status| status.success());
+        is_mounted.then(|| Self(folder.into()))
+    }
+}
+
+impl Drop for Mount {
+    fn drop(&mut self) {
+        let _ = Command::new("umount").arg("-l").arg(&self.0).status();
+    }
 }

@@ -1,6 +1,7 @@
 //! `import`: what it makes of files, and what it keeps.
 
 use crate::common::files::{counts, name_of_bytes, Folder};
+use crate::common::refuser::Refuser;
 use crate::common::{Said, Server};
 use std::collections::BTreeSet;
 use std::fs::{self, File};
@@ -439,6 +440,39 @@ fn a_file_of_as_many_attributes_as_a_node_holds_is_imported() {
     let said = server.be(&["import", "--json", &folder.all()]);
     assert_eq!((said.status, counts(&said.out)), (0, [0, 1, 0, 0]), "{said:?}");
     assert_eq!(count(), 0);
+}
+
+#[test]
+fn a_file_of_which_a_part_was_refused_is_written_by_the_next_import() {
+    let server = server!(Server::start());
+    let refuser = Refuser::start(&server);
+    let folder = Folder::new();
+    let file = folder.file("x", "");
+    // More operations than a batch has.
+    let names = |letter: char| (0..35).map(move |number| format!("user.{letter}{number}"));
+    for name in names('a') {
+        if let Err(error) = xattr::set(&file, name, b"1") {
+            println!("be, a file that is refused: skipped, {error}");
+            return;
+        }
+    }
+    assert_eq!(server.import(&folder), [2, 0, 0, 0]);
+    for (old, new) in names('a').zip(names('b')) {
+        xattr::remove(&file, old).unwrap();
+        xattr::set(&file, new, b"2").unwrap();
+    }
+    refuser.refuse(r#"["unset","#);
+    let mut command = server.command(&["import", "--json", &folder.all()]);
+    let said: Said = command.env("BESTORE_SOCKET", refuser.socket()).output().unwrap().into();
+    assert_eq!((said.status, counts(&said.out)), (1, [0, 0, 0, 0]), "{said:?}");
+    assert!(said.error.contains("x: no page is free"), "{said:?}");
+    assert_eq!(server.import(&folder), [0, 1, 0, 0]);
+    let listed = server.done(&["listattr", &folder.word("x")]);
+    assert_eq!(
+        (listed.matches("\"a").count(), listed.matches("\"b").count()),
+        (0, 35),
+        "{listed}"
+    );
 }
 
 #[test]

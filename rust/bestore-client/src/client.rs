@@ -254,7 +254,8 @@ impl Client {
     }
 
     /// Waits up to this time until the journal of each volume has at least so many entries: one number for a server with one volume.
-    /// Later reads of the current snapshot have them. Otherwise the error is `NotReached`.
+    /// Later reads of the current snapshot have them. Otherwise, and once a pinned snapshot has to be taken back, the error is
+    /// `NotReached`.
     ///
     /// # Errors
     /// As `call`.

@@ -187,7 +187,12 @@ impl<'a> Desk<'a> {
             Command::Status(_) => self.status(id, view),
             Command::Journal(journal) => page::journal(view, &journal).map(|page| self.reply(id, &page)),
             Command::State(from) => state(view, &from).map(|page| self.reply(id, &page)),
-            Command::Reach(reach) => reach::reach(view, &reach).map(|reached| self.reply(id, &reached)),
+            Command::Reach(reach) => {
+                // Earlier replies don't wait for a commit.
+                self.send()?;
+                let reached = reach::reach(view, &self.shared.pressure, &reach);
+                reached.map(|reached| self.reply(id, &reached))
+            }
             Command::Flush(_) => self.shared.kept.flush().map(|()| self.reply(id, &wire::Nothing {})),
             Command::Log(wanted) => {
                 // Earlier replies don't wait for an entry.

@@ -48,7 +48,10 @@ impl<'a> Connection<'a> {
                 true => self.serve(&mut View::Expired(&pass))?,
             };
             let turn = match turn {
-                Turn::Pin { id } => self.keep(id, &mut pass)?,
+                Turn::Pin { id } => match self.keep(id, &mut pass)? {
+                    Some(turn) => turn,
+                    None => continue,
+                },
                 turn => turn,
             };
             match turn {
@@ -60,20 +63,21 @@ impl<'a> Connection<'a> {
         }
     }
 
-    /// Keeps a snapshot, and answers requests until the client gives it back or it has to.
-    fn keep(&mut self, id: u64, pass: &mut ShelfPass) -> io::Result<Turn> {
-        let snapshot = match pass.pin() {
-            Ok(snapshot) => snapshot,
-            Err(error) => {
-                self.desk.refuse(Some(id), error.into());
-                return Ok(Turn::Close);
+    /// Keeps a snapshot, and answers requests until the client gives it back or it has to. `None`: none is kept, and the client
+    /// knows why.
+    fn keep(&mut self, id: u64, pass: &mut ShelfPass) -> io::Result<Option<Turn>> {
+        let pinned = pass.pin().map_err(Failure::from);
+        let pinned = pinned.and_then(|snapshot| Ok((volumes::next(&snapshot)?, snapshot)));
+        match pinned {
+            Ok((next, snapshot)) => {
+                self.desk.reply(id, &next);
+                self.serve(&mut View::kept(&snapshot)).map(Some)
             }
-        };
-        match volumes::next(&snapshot) {
-            Ok(next) => self.desk.reply(id, &next),
-            Err(failure) => self.desk.refuse(Some(id), failure),
+            Err(failure) => {
+                self.desk.refuse(Some(id), failure);
+                Ok(None)
+            }
         }
-        self.serve(&mut View::kept(&snapshot))
     }
 
     /// Answers requests until reads have to see another state.

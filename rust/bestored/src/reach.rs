@@ -2,6 +2,7 @@
 
 use crate::answer::View;
 use crate::failure::Failure;
+use crate::pressure::Pressure;
 use bestore_client::wire::{self, Numbers};
 use std::thread;
 use std::time::{Duration, Instant};
@@ -13,11 +14,13 @@ const MOST: Duration = Duration::from_secs(60);
 /// How often the journals are looked at.
 const LOOK: Duration = Duration::from_millis(2);
 
-/// Waits until each volume has the entry with its number. Later reads of the current snapshot have them.
-pub fn reach(view: &View<'_, '_>, reach: &wire::Reach) -> Result<wire::Commit, Failure> {
+/// Waits until each volume has the entry with its number. Later reads of the current snapshot have them. If a snapshot is kept, the
+/// wait ends once that has to be given back.
+pub fn reach(view: &View<'_, '_>, pressure: &Pressure, reach: &wire::Reach) -> Result<wire::Commit, Failure> {
     let wanted = numbers(&reach.commit, view.volumes())?;
     let within = reach.within.map_or(WITHIN, Duration::from_millis).min(MOST);
     let until = Instant::now() + within;
+    let is_over = || Instant::now() >= until || view.since().map_or(false, |since| pressure.is_over(since));
     loop {
         let found: Vec<u64> = view.status()?.iter().map(|status| status.entries).collect();
         if wanted.iter().zip(&found).all(|(wanted, found)| wanted <= found) {
@@ -26,7 +29,7 @@ pub fn reach(view: &View<'_, '_>, reach: &wire::Reach) -> Result<wire::Commit, F
                 commits: wire::several(&found),
             });
         }
-        if Instant::now() >= until {
+        if is_over() {
             return Err(not_reached(&wanted, &found));
         }
         thread::sleep(LOOK);

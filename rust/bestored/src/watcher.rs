@@ -290,7 +290,7 @@ fn round(clients: &[Arc<Watches>], pass: &mut ShelfPass, kept: &Kept) -> bool {
         }
     };
     if kept.flush_if_each().is_err() {
-        // Nothing is written any more, and what the file doesn't have isn't pushed.
+        // What the file or the log doesn't have isn't pushed. If a log can be written again, its thread says so.
         return false;
     }
     let left = clients.iter().map(|client| client.go_on(&snapshot));

@@ -399,6 +399,47 @@ fn a_request_or_a_reply_of_the_database_is_lost() {
 }
 
 #[test]
+fn live_queries_get_what_was_written_while_the_log_could_not_be() {
+    let database = match database() {
+        Some(database) => database,
+        None => return,
+    };
+    let proxy = Proxy::start(database.postgres.port);
+    let leader = Member::start_at(Folder::in_memory(), &database.url_at(proxy.port), "--log");
+    let (mut client, mut watching) = (leader.client(), leader.client());
+    watching.watch(None).unwrap();
+    // The log gets the last write once it can be written, or has it and the reply was lost.
+    for lost in [Lost::Requests, Lost::Replies] {
+        client.apply(Batch::new().new_node()).unwrap();
+        proxy.lose(lost);
+        let writing = thread::spawn(move || {
+            let refused = client.apply(Batch::new().new_node()).unwrap_err();
+            assert!(refused.is("NotSaved"), "{refused}");
+            // The live queries are asked, and wait for the log no longer.
+            thread::sleep(Duration::from_millis(300));
+            client
+        });
+        while !writing.is_finished() {
+            if proxy.has_lost() {
+                proxy.lose(Lost::Requests);
+            }
+            thread::sleep(Duration::from_millis(1));
+        }
+        client = writing.join().unwrap();
+        proxy.lose(Lost::Nothing);
+        wait_until("the log is written", || client.log().unwrap().trouble.is_none());
+        let last = client.log().unwrap().commit;
+        while watching
+            .next_push(Duration::from_secs(60))
+            .unwrap()
+            .expect("a push comes")
+            .commit
+            < last
+        {}
+    }
+}
+
+#[test]
 fn the_database_is_started_again_while_clients_write() {
     let database = match database_of(Postgres::start()) {
         Some(database) => database,

@@ -1,6 +1,7 @@
 //! Each command, and each way to ask for what can't be.
 
 use crate::common::{wait_until, Folder, Server, Talk};
+use std::time::{Duration, Instant};
 
 fn start(options: &[&str]) -> (Folder, Server) {
     let folder = Folder::new();
@@ -319,6 +320,58 @@ fn a_snapshot_that_is_kept_too_long_is_taken_back() {
     );
     talk.check(r#""pin":{}"#, r#""ok":{"commit":2,"next":5}"#);
     talk.check(r#""unpin":{}"#, r#""ok":{}"#);
+}
+
+#[test]
+fn a_snapshot_is_taken_back_while_its_client_waits_for_a_commit() {
+    let (_folder, server) = start(&["--hold", "1"]);
+    let mut talk = server.talk();
+    three(&mut talk);
+    talk.check(r#""pin":{}"#, r#""ok":{"commit":1,"next":4}"#);
+    let begin = Instant::now();
+    talk.check(
+        r#""reach":{"commit":2,"within":60000}"#,
+        r#""error":{"name":"NotReached","message":"the journal isn't as long yet","expected":2,"found":1}"#,
+    );
+    assert!(begin.elapsed() < Duration::from_secs(50), "{:?}", begin.elapsed());
+    let said = talk.ask(r#"{"id":1,"nodes":{}}"#);
+    assert!(said.starts_with(r#"{"id":1,"error":{"name":"Expired","#), "{said}");
+    // Without a snapshot all of the time is waited.
+    let begin = Instant::now();
+    let said = talk.ask(r#"{"id":1,"reach":{"commit":2,"within":1500}}"#);
+    assert!(said.contains("NotReached"), "{said}");
+    assert!(begin.elapsed() >= Duration::from_millis(1500), "{:?}", begin.elapsed());
+}
+
+#[test]
+fn a_client_that_waits_for_a_commit_gives_pages_back_to_writes() {
+    let (_folder, server) = start(&["--pages", "64"]);
+    let mut talk = server.talk();
+    three(&mut talk);
+    talk.check(r#""pin":{}"#, r#""ok":{"commit":1,"next":4}"#);
+    talk.send(b"{\"id\":2,\"reach\":{\"commit\":99999999,\"within\":60000}}\n");
+    let mut other = server.talk();
+    for commit in 2..=300 {
+        other.check(
+            &format!(r#""batch":{{"operations":[["set",1,"size",{commit}]]}}"#),
+            &format!(r#""ok":{{"commit":{commit},"nodes":[]}}"#),
+        );
+    }
+    let said = talk.line();
+    assert!(said.starts_with(r#"{"id":2,"error":{"name":"NotReached","#), "{said}");
+}
+
+#[test]
+fn earlier_replies_come_while_a_commit_is_waited_for() {
+    let (_folder, server) = start(&[]);
+    let mut talk = server.talk();
+    talk.send(b"{\"id\":1,\"next\":{}}\n{\"id\":2,\"reach\":{\"commit\":1,\"within\":20000}}\n");
+    assert_eq!(talk.line(), r#"{"id":1,"ok":{"commit":0,"next":1}}"#);
+    server.talk().check(
+        r#""batch":{"operations":[["new"]]}"#,
+        r#""ok":{"commit":1,"nodes":[1]}"#,
+    );
+    assert_eq!(talk.line(), r#"{"id":2,"ok":{"commit":1}}"#);
 }
 
 #[test]

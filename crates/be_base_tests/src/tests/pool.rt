@@ -110,8 +110,9 @@ fn spared_after_undo(rt: HostRuntime) -> Result<(), Fail> {
 /// The numbers of pages of a pool, at bounds.
 const SIZES: [usize; 9] = [1, 2, 3, 8, 63, 64, 65, 16383, 16384];
 
-/// What copies take of a pool of which one page is free: of a page past the pool, and of the last
-/// one, after that write is undone and then in the same write.
+/// The pages that copies take from a pool of which one page is free: a copy of a page past the
+/// pool; once that write is undone, a copy of the pool's last page; and, with no page free any
+/// more, a copy of the greatest number.
 fn take_last(alloc: Global, pages: usize) -> Result<[u64; 3], AllocError>
     requires { 1 ≤ pages }
 {

@@ -13,7 +13,7 @@ use Rattle.std.proofs.lemmas.Map.Lookups.{exact_bytes}
 use Rattle.be_pages.specs.declared.room.Standing.{Standing}
 use Rattle.be_pages.specs.Pages.{is_readable}
 use Rattle.be_tree_reading.specs.Key.{payload_at}
-use Rattle.be_tree_reading.specs.Page.{IsItem, item_at}
+use Rattle.be_tree_reading.specs.Page.{IsItem, IsReadableAt, item_at}
 use Rattle.be_tree_reading.specs.Pair.{Pair}
 use Rattle.be_tree_reading.specs.Range.{is_from, pairs_from}
 use Rattle.be_tree_reading.specs.Tree.{pairs}
@@ -22,7 +22,6 @@ use Rattle.be_volume.specs.Maps.{name_cmp}
 use Rattle.be_paged_reading.specs.Catalog.{catalog_key}
 use Rattle.be_paged_reading.specs.Place.{IsPlaceOf, IsFoundAt, IsAsked}
 use Rattle.be_paged_reading.specs.Reading.{is_of, front_of_node}
-use Rattle.be_paged_reading.specs.Source.{IsItemAt}
 use Rattle.be_paged_reading.specs.declared.asked.Asked.{Asked}
 use Rattle.be_paged_reading.proofs.CatalogPairs.Segments.{is_node, payload_from}
 
@@ -41,7 +40,7 @@ pub place_found : (s t : ℕ → Standing) (v w : ℕ → ℕ → ℕ) (root : �
     → IfSome found (λ at. IsTrue (is_readable (s at.0))) → IfSome found (λ at. at.1 + 42 ≤ 512) → IfSome found (λ at. IsItem (v at.0) at.1) → IsFoundAt t w root key found
 place_found s t v w root key None standing words none some readable in_page fits = found_since s t v w root key None standing words none
 place_found s t v w root key (Some at) standing words none some readable in_page fits =
-    found_since s t v w root key (Some at) standing words (record { item = record { readable = readable; in_page = in_page; fits = fits }; there = some })
+    found_since s t v w root key (Some at) standing words (record { item = (readable, (in_page, fits)); there = some })
 
 -- an attribute is remembered unless one is
 pub asked_or : (s : ℕ → Standing) (w : ℕ → ℕ → ℕ) (root : ℕ) (asked : Option Asked) (last : Asked) → IsAsked s w root asked → IsFoundAt s w root (catalog_key last.node last.name) last.place → IsAsked s w root (option_or asked (Some last))
@@ -104,7 +103,7 @@ first_front node (y ∷ ys) x e = by (is_of node y.key) refl e
 -- what a walk over a node's attributes meets first stands at the node's name
 pub place_walked : (s t : ℕ → Standing) (v w : ℕ → ℕ → ℕ) (root node : ℕ) (from : List ℕ) (after : Bool) (now : List Pair) (found : Option (List ℕ × (ℕ × ℕ))) → t ≡ s → w ≡ v → now ≡ pairs_from (pairs v root) from after
     → IfSome found (λ f. slice_get (front_of_node node now) 0 ≡ Some (item_at (v f.1.0) f.1.1)) → IfSome found (λ f. f.0 ≡ drop 8 (item_at (v f.1.0) f.1.1).key)
-    → IfSome found (λ f. IsItemAt s v f.1.0 f.1.1) → IfSome found (λ f. IsPlaceOf t w root (catalog_key node f.0) f.1.0 f.1.1)
+    → IfSome found (λ f. IsReadableAt s v f.1.0 f.1.1) → IfSome found (λ f. IsPlaceOf t w root (catalog_key node f.0) f.1.0 f.1.1)
 place_walked s t v w root node from after now None standing words stands met beyond fits = tt
 place_walked s t v w root node from after now (Some f) standing words stands met beyond fits =
     let item = item_at (v f.1.0) f.1.1 in

@@ -11,6 +11,7 @@ use std::collections::{BTreeMap, HashMap};
 use std::ffi::OsStr;
 use std::fs;
 use std::io::{self, ErrorKind};
+use std::os::unix::io::AsRawFd;
 use std::path::{Path, PathBuf};
 use std::thread;
 use std::time::{Duration, Instant};
@@ -23,6 +24,9 @@ const LONGEST: Duration = Duration::from_millis(400);
 
 /// How long the second half of a move is waited for at most.
 const MOVE: Duration = Duration::from_millis(100);
+
+/// What the store has refused is written again after the first of these pauses, which doubles up to the second one.
+const PAUSES: (Duration, Duration) = (Duration::from_secs(1), Duration::from_secs(300));
 
 /// The bytes of events that are read at a time.
 const EVENTS: usize = 1 << 16;
@@ -45,6 +49,47 @@ struct Dirty {
     gone: bool,
     /// Moves of which only the first half has come.
     moves: Vec<u32>,
+}
+
+/// When what the store has refused is written again.
+#[derive(Debug)]
+struct Again {
+    due: Option<Instant>,
+    pause: Duration,
+}
+
+impl Again {
+    fn new() -> Self {
+        Self {
+            due: None,
+            pause: PAUSES.0,
+        }
+    }
+
+    /// The whole folder was read.
+    fn scanned(&mut self, is_refused: bool) {
+        self.due = is_refused.then(|| Instant::now() + self.pause);
+        self.pause = match is_refused {
+            true => (2 * self.pause).min(PAUSES.1),
+            false => PAUSES.0,
+        };
+    }
+
+    /// Some files were read.
+    fn stepped(&mut self, is_refused: bool) {
+        if is_refused && self.due.is_none() {
+            self.due = Some(Instant::now() + self.pause);
+        }
+    }
+
+    /// How long it is until then, if something was refused.
+    fn left(&self) -> Option<Duration> {
+        self.due.map(|due| due.saturating_duration_since(Instant::now()))
+    }
+
+    fn is_due(&self) -> bool {
+        self.left() == Some(Duration::ZERO)
+    }
 }
 
 /// What was found at paths, and what was known there.
@@ -97,16 +142,17 @@ impl Watches {
         }
     }
 
-    /// Waits for changes, and gathers them until there is a pause. If it doesn't block, it waits for such a pause alone.
-    fn wait(&mut self, blocks: bool) -> Result<Dirty, Failure> {
+    /// Waits for a change, but no longer than the time that is given, and gathers changes until there is a pause.
+    fn wait(&mut self, within: Option<Duration>) -> Result<Dirty, Failure> {
         let mut dirty = Dirty::default();
         let mut room = vec![0; EVENTS];
-        self.read(&mut room, blocks, &mut dirty)?;
+        self.wait_readable(within);
+        self.read(&mut room, &mut dirty)?;
         let begun = Instant::now();
         let mut last = begun;
         loop {
             thread::sleep(QUIET / 4);
-            if self.read(&mut room, false, &mut dirty)? {
+            if self.read(&mut room, &mut dirty)? {
                 last = Instant::now();
             }
             let waits = if dirty.moves.is_empty() { Duration::ZERO } else { MOVE };
@@ -116,13 +162,21 @@ impl Watches {
         }
     }
 
-    /// Reads events. Returns whether there were some.
-    fn read(&mut self, room: &mut [u8], blocks: bool, dirty: &mut Dirty) -> Result<bool, Failure> {
-        let events = match blocks {
-            true => self.inotify.read_events_blocking(room),
-            false => self.inotify.read_events(room),
+    /// Waits until there are events, or for this time. A signal may end it earlier.
+    fn wait_readable(&self, within: Option<Duration>) {
+        let mut polled = libc::pollfd {
+            fd: self.inotify.as_raw_fd(),
+            events: libc::POLLIN,
+            revents: 0,
         };
-        let events = match events {
+        let most = within.map_or(-1, |within| i32::try_from(within.as_millis()).unwrap_or(i32::MAX));
+        // SAFETY: poll reads and writes this one entry.
+        unsafe { libc::poll(&mut polled, 1, most) };
+    }
+
+    /// Reads events. Returns whether there were some.
+    fn read(&mut self, room: &mut [u8], dirty: &mut Dirty) -> Result<bool, Failure> {
+        let events = match self.inotify.read_events(room) {
             Ok(events) => events,
             Err(error) if matches!(error.kind(), ErrorKind::WouldBlock | ErrorKind::Interrupted) => return Ok(false),
             Err(error) => return Err(Failure::Watch(self.root.clone(), error)),
@@ -173,17 +227,28 @@ impl Dirty {
 }
 
 impl Import<'_> {
-    /// Follows the folder until it or the server is gone.
-    pub fn follow(&mut self, mut watches: Watches, output: &mut Output) -> Result<(), Failure> {
+    /// Follows the folder until it or the server is gone. `is_refused`: the store has refused something when the folder was read.
+    pub fn follow(&mut self, mut watches: Watches, is_refused: bool, output: &mut Output) -> Result<(), Failure> {
+        let mut again = Again::new();
+        again.scanned(is_refused);
         loop {
             // What is missing is looked for once more before its node is removed.
-            let dirty = watches.wait(self.missing.is_empty())?;
+            let within = match self.missing.is_empty() {
+                true => again.left(),
+                false => Some(Duration::ZERO),
+            };
+            let dirty = watches.wait(within)?;
             if dirty.gone || fs::symlink_metadata(&self.folder).is_err() {
                 return Err(Failure::Gone(self.folder.clone()));
             }
-            let summary = match dirty.lost {
-                true => self.scan(Some(&mut watches))?,
-                false => self.step(&mut watches, dirty)?,
+            let summary = if dirty.lost || again.is_due() {
+                let summary = self.scan_again(&mut watches)?;
+                again.scanned(summary.is_worth_a_retry());
+                summary
+            } else {
+                let summary = self.step(&mut watches, dirty)?;
+                again.stepped(summary.is_worth_a_retry());
+                summary
             };
             if self.line.verbose {
                 summary.print_fates(output)?;
@@ -204,7 +269,7 @@ impl Import<'_> {
         };
         let mut walk = Walk {
             before: &mut before,
-            one_file_system: self.line.one_file_system,
+            device: self.device,
         };
         for (path, is_named) in dirty.paths {
             if !seen.has(&path) {
@@ -251,5 +316,29 @@ pub fn shown(folder: &Path, error: &io::Error) -> String {
              sudo sysctl fs.inotify.max_user_watches=1048576 allows more"
         ),
         _ => format!("{folder} can't be watched: {error}"),
+    }
+}
+
+#[cfg(test)]
+mod tests {
+    use super::*;
+
+    #[test]
+    fn pauses_double_while_something_is_refused() {
+        let mut again = Again::new();
+        again.stepped(false);
+        assert_eq!((again.due, again.is_due()), (None, false));
+        again.stepped(true);
+        let due = again.due;
+        again.stepped(true);
+        again.stepped(false);
+        assert!(due.is_some() && again.due == due);
+        for pause in [1, 2, 4, 8, 16, 32, 64, 128, 256, 300, 300] {
+            assert_eq!(again.pause, Duration::from_secs(pause));
+            again.scanned(true);
+            assert!(again.left().is_some() && !again.is_due());
+        }
+        again.scanned(false);
+        assert_eq!((again.due, again.pause), (None, PAUSES.0));
     }
 }

@@ -8,7 +8,7 @@ use crate::server::pinned;
 use bestore::Value;
 use bestore_client::wire::Json;
 use bestore_client::Client;
-use std::collections::{BTreeMap, HashMap};
+use std::collections::{BTreeMap, HashMap, HashSet};
 use std::path::{Path, PathBuf};
 
 /// A file that has a node.
@@ -37,10 +37,10 @@ pub struct Tree {
 }
 
 impl Tree {
-    /// Reads what the store knows of the folder and what is below it.
-    pub fn read(client: &mut Client, folder: &Path) -> Result<Self, Failure> {
+    /// Reads what the store knows of the folder and what is below it, but for these nodes.
+    pub fn read(client: &mut Client, folder: &Path, without: &HashSet<u64>) -> Result<Self, Failure> {
         let columns: Vec<&str> = COLUMNS.into_iter().chain([STAT]).collect();
-        let (steps, stats) = pinned(client, |client| {
+        let (steps, mut stats) = pinned(client, |client| {
             let (mut steps, mut stats) = (HashMap::new(), HashMap::new());
             each_named(client, &columns, |node, row| {
                 let value = |name: &str| value_of(&columns, row, name);
@@ -51,6 +51,7 @@ impl Tree {
             })?;
             Ok((steps, stats))
         })?;
+        stats.retain(|node, _| !without.contains(node));
         Ok(Self::of_steps(&steps, stats, folder))
     }
 

@@ -27,9 +27,10 @@ use content::{Reader, INDICES};
 use follow::Watches;
 use indicatif::{ProgressBar, ProgressStyle};
 use known::{Known, Tree};
-use std::collections::BTreeMap;
+use std::collections::{BTreeMap, HashSet};
 use std::fs;
 use std::os::unix::ffi::OsStrExt;
+use std::os::unix::fs::MetadataExt;
 use std::path::{Path, PathBuf};
 use summary::Summary;
 use types::Types;
@@ -42,6 +43,8 @@ const ROOT: usize = 255;
 /// An import of a folder.
 pub struct Import<'a> {
     folder: PathBuf,
+    /// If it is given, folders of this file system alone are read.
+    device: Option<u64>,
     line: &'a Line,
     client: Client,
     volumes: Vec<Volume>,
@@ -49,6 +52,8 @@ pub struct Import<'a> {
     tree: Tree,
     /// Files that weren't at their paths when these were read last.
     missing: Vec<(PathBuf, Known)>,
+    /// Those that were missing again, and whose nodes the store has refused to remove.
+    unremoved: Vec<(PathBuf, Known)>,
 }
 
 pub fn run(connect: &dyn Fn() -> Result<Client, Failure>, line: &Line, output: &mut Output) -> Result<(), Failure> {
@@ -58,11 +63,11 @@ pub fn run(connect: &dyn Fn() -> Result<Client, Failure>, line: &Line, output: &
         false => None,
     };
     let mut import = Import::begin(connect, line, folder)?;
-    let summary = import.scan(watches.as_mut())?;
+    let summary = import.scan_first(watches.as_mut())?;
     summary.print(line, import.reader.types.source(), output)?;
     output.flush()?;
     match watches {
-        Some(watches) => import.follow(watches, output),
+        Some(watches) => import.follow(watches, summary.is_worth_a_retry(), output),
         None => server::all_done(summary.is_whole()),
     }
 }
@@ -84,29 +89,45 @@ impl<'a> Import<'a> {
         let mut client = connect()?;
         let indices = make_indices(&mut client)?;
         Ok(Self {
-            tree: Tree::read(&mut client, &folder)?,
+            device: line.one_file_system.then(|| device_of(&folder)).transpose()?,
+            tree: Tree::read(&mut client, &folder, &HashSet::new())?,
             volumes: Volume::all(connect)?,
             reader: Reader {
                 types: Types::of_machine(),
                 indices,
             },
             missing: Vec::new(),
+            unremoved: Vec::new(),
             folder,
             line,
             client,
         })
     }
 
-    /// Reads the whole folder, and writes what differs from the store.
-    fn scan(&mut self, mut watches: Option<&mut Watches>) -> Result<Summary, Failure> {
-        let mut summary = self.scan_once(watches.as_deref_mut())?;
-        if !self.missing.is_empty() {
-            summary = summary.and_then(self.scan_once(watches)?);
-        }
+    /// Reads the whole folder, and writes what differs from the store, and extended attributes if the command line says so.
+    fn scan_first(&mut self, watches: Option<&mut Watches>) -> Result<Summary, Failure> {
+        let summary = self.scan(watches)?;
         match self.line.xattr {
             true => self.write_extended(summary),
             false => Ok(summary),
         }
+    }
+
+    /// Reads the whole folder, and writes what differs from the store.
+    fn scan(&mut self, mut watches: Option<&mut Watches>) -> Result<Summary, Failure> {
+        let summary = self.scan_once(watches.as_deref_mut())?;
+        match self.missing.is_empty() {
+            true => Ok(summary),
+            false => Ok(summary.and_then(self.scan_once(watches)?)),
+        }
+    }
+
+    /// Asks the store anew what it has of the folder, and scans that: after a refusal it may have less than is known here, or more.
+    fn scan_again(&mut self, watches: &mut Watches) -> Result<Summary, Failure> {
+        self.missing = std::mem::take(&mut self.unremoved);
+        let missing = self.missing.iter().map(|(_, known)| known.node).collect();
+        self.tree = Tree::read(&mut self.client, &self.folder, &missing)?;
+        self.scan(Some(watches))
     }
 
     fn scan_once(&mut self, mut watches: Option<&mut Watches>) -> Result<Summary, Failure> {
@@ -120,7 +141,7 @@ impl<'a> Import<'a> {
         };
         let mut walk = Walk {
             before: &mut before,
-            one_file_system: self.line.one_file_system,
+            device: self.device,
         };
         let walked = walk.below(&self.folder);
         if walked.found.is_empty() {
@@ -140,6 +161,12 @@ impl<'a> Import<'a> {
         path.to_str()
             .map_or_else(|| path.as_bytes().to_vec().into(), |path| path.into())
     }
+}
+
+/// The file system of a folder.
+fn device_of(folder: &Path) -> Result<u64, Failure> {
+    let about = fs::symlink_metadata(folder).map_err(|error| Failure::File(folder.into(), error))?;
+    Ok(about.dev())
 }
 
 /// Makes the indices that are missing, and returns the kinds of all.

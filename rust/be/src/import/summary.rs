@@ -2,9 +2,10 @@
 
 use super::walk::Unread;
 use crate::command_line::Import as Line;
-use crate::failure::{complain, Failure};
+use crate::failure::{complain, message, Failure};
 use crate::output::Output;
 use crate::text::escaped;
+use bestore_client::Error;
 use serde::Serialize;
 use std::path::{Path, PathBuf};
 
@@ -13,6 +14,17 @@ const MOST_PAGES: u64 = 16_384;
 
 /// How many paths of each fault are printed.
 const SHOWN: usize = 10;
+
+/// Errors of the server after which the same write may be accepted.
+const PASSING: [&str; 7] = [
+    "Full",
+    "Busy",
+    "Conflict",
+    "OutOfMemory",
+    "NotSaved",
+    "Stopped",
+    "NotLeader",
+];
 
 /// What has become of a file.
 #[derive(Clone, Copy, Debug, PartialEq, Eq)]
@@ -59,6 +71,9 @@ pub struct Summary {
     /// Files of which the store refused something, or which refused an attribute, and why.
     #[serde(serialize_with = "count")]
     pub refused: Vec<(PathBuf, String)>,
+    /// Whether the store may accept later what it has refused.
+    #[serde(skip)]
+    is_passing: bool,
     #[serde(skip)]
     pub fates: Vec<(Fate, PathBuf)>,
 }
@@ -76,6 +91,17 @@ impl Summary {
             Fate::Removed => self.removed += 1,
         }
         self.fates.push((fate, path));
+    }
+
+    /// The store has refused something of a file.
+    pub fn refuse(&mut self, path: PathBuf, error: &Error) {
+        self.is_passing |= PASSING.iter().any(|name| error.is(name));
+        self.refused.push((path, message(error)));
+    }
+
+    /// Whether the store may take later what it hasn't taken.
+    pub fn is_worth_a_retry(&self) -> bool {
+        self.is_passing || self.left > 0
     }
 
     /// What this import and the next one of the same folder have done together.

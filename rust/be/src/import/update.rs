@@ -9,7 +9,7 @@ use super::summary::{Fate, Summary};
 use super::volume::{Made, New, Volume};
 use super::walk::{Found, Unread, Walked};
 use super::{bar, Import};
-use crate::failure::{message, Failure};
+use crate::failure::Failure;
 use bestore::{Batch, Node};
 use bestore_client::Error;
 use std::collections::{BTreeMap, HashMap, HashSet};
@@ -61,8 +61,8 @@ impl Import<'_> {
         Ok(summary)
     }
 
-    /// Removes those nodes that were missing already, and keeps the others as missing. What is below a folder that can't be read
-    /// stays.
+    /// Removes those nodes that were missing already, and keeps the others as missing, and those that the store doesn't remove. What
+    /// is below a folder that can't be read stays.
     fn remove(
         &mut self,
         gone: Vec<(PathBuf, Known)>,
@@ -83,8 +83,12 @@ impl Import<'_> {
             .iter()
             .map(|(path, known)| Edits::remove(path.clone(), known.node))
             .collect();
-        self.write(&edits, summary)?;
-        gone.into_iter().for_each(|(path, _)| summary.add(Fate::Removed, path));
+        let refused = self.write(&edits, summary)?;
+        let (unremoved, removed): (Vec<_>, Vec<_>) = gone.into_iter().partition(|(path, _)| refused.contains(path));
+        self.unremoved.extend(unremoved);
+        removed
+            .into_iter()
+            .for_each(|(path, _)| summary.add(Fate::Removed, path));
         Ok(())
     }
 
@@ -164,7 +168,7 @@ impl Import<'_> {
         for files in slices(files) {
             let found: Vec<&Found> = files.iter().map(|file| &file.found).collect();
             let mut contents = read(&self.reader, &found);
-            let mut all = Vec::new();
+            let (mut all, mut fates) = (Vec::new(), Vec::new());
             for (file, content) in files.iter().zip(&mut contents) {
                 summary.xattrs_left += content.left_out;
                 let (was, known) = match &file.known {
@@ -180,7 +184,7 @@ impl Import<'_> {
                 let path = file.found.path.clone();
                 if !edits.is_empty() {
                     let fate = if *was == path { Fate::Changed } else { Fate::Renamed };
-                    summary.add(fate, path.clone());
+                    fates.push((fate, path.clone()));
                     all.extend(edits.chunks(OPERATIONS).map(|edits| Edits {
                         path: path.clone(),
                         node: known.node,
@@ -188,8 +192,11 @@ impl Import<'_> {
                     }));
                 }
             }
-            self.write(&all, summary)?;
-            files.iter().for_each(|file| self.keep(&file.found));
+            let refused = self.write(&all, summary)?;
+            let written = fates.into_iter().filter(|(_, path)| !refused.contains(path));
+            written.for_each(|(fate, path)| summary.add(fate, path));
+            let kept = files.iter().filter(|file| !refused.contains(&file.found.path));
+            kept.for_each(|file| self.keep(&file.found));
             progress.inc(files.len() as u64);
         }
         progress.finish_and_clear();
@@ -208,10 +215,17 @@ impl Import<'_> {
         }
     }
 
-    /// Writes changes: those of several nodes as one batch, and one by one if it is refused.
-    pub fn write(&mut self, edits: &[Edits], summary: &mut Summary) -> Result<(), Failure> {
+    /// Writes changes: those of several nodes as one batch, and one by one if it is refused. Returns the files of which something was
+    /// refused.
+    pub fn write(&mut self, edits: &[Edits], summary: &mut Summary) -> Result<HashSet<PathBuf>, Failure> {
+        let mut refused = HashSet::new();
         let mut at = 0;
         while at < edits.len() {
+            // The last part of a file would say that all of it is written.
+            if refused.contains(&edits[at].path) {
+                at += 1;
+                continue;
+            }
             let mut batch = Batch::new();
             let first = at;
             while at < edits.len()
@@ -222,14 +236,15 @@ impl Import<'_> {
                 at += 1;
             }
             match self.write_batch(batch) {
-                Err(Error::Refused(_)) => self.write_each(&edits[first..at], summary)?,
+                Err(Error::Refused(_)) => refused.extend(self.write_each(&edits[first..at], summary)?),
                 answer => answer?,
             }
         }
-        Ok(())
+        Ok(refused)
     }
 
-    fn write_each(&mut self, edits: &[Edits], summary: &mut Summary) -> Result<(), Failure> {
+    fn write_each(&mut self, edits: &[Edits], summary: &mut Summary) -> Result<Vec<PathBuf>, Failure> {
+        let mut refused = Vec::new();
         for edit in edits {
             let mut batch = Batch::new();
             edit.add_to(&mut batch);
@@ -238,11 +253,14 @@ impl Import<'_> {
                 Err(error) if error.is("NoNode") => {
                     self.tree.files.remove(&edit.path);
                 }
-                Err(error @ Error::Refused(_)) => summary.refused.push((edit.path.clone(), message(&error))),
+                Err(error @ Error::Refused(_)) => {
+                    summary.refuse(edit.path.clone(), &error);
+                    refused.push(edit.path.clone());
+                }
                 answer => answer?,
             }
         }
-        Ok(())
+        Ok(refused)
     }
 
     /// Writes a batch of one volume, in parts if it has too many operations for one.
@@ -270,7 +288,9 @@ impl Import<'_> {
             let stats: HashMap<&Path, String> = files.iter().map(|it| (it.path.as_path(), it.stat.text())).collect();
             let made = make_in(&mut self.volumes, new, &|count| progress.inc(count))?;
             summary.left += made.left.len();
-            summary.refused.extend(made.refused);
+            for (path, error) in made.refused {
+                summary.refuse(path, &error);
+            }
             for (file, node) in made.nodes {
                 let parent = file.path.parent().and_then(|folder| self.node_at(folder));
                 let parent = parent.filter(|_| !self.is_root(&file.path));

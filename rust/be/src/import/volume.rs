@@ -1,7 +1,7 @@
 //! A volume of the server: one of the stores that its queries search. A server of one store has one.
 
 use super::edit::stat_last;
-use crate::failure::{message, Failure};
+use crate::failure::Failure;
 use crate::server;
 use bestore::{Batch, Value, Written};
 use bestore_client::wire::{Command, Next, Nothing};
@@ -42,7 +42,7 @@ pub struct Made {
     /// The volume had no room for these.
     pub left: Vec<New>,
     /// These were refused, and why.
-    pub refused: Vec<(PathBuf, String)>,
+    pub refused: Vec<(PathBuf, Error)>,
 }
 
 /// A volume, and a connection to its server that it may share with others.
@@ -159,7 +159,7 @@ impl Volume {
                 made.left.extend(files);
             }
             Err(Failure::Server(error @ Error::Refused(_))) if files.len() == 1 => {
-                made.refused.push((files[0].path.clone(), message(&error)));
+                made.refused.push((files[0].path.clone(), error));
             }
             Err(Failure::Server(Error::Refused(_))) => {
                 for file in files {

@@ -42,40 +42,34 @@ pub fn is_of_a_store(path: &Path) -> bool {
 pub struct Walk<'a> {
     /// Called with each folder before it is read.
     pub before: &'a mut dyn FnMut(&Path),
-    /// Whether folders of other file systems are found, but not read.
-    pub one_file_system: bool,
+    /// If it is given, folders of other file systems are found, but not read.
+    pub device: Option<u64>,
 }
 
 impl Walk<'_> {
     /// The folder, or file, and what is below it. What goes meanwhile isn't found.
     pub fn below(&mut self, path: &Path) -> Walked {
         let mut walked = Walked::default();
-        let device = match fs::symlink_metadata(path) {
-            Ok(about) => {
-                walked.found.push(Found {
-                    path: path.into(),
-                    stat: Stat::from(&about),
-                });
-                about.dev()
-            }
-            Err(error) => {
-                walked.failed(path, error);
-                return walked;
-            }
-        };
+        match fs::symlink_metadata(path) {
+            Ok(about) => walked.found.push(Found {
+                path: path.into(),
+                stat: Stat::from(&about),
+            }),
+            Err(error) => walked.failed(path, error),
+        }
         let mut next = 0;
         while next < walked.found.len() {
             if walked.found[next].stat.form == Form::Folder {
                 let folder = walked.found[next].path.clone();
-                self.read_folder(&folder, device, &mut walked);
+                self.read_folder(&folder, &mut walked);
             }
             next += 1;
         }
         walked
     }
 
-    fn read_folder(&mut self, folder: &Path, device: u64, walked: &mut Walked) {
-        if self.one_file_system && fs::symlink_metadata(folder).map_or(false, |about| about.dev() != device) {
+    fn read_folder(&mut self, folder: &Path, walked: &mut Walked) {
+        if self.device.map_or(false, |device| is_elsewhere(folder, device)) {
             return;
         }
         (self.before)(folder);
@@ -84,6 +78,11 @@ impl Walk<'_> {
             Err(error) => walked.failed(folder, error),
         }
     }
+}
+
+/// Whether the folder is in another file system.
+fn is_elsewhere(folder: &Path, device: u64) -> bool {
+    fs::symlink_metadata(folder).map_or(false, |about| about.dev() != device)
 }
 
 impl Walked {

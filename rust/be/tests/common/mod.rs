@@ -2,6 +2,7 @@
 #![allow(dead_code, unused_macros)]
 
 pub mod files;
+pub mod refuser;
 
 use bestore_client::Client;
 use std::ffi::OsStr;

@@ -267,8 +267,10 @@ impl Member {
         }
     }
 
-    /// Adds what is written to the log, until another server leads or the server ends.
+    /// Adds what is written to the log, until another server leads or the server ends. The live queries may have given up waiting
+    /// for what the log has then.
     async fn lead(&mut self, term: u64, shared: &Arc<Shared>) -> Result<Turn> {
+        shared.watcher.written();
         loop {
             self.write_state_if_due(shared);
             if self.line.is_at_end() {
@@ -278,7 +280,10 @@ impl Member {
                 self.sending = self.line.take();
             }
             match self.sending.last().map(|row| row.number) {
-                Some(last) => self.send(term, last).await?,
+                Some(last) => {
+                    self.send(term, last).await?;
+                    shared.watcher.written();
+                }
                 None => self.rest(term).await?,
             }
         }

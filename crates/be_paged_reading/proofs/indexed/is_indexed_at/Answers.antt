@@ -42,8 +42,7 @@ returns-in-None-clause-has g c = λ v is e.
     (llng payload None (λ w same. sym c.in-Llng.is ∙ some_kind _ _ (c.in-Some.ensures.kind w same)) (λ k m lt same. c.in-None.ensures.number k m lt (moved ∙ same))) v is e
 
 pub any_is_indexed_at-requires-clause-item : goal.any_is_indexed_at-requires-clause-item
-any_is_indexed_at-requires-clause-item g c = record {
-  readable = subst (λ (s : ℕ → Standing). IsTrue (is_readable (s c.args.page))) (sym c.in-Some.ensures.unchanged.standing) c.requires.item.readable;
-  in_page = c.requires.item.in_page;
-  fits = subst (λ (w : ℕ → ℕ → ℕ). IsItem (w c.args.page) c.args.at) (sym c.in-Some.ensures.unchanged.words) c.requires.item.fits;
-}
+any_is_indexed_at-requires-clause-item g c = (
+  subst (λ (s : ℕ → Standing). IsTrue (is_readable (s c.args.page))) (sym c.in-Some.ensures.unchanged.standing) c.requires.item.0,
+  (c.requires.item.1.0, subst (λ (w : ℕ → ℕ → ℕ). IsItem (w c.args.page) c.args.at) (sym c.in-Some.ensures.unchanged.words) c.requires.item.1.1),
+)

@@ -129,12 +129,10 @@ is_indexed_at-requires-clause-tree g c =
 pub is_indexed_at-requires-clause-item : goal.is_indexed_at-requires-clause-item
 is_indexed_at-requires-clause-item g c =
     let standing = c.in-Some-known_index.ensures.unchanged.standing ∙ c.holds_at.ensures.unchanged.standing ∙ c.in-Some.ensures.unchanged.standing in
-    let words = c.in-Some-known_index.ensures.unchanged.words ∙ c.holds_at.ensures.unchanged.words ∙ c.in-Some.ensures.unchanged.words in
-    record {
-      readable = subst (λ (s : ℕ → Standing). IsTrue (is_readable (s c.in-Some.page))) (sym standing) c.in-Some.ensures.readable;
-      in_page = c.in-Some.ensures.in_page;
-      fits = subst (λ (w : ℕ → ℕ → ℕ). IsItem (w c.in-Some.page) c.in-Some.at) (sym words) c.in-Some.ensures.fits;
-    }
+    let words = c.in-Some-known_index.ensures.unchanged.words ∙ c.holds_at.ensures.unchanged.words ∙ c.in-Some.ensures.unchanged.words in (
+      subst (λ (s : ℕ → Standing). IsTrue (is_readable (s c.in-Some.page))) (sym standing) c.in-Some.ensures.readable,
+      (c.in-Some.ensures.in_page, subst (λ (w : ℕ → ℕ → ℕ). IsItem (w c.in-Some.page) c.in-Some.at) (sym words) c.in-Some.ensures.fits),
+    )
 
 pub returns-in_default-clause-known : goal.returns-in_default-clause-known
 returns-in_default-clause-known g c =

@@ -12,13 +12,13 @@ place_of-requires-clause-known g c =
     subst (λ (k : List ℕ). IfSome c.args.known (IsFoundAt (g.L.Look.standing c.args.look.now) (g.L.Look.words c.args.look.now) c.args.catalog k)) (sym (c.deref.ensures.0 ∙ c.catalog_key-key.ensures.key)) c.requires.known
 
 pub value_at-requires-clause-readable : goal.value_at-requires-clause-readable
-value_at-requires-clause-readable g c = c.in_ok-page.ensures.found.item.readable
+value_at-requires-clause-readable g c = c.in_ok-page.ensures.found.item.0
 
 pub value_at-requires-clause-in_page : goal.value_at-requires-clause-in_page
-value_at-requires-clause-in_page g c = c.in_ok-page.ensures.found.item.in_page
+value_at-requires-clause-in_page g c = c.in_ok-page.ensures.found.item.1.0
 
 pub value_at-requires-clause-item : goal.value_at-requires-clause-item
-value_at-requires-clause-item g c = c.in_ok-page.ensures.found.item.fits
+value_at-requires-clause-item g c = c.in_ok-page.ensures.found.item.1.1
 
 pub returns-in_err-page-clause-value : goal.returns-in_err-page-clause-value
 returns-in_err-page-clause-value g c = λ nodes catalog valid.

@@ -37,7 +37,7 @@ returns-in_err-collect_side-clause-only g c = λ n h.
     let b = formula c.in-Or.b.value in
     let one : rest ≡ Or a b = ap formula c.in-Or.is in
     let inv = c.sides.invariant in
-    elim (c.collect_side.ensures.only n h) [
+    elim (c.collect_side.ensures.collects.only n h) [
       | inl old ↦ inv.only n old
       | inr is ↦ inr (inv.within n (by_right g.volume rest a b one n (ap (λ (t : Tree). sat g.volume (formula t) n) (sym c.deref.ensures) ∙ is)))
     ]
@@ -78,12 +78,12 @@ sides-preserved g c =
       stays = side.stays ∙ inv.stays;
       answers = side.answers;
       few = subst (λ (t : Tree). comparisons (formula t) ≤ 256) (sym left) (few_left g.volume rest a b one 256 inv.few);
-      only = λ n h. elim (side.only n h) [
+      only = λ n h. elim (side.collects.only n h) [
         | inl old ↦ inv.only n old
         | inr is ↦ inr (inv.within n (by_right g.volume rest a b one n (ap (λ (t : Tree). sat g.volume (formula t) n) (sym right) ∙ is)))
       ];
       has = λ n h. elim (inv.has n h) [
-        | inl there ↦ inl (side.keeps n there)
+        | inl there ↦ inl (side.collects.keeps n there)
         | inr is ↦ elim (by_either g.volume rest a b one n is) [
           | inl by_a ↦ inr (ap (λ (t : Tree). sat g.volume (formula t) n) left ∙ by_a)
           | inr by_b ↦ inl (c.in_ok-collect_side.ensures.has n (ap (λ (t : Tree). sat g.volume (formula t) n) right ∙ by_b))
@@ -101,14 +101,14 @@ pub returns-clause-stays : goal.returns-clause-stays
 returns-clause-stays g c = c.collect_side-2.ensures.stays ∙ c.sides.invariant.stays
 
 pub returns-clause-only : goal.returns-clause-only
-returns-clause-only g c = λ n h. elim (c.collect_side-2.ensures.only n h) [
+returns-clause-only g c = λ n h. elim (c.collect_side-2.ensures.collects.only n h) [
   | inl old ↦ c.sides.invariant.only n old
   | inr is ↦ inr (c.sides.invariant.within n is)
 ]
 
 pub returns-clause-has : goal.returns-clause-has
 returns-clause-has g c = on_ok c.collect_side-2.result (λ has n h. elim (c.sides.invariant.has n h) [
-  | inl there ↦ c.collect_side-2.ensures.keeps n there
+  | inl there ↦ c.collect_side-2.ensures.collects.keeps n there
   | inr is ↦ has n is
 ]) c.collect_side-2.ensures.has
 

@@ -14,7 +14,7 @@ returns-in_default-clause-refused g c =
 pub walk_index-requires : goal.walk_index-requires
 walk_index-requires g c κs within = (
   within,
-  (c.kind_of.ensures.answers g.volume c.requires.1.0, (c.requires.1.1, sym (c.in-Some.ensures.answer g.volume c.requires.1.0))),
+  (c.kind_of.ensures.answers g.volume c.requires.1.0, record { named = c.requires.1.1; kind_is = sym (c.in-Some.ensures.answer g.volume c.requires.1.0) }),
 )
 
 pub returns-clause-covered : goal.returns-clause-covered

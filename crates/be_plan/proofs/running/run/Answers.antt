@@ -12,5 +12,5 @@ returns-clause-answer g c =
     let parts = covers_parts g.volume c.args.cover.now.picks picks _ f (sym c.as_slice.ensures) (sym c.tree.ensures.tree) c.requires.1.1 in
     ap (scan g.volume) (sym c.tree.ensures.tree)
     ∙ found_all g.volume f c.put_in_order.new.numbers.items (g.met.S.Source.sound c.args.source.now g.volume c.requires.1.0) (covered_by g.volume f picks parts.0 parts.1) c.in_ok-put_in_order.ensures.rising
-    (λ n h. elim (c.walk_picks.ensures.only n (c.in_ok-put_in_order.ensures.only n h)) [ inl old ↦ absurd (nothing_in _ n c.in_ok-found.ensures.items old) | inr is ↦ is ])
+    (λ n h. elim (c.walk_picks.ensures.collects.only n (c.in_ok-put_in_order.ensures.only n h)) [ inl old ↦ absurd (nothing_in _ n c.in_ok-found.ensures.items old) | inr is ↦ is ])
     (λ n h. c.in_ok-put_in_order.ensures.keeps n (c.in_ok-walk_picks.ensures.has n h))

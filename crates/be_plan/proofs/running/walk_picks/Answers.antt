@@ -1,4 +1,4 @@
-use Rattle.std.proofs.Common.{◌≡◌, ◌<◌, ◌-◌, ℕ, true, length, slice_index, refl, sym, ap, subst, ◌∙◌, inl, inr, arith}
+use Rattle.std.proofs.Common.{◌≡◌, ◌<◌, ◌-◌, ℕ, true, length, slice_index, refl, sym, ap, subst, ◌∙◌, arith}
 use borrow.Author.Count.{below_more}
 use Rattle.be_query.specs.View.{formula}
 use Rattle.be_volume.specs.Query.{has_index}
@@ -7,6 +7,7 @@ use Rattle.be_plan.specs.Spine.{StandsIn}
 use Rattle.be_plan.specs.Walk.{HasReached}
 use Rattle.be_plan.proofs.Answering.{all_reached, at_place, pick_place, covers_parts}
 use Rattle.be_plan.proofs.Choice.{pick_below}
+use Rattle.be_plan.proofs.Collecting.{collects_none, collects_on}
 use Rattle.be_plan.proofs.Spines.{rests_in}
 use Rattle.be_plan.proofs.running.walk_picks.Goals as goal
 
@@ -14,11 +15,8 @@ pub loop-i-init : goal.loop-i-init
 loop-i-init g c = record {
   stays = refl;
   answers = c.requires.1.1.0;
-  keeps = λ n h. h;
-  only = λ n h. inl h;
-  end = c.whole_front-front.ensures.end;
-  few = c.whole_front-front.ensures.few;
-  under = c.whole_front-front.ensures.under;
+  collects = collects_none g.volume (formula c.args.tree.now) c.args.found.now.items;
+  front = c.whole_front-front.ensures;
   reached = λ k lt. absurd (omega (arith, lt));
 }
 
@@ -46,8 +44,17 @@ walk_pick-requires g c κs within =
     let place : length picks - 1 - c.loop-i.i < length picks = omega (arith, c.loop-i-test.true) in
     let rests : rests_on (has_index g.volume) f pick ≡ true =
     subst R (sym c.from_last-pick.ensures) (at_place (rests_on (has_index g.volume) f) picks (length picks - 1 - c.loop-i.i) parts.0 place) in
-    let stands : StandsIn f pick from part = c.front_for-front.ensures.stands in
-    (within, (omega (arith, c.front_for-front.ensures.side, c.front_for-front.ensures.few), (stands.first, (inv.answers, (rests_in (has_index g.volume) f part pick from stands rests, stands)))))
+    let stands : StandsIn f pick from part = c.front_for-front.ensures.stands in (
+      within,
+      (
+        inv.answers,
+        record {
+          few = omega (arith, c.front_for-front.ensures.side, c.front_for-front.ensures.front.few);
+          rests = rests_in (has_index g.volume) f part pick from stands rests;
+          stands = stands;
+        },
+      ),
+    )
 
 pub loop-i-preserved : goal.loop-i-preserved
 loop-i-preserved g c =
@@ -60,21 +67,15 @@ loop-i-preserved g c =
     record {
       stays = c.walk_pick.ensures.stays ∙ inv.stays;
       answers = c.walk_pick.ensures.answers;
-      keeps = λ n h. c.walk_pick.ensures.keeps n (inv.keeps n h);
-      only = λ n h. elim (c.walk_pick.ensures.only n h) [ inl old ↦ inv.only n old | inr is ↦ inr is ];
-      end = c.front_for-front.ensures.end;
-      few = c.front_for-front.ensures.few;
-      under = c.front_for-front.ensures.under;
+      collects = collects_on g.volume f c.args.found.now.items c.loop-i.found.items found inv.collects c.walk_pick.ensures.collects;
+      front = c.front_for-front.ensures.front;
       reached = below_more Q c.loop-i.i
-          (λ k lt node r holds. c.walk_pick.ensures.keeps node (inv.reached k lt node r holds))
+          (λ k lt node r holds. c.walk_pick.ensures.collects.keeps node (inv.reached k lt node r holds))
           (subst P c.from_last-pick.ensures c.in_ok-walk_pick.ensures.has);
     }
 
-pub returns-in_err-walk_pick-clause-keeps : goal.returns-in_err-walk_pick-clause-keeps
-returns-in_err-walk_pick-clause-keeps g c = λ n h. c.walk_pick.ensures.keeps n (c.loop-i.invariant.keeps n h)
-
-pub returns-in_err-walk_pick-clause-only : goal.returns-in_err-walk_pick-clause-only
-returns-in_err-walk_pick-clause-only g c = λ n h. elim (c.walk_pick.ensures.only n h) [ inl old ↦ c.loop-i.invariant.only n old | inr is ↦ inr is ]
+pub returns-in_err-walk_pick-clause-collects : goal.returns-in_err-walk_pick-clause-collects
+returns-in_err-walk_pick-clause-collects g c = collects_on g.volume (formula c.args.tree.now) c.args.found.now.items c.loop-i.found.items c.walk_pick.new.found.items c.loop-i.invariant.collects c.walk_pick.ensures.collects
 
 pub returns-clause-has : goal.returns-clause-has
 returns-clause-has g c =

@@ -1,10 +1,9 @@
-use Rattle.std.proofs.Common.{◌≡◌, ◌⊎◌, ℕ, true}
-use Rattle.std.specs.List.{Contains}
+use Rattle.std.proofs.Common.{◌≡◌, true}
 use Rattle.std.specs.Option.{option_map}
 use Rattle.be_query.specs.View.{formula}
 use Rattle.be_volume.specs.Query.{sat}
 use Rattle.be_plan.specs.Narrow.{high_of}
-use Rattle.be_plan.specs.Walk.{Keeps, HasCome}
+use Rattle.be_plan.specs.Walk.{Collects, HasCome}
 use Rattle.be_plan.proofs.Passing.{steps}
 use Rattle.be_plan.proofs.walks.visit_all.Given as goal
 
@@ -15,10 +14,10 @@ abbrev pub invariant-keys : goal.invariant-keys
 invariant-keys g l = record {
   stays : g.S.Source.kept l.source ≡ g.S.Source.kept l.initial.source;
   answers : g.S.Source.answers_for l.source g.volume;
-  keeps : Keeps l.initial.found.items l.found.items;
-  only : (n : ℕ) → Contains l.found.items n → Contains l.initial.found.items n ⊎ (sat g.volume (formula l.tree) n ≡ true);
-  come : HasCome g.volume (λ n. sat g.volume (formula l.tree) n ≡ true) l.name l.range.low.items (high_of l.range) (option_map (λ b. b.items) l.next) l.found.items;
+  collects : Collects g.volume (formula l.walk.tree.now) l.initial.found.items l.found.items;
+  come : HasCome g.volume (λ n. sat g.volume (formula l.walk.tree.now) n ≡ true) l.walk.index.name.now l.walk.range.now.low.items (high_of l.walk.range.now) (option_map (λ b. b.items) l.next)
+      l.found.items;
 }
 
 abbrev pub decreases-keys : goal.decreases-keys
-decreases-keys g l = steps g.volume l.name (option_map (λ b. b.items) l.next)
+decreases-keys g l = steps g.volume l.walk.index.name.now (option_map (λ b. b.items) l.next)

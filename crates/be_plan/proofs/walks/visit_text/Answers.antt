@@ -1,10 +1,9 @@
-use Rattle.std.proofs.Common.{◌≡◌, ◌∙◌, ◌++◌, ◌∷◌, ◌<◌, ◌^◌, [], sym, ap, subst, ℕ, true, false, List, inl, inr}
+use Rattle.std.proofs.Common.{◌≡◌, ◌∙◌, ◌++◌, ◌∷◌, ◌<◌, ◌^◌, [], sym, ap, subst, ℕ, true, List, inl, inr}
 use Rattle.std.specs.List.{Contains}
 use Rattle.std.proofs.lemmas.List.Elements.{Contains-push, Contains-push_cases}
 use Rattle.be_query.specs.Grammar.{Leaf}
 use Rattle.be_value.specs.Key.{value_key}
 use Rattle.be_value.specs.declared.values.Kind.TheVariants.{Cstr}
-use Rattle.be_volume.specs.Keys.{IsKey}
 use Rattle.be_volume.specs.Query.{sat}
 use Rattle.be_plan.proofs.Seen.{own_node}
 use Rattle.be_plan.proofs.Tested.{key_long, passed}

@@ -1,4 +1,4 @@
-use Rattle.std.proofs.Common.{◌≡◌, ◌⊎◌, List, subst, ◌∙◌, ◌<◌, ◌^◌, ◌≤◌, suc, sym, ap, refl, true, false, Some, ℕ, inl, inr}
+use Rattle.std.proofs.Common.{◌≡◌, List, subst, ◌∙◌, ◌<◌, ◌^◌, ◌≤◌, suc, sym, ap, refl, true, false, Some, ℕ, inl, inr}
 use Rattle.std.specs.List.{Contains}
 use Rattle.std.specs.Option.{option_map}
 use Rattle.std.specs.declared.option.Option.{Option}
@@ -11,7 +11,7 @@ use Rattle.be_volume.specs.Query.{sat}
 use Rattle.be_volume.specs.Reading.{index_kind}
 use Rattle.be_volume.specs.Sound.{IsSound}
 use Rattle.be_volume.specs.Volume.{State}
-use Rattle.be_plan.specs.Narrow.{Within, is_above, high_of}
+use Rattle.be_plan.specs.Narrow.{is_above, high_of}
 use Rattle.be_plan.specs.Texts.{IsKeyOf}
 use Rattle.be_plan.specs.Walk.{HasCome, IsNodeWithin}
 use Rattle.be_plan.proofs.Ends.{comes_first, comes_next, came_above, came_from_low}

@@ -16,32 +16,43 @@ nodes_within-requires g c = (g.volume, c.requires.1.0)
 
 pub pass_keys-requires : goal.pass_keys-requires
 pass_keys-requires g c κs within =
-    let R : Option Formula → Type 0 = λ r. LeavesRest (formula c.args.tree.now) c.args.name.now c.args.kind c.args.range.now.low.items (high_of c.args.range.now) r in
-    (within, (c.requires.1.0, (c.requires.1.1.0, subst R (ap (λ r. option_map formula (option_copied r)) c.in-Some.is) c.requires.1.1.1)))
+    let R : Option Formula → Type 0 = λ r. LeavesRest (formula c.args.walk.tree.now) c.args.walk.index.name.now c.args.walk.index.kind c.args.walk.range.now.low.items (high_of c.args.walk.range.now) r in (
+      within,
+      (
+        c.requires.1.0,
+        record {
+          kind_is = c.requires.1.1.kind_is;
+          leaves = subst R (ap (λ r. option_map formula (option_copied r)) c.in-Some.is) c.requires.1.1.leaves;
+        },
+      ),
+    )
 
-pub returns-in-None-clause-only : goal.returns-in-None-clause-only
-returns-in-None-clause-only g c = λ n h.
-    let f = formula c.args.tree.now in
-    let name = c.args.name.now in
-    let low = c.args.range.now.low.items in
-    let high = high_of c.args.range.now in
+pub returns-in-None-clause-collects : goal.returns-in-None-clause-collects
+returns-in-None-clause-collects g c =
+    let f = formula c.args.walk.tree.now in
+    let name = c.args.walk.index.name.now in
+    let low = c.args.walk.range.now.low.items in
+    let high = high_of c.args.walk.range.now in
     let sound = g.met.S.Source.sound c.args.source.now g.volume c.requires.1.0 in
     let L : List ℕ → Type 0 = λ l. HasOnly g.volume name l (option_copied c.high.result) c.args.found.now.items c.nodes_within.new.found.items in
     let H : Option (List ℕ) → Type 0 = λ b. HasOnly g.volume name low b c.args.found.now.items c.nodes_within.new.found.items in
     let only : HasOnly g.volume name low high c.args.found.now.items c.nodes_within.new.found.items =
     subst H c.high.ensures (subst L c.low.ensures (c.nodes_within.ensures.only g.volume c.requires.1.0)) in
-    let R : Option Formula → Type 0 = λ r. LeavesRest f name c.args.kind low high r in
-    let leaves : LeavesRest f name c.args.kind low high None = subst R (ap (λ r. option_map formula (option_copied r)) c.in-None.is) c.requires.1.1.1 in
+    let R : Option Formula → Type 0 = λ r. LeavesRest f name c.args.walk.index.kind low high r in
+    let leaves : LeavesRest f name c.args.walk.index.kind low high None = subst R (ap (λ r. option_map formula (option_copied r)) c.in-None.is) c.requires.1.1.leaves in
     let P : ℕ → Type 0 = λ m. sat g.volume f m ≡ true in
-    elim (only n h) [
-      | inl there ↦ inl there
-      | inr w ↦ inr (subst P w.node_is (left_key g.volume sound name w.key w.is_key c.args.kind c.requires.1.1.0 f low high None leaves w.within))
-    ]
+    record {
+      keeps = c.nodes_within.ensures.keeps;
+      only = λ n h. elim (only n h) [
+        | inl there ↦ inl there
+        | inr w ↦ inr (subst P w.node_is (left_key g.volume sound name w.key w.is_key c.args.walk.index.kind c.requires.1.1.kind_is f low high None leaves w.within))
+      ];
+    }
 
 pub returns-in-None-clause-has : goal.returns-in-None-clause-has
 returns-in-None-clause-has g c =
-    let name = c.args.name.now in
-    let low = c.args.range.now.low.items in
+    let name = c.args.walk.index.name.now in
+    let low = c.args.walk.range.now.low.items in
     let found = c.nodes_within.new.found.items in
     let L : List ℕ → Type 0 = λ l. HasNodes g.volume name l (option_copied c.high.result) found in
     let H : Option (List ℕ) → Type 0 = λ b. HasNodes g.volume name low b found in

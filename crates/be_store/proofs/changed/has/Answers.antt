@@ -1,6 +1,5 @@
-use Rattle.std.proofs.Common.{sym, ◌∙◌}
+use Rattle.std.proofs.Common.{◌∙◌}
 use Rattle.be_store.proofs.Among.{search_tells}
-use Rattle.be_store.proofs.Caught.{found_changes, is_came, is_scan, is_went}
 use Rattle.be_store.proofs.changed.has.Goals as goal
 
 pub returns : goal.returns

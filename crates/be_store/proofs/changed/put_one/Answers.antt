@@ -1,4 +1,4 @@
-use Rattle.std.proofs.Common.{◌≡◌, ℕ, List, sym, ap, subst, ◌∙◌}
+use Rattle.std.proofs.Common.{ℕ, List, sym, ap, subst, ◌∙◌}
 use Rattle.std.specs.List.Sorted.{IsStrictlyIncreasing}
 use Rattle.be_store.specs.Live.{is_among}
 use Rattle.be_store.proofs.Among.{among_insert, found_here, lacking_here, of_slice, rising_in_gap, there_already}

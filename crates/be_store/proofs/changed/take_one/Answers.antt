@@ -1,4 +1,4 @@
-use Rattle.std.proofs.Common.{◌≡◌, ◌&&◌, ◌==◌, not, ℕ, List, sym, ap, subst, ◌∙◌}
+use Rattle.std.proofs.Common.{◌&&◌, ◌==◌, not, ℕ, List, sym, ap, subst, ◌∙◌}
 use Rattle.std.specs.List.Sorted.{IsStrictlyIncreasing}
 use Rattle.be_store.specs.Live.{is_among}
 use Rattle.be_store.proofs.Among.{of_slice, among_remove, found_here, gap_lacks, gone_already, lacking_here, rising_remove}

@@ -1,4 +1,4 @@
-use Rattle.std.proofs.Common.{◌≡◌, ◌≢◌, ◌<◌, ◌≤◌, ◌+◌, ℕ, true, false, [], ◌∷◌, ◌++◌, arith, get_or, length, refl, subst, take, sym, ap, ◌∙◌}
+use Rattle.std.proofs.Common.{◌≡◌, ◌<◌, ◌≤◌, ◌+◌, true, false, [], ◌∷◌, ◌++◌, arith, get_or, length, subst, take, sym, ap, ◌∙◌}
 use Rattle.std.proofs.lemmas.List.{append-nil, take_all, take_more}
 use Rattle.be_store.specs.Live.{is_among, without}
 use Rattle.be_store.proofs.Answering.{after_next, below_next, below_next_held, between_lack, beyond, beyond_held, held_at, lacks_this, part_kept, rest_lack, without_more}

@@ -1,4 +1,4 @@
-use Rattle.std.proofs.Common.{◌≡◌, ◌<◌, ◌≤◌, ℕ, true, get_or}
+use Rattle.std.proofs.Common.{◌<◌, ◌≤◌, ℕ, get_or}
 use Rattle.std.specs.List.Sorted.{IsStrictlyIncreasing}
 use Rattle.be_journal.specs.declared.entries.Entry.{Entry}
 use Rattle.be_table.specs.Rule.{entries}

@@ -1,5 +1,4 @@
-use Rattle.std.proofs.Common.{◌≡◌, ◌<◌, ℕ, true, get_or}
-use Rattle.be_store.specs.Live.{is_among}
+use Rattle.std.proofs.Common.{true}
 use Rattle.be_store.proofs.Caught.{step_named}
 use Rattle.be_store.proofs.named.add_named.Goals as goal
 

@@ -162,11 +162,10 @@ returns-clause-answers g c = λ volume of.
       known_is = subst (λ (u : ℕ → ℕ → ℕ). IsKnown (contents_of (u page)).entries c.known_index.new.known) (sym (words ∙ step.words)) c.in-Some.ensures.known;
       beyond = record {
         can_go_on = λ lt. subst (λ (u : ℕ → Standing). IsCursor u w3 c.step.new.self) (sym standing) (subst (λ (u : ℕ → ℕ → ℕ). IsCursor s2 u c.step.new.self) (sym words) c.in_ok-page.ensures.cursor);
-        last = λ lt. record {
-          readable = subst (λ (u : ℕ → Standing). IsTrue (is_readable (u p))) (sym standing) c.in_ok-page.ensures.here.0;
-          in_page = c.in_ok-page.ensures.here.1.0;
-          fits = subst (λ (u : ℕ → ℕ → ℕ). IsItem (u p) at) (sym words) c.in_ok-page.ensures.here.1.1;
-        };
+        last = λ lt. (
+          subst (λ (u : ℕ → Standing). IsTrue (is_readable (u p))) (sym standing) c.in_ok-page.ensures.here.0,
+          (c.in_ok-page.ensures.here.1.0, subst (λ (u : ℕ → ℕ → ℕ). IsItem (u p) at) (sym words) c.in_ok-page.ensures.here.1.1),
+        );
         rest = λ d lt.
             let root : c.in-Some.index.root ≡ (get_or contents.entries place d).root = c.in-Some.ensures.found.root d ∙ ap (λ (u : ℕ → ℕ → ℕ). (get_or (contents_of (u page)).entries place d).root) (sym step.words) in
             let rising = tree_rising s2 w2 (get_or contents.entries place d).root (entry_tree s2 w2 contents place d version.in_hand named.in_range) in

@@ -1,4 +1,4 @@
-use Rattle.std.proofs.Common.{List, ℕ, ◌≡◌, ◌∙◌, true, false, Some, ap, sym, subst}
+use Rattle.std.proofs.Common.{List, ℕ, ◌≡◌, ◌∙◌, Some, ap, sym, subst}
 use Rattle.be_query.specs.View.{literal}
 use Rattle.be_value.specs.Value.{is_indexable}
 use Rattle.be_value.specs.declared.values.Value.{Value}

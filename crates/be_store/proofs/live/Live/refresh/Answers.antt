@@ -1,6 +1,6 @@
-use Rattle.std.proofs.Common.{◌≡◌, inl, sym, subst, ◌∙◌}
+use Rattle.std.proofs.Common.{inl, sym, subst, ◌∙◌}
 use Rattle.std.specs.List.Sorted.{IsStrictlyIncreasing}
-use Rattle.be_store.specs.Passes.{IsPinnedTo, volume_pinned}
+use Rattle.be_store.specs.Passes.{volume_pinned}
 use Rattle.be_store.proofs.Answering.{if_ok}
 use Rattle.be_store.proofs.Caught.{but_now, if_err, learns_read, own_after, pin_kept, refreshed_so, refused_so, volume_read}
 use Rattle.be_store.proofs.live.Live.refresh.Goals as goal

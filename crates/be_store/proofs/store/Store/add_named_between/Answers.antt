@@ -1,4 +1,4 @@
-use Rattle.std.proofs.Common.{◌≡◌, ◌<◌, ◌≤◌, true, arith, subst}
+use Rattle.std.proofs.Common.{arith, subst}
 use Rattle.be_store.specs.Named.{NamesAmong}
 use Rattle.be_store.proofs.Applied.{learns_only}
 use Rattle.be_store.proofs.Caught.{same_entry_at}

@@ -3,7 +3,7 @@ use Rattle.std.proofs.lemmas.List.{set-get_or}
 use Rattle.be_table.specs.declared.pass.Knowledge.{Knowledge}
 use Rattle.be_pages.specs.declared.page_pool.Place.TheVariants.{Current, Filled}
 use Rattle.be_pages.specs.Place.{is_in_hand, place_of}
-use Rattle.be_table.specs.Rule.{alone, ledger_places, pass_of, word_place}
+use Rattle.be_table.specs.Rule.{alone, pass_of, word_place}
 use Rattle.be_table.specs.Steps.{fills_word, fill_moves, with_history}
 use Rattle.be_table.proofs.Opened.{may_fill, reopened}
 use Rattle.be_table.proofs.Worked.{fill_needs, fill_work, reasons_none, worked_more}

@@ -1,0 +1,98 @@
+//! What lies between a client and its server, and refuses writes while a test says so.
+
+use super::Server;
+use std::fs;
+use std::io::{self, BufRead, BufReader, Write};
+use std::os::unix::net::{UnixListener, UnixStream};
+use std::path::{Path, PathBuf};
+use std::sync::{Arc, Mutex, MutexGuard};
+use std::thread;
+
+/// What the writes have that are refused, and those that were.
+#[derive(Debug, Default)]
+struct State {
+    refuses: Option<&'static str>,
+    refused: Vec<String>,
+}
+
+/// A socket, from which requests are forwarded to a server until the program ends.
+#[derive(Debug)]
+pub struct Refuser {
+    socket: PathBuf,
+    state: Arc<Mutex<State>>,
+}
+
+impl Refuser {
+    pub fn start(server: &Server) -> Self {
+        let (socket, to) = (server.socket().with_extension("refuser"), server.socket());
+        let listener = UnixListener::bind(&socket).unwrap();
+        let state = Arc::new(Mutex::new(State::default()));
+        let of_thread = state.clone();
+        thread::spawn(move || {
+            for client in listener.incoming().flatten() {
+                if let Ok(server) = UnixStream::connect(&to) {
+                    forward(client, server, of_thread.clone());
+                }
+            }
+        });
+        Self { socket, state }
+    }
+
+    pub fn socket(&self) -> &Path {
+        &self.socket
+    }
+
+    fn state(&self) -> MutexGuard<'_, State> {
+        self.state.lock().unwrap()
+    }
+
+    /// Refuses writes with this operation from now on.
+    pub fn refuse(&self, operation: &'static str) {
+        self.state().refuses = Some(operation);
+    }
+
+    /// Refuses no more writes.
+    pub fn accept(&self) {
+        self.state().refuses = None;
+    }
+
+    /// Whether a write with this operation was refused.
+    pub fn has_refused(&self, operation: &str) -> bool {
+        self.state().refused.iter().any(|line| line.contains(operation))
+    }
+}
+
+impl Drop for Refuser {
+    fn drop(&mut self) {
+        let _ = fs::remove_file(&self.socket);
+    }
+}
+
+/// Lets threads forward what comes from one to the other.
+fn forward(client: UnixStream, server: UnixStream, state: Arc<Mutex<State>>) {
+    let (mut replies, mut to) = (server.try_clone().unwrap(), client.try_clone().unwrap());
+    thread::spawn(move || io::copy(&mut replies, &mut to));
+    thread::spawn(move || {
+        for line in BufReader::new(&client).lines().map_while(Result::ok) {
+            // The client may be gone.
+            let _ = match refusal(&line, &state) {
+                Some(refusal) => writeln!(&client, "{refusal}"),
+                None => writeln!(&server, "{line}"),
+            };
+        }
+    });
+}
+
+/// The reply to a write that is refused.
+fn refusal(line: &str, state: &Mutex<State>) -> Option<String> {
+    let request: serde_json::Value = serde_json::from_str(line).unwrap();
+    let mut state = state.lock().unwrap();
+    if request.get("batch").is_none() || !line.contains(state.refuses?) {
+        return None;
+    }
+    state.refused.push(line.into());
+    let id = &request["id"];
+    Some(format!(
+        r#"{{"id":{id},"error":{{"name":"Full","number":11,"message":"no page is free"}}}}"#
+    ))
+}
