@@ -2,21 +2,16 @@
 use Rattle.std.proofs.Common.{◌≡◌, ℕ, List, [], ◌∷◌, ◌++◌, ◌<◌, ◌+◌, take, length, get_or, inl, inr, subst, sym}
 use Rattle.std.proofs.lemmas.List.{take_more}
 use Rattle.be_volume.specs.declared.ops.Op.{Op}
-use Rattle.be_session.specs.Operations.{AreMeant, IsFirstMisspelt, IsMeantBy, IsMisspelt, IsMisspeltAt, IsWriteCount}
+use Rattle.be_session.specs.Operations.{AreMeant, ArePartsWithin, IsFirstMisspelt, IsMeantBy, IsMisspelt, IsMisspeltAt, IsWriteCount}
 use Rattle.be_session.specs.declared.faults.Fault.{Fault}
 use Rattle.be_session.specs.declared.lists.Operation.{Operation}
-
-pub meant_more : (os : List Operation) (o : Operation) (bytes : List ℕ) (ops : List Op) (op : Op) → AreMeant os bytes ops → IsMeantBy o bytes op
-    → AreMeant (os ++ o ∷ []) bytes (ops ++ op ∷ [])
-meant_more [] o bytes [] op are is = (is, tt)
-meant_more [] o bytes (p ∷ ops) op are is = absurd are
-meant_more (n ∷ os) o bytes [] op are is = absurd are
-meant_more (n ∷ os) o bytes (p ∷ ops) op are is = (are.0, meant_more os o bytes ops op are.1 is)
+use Rattle.be_session.proofs.Spelt.{are_meant_more}
 
 pub meant_next : (os : List Operation) (i : ℕ) (d : Operation) (bytes : List ℕ) (ops : List Op) (op : Op) → i < length os
-    → AreMeant (take i os) bytes ops → IsMeantBy (get_or os i d) bytes op → AreMeant (take (i + 1) os) bytes (ops ++ op ∷ [])
-meant_next os i d bytes ops op low are is =
-    subst (λ xs. AreMeant xs bytes (ops ++ op ∷ [])) (sym (take_more os i d low)) (meant_more (take i os) (get_or os i d) bytes ops op are is)
+    → AreMeant (take i os) bytes ops → ArePartsWithin (get_or os i d) (length bytes) → IsMeantBy (get_or os i d) bytes op
+    → AreMeant (take (i + 1) os) bytes (ops ++ op ∷ [])
+meant_next os i d bytes ops op low are within is =
+    subst (λ xs. AreMeant xs bytes (ops ++ op ∷ [])) (sym (take_more os i d low)) (are_meant_more (take i os) (get_or os i d) bytes ops op are within is)
 
 -- those before it mean some, and it means none: its place is told
 pub misspelt_here : (os : List Operation) (i : ℕ) (d : Operation) (bytes : List ℕ) (ops : List Op) (e : Fault) (place : ℕ) → place ≡ i → IsWriteCount (length os) → i < length os

@@ -4,7 +4,7 @@ use Rattle.std.proofs.Common.{get_or, length, map, length-append, length-drop, r
 use Rattle.std.proofs.lemmas.List.{append_assoc, append-nil, drop-append-le, drop_at, map_more, take_more, take-append-le, take_all}
 use Rattle.be_volume.specs.declared.ops.Op.{Op}
 use Rattle.be_session.specs.Meaning.{IsMeant}
-use Rattle.be_session.specs.Operations.{AreMeantWithin, AreSpelled, IsMeantBy, ArePartsWithin, all_parts, both_parts, part}
+use Rattle.be_session.specs.Operations.{AreMeant, AreSpelled, ArePartsWithin, IsMeantBy, all_parts, both_parts, part}
 use Rattle.be_session.specs.declared.lists.Operation.{Operation}
 
 pub part_kept : (bytes more : List ℕ) (at len : ℕ) → at + len ≤ length bytes → part (bytes ++ more) at len ≡ part bytes at len
@@ -29,25 +29,25 @@ meant_kept o bytes more op within is =
     (subst (λ value. IsMeant o.kind o.node (part bytes o.name_at o.name_length) o.code o.number value op)
     (sym (part_kept bytes more o.value_at o.value_length within.1)) is)
 
-meant_within_kept : (os : List Operation) (bytes more : List ℕ) (ops : List Op) → AreMeantWithin os bytes ops → AreMeantWithin os (bytes ++ more) ops
-meant_within_kept [] bytes more [] are = tt
-meant_within_kept [] bytes more (op ∷ ops) are = absurd are
-meant_within_kept (o ∷ os) bytes more [] are = absurd are
-meant_within_kept (o ∷ os) bytes more (op ∷ ops) are =
+are_meant_kept : (os : List Operation) (bytes more : List ℕ) (ops : List Op) → AreMeant os bytes ops → AreMeant os (bytes ++ more) ops
+are_meant_kept [] bytes more [] are = tt
+are_meant_kept [] bytes more (op ∷ ops) are = absurd are
+are_meant_kept (o ∷ os) bytes more [] are = absurd are
+are_meant_kept (o ∷ os) bytes more (op ∷ ops) are =
     let name : o.name_at + o.name_length ≤ length bytes = are.0.0.0 in
     let value : o.value_at + o.value_length ≤ length bytes = are.0.0.1 in (
       ((omega (arith, length-append bytes more), omega (arith, length-append bytes more)), meant_kept o bytes more op are.0.0 are.0.1),
-      meant_within_kept os bytes more ops are.1,
+      are_meant_kept os bytes more ops are.1,
     )
 
-meant_within_more : (os : List Operation) (o : Operation) (bytes : List ℕ) (ops : List Op) (op : Op) → AreMeantWithin os bytes ops
-    → ArePartsWithin o (length bytes) → IsMeantBy o bytes op → AreMeantWithin (os ++ o ∷ []) bytes (ops ++ op ∷ [])
-meant_within_more [] o bytes [] op are within is = ((within, is), tt)
-meant_within_more [] o bytes (p ∷ ops) op are within is = absurd are
-meant_within_more (n ∷ os) o bytes [] op are within is = absurd are
-meant_within_more (n ∷ os) o bytes (p ∷ ops) op are within is = (are.0, meant_within_more os o bytes ops op are.1 within is)
+pub are_meant_more : (os : List Operation) (o : Operation) (bytes : List ℕ) (ops : List Op) (op : Op) → AreMeant os bytes ops
+    → ArePartsWithin o (length bytes) → IsMeantBy o bytes op → AreMeant (os ++ o ∷ []) bytes (ops ++ op ∷ [])
+are_meant_more [] o bytes [] op are within is = ((within, is), tt)
+are_meant_more [] o bytes (p ∷ ops) op are within is = absurd are
+are_meant_more (n ∷ os) o bytes [] op are within is = absurd are
+are_meant_more (n ∷ os) o bytes (p ∷ ops) op are within is = (are.0, are_meant_more os o bytes ops op are.1 within is)
 
-parts_kept : (os : List Operation) (bytes more : List ℕ) (ops : List Op) → AreMeantWithin os bytes ops → all_parts os (bytes ++ more) ≡ all_parts os bytes
+parts_kept : (os : List Operation) (bytes more : List ℕ) (ops : List Op) → AreMeant os bytes ops → all_parts os (bytes ++ more) ≡ all_parts os bytes
 parts_kept [] bytes more [] are = refl
 parts_kept [] bytes more (op ∷ ops) are = absurd are
 parts_kept (o ∷ os) bytes more [] are = absurd are
@@ -68,7 +68,7 @@ pub spelled_next : (os : List Operation) (o : Operation) (bytes all : List ℕ) 
     → ArePartsWithin o (length all) → IsMeantBy o all op → AreSpelled (os ++ o ∷ []) all (ops ++ op ∷ [])
 spelled_next os o bytes all ops op are grown within is =
     let more : List ℕ = both_parts o all in (
-      meant_within_more os o all ops op (subst (λ bs. AreMeantWithin os bs ops) (sym grown) (meant_within_kept os bytes more ops are.0)) within is,
+      are_meant_more os o all ops op (subst (λ bs. AreMeant os bs ops) (sym grown) (are_meant_kept os bytes more ops are.0)) within is,
       parts_more os o all
           ∙ (ap (λ ps. ps ++ more) (ap (all_parts os) grown ∙ (parts_kept os bytes more ops are.0 ∙ are.1)) ∙ sym grown),
     )

@@ -22,24 +22,18 @@ abbrev pub IsMeantBy : Operation → List ℕ → Op → Type 0
 IsMeantBy o bytes op = IsMeant o.kind o.node (part bytes o.name_at o.name_length) o.code o.number
     (part bytes o.value_at o.value_length) op
 
--- the operations that are encoded here, in their order
-abbrev pub AreMeant : List Operation → List ℕ → List Op → Type 0
-AreMeant [] bytes [] = Unit {0}
-AreMeant [] bytes (op ∷ ops) = ⊥
-AreMeant (o ∷ os) bytes [] = ⊥
-AreMeant (o ∷ os) bytes (op ∷ ops) = IsMeantBy o bytes op × AreMeant os bytes ops
-
 -- both parts of this operation lie within the first n bytes
 abbrev pub ArePartsWithin : Operation → ℕ → Type 0
 ArePartsWithin o n = (o.name_at + o.name_length ≤ n) × (o.value_at + o.value_length ≤ n)
 
--- these mean the operations, and each part lies within the bytes
-abbrev pub AreMeantWithin : List Operation → List ℕ → List Op → Type 0
-AreMeantWithin [] bytes [] = Unit {0}
-AreMeantWithin [] bytes (op ∷ ops) = ⊥
-AreMeantWithin (o ∷ os) bytes [] = ⊥
-AreMeantWithin (o ∷ os) bytes (op ∷ ops) = (ArePartsWithin o (length bytes) × IsMeantBy o bytes op)
-    × AreMeantWithin os bytes ops
+-- the operations that are encoded here, in their order; each part lies within the bytes, also one
+-- that its operation has no use for
+abbrev pub AreMeant : List Operation → List ℕ → List Op → Type 0
+AreMeant [] bytes [] = Unit {0}
+AreMeant [] bytes (op ∷ ops) = ⊥
+AreMeant (o ∷ os) bytes [] = ⊥
+AreMeant (o ∷ os) bytes (op ∷ ops) = (ArePartsWithin o (length bytes) × IsMeantBy o bytes op)
+    × AreMeant os bytes ops
 
 -- the bytes of this one's name, and then those of its value
 abbrev pub both_parts : Operation → List ℕ → List ℕ
@@ -53,7 +47,7 @@ all_parts (o ∷ os) bytes = both_parts o bytes ++ all_parts os bytes
 -- These encode the operations: they mean them, and the bytes are their parts, end to end, and
 -- nothing else.
 abbrev pub AreSpelled : List Operation → List ℕ → List Op → Type 0
-AreSpelled os bytes ops = AreMeantWithin os bytes ops × (all_parts os bytes ≡ bytes)
+AreSpelled os bytes ops = AreMeant os bytes ops × (all_parts os bytes ≡ bytes)
 
 -- what an entry's operation has besides its meaning: `New` has the node that it made
 abbrev pub TellsNode : Operation → Op → Done → Type 0

@@ -65,12 +65,21 @@ MayWaitAt seat pass =
 abbrev pub AreAllSeats : Opened → List SeatFacts → Type 0
 AreAllSeats store seats = AreNew store 0 seats × (length seats ≡ store.limits.passes)
 
--- The pass of a further session knows this: it is the last of those that wait here, which has seen
--- and written nothing; or none waits, and it was given back, and isn't pinned.
+-- A pass that a further session takes knew this: it is the last of those that wait here, which has
+-- seen and written nothing; or none waits, and it was given back, and isn't pinned.
+abbrev pub IsTakenFrom : Sitting → Sitting → Knowledge → Type 0
+IsTakenFrom s t b =
+    ((s.spare ≡ t.spare + 1) × (b ≡ newcomer s.store.limits (t.spare + 1) t.spare))
+    ⊎ ((s.spare ≡ 0) × (t.spare ≡ 0) × IsUnpinnedAt s.store b)
+
+-- The pass of a further session knows this: it has met the pass of the session that it was made by,
+-- and both have then seen what either had, of two prefixes of one journal the longer.
 abbrev pub IsHandedOut : Sitting → Sitting → Knowledge → Type 0
-IsHandedOut s t a =
-    ((s.spare ≡ t.spare + 1) × (a ≡ newcomer s.store.limits (t.spare + 1) t.spare))
-    ⊎ ((s.spare ≡ 0) × (t.spare ≡ 0) × IsUnpinnedAt s.store a)
+IsHandedOut s t c =
+    (b : Knowledge) × IsTakenFrom s t b × StartsWith (longer s.knows.seen b.seen) s.knows.seen
+    × StartsWith (longer s.knows.seen b.seen) b.seen
+    × (t.knows ≡ met s.knows (longer s.knows.seen b.seen))
+    × (c ≡ met b (longer s.knows.seen b.seen))
 
 -- A pass has met another unpinned pass of its store. It has then seen what either had: of two
 -- prefixes of one journal the longer, and n is its length. The moves of both up to then lie in one

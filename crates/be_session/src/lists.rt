@@ -1,6 +1,7 @@
 //! Lists of operations as other languages encode them.
 ghost use Rattle.std.specs.Prelude.{◌≡◌, ◌+◌, ◌<◌, ◌≤◌, IfOk, IfErr, IfSome, IfNone, length};
-ghost use Rattle.be_session.specs.Operations.{AreMeant, IsMisspelt, IsMisspeltAt, IsMeantBy};
+ghost use Rattle.be_session.specs.Operations.{AreMeant, ArePartsWithin, IsMisspelt, IsMisspeltAt};
+ghost use Rattle.be_session.specs.Operations.{IsMeantBy};
 ghost use Rattle.be_session.specs.Operations.{IsWriteCount, part};
 
 use crate::meanings::operation;
@@ -44,7 +45,8 @@ pub(crate) fn part(bytes: &[u8], at: u32, len: u32) -> Option<&[u8]>
 /// The operation that is encoded here. BadPart if a part isn't within the bytes; otherwise the
 /// error of `operation`.
 fn one(spelled: &Operation, bytes: &[u8]) -> Result<Op, Fault>
-    ensures ok { IfOk result (λ op. IsMeantBy spelled.now bytes.now op) }
+    ensures ok { IfOk result (λ op. ArePartsWithin spelled.now (length bytes.now)
+        × IsMeantBy spelled.now bytes.now op) }
     ensures err { IfErr result (λ e. IsMisspeltAt spelled.now bytes.now e) }
 {
     let Some(name) = part(bytes, spelled.name_at, spelled.name_length) else {

@@ -12,17 +12,18 @@ ghost use Rattle.be_paged_reading.specs.Cells.{IsReadInto, TellsColumns, name_in
 ghost use Rattle.be_paged_reading.specs.Nodes.{nodes_from};
 ghost use Rattle.be_table.specs.Rule.{IsWithin, entries, newcomer, one_step_on};
 ghost use Rattle.be_table.specs.Seats.{pinned_number};
-ghost use Rattle.be_table.specs.Steps.{unpins, with_history};
+ghost use Rattle.be_table.specs.Steps.{IsPass};
 ghost use Rattle.be_table.specs.Works.{AreNew, FoundHeld, IsOpenRefused, IsWitnessOf};
 ghost use Rattle.be_store.specs.Conditional.{AcceptsAt};
-ghost use Rattle.be_store.specs.History.{Accepts, IsUntold, Learns, LocksAndUnlocks, Pins};
+ghost use Rattle.be_store.specs.History.{Accepts, IsUntold, Learns, LocksAndUnlocks, Pins, Unpins};
 ghost use Rattle.be_store.specs.History.{entries_from, text_seen};
 ghost use Rattle.be_store.specs.Live.{Refreshes};
 ghost use Rattle.be_store.specs.Passes.{HasRead, IsPassOf, IsPinnedTo, volume_pinned};
 ghost use Rattle.be_store.specs.Statuses.{TellsStatus};
 ghost use Rattle.be_session.specs.Explained.{explanation_in};
 ghost use Rattle.be_session.specs.Finishing.{IsFinished, IsNotLast, IsUnfinished};
-ghost use Rattle.be_session.specs.Sitting.{AtPin, HasMet, IsHandedOut, IsPinned, IsUnwritten};
+ghost use Rattle.be_session.specs.Sitting.{AtPin, HasMet, IsHandedOut, IsPinned, IsTakenFrom};
+ghost use Rattle.be_session.specs.Sitting.{IsUnwritten};
 ghost use Rattle.be_session.specs.Sitting.{IsUnwrittenIf, IsNoQuery, IsOpened, IsUnpinnedAt};
 ghost use Rattle.be_session.specs.Sitting.{IsUnrefreshed, Joins, ReadAnswers};
 ghost use Rattle.be_session.specs.States.{untold, waiting};
@@ -147,7 +148,7 @@ fn of_returned(alloc: Global, shared: Arc<Shared, Global>) -> Result<Box<Session
     match in_box(alloc, shared, pass) {
         Ok(session) => Ok(session),
         Err(session) => {
-            session.close();
+            drop(session.close());
             Err(Fault::Refused(Refusal::OutOfMemory))
         }
     }
@@ -205,17 +206,32 @@ impl Session {
     }
 
     /// A session of the same store, in a box. It gets the last pass that waits here. If none waits,
-    /// it gets one that `close` gave back, in whatever thread. NoPass if there is neither;
-    /// OutOfMemory: the pass stays where it was.
+    /// it gets one that `close` gave back, in whatever thread. The two passes then meet: the new
+    /// session has seen all that this one has, its own writes too. A pin of this session stays.
+    /// NoPass if there is neither; OutOfMemory: the pass stays where it was.
     ///
     /// Passes that nobody has used wait with the session that opened the store. A pass that was
     /// given back has seen what it had seen, and its own writes stay in the journal under its
-    /// number.
+    /// number. Besides the box it costs three steps.
     pub fn another(&mut self, alloc: Global) -> Result<Box<Session, Global>, Fault>
-        ensures same { (self.new.store ≡ self.old.store) × (self.new.knows ≡ self.old.knows) }
+        ensures same { self.new.store ≡ self.old.store }
         ensures session { IfOk result (λ s. (s.value.store ≡ self.old.store)
             × (s.value.spare ≡ 0)) }
         ensures pass { IfOk result (λ s. IsHandedOut self.old self.new s.value.knows) }
+        ensures err { IfErr result (λ e. (self.new ≡ self.old)
+            × ((e ≡ Refused OutOfMemory) ⊎ ((e ≡ NoPass) × (self.old.spare ≡ 0)))) }
+    {
+        let mut session = self.take_another(alloc)?;
+        self.shared.store().meet(&mut self.pass, &mut session.pass);
+        Ok(session)
+    }
+
+    /// A session of the same store, in a box, whose pass hasn't met this one.
+    fn take_another(&mut self, alloc: Global) -> Result<Box<Session, Global>, Fault>
+        ensures same { (self.new.store ≡ self.old.store) × (self.new.knows ≡ self.old.knows) }
+        ensures session { IfOk result (λ s. (s.value.store ≡ self.old.store)
+            × (s.value.spare ≡ 0)) }
+        ensures pass { IfOk result (λ s. IsTakenFrom self.old self.new s.value.knows) }
         ensures err { IfErr result (λ e. (self.new ≡ self.old)
             × ((e ≡ Refused OutOfMemory) ⊎ ((e ≡ NoPass) × (self.old.spare ≡ 0)))) }
     {
@@ -237,14 +253,21 @@ impl Session {
     /// Releases the pin and gives the pass back, with the passes that wait here: `another` of each
     /// session of the store may then use them. A session that is dropped loses them. The store goes
     /// with its last session. It waits for nobody.
-    pub fn close(self) {
+    ///
+    /// Returns a witness of all that the pass has seen of the journal, its own writes among it.
+    /// If the session that calls `finish` has joined it, they are in the journal that this returns.
+    pub fn close(self) -> Witness
+        ensures witness { IsWitnessOf self.store result × (result.seen ≡ self.knows.seen) }
+    {
         let Session {
             shared,
-            pass,
+            mut pass,
             spare,
         } = self;
+        let witness = shared.store().witness(&mut pass);
         drop(shared.give_back(pass));
         shared.give_back_all(spare);
+        witness
     }
 
     /// Whether `finish` may be called. InUse: another session of the store is open. OutOfMemory.
@@ -359,8 +382,7 @@ impl Session {
     /// Releases the pin.
     pub fn unpin(&mut self) -> Result<(), Fault>
         ensures store { (self.new.store ≡ self.old.store) × (self.new.spare ≡ self.old.spare) }
-        ensures ok { IfOk result (λ n. self.new.knows
-            ≡ unpins (with_history self.old.knows self.new.knows.history)) }
+        ensures ok { OnOk result (Unpins self.old.knows self.new.knows) }
         ensures err { IfErr result (λ e. (self.new ≡ self.old) × (e ≡ NotPinned)
             × (pinned_number self.old.knows.phase ≡ None)) }
     {
@@ -547,7 +569,7 @@ impl Session {
         let Some(_) = self.pass.pinned() else {
             return Err(Fault::NotPinned);
         };
-        Ok(live.refresh_whole(self.shared.store(), &mut self.pass)?)
+        Ok(live.refresh(self.shared.store(), &mut self.pass)?)
     }
 
     /// The index cover from which a query would be answered in the pinned version: the chosen
@@ -724,6 +746,13 @@ pub fn sent<T: Send>(value: T) -> T
     ensures { result ≡ value }
 {
     value
+}
+
+/// A law of sessions: what is always so of a pass is so of a session's. It does nothing.
+pub fn session_is_pass(session: &Session)
+    ensures { IsPass session.now.knows }
+{
+    session.pass.is_pass();
 }
 
 /// A law of the type: a session may go to another thread. It does nothing.

@@ -5,14 +5,13 @@ use Rattle.be_journal.specs.Journal.{replay}
 use Rattle.be_table.specs.declared.pass.Commit.{Commit}
 use Rattle.be_table.specs.declared.pass.Knowledge.{Knowledge}
 use Rattle.be_table.specs.History.{StartsWith}
-use Rattle.be_table.specs.Steps.{IsPass, entry_by, met, unpins, with_history}
-use Rattle.be_table.specs.Trace.{HasTrace, Makes}
+use Rattle.be_table.specs.Steps.{IsPass, entry_by, met}
+use Rattle.be_table.specs.Trace.{HasTrace}
 use Rattle.be_table.specs.declared.limits.Limits.{Limits}
 use Rattle.be_table.specs.declared.pass.Move.{Move}
-use Rattle.be_table.specs.declared.pass.Move.TheVariants.{Unpin}
 use Rattle.be_volume.specs.declared.ops.Done.{Done}
 use Rattle.be_volume.specs.declared.ops.Op.{Op}
-use Rattle.be_store.specs.History.{Accepts, Learns, Pins}
+use Rattle.be_store.specs.History.{Accepts, Learns, Pins, Unpins}
 use Rattle.be_store.specs.Passes.{HasRead, IsPinnedTo, volume_pinned}
 
 -- One call of a pass: an accepted write; a refused one, the journal's text, or its entries; a pin;
@@ -23,8 +22,7 @@ Call a c =
     ((ops : List Op) × (n : ℕ) × (dones : List Done) × Accepts a c ops n dones)
     ⊎ Learns a c
     ⊎ ((n : ℕ) × Pins a c n)
-    ⊎ ((c ≡ unpins (with_history a c.history))
-    × Makes a.number a.history (Unpin a.number ∷ []) c.history)
+    ⊎ Unpins a c
     ⊎ HasRead a c
     ⊎ ((log : List Commit) × StartsWith log a.seen × (c ≡ met a log))
 

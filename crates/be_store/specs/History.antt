@@ -12,12 +12,12 @@ use Rattle.be_table.specs.declared.pass.Commit.{Commit}
 use Rattle.be_table.specs.declared.pass.Knowledge.{Knowledge}
 use Rattle.be_table.specs.History.{StartsWith}
 use Rattle.be_table.specs.Rule.{Reaches, entries}
-use Rattle.be_table.specs.Steps.{entry_by}
+use Rattle.be_table.specs.Steps.{entry_by, unpins, with_history}
 use Rattle.be_table.specs.Trace.{Makes}
 use Rattle.be_table.specs.Working.{WorksOn}
 use Rattle.be_table.specs.declared.pass.Move.{Move}
 use Rattle.be_table.specs.declared.pass.Move.TheVariants.{Look, Announce, LookAgain, Lock, Publish}
-use Rattle.be_table.specs.declared.pass.Move.TheVariants.{Unlock}
+use Rattle.be_table.specs.declared.pass.Move.TheVariants.{Unlock, Unpin}
 use Rattle.be_table.specs.Works.{MovesNow, FoundHeld, HasNoRoom}
 use Rattle.be_value.specs.declared.refusals.Refusal.{Refusal}
 use Rattle.be_value.specs.declared.refusals.Refusal.TheVariants.{Busy, OutOfMemory}
@@ -51,6 +51,10 @@ pub record LocksOnly (a c : Knowledge) : Type 0 where
 -- The pass took the lock and gave it back, and made no other move.
 abbrev pub LocksAndUnlocks : Knowledge → Knowledge → Type 0
 LocksAndUnlocks a c = Makes a.number a.history (Lock a.number ∷ Unlock a.number ∷ []) c.history
+
+-- The pass made no move, or took the lock and gave it back, and made no other move.
+abbrev pub LocksAtMostOnce : Knowledge → Knowledge → Type 0
+LocksAtMostOnce a c = (c.history ≡ a.history) ⊎ LocksAndUnlocks a c
 
 -- An accepted write of the pass: it has seen what it had seen, then entries of other passes, then
 -- its own. The outcomes are those of the volume at that place.
@@ -131,6 +135,11 @@ pub record Pins (a c : Knowledge) (n : ℕ) : Type 0 where
         + 3;
     history = c.history;
   }
+
+-- The pass is no longer pinned, by one step, which is the move Unpin of the reclamation machine.
+abbrev pub Unpins : Knowledge → Knowledge → Type 0
+Unpins a c = (c ≡ unpins (with_history a c.history))
+    × Makes a.number a.history (Unpin a.number ∷ []) c.history
 
 -- the journal's text, as far as the pass has seen it
 abbrev pub text_seen : Knowledge → List ℕ

@@ -5,7 +5,7 @@ ghost use Rattle.std.specs.Prelude.{Err, None, drop, false, get_or, length, take
 ghost use Rattle.be_value.specs.declared.refusals.Refusal.TheVariants.{OutOfMemory};
 ghost use Rattle.be_value.specs.Refusal.{Answers};
 ghost use Rattle.be_volume.specs.Query.{scan};
-ghost use Rattle.be_store.specs.History.{Learns};
+ghost use Rattle.be_store.specs.History.{Learns, LocksAtMostOnce};
 ghost use Rattle.be_store.specs.Live.{IsAnswerBut, IsLiveOf, Refreshes, without};
 ghost use Rattle.be_table.specs.Rule.{entries};
 ghost use Rattle.be_journal.specs.declared.entries.Entry.{Entry as AnyEntry};
@@ -134,6 +134,7 @@ impl Live {
         requires empty { nodes.old.items ≡ [] }
         ensures pass { IsPassOf store.now pass.new }
         ensures learns { Learns pass.old.knows pass.new.knows }
+        ensures moves { LocksAtMostOnce pass.old.knows pass.new.knows }
         ensures volume { volume_pinned pass.new.knows ≡ volume_pinned pass.old.knows }
         ensures same { self.new ≡ self.old }
         ensures rising { IsStrictlyIncreasing nodes.new.items }
@@ -195,12 +196,12 @@ impl Live {
         Ok(updates)
     }
 
-    /// Asks the whole query in the pinned version, and returns which nodes came and which went
-    /// since the last refresh, whatever store that was in.
+    /// Asks the query in the pinned version, and returns which nodes came and which went since the
+    /// last refresh, whatever store that was in. It reads at the pin and takes no lock.
     ///
     /// NotCovered and OutOfMemory leave it as it was. It costs what `Store::query_prepared` and
     /// `update` cost.
-    pub fn refresh_whole(&mut self, store: &Store, pass: &mut Pass) -> Result<Updates, Refusal>
+    pub fn refresh(&mut self, store: &Store, pass: &mut Pass) -> Result<Updates, Refusal>
         requires pass { IsPassOf store.now pass.old }
         requires pinned { (n : ℕ) × IsPinnedTo pass.old.knows n }
         ensures pass { IsPassOf store.now pass.new × HasRead pass.old.knows pass.new.knows }
@@ -220,23 +221,24 @@ impl Live {
         Ok(updates)
     }
 
-    /// Asks the query in the pinned version, and returns which nodes came and which went since the
-    /// last refresh, which was made in this store. The pass has then seen what the last refresh had
-    /// seen of the journal, too; its pin stays.
+    /// Returns what `refresh` does, by what was written since the last refresh, which was made in
+    /// this store: it reads the journal's entries since then, and asks the query only of the nodes
+    /// that they name. The pin stays. Use it for a large answer of which little changes.
     ///
-    /// NotCovered and OutOfMemory leave it as it was. It reads the journal's entries since the last
-    /// refresh, and asks the query of the nodes that they name. For that it tries the lock once; if
-    /// it gets it, other passes' writes are Busy meanwhile. It asks the whole query, which costs
-    /// what `refresh_whole` costs, if the last answer has fewer than 96 nodes, another pass holds
-    /// the lock, the version is older than that of the last refresh, an index was made or removed
-    /// since then, or many nodes were written: more than 4, and one for each 32 of the last answer,
-    /// or more than 64. Memory for what it returns.
-    pub fn refresh(&mut self, store: &Store, pass: &mut Pass) -> Result<Updates, Refusal>
+    /// NotCovered and OutOfMemory leave the query as it was. For the journal it tries the lock once
+    /// and gives it back when it has read those entries; other passes' writes are Busy meanwhile.
+    /// It asks the whole query, which costs what `refresh` costs, if the last answer has fewer than
+    /// 96 nodes, another pass holds the lock, the version is older than that of the last refresh, an
+    /// index was made or removed since then, or many nodes were written: more than 4 and one for
+    /// each 32 of the last answer, or more than 64. From 96 nodes on the pass has then also seen
+    /// what the last refresh had seen of the journal. Memory for what it returns.
+    pub fn refresh_changed(&mut self, store: &Store, pass: &mut Pass) -> Result<Updates, Refusal>
         requires pass { IsPassOf store.now pass.old }
         requires pinned { (n : ℕ) × IsPinnedTo pass.old.knows n }
         requires own { IsLiveOf store.now self.old }
         ensures pass { IsPassOf store.now pass.new }
         ensures learns { Learns pass.old.knows pass.new.knows }
+        ensures moves { LocksAtMostOnce pass.old.knows pass.new.knows }
         ensures volume { volume_pinned pass.new.knows ≡ volume_pinned pass.old.knows }
         ensures own { IsLiveOf store.now self.new }
         ensures ok { IfOk result (λ u. Refreshes (volume_pinned pass.old.knows) self.old self.new
@@ -249,7 +251,7 @@ impl Live {
         };
         let mut nodes = ArrayVec::new();
         if !self.find_changes(store, pass, pin, &mut nodes) {
-            return self.refresh_whole(store, pass);
+            return self.refresh(store, pass);
         }
         self.ask_changed(store, pass, pin, nodes.as_slice())
     }
@@ -277,6 +279,7 @@ fn add_changes(
     requires rising { IsStrictlyIncreasing nodes.old.items }
     ensures pass { IsPassOf store.now pass.new }
     ensures learns { Learns pass.old.knows pass.new.knows }
+    ensures moves { LocksAtMostOnce pass.old.knows pass.new.knows }
     ensures rising { IsStrictlyIncreasing nodes.new.items }
     ensures order { result ≡ true → from ≤ end }
     ensures named { result ≡ true → (i : ℕ) (d : AnyEntry) → from ≤ i → i < end →

@@ -6,7 +6,7 @@ ghost use Rattle.std.specs.List.Sorted.{IsStrictlyIncreasing};
 ghost use Rattle.std.specs.Prelude.{◌≡◌, ◌≤◌, ◌<◌, ℕ, true, get_or, length};
 ghost use Rattle.be_journal.specs.declared.entries.Entry.{Entry as AnyEntry};
 ghost use Rattle.be_table.specs.Rule.{entries};
-ghost use Rattle.be_store.specs.History.{Learns};
+ghost use Rattle.be_store.specs.History.{Learns, LocksAtMostOnce};
 ghost use Rattle.be_store.specs.Live.{is_among};
 ghost use Rattle.be_store.specs.Named.{AreNamedAmong, IsNamedAmong, NamesAmong, node_named};
 ghost use Rattle.be_store.specs.Passes.{IsPassOf};
@@ -134,6 +134,7 @@ impl Store {
         requires rising { IsStrictlyIncreasing nodes.old.items }
         ensures pass { IsPassOf self.now pass.new }
         ensures learns { Learns pass.old.knows pass.new.knows }
+        ensures moves { LocksAtMostOnce pass.old.knows pass.new.knows }
         ensures rising { IsStrictlyIncreasing nodes.new.items }
         ensures named { result ≡ true → (i : ℕ) (d : AnyEntry) → from ≤ i → i < end →
             NamesAmong nodes.new.items (get_or (entries pass.old.knows.seen) i d) }

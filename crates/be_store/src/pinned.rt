@@ -13,12 +13,11 @@ ghost use Rattle.be_volume.specs.Reading.{attribute, attributes_at, index_kinds}
 ghost use Rattle.be_volume_state.specs.Places.{given, left};
 ghost use Rattle.be_plan.specs.Cover.{chosen, covers};
 ghost use Rattle.be_plan.specs.Explain.{are_places};
-ghost use Rattle.be_paged_reading.specs.Cells.{TellsColumns, name_in};
+ghost use Rattle.be_paged_reading.specs.Cells.{IsReadInto, TellsColumns, name_in};
 ghost use Rattle.be_paged_reading.specs.Nodes.{nodes_from};
 ghost use Rattle.be_table.specs.Seats.{pinned_number};
-ghost use Rattle.be_table.specs.Steps.{unpins, with_history};
 ghost use Rattle.be_table.specs.Works.{IsSeatOf};
-ghost use Rattle.be_store.specs.History.{Learns, Pins};
+ghost use Rattle.be_store.specs.History.{Learns, LocksAtMostOnce, Pins, Unpins};
 ghost use Rattle.be_store.specs.Live.{IsLiveOf, Refreshes};
 ghost use Rattle.be_store.specs.Passes.{IsAtRest, IsAtRest-prop, IsPassOf, IsPinnedTo};
 ghost use Rattle.be_store.specs.Passes.{HasRead, volume_pinned};
@@ -178,6 +177,19 @@ impl Pinned<'_> {
         self.store.columns(self.pass, nodes, names, cells, bytes)
     }
 
+    /// As `Store::get_into`.
+    pub fn get_into(&mut self, node: u64, name: &HeldName, bytes: &mut [u8]) -> Option<Cell>
+        requires pinned { (n : ℕ) × IsPinnedTo self.old.pass.now.knows n }
+        ensures same_reference { self.new.pass.ghost_name ≡ self.old.pass.ghost_name }
+        ensures store { (self.new.store.now ≡ self.old.store.now)
+            × (self.new.number ≡ self.old.number) }
+        ensures read { HasRead self.old.pass.now.knows self.new.pass.now.knows }
+        ensures value { IsReadInto (attribute (volume_pinned self.old.pass.now.knows) node
+            (name_in name.now)) result bytes.old bytes.new }
+    {
+        self.store.get_into(self.pass, node, name, bytes)
+    }
+
     /// As `Store::next`.
     pub fn next(&mut self) -> u64
         requires pinned { (n : ℕ) × IsPinnedTo self.old.pass.now.knows n }
@@ -256,11 +268,29 @@ impl Pinned<'_> {
     /// As `Live::refresh`.
     pub fn refresh(&mut self, live: &mut Live) -> Result<Updates, Refusal>
         requires pinned { (n : ℕ) × IsPinnedTo self.old.pass.now.knows n }
+        ensures same_reference { self.new.pass.ghost_name ≡ self.old.pass.ghost_name }
+        ensures store { (self.new.store.now ≡ self.old.store.now)
+            × (self.new.number ≡ self.old.number) }
+        ensures read { HasRead self.old.pass.now.knows self.new.pass.now.knows }
+        ensures own { IfOk result (λ u. IsLiveOf self.old.store.now live.new) }
+        ensures ok { IfOk result (λ u. Refreshes (volume_pinned self.old.pass.now.knows) live.old
+            live.new u.created.items u.removed.items) }
+        ensures err { IfErr result (λ e. (live.new ≡ live.old)
+            × ((e ≡ OutOfMemory) ⊎ (scan (volume_pinned self.old.pass.now.knows) live.old.query
+            ≡ Err e))) }
+    {
+        live.refresh(self.store, self.pass)
+    }
+
+    /// As `Live::refresh_changed`.
+    pub fn refresh_changed(&mut self, live: &mut Live) -> Result<Updates, Refusal>
+        requires pinned { (n : ℕ) × IsPinnedTo self.old.pass.now.knows n }
         requires own { IsLiveOf self.old.store.now live.old }
         ensures same_reference { self.new.pass.ghost_name ≡ self.old.pass.ghost_name }
         ensures store { (self.new.store.now ≡ self.old.store.now)
             × (self.new.number ≡ self.old.number) }
         ensures learns { Learns self.old.pass.now.knows self.new.pass.now.knows }
+        ensures moves { LocksAtMostOnce self.old.pass.now.knows self.new.pass.now.knows }
         ensures volume { volume_pinned self.new.pass.now.knows
             ≡ volume_pinned self.old.pass.now.knows }
         ensures own { IsLiveOf self.old.store.now live.new }
@@ -270,7 +300,7 @@ impl Pinned<'_> {
             × ((e ≡ OutOfMemory) ⊎ (scan (volume_pinned self.old.pass.now.knows) live.old.query
             ≡ Err e))) }
     {
-        live.refresh(self.store, self.pass)
+        live.refresh_changed(self.store, self.pass)
     }
 }
 
@@ -278,8 +308,7 @@ impl Drop for Pinned<'_> {
     fn drop(self)
         requires pinned { (n : ℕ) × IsPinnedTo self.pass.now.knows n }
         ensures pass { IsPassOf self.entry.store.now self.exit.1.0.now }
-        ensures unpinned { self.exit.1.0.now.knows
-            ≡ unpins (with_history self.entry.pass.now.knows self.exit.1.0.now.knows.history) }
+        ensures unpins { Unpins self.entry.pass.now.knows self.exit.1.0.now.knows }
     {
         let Pinned {
             store,

@@ -78,13 +78,14 @@ Opens limits None None code = ((code ≡ 10) × IsWithin limits)
     ⊎ ((why : Refusal) × (code ≡ refusal_number why) × IsOpenRefused limits why)
 
 -- A second handle: an open one stays as it was, and the call returns 65. A closed one gets a
--- session of the same store, with a pass that is handed out and with no waiting pass. The call
--- returns 68 if no pass waits, and 10 if it runs out of memory.
+-- session of the same store, with no waiting pass, and with a pass that is handed out and has met
+-- the pass of the first handle. The call returns 68 if no pass waits, and 10 if it runs out of
+-- memory.
 abbrev pub OpensSecond : Sitting → Sitting → Option Sitting → Option Sitting → ℕ → Type 0
 OpensSecond s t (Some o) (Some p) code = (code ≡ 65) × (p ≡ o) × (t ≡ s)
 OpensSecond s t (Some o) None code = ⊥
 OpensSecond s t None (Some p) code = (code ≡ 0) × (p.store ≡ s.store) × (p.spare ≡ 0)
-    × IsHandedOut s t p.knows × (t.knows ≡ s.knows)
+    × IsHandedOut s t p.knows
 OpensSecond s t None None code = (t ≡ s) × ((code ≡ 10) ⊎ ((code ≡ 68) × (s.spare ≡ 0)))
 
 -- A second handle, from one that may be closed: then both stay as they were, and the call returns
@@ -189,13 +190,14 @@ Shown (Some n) None told places filled code = code ≡ 3
 Shown (Some n) (Some value) told places filled code = (code ≡ 0)
     × ShowsValue value told places filled
 
--- A read of an attribute. If the bytes are no name, nothing happens; otherwise the call returns the
--- attribute.
+-- A read of an attribute. If the bytes are no name, nothing happens. Otherwise they are one, and the
+-- call returns the attribute.
 abbrev pub Reads : Sitting → Sitting → ℕ → List ℕ → Attribute → List ℕ → List ℕ → ℕ → Type 0
 Reads s t node name told places filled code =
     ((e : Fault) × (code ≡ fault_code e) × IsNoName name e × (t ≡ s))
-    ⊎ (HasRead s.knows t.knows × Shown (pinned_number s.knows.phase)
-    (attribute (volume_pinned s.knows) node name) told places filled code)
+    ⊎ (IsUtf8 name × (name_from name ≡ Ok name) × HasRead s.knows t.knows
+    × Shown (pinned_number s.knows.phase) (attribute (volume_pinned s.knows) node name) told places
+    filled code)
 
 -- the same of a name that is checked already
 abbrev pub ReadsHeld : Sitting → Sitting → ℕ → List ℕ → Attribute → List ℕ → List ℕ → ℕ → Type 0

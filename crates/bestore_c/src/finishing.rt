@@ -49,7 +49,7 @@ pub(crate) fn end(session: Session, text: &str, bytes: &mut [u8], count: &mut u6
             0
         }
         Err(Unfinished::Kept(session, _)) => {
-            session.close();
+            drop(session.close());
             refuse(Fault::InUse, count)
         }
         Err(Unfinished::PassLost) => refuse(Fault::InUse, count),

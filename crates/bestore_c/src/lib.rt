@@ -13,10 +13,9 @@ ghost use Rattle.be_session.specs.Items.{IsBuilt, IsUnbuilt};
 ghost use Rattle.be_session.specs.Operations.{makes, sets};
 ghost use Rattle.be_session.specs.Sitting.{HasMet, IsPinned};
 ghost use Rattle.be_session.specs.declared.faults.Fault.TheVariants.{AlreadyPinned, NoPass};
-ghost use Rattle.be_store.specs.History.{Pins};
+ghost use Rattle.be_store.specs.History.{Pins, Unpins};
 ghost use Rattle.be_store.specs.Passes.{HasRead, volume_pinned};
 ghost use Rattle.be_table.specs.Seats.{pinned_number};
-ghost use Rattle.be_table.specs.Steps.{unpins, with_history};
 ghost use Rattle.be_volume.specs.Reading.{attributes_at, index_kinds};
 ghost use Rattle.bestore_c.specs.Calls.{AnswersWhetherOpen, AsksPrepared, Calls, Explains, Finds};
 ghost use Rattle.bestore_c.specs.Calls.{FindsBuilt, GivesAnother, IsClosed};
@@ -181,7 +180,7 @@ pub extern "C" fn bes_close(alloc: Global, pass: &mut Handle) -> u32
     }
     let session = mem::replace(&mut pass.owned, Owned::none(alloc)).into_box();
     pass.live = false;
-    Box::into_inner(session).close();
+    drop(Box::into_inner(session).close());
     DONE
 }
 
@@ -345,7 +344,7 @@ pub extern "C" fn bes_pin(pass: &mut Handle, number: &mut u64) -> u32
 #[unsafe(no_mangle)]
 pub extern "C" fn bes_unpin(pass: &mut Handle) -> u32
     ensures pass { Calls pass.old.owned.value pass.new.owned.value (result ≡ 64)
-        (λ s t. ((result ≡ 0) × (t.knows ≡ unpins (with_history s.knows t.knows.history)))
+        (λ s t. ((result ≡ 0) × Unpins s.knows t.knows)
         ⊎ ((result ≡ 66) × (t ≡ s) × (pinned_number s.knows.phase ≡ None))) }
 {
     if !pass.live {

@@ -12,7 +12,7 @@ pub loop-next-preserved : goal.loop-next-preserved
 loop-next-preserved c = record {
   meant = subst (AreMeant (take (c.loop-next.next-index + 1) c.args.spelled.now) c.args.bytes.now) (sym c.push_reserved.ensures.items)
       (meant_next c.args.spelled.now c.loop-next.next-index _ c.args.bytes.now c.loop-next.ops.items c.in-Ok.op c.loop-next-test.true
-      c.loop-next.invariant.meant c.in-Ok.ensures.ok);
+      c.loop-next.invariant.meant c.in-Ok.ensures.ok.0 c.in-Ok.ensures.ok.1);
   count = c.push_reserved.ensures.len ∙ ap (λ n. n + 1) c.loop-next.invariant.count;
   room = subst (λ n. length c.args.spelled.now ≤ n) (sym c.push_reserved.ensures.capacity) c.loop-next.invariant.room;
   fits = c.loop-next.invariant.fits;
