@@ -1,4 +1,6 @@
 """The crates of crates.txt, and how the command `rattle` is told to read one over the proved form of those below it."""
+from __future__ import annotations
+
 import shutil
 import sys
 from pathlib import Path
@@ -6,38 +8,42 @@ from pathlib import Path
 ROOT = Path(__file__).resolve().parent.parent
 
 
-def read_libraries():
+def read_libraries() -> dict[str, list[str]]:
     """The libraries that each crate names in crates.txt, of this repository and of the toolchain."""
     lines = (it.partition("#")[0].partition(":") for it in (ROOT / "crates.txt").read_text().splitlines())
     return {names.split()[0]: libraries.split() for names, _, libraries in lines if names.strip()}
 
 
-def below(crate, libraries):
+def below(crate: str, libraries: dict[str, list[str]]) -> set[str]:
     """The repository's libraries that a crate stands on."""
-    found = set()
+    found: set[str] = set()
     for it in libraries[crate]:
         if it in libraries:
             found |= {it} | below(it, libraries)
     return found
 
 
-def folder_of(crate):
+def folder_of(crate: str) -> Path:
     """Where the gate, or a check, leaves the proved form of a library."""
     return ROOT / f"crates/{crate}/out/rlib"
 
 
-def find_rt():
+def find_rt() -> Path:
     return Path(shutil.which("rt") or sys.exit("there is no rt")).resolve()
 
 
-def rattle_words(command, crate, source, libraries):
+def rattle_words(command: str, crate: str, source: str, libraries: dict[str, list[str]]) -> list[str]:
     """`rattle COMMAND` of a crate whose source this is."""
     rt = find_rt()
     kit = rt.parent.parent
-    rlib = lambda it: (folder_of(it) if it in libraries else kit / "rlibs") / f"{it}.rlib"
+
+    def rlib(library: str) -> Path:
+        return (folder_of(library) if library in libraries else kit / "rlibs") / f"{library}.rlib"
+
     externs = [("--extern", f"{it}={rlib(it)}") for it in ["std", *libraries[crate]]]
     folders = [("-L", f"dependency={rlib(it).parent}") for it in ["std", *sorted(below(crate, libraries))]]
     logic = ["--antt-project", kit / "rattle/logic/antt-project.json", "--logic-built", kit / "logic_built"]
     toolchain = ["--toolchain", kit / "toolchain"] if command == "build" else []
-    words = [rt.with_name("rattle"), command, "--crate-name", crate, source, *sum(externs + folders, ()), *logic, *toolchain]
+    pairs = [word for pair in externs + folders for word in pair]
+    words = [rt.with_name("rattle"), command, "--crate-name", crate, source, *pairs, *logic, *toolchain]
     return [str(it) for it in words]

@@ -4,12 +4,21 @@ use std::fs::{self, File, OpenFile};
 use std::io::{self, Eprint, ErrorKind, Write};
 use std::rt::Files;
 
-/// Writes a text into a new file.
-fn write_new<R: Files>(rt: &R, name: &str, text: &str) -> io::Result<()> {
-    let mut file = File::create_new(rt, name)?;
+/// Writes a text to the end of a file, and waits until it is on the disk.
+fn write_whole<R: Files>(mut file: R::File, text: &str) -> io::Result<()> {
     file.write_all(text.as_bytes())?;
     file.flush()?;
     file.sync_all()
+}
+
+/// Writes a text into a new file, and removes it again if it can't be written whole.
+fn write_new<R: Files>(rt: &R, name: &str, text: &str) -> io::Result<()> {
+    let file = File::create_new(rt, name)?;
+    let written = write_whole::<R>(file, text);
+    if written.is_err() {
+        let _ = fs::remove_file(rt, name);
+    }
+    written
 }
 
 /// Gives a draft its name, which no file has. If the file system has no links the draft is renamed.

@@ -9,15 +9,11 @@ mod carrying;
 mod conditional;
 mod handing;
 mod races;
-mod refreshing;
 mod room;
 mod sizes;
 mod states;
-mod writers;
 
-use crate::tests::refreshing::follows_random_writes;
 use crate::tests::room::{Room, for_one, for_two};
-use crate::tests::writers::change_by_four;
 use be_store::{Kind, Limits, Name, Op, Refusal, Store, Value};
 use be_test_tools::{OUTSIDE_LIMITS, again, check_lines, has_hundred_by_each, numbered};
 use std::alloc::{AllocError, Global};
@@ -128,17 +124,6 @@ fn live_query_of_two_passes(rt: HostRuntime) -> Result<(), Fail> {
 1 refresh / 1 set 2 k LONG 8 / 1 unpin / 1 pin / 1 refresh => created / removed 3 / commit 7 / \
          ok / ok / pin 7 / created 2 / removed";
     check_lines(rt.alloc(), &mut for_two(rt.alloc(), 64, 100)?, lines)
-}
-
-/// What refreshes return keeps a list equal to what the query finds, beside random writes.
-#[test]
-fn live_query_beside_writes(rt: HostRuntime) -> Result<(), Fail> {
-    let follows = match follows_random_writes(rt.alloc()) {
-        Err(Refusal::OutOfMemory) => follows_random_writes(rt.alloc()),
-        answer => answer,
-    };
-    assert_eq!(rt; follows, Ok(true));
-    Ok(())
 }
 
 /// A prepared query follows the index of its name: to another place, to another kind, and away.
@@ -512,15 +497,6 @@ fn entries_of_the_journal(rt: HostRuntime) -> Result<(), Fail> {
 1 entries 0 0 / 1 entries 3 9 / 1 entries 18446744073709551615 18446744073709551615 / 1 next => \
          next 3";
     check_lines(rt.alloc(), &mut for_two(rt.alloc(), 64, 9)?, lines)
-}
-
-/// Four threads write on what they read, and none mixes its nodes with another's or loses an
-/// increment.
-#[test]
-fn four_writers(rt: HostRuntime) -> Result<(), Fail> {
-    let answer = again!(change_by_four(&rt));
-    assert_eq!(rt; answer, Ok((4, 200)));
-    Ok(())
 }
 
 /// Writes lists of different kinds: nodes and one that is dropped, an attribute outside of its

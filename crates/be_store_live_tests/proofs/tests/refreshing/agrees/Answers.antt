@@ -1,7 +1,7 @@
 use Rattle.std.proofs.Common.{ap, ◌∙◌}
 use Rattle.be_store.specs.Seats.{pinned_number}
 use Rattle.be_table.specs.declared.pass.Knowledge.{Knowledge}
-use Rattle.be_store_tests.proofs.tests.refreshing.agrees.Goals as goal
+use Rattle.be_store_live_tests.proofs.tests.refreshing.agrees.Goals as goal
 
 pub refresh-requires-clause-pinned : goal.refresh-requires-clause-pinned
 refresh-requires-clause-pinned c = (c.pin_if_not.result, c.pin_if_not.ensures.pinned)

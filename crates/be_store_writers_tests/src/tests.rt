@@ -1,0 +1,16 @@
+//! Threads that write on what they read, by the public calls of the store.
+
+mod writers;
+
+use crate::tests::writers::change_by_four;
+use be_test_tools::again;
+use std::test::Fail;
+
+/// Four threads write on what they read, and none mixes its nodes with another's or loses an
+/// increment.
+#[test]
+fn four_writers(rt: HostRuntime) -> Result<(), Fail> {
+    let answer = again!(change_by_four(&rt));
+    assert_eq!(rt; answer, Ok((4, 200)));
+    Ok(())
+}
