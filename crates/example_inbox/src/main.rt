@@ -3,7 +3,6 @@
 #![tactic(auto)]
 
 ghost use Rattle.std.specs.Prelude.{◌≡◌, ℕ, None};
-ghost use Rattle.be_store.specs.Live.{IsLiveOf};
 ghost use Rattle.be_store.specs.Passes.{IsPassOf, IsPinnedTo};
 ghost use Rattle.be_store.specs.Seats.{pinned_number};
 
@@ -68,10 +67,8 @@ fn file_both<R: Threads + Sync>(
 fn ask(store: &Store, mut pass: Pass, mut live: Live) -> (Pass, Live, Result<usize, Refusal>)
     requires pass { IsPassOf store.now pass }
     requires pinned { (n : ℕ) × IsPinnedTo pass.knows n }
-    requires own { IsLiveOf store.now live }
     ensures pass { IsPassOf store.now result.0 }
     ensures unpinned { pinned_number result.0.knows.phase ≡ None }
-    ensures own { IsLiveOf store.now result.1 }
 {
     let came = match live.refresh(store, &mut pass) {
         Ok(updates) => Ok(updates.created.len()),
@@ -92,12 +89,10 @@ fn ask_meanwhile<R: Threads + Sync>(
 ) -> ((Pass, Live, Result<usize, Refusal>), Result<(), Refusal>)
     requires reader { IsPassOf store.now reader }
     requires pinned { (n : ℕ) × IsPinnedTo reader.knows n }
-    requires own { IsLiveOf store.now live }
     requires first { IsPassOf store.now first }
     requires second { IsPassOf store.now second }
     ensures pass { IsPassOf store.now result.0.0 }
     ensures unpinned { pinned_number result.0.0.knows.phase ≡ None }
-    ensures own { IsLiveOf store.now result.0.1 }
 {
     thread::join(
         rt,

@@ -9,14 +9,19 @@ use be_store::{Kind, Limits, Live, Name, Op, Pass, Query, Refusal, Store, Update
 use be_test_tools::both_of;
 use std::alloc::Global;
 
+/// About four of ten nodes.
+const TEXT: &str = "size>30&&size<70||size==5&&other>50";
+
 /// Numbers that look random: each by a product from the one before.
 fn next_number(number: u32) -> u32 {
     number.wrapping_mul(1_664_525).wrapping_add(1_013_904_223)
 }
 
-/// An operation by a random number, on one of forty nodes.
-fn random_op(number: u32) -> Result<Op, Refusal> {
-    let node = u64::from((number >> 8) % 40 + 1);
+/// An operation by a random number, on one of these nodes.
+fn random_op(nodes: u32, number: u32) -> Result<Op, Refusal>
+    requires { 0 < nodes }
+{
+    let node = u64::from((number >> 8) % nodes + 1);
     let size = Name::new("size")?;
     let value = Value::int64(i64::from((number >> 16) % 100));
     if (number >> 24) % 32 == 9 {
@@ -49,13 +54,20 @@ fn write_or_not(store: &Store, pass: &mut Pass, op: Op) -> Result<(), Refusal>
 }
 
 /// Writes so many random operations. Returns the next random number.
-fn write_some(store: &Store, pass: &mut Pass, count: u32, first: u32) -> Result<u32, Refusal>
-    requires { IsPassOf store.now pass.old }
+fn write_some(
+    store: &Store,
+    pass: &mut Pass,
+    nodes: u32,
+    count: u32,
+    first: u32,
+) -> Result<u32, Refusal>
+    requires pass { IsPassOf store.now pass.old }
+    requires nodes { 0 < nodes }
     ensures { IsPassOf store.now pass.new }
 {
     let mut number = first;
     for _ in 0..count {
-        write_or_not(store, pass, random_op(number)?)?;
+        write_or_not(store, pass, random_op(nodes, number)?)?;
         number = next_number(number);
     }
     Ok(number)
@@ -109,7 +121,7 @@ fn agrees(
     ensures own { IsLiveOf store.now live.new }
 {
     pin_if_not(store, pass);
-    let updates = live.refresh(store, pass)?;
+    let updates = live.refresh_changed(store, pass)?;
     let found = store.query(alloc, pass, query)?;
     store.unpin(pass);
     let kept = follow(list, &updates)?;
@@ -147,11 +159,13 @@ fn agrees_always(
     alloc: Global,
     writer: &mut Pass,
     reader: &mut Pass,
+    nodes: u32,
     query: &Query,
     live: &mut Live,
 ) -> Result<bool, Refusal>
     requires writer { IsPassOf store.now writer.old }
     requires reader { IsPassOf store.now reader.old }
+    requires nodes { 0 < nodes }
     requires own { IsLiveOf store.now live.old }
     ensures writer { IsPassOf store.now writer.new }
     ensures reader { IsPassOf store.now reader.new }
@@ -161,7 +175,7 @@ fn agrees_always(
     let mut number = 7;
     for round in 0..200 {
         let count = if round % 20 == 19 { 70 } else { number % 6 };
-        number = write_some(store, writer, count, number)?;
+        number = write_some(store, writer, nodes, count, number)?;
         let is_writer = number % 3 == 0;
         if !agrees_by(
             store, alloc, is_writer, writer, reader, query, live, &mut list,
@@ -172,10 +186,27 @@ fn agrees_always(
     Ok(true)
 }
 
-/// The same in a new store.
-pub(crate) fn follows_random_writes(alloc: Global) -> Result<bool, Refusal> {
+/// Makes so many nodes with sizes by random numbers.
+fn make_nodes(store: &Store, pass: &mut Pass, nodes: u32) -> Result<(), Refusal>
+    requires { IsPassOf store.now pass.old }
+    ensures { IsPassOf store.now pass.new }
+{
+    let mut number = 11;
+    for node in 0..nodes {
+        number = next_number(number);
+        let size = Value::int64(i64::from((number >> 16) % 100));
+        let set = Op::Set(u64::from(node) + 1, Name::new("size")?, size);
+        store.apply(pass, &[Op::New, set])?;
+    }
+    Ok(())
+}
+
+/// The same in a new store with so many nodes at the start.
+fn follows_writes(alloc: Global, nodes: u32) -> Result<bool, Refusal>
+    requires { 0 < nodes }
+{
     let limits = Limits {
-        pages: 512,
+        pages: 1024,
         passes: 2,
         commits: 10_000,
     };
@@ -183,7 +214,16 @@ pub(crate) fn follows_random_writes(alloc: Global) -> Result<bool, Refusal> {
     let (mut writer, mut reader) = both_of(passes)?;
     let size = Op::MkIndex(Name::new("size")?, Kind::Llng);
     store.apply(&mut writer, &[size])?;
-    let mut live = Live::new(alloc, parse(alloc, "size>30&&size<70||size==5&&other>50")?);
-    let query = parse(alloc, "size>30&&size<70||size==5&&other>50")?;
-    agrees_always(&store, alloc, &mut writer, &mut reader, &query, &mut live)
+    make_nodes(&store, &mut writer, nodes)?;
+    let mut live = Live::new(alloc, parse(alloc, TEXT)?);
+    let query = parse(alloc, TEXT)?;
+    agrees_always(
+        &store, alloc, &mut writer, &mut reader, nodes, &query, &mut live,
+    )
+}
+
+/// An answer of few nodes is asked anew at each refresh. One of some 160 is changed by what was
+/// written, if that is little.
+pub(crate) fn follows_random_writes(alloc: Global) -> Result<bool, Refusal> {
+    Ok(follows_writes(alloc, 40)? && follows_writes(alloc, 400)?)
 }

@@ -192,7 +192,7 @@ fn refresh(store: &Store, pass: &mut Pass, live: &mut Live) -> Result<Updates, R
     ensures own { IsLiveOf store.now live.new }
 {
     match pass.pinned() {
-        Some(_) => live.refresh(store, pass),
+        Some(_) => live.refresh_changed(store, pass),
         None => refresh_once(store, pass, live),
     }
 }
@@ -205,7 +205,7 @@ fn refresh_once(store: &Store, pass: &mut Pass, live: &mut Live) -> Result<Updat
     ensures own { IsLiveOf store.now live.new }
 {
     let mut version = store.pinned(pass);
-    version.refresh(live)
+    version.refresh_changed(live)
 }
 
 /// Reads by a pinned pass.
