@@ -243,10 +243,11 @@ uint32_t bes_open(uint64_t pages, uint64_t passes, uint64_t commits, bes_pass *p
 
 /* Opens another handle, for another pass of the same store. Passes that were never used wait with the handle of bes_open, which
  * hands them out downwards to 0. If none waits there, it is a pass that bes_close gave back, with its number and what it has seen.
- * [in] pass      any open handle of the store; only that of bes_open has passes that were never used
+ * The new pass meets that of the handle: both have then seen what either had, so the new one sees all that this one has written.
+ * [in,out] pass  any open handle of the store; only that of bes_open has passes that were never used
  * [out] other    a closed handle, which is opened
  * BES_CLOSED (of pass), BES_OPEN (of other), BES_NO_PASS or BES_NO_MEMORY. No pass is lost.
- * Cost: some memory, and a look at each pass if none waits. */
+ * Cost: some memory, three steps, and a look at each pass if none waits. */
 uint32_t bes_another(bes_pass *pass, bes_pass *other);
 
 /* Moves what the handle holds into other, with the pin, and closes it.
