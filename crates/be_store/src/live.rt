@@ -228,8 +228,8 @@ impl Live {
     /// NotCovered and OutOfMemory leave the query as it was. For the journal it tries the lock once
     /// and gives it back when it has read those entries; other passes' writes are Busy meanwhile.
     /// It asks the whole query, which costs what `refresh` costs, if the last answer has fewer than
-    /// 96 nodes, another pass holds the lock, the version is older than that of the last refresh, an
-    /// index was made or removed since then, or many nodes were written: more than 4 and one for
+    /// 96 nodes, another pass holds the lock, the version is older than that of the last refresh,
+    /// an index was made or removed since then, or many nodes were written: more than 4 and one for
     /// each 32 of the last answer, or more than 64. From 96 nodes on the pass has then also seen
     /// what the last refresh had seen of the journal. Memory for what it returns.
     pub fn refresh_changed(&mut self, store: &Store, pass: &mut Pass) -> Result<Updates, Refusal>

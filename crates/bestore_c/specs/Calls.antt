@@ -190,8 +190,8 @@ Shown (Some n) None told places filled code = code ≡ 3
 Shown (Some n) (Some value) told places filled code = (code ≡ 0)
     × ShowsValue value told places filled
 
--- A read of an attribute. If the bytes are no name, nothing happens. Otherwise they are one, and the
--- call returns the attribute.
+-- A read of an attribute. If the bytes are no name, nothing happens. Otherwise they are one, and
+-- the call returns the attribute.
 abbrev pub Reads : Sitting → Sitting → ℕ → List ℕ → Attribute → List ℕ → List ℕ → ℕ → Type 0
 Reads s t node name told places filled code =
     ((e : Fault) × (code ≡ fault_code e) × IsNoName name e × (t ≡ s))
