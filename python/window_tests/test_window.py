@@ -249,7 +249,7 @@ class Editing(OverStore):
     def edited(self, window: "Window", text: str) -> None:
         """Types a text into the editor, and ends it by Return."""
         window.root.update()
-        entry = window.list.editor._entry
+        entry = window.list.editor.entry
         assert entry is not None
         entry.delete(0, "end")
         entry.insert(0, text)
@@ -330,7 +330,7 @@ class Editing(OverStore):
         window = self.window("a")
         self.begin(window, 0, "BEOS:TYPE")
         window.root.update()
-        entry = window.list.editor._entry
+        entry = window.list.editor.entry
         assert entry is not None
         entry.insert("end", "x")
         entry.focus_force()
@@ -338,6 +338,43 @@ class Editing(OverStore):
         entry.event_generate("<Escape>")
         window.root.update()
         self.assertEqual((window.list.editor.cell, self.value(1, "BEOS:TYPE")), (None, "text/plain"))
+
+
+class Typing(OverStore):
+    def test_select_all(self) -> None:
+        """Ctrl-A selects the whole text of each entry, and in the list each hit."""
+        window = self.window("a", "b")
+        window._name_query()
+        window.list.selection.choose(0)
+        window.list.edit()
+        for entry in (window.entry, window.find_row.entry, window.name_row.entry, window.list.editor.entry):
+            assert entry is not None
+            entry.delete(0, "end")
+            entry.insert(0, "size>=0")
+            entry.focus_force()
+            window.root.update()
+            entry.event_generate("<Control-a>")
+            self.assertTrue(entry.selection_present(), str(entry))
+            self.assertEqual((entry.index("sel.first"), entry.index("sel.last")), (0, len("size>=0")))
+        window.list.tree.focus_force()
+        window.root.update()
+        window.list.tree.event_generate("<Control-a>")
+        self.assertEqual(len(window.list.selection), 2)
+
+    def test_paste(self) -> None:
+        """What is pasted while an attribute is edited takes the place of what is selected."""
+        window = self.window("a")
+        window.list.selection.choose(0)
+        window.list.edit()
+        entry = window.list.editor.entry
+        assert entry is not None
+        self.assertEqual((entry.get(), entry.selection_present()), ("text/plain", True))
+        window.root.clipboard_clear()
+        window.root.clipboard_append("text/html")
+        entry.focus_force()
+        window.root.update()
+        entry.event_generate("<<Paste>>")
+        self.assertEqual(entry.get(), "text/html")
 
 
 class Opening(OverStore):
@@ -471,7 +508,7 @@ class OverServer(OnDisplay):
         self.shows(window, "a", "b", "home")
         press(window, 0, 3)
         window.list.edit()
-        entry = window.list.editor._entry
+        entry = window.list.editor.entry
         assert entry is not None
         entry.insert(0, "text/x")
         window.list.editor._finish(True)
