@@ -450,6 +450,20 @@ class Listing(OverStore):
         window.ask("size>=0")
         self.shows(window, "a␣b", "node 2")
 
+    def test_eight_columns(self) -> None:
+        """Whatever the menu Attributes chooses can be seen, and names keep their room."""
+        window = self.window("a", "b")
+        window.choose(["name", "size", "last_modified", "BEOS:TYPE", "folder", "created", "Audio:Artist", "rating"])
+        self.shows(window, "a", "b")
+        self.becomes(window, lambda: bool(window.list.bar_below.winfo_viewable()))
+        tree = window.list.tree
+        self.assertGreaterEqual(tree.column("#0", "width"), 160)
+        tree.xview_moveto(1)
+        window.root.update()
+        x, _, width, _ = map(int, tree.bbox("0", "#7"))
+        self.assertLessEqual(x + width, tree.winfo_width())
+        self.assertGreaterEqual(x, 0)
+
     def test_resizing(self) -> None:
         for number in range(50):
             self.file(f"{number:02}")
