@@ -19,6 +19,8 @@ import servers
 from common import HAS_TK, MadeSource, OnDisplay, file_of, files_store, press, shown, write
 
 if HAS_TK:
+    import tkinter
+    from tkinter import ttk
     from bestore_queries import theme
     from bestore_queries.window import Window
 
@@ -341,25 +343,33 @@ class Editing(OverStore):
 
 
 class Typing(OverStore):
+    def press_in(self, window: "Window", widget: "tkinter.Widget", key: str) -> None:
+        """Presses a key in a widget."""
+        widget.focus_force()
+        window.root.update()
+        widget.event_generate(key)
+
+    def selects_all(self, window: "Window", entry: "ttk.Entry") -> None:
+        """Fails if Ctrl-A doesn't select the whole text of an entry."""
+        entry.selection_clear()
+        self.press_in(window, entry, "<Control-a>")
+        self.assertTrue(entry.selection_present(), str(entry))
+        self.assertEqual((entry.index("sel.first"), entry.index("sel.last")), (0, len(entry.get())))
+
     def test_select_all(self) -> None:
         """Ctrl-A selects the whole text of each entry, and in the list each hit."""
         window = self.window("a", "b")
-        window._name_query()
         window.list.selection.choose(0)
         window.list.edit()
-        for entry in (window.entry, window.find_row.entry, window.name_row.entry, window.list.editor.entry):
-            assert entry is not None
-            entry.delete(0, "end")
-            entry.insert(0, "size>=0")
-            entry.focus_force()
-            window.root.update()
-            entry.event_generate("<Control-a>")
-            self.assertTrue(entry.selection_present(), str(entry))
-            self.assertEqual((entry.index("sel.first"), entry.index("sel.last")), (0, len("size>=0")))
-        window.list.tree.focus_force()
-        window.root.update()
-        window.list.tree.event_generate("<Control-a>")
+        assert window.list.editor.entry is not None
+        self.selects_all(window, window.list.editor.entry)
+        self.press_in(window, window.list.tree, "<Control-a>")
         self.assertEqual(len(window.list.selection), 2)
+        window.name_row.show("Mine")
+        self.selects_all(window, window.name_row.entry)
+        window.find_row.entry.insert(0, "a")  # which asks a query, so the list may change from here on
+        self.selects_all(window, window.find_row.entry)
+        self.selects_all(window, window.entry)
 
     def test_paste(self) -> None:
         """What is pasted while an attribute is edited takes the place of what is selected."""
