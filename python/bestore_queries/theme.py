@@ -11,8 +11,8 @@ from .columns import MAIL_TYPE
 
 DESKTOP, TAB, FACE, LINE, PAPER, STRIPE, MARKED = "#336698", "#ffcb00", "#d8d8d8", "#989898", "#ffffff", "#f3f6fa", "#9fb6d2"
 FAULT, FAULT_PAPER, QUIET = "#b3261e", "#fbe4e1", "#4f4f4f"
-ICON_HEIGHT = 16                           # in pixels
-SELECT_ALL = ("Control-a", "Control-Lock-A")  # the keys, which Tk has for the beginning of the line
+ICON_HEIGHT = 16  # in pixels
+SELECT_ALL = ("Control-a", "Control-Lock-A")  # the keys, by which Tk goes to the beginning of the line on X11
 
 # The sheet of a file's icon, and the colours of the lines on it, by the beginning of the file's type.
 _SHEETS = [
