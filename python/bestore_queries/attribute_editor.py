@@ -2,7 +2,6 @@
 
 from __future__ import annotations
 
-import tkinter as tk
 from tkinter import ttk
 from typing import Callable, NamedTuple, Optional, Tuple
 
@@ -27,7 +26,8 @@ class AttributeEditor:
 
     def __init__(self, tree: ttk.Treeview, take: Callable[[Cell, str], None]) -> None:
         self._tree, self._take = tree, take
-        self._entry: Optional[tk.Entry] = None
+        self.entry: Optional[ttk.Entry] = None
+        """Where it is typed."""
         self._before = ""
         self.cell: Optional[Cell] = None
         """What is edited now."""
@@ -36,7 +36,7 @@ class AttributeEditor:
         """Shows an entry with a text over a cell. `before` is what the value is as a text."""
         self.end()
         self.cell, self._before = cell, before
-        entry = tk.Entry(self._tree, relief="flat", highlightthickness=1, highlightcolor="black", highlightbackground="black")
+        entry = ttk.Entry(self._tree, style="Cell.TEntry")
         entry.insert(0, text)
         entry.select_range(0, "end")
         entry.icursor("end")
@@ -44,24 +44,24 @@ class AttributeEditor:
             entry.bind(key, lambda _: self._finish(True))
         entry.bind("<Escape>", lambda _: self._finish(False))
         entry.bind("<FocusOut>", lambda _: self._finish(True, keeps_focus=True))
-        self._entry = entry
+        self.entry = entry
         self.move(box)
         entry.focus_set()
 
     @property
     def text(self) -> str:
         """What is typed by now."""
-        return "" if self._entry is None else self._entry.get()
+        return "" if self.entry is None else self.entry.get()
 
     def move(self, box: Optional[Box]) -> None:
         """Follows its cell, which isn't seen if there is no box."""
-        if self._entry is None:
+        if self.entry is None:
             return
         if box is None:
-            self._entry.place_forget()
+            self.entry.place_forget()
         else:
             x, y, width, height = box
-            self._entry.place(x=x, y=y, width=max(width, 60), height=height)
+            self.entry.place(x=x, y=y, width=max(width, 60), height=height)
 
     def _finish(self, takes: bool, keeps_focus: bool = False) -> str:
         cell, text, before = self.cell, self.text, self._before
@@ -74,6 +74,6 @@ class AttributeEditor:
 
     def end(self) -> None:
         """Takes the entry away, and its text with it."""
-        entry, self._entry, self.cell = self._entry, None, None
+        entry, self.entry, self.cell = self.entry, None, None
         if entry is not None:
             entry.destroy()

@@ -12,11 +12,13 @@ from .attribute_editor import AttributeEditor, Box, Cell
 from .columns import Column
 from .selection import Selection
 from .sorted_hits import Hit, Node, SortedHits
-from .theme import LINE, MARKED, ROW, STRIPE, Icons
+from .theme import LINE, MARKED, STRIPE, Icons, row_height
 
 SHIFT, CONTROL = 0x1, 0x4     # in the state of an event
 SLOW_CLICK = 600              # milliseconds after which a click on a selected hit edits it, if no second one comes
 WHEEL = 3                     # rows by which a wheel turns
+STEP_SIDEWAYS = 60            # pixels by which a key or a wheel scrolls sideways
+NARROWEST, NARROWEST_FIRST = 40, 160  # pixels of a column, and of the first one, which names the hit
 MOST_OPENED = 20              # files that are opened at a time
 
 
@@ -30,7 +32,7 @@ class Actions(NamedTuple):
 
 
 class HitList(tk.Frame):
-    """The list, with its scroll bar, its selection and its editor."""
+    """The list, with its scroll bars, its selection and its editor."""
 
     def __init__(self, parent: tk.Misc, hits: SortedHits, actions: Actions) -> None:
         super().__init__(parent, background=LINE, padx=1, pady=1)
@@ -40,17 +42,27 @@ class HitList(tk.Frame):
         self._places: List[str] = []      # the columns by the widget's names
         self._painted: List[Tuple[object, ...]] = []  # what its rows have
         self._top, self._top_node = 0, -1
-        self._room, self._heading = 1, 26  # how many rows there is room for, and the height of the headings
+        self._room, self._row_height = 1, row_height(self)  # how many rows there is room for
         self._clicked: Optional[Column] = None
         self._edit_later = ""
-        self.tree = ttk.Treeview(self, selectmode="none")
+        # It asks for no rows, so the height that it asks for is that of its headings and edges.
+        self.tree = ttk.Treeview(self, selectmode="none", height=0, xscrollcommand=self._scrolled_sideways)
         self.tree.tag_configure("stripe", background=STRIPE)
         self.tree.tag_configure("selected", background=MARKED)
         self._bar = ttk.Scrollbar(self, command=self._scroll)
-        self._bar.pack(side="right", fill="y")
-        self.tree.pack(fill="both", expand=True)
+        self.bar_below = ttk.Scrollbar(self, orient="horizontal", command=self._scroll_sideways)
+        """It is there as long as columns lie beyond the edge."""
+        self._lay_out()
         self.editor = AttributeEditor(self.tree, actions.write)
         self._bind_keys()
+
+    def _lay_out(self) -> None:
+        self.rowconfigure(0, weight=1)
+        self.columnconfigure(0, weight=1)
+        self.tree.grid(row=0, column=0, sticky="nsew")
+        self._bar.grid(row=0, column=1, sticky="ns")
+        self.bar_below.grid(row=1, column=0, sticky="ew")
+        self.bar_below.grid_remove()
 
     def _bind_keys(self) -> None:
         tree = self.tree
@@ -60,6 +72,9 @@ class HitList(tk.Frame):
         for key, steps in (("<Button-4>", -WHEEL), ("<Button-5>", WHEEL)):
             tree.bind(key, lambda _, steps=steps: self._scroll_by(steps))  # type: ignore[misc]
         tree.bind("<MouseWheel>", lambda event: self._scroll_by(-WHEEL if event.delta > 0 else WHEEL))
+        for key, steps in (("<Shift-Button-4>", -1), ("<Shift-Button-5>", 1), ("<Left>", -1), ("<Right>", 1)):
+            tree.bind(key, lambda _, steps=steps: self._step_sideways(steps))  # type: ignore[misc]
+        tree.bind("<Shift-MouseWheel>", lambda event: self._step_sideways(-1 if event.delta > 0 else 1))
         for name in ("Up", "Down", "Prior", "Next", "Home", "End"):
             for shift in ("", "Shift-"):
                 tree.bind(f"<{shift}{name}>",
@@ -67,9 +82,8 @@ class HitList(tk.Frame):
         for name in ("Return", "KP_Enter"):
             tree.bind(f"<{name}>", lambda _: self._open())
         tree.bind("<F2>", lambda _: self.edit())
-        tree.bind("<Control-a>", lambda _: self._select_all())
-        for name in ("Left", "Right", "space"):
-            tree.bind(f"<{name}>", lambda _: "break")  # which would fold rows, or select by the widget's own rule
+        tree.bind("<<SelectAll>>", lambda _: self._select_all())
+        tree.bind("<space>", lambda _: "break")  # which would select by the widget's own rule
 
     def destroy(self) -> None:
         self._cancel_edit()
@@ -83,7 +97,9 @@ class HitList(tk.Frame):
         self.tree.configure(columns=[it.attribute for it in shown[1:]])
         self._places = ["#0", *(f"#{place}" for place in range(1, len(shown)))]
         for place, column in zip(self._places, shown):
-            self.tree.column(place, width=column.width, minwidth=40, anchor=column.anchor, stretch=place == "#0")
+            is_first = place == "#0"
+            self.tree.column(place, width=column.width, minwidth=NARROWEST_FIRST if is_first else NARROWEST,
+                             anchor=column.anchor, stretch=is_first)
             self.tree.heading(place, anchor=column.anchor,
                               command=lambda column=column: self._actions.sort(column))
         self.show_order()
@@ -145,10 +161,7 @@ class HitList(tk.Frame):
             self._painted.append(shown)
 
     def _resized(self, height: int) -> None:
-        if self._painted:
-            box = self.tree.bbox("0")
-            self._heading = int(box[1]) if box else self._heading
-        self._room = max((height - self._heading) // ROW, 1)
+        self._room = max((height - self.tree.winfo_reqheight()) // self._row_height, 1)
         self._paint_from(self._top)
 
     def shown(self) -> List[List[str]]:
@@ -175,6 +188,37 @@ class HitList(tk.Frame):
     def _scroll_by(self, rows: int) -> str:
         self._paint_from(self._top + rows)
         return "break"
+
+    def _scroll_sideways(self, what: str, number: str, unit: str = "") -> None:
+        """What the bar below asks for."""
+        if what == "moveto":
+            self.tree.xview_moveto(float(number))
+        elif unit.startswith("page"):
+            self.tree.xview_scroll(int(number), "pages")
+        else:
+            self._step_sideways(int(number))
+
+    def _step_sideways(self, steps: int) -> str:
+        self.tree.xview_scroll(steps * STEP_SIDEWAYS, "units")
+        return "break"
+
+    def _scrolled_sideways(self, first: float, last: float) -> None:
+        """The widget shows this part of its columns."""
+        if float(first) > 0 or float(last) < 1:
+            self.bar_below.grid()
+        else:
+            self.bar_below.grid_remove()
+        self.bar_below.set(first, last)
+        self.editor.move(self._box_of_editor())
+
+    def _see_column(self, column: Column) -> None:
+        """Scrolls sideways as little as is needed to show a column, from its beginning on."""
+        widths = [int(self.tree.column(it, "width")) for it in self._places]
+        at = self.columns.index(column)
+        begin, end, total = sum(widths[:at]), sum(widths[:at + 1]), sum(widths)
+        first, last = (float(it) * total for it in self.tree.xview())
+        if begin < first or end > last:
+            self.tree.xview_moveto(min(begin, max(first, end - (last - first))) / total)
 
     def _place_at(self, event: "tk.Event[Any]") -> Optional[int]:
         """The place in the list that is at the pointer, or None if there is none."""
@@ -270,6 +314,7 @@ class HitList(tk.Frame):
         if place is None or cell.column not in self.columns:
             return
         self.see(place)
+        self._see_column(cell.column)
         self.update_idletasks()
         before = columns_of_hits.edited_text(cell.column.attribute, cell.value)
         box = self._box(cell)

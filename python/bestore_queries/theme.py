@@ -3,6 +3,7 @@
 from __future__ import annotations
 
 import tkinter as tk
+import tkinter.font
 from tkinter import ttk
 from typing import List, Tuple
 
@@ -10,7 +11,8 @@ from .columns import MAIL_TYPE
 
 DESKTOP, TAB, FACE, LINE, PAPER, STRIPE, MARKED = "#336698", "#ffcb00", "#d8d8d8", "#989898", "#ffffff", "#f3f6fa", "#9fb6d2"
 FAULT, FAULT_PAPER, QUIET = "#b3261e", "#fbe4e1", "#4f4f4f"
-ROW = 21  # the height of a row, in pixels
+ICON_HEIGHT = 16  # in pixels
+SELECT_ALL = ("Control-a", "Control-Lock-A")  # the keys, by which Tk goes to the beginning of the line on X11
 
 # The sheet of a file's icon, and the colours of the lines on it, by the beginning of the file's type.
 _SHEETS = [
@@ -24,7 +26,7 @@ _FOLDERS = ("inode/directory", "application/x-vnd.Be-directory", "application/x-
 
 def _image(parts: List[Tuple[str, int, int, int, int]]) -> tk.PhotoImage:
     """Rectangles: each its colour, its place, its width and its height."""
-    image = tk.PhotoImage(width=20, height=16)
+    image = tk.PhotoImage(width=20, height=ICON_HEIGHT)
     for colour, x, y, width, height in parts:
         row = "{" + " ".join([colour] * width) + "}"
         image.put(" ".join([row] * height), to=(x, y))
@@ -56,8 +58,16 @@ class Icons:
         return next(image for beginning, image in self._sheets if name.startswith(beginning))
 
 
+def row_height(widget: tk.Misc) -> int:
+    """The height of a row of the list, in pixels: that of its letters or of its icon, and some room."""
+    return max(tkinter.font.nametofont("TkDefaultFont", widget).metrics("linespace"), ICON_HEIGHT) + 4
+
+
 def apply(root: tk.Tk) -> None:
-    """Gives a window the styles."""
+    """Gives a window the styles and the keys."""
+    for key in SELECT_ALL:
+        root.event_delete("<<LineStart>>", f"<{key}>")
+        root.event_add("<<SelectAll>>", f"<{key}>")
     root.configure(background=FACE)
     style = ttk.Style(root)
     style.theme_use("clam")
@@ -66,9 +76,10 @@ def apply(root: tk.Tk) -> None:
     style.map("TCombobox", fieldbackground=[("readonly", PAPER)], selectbackground=[("readonly", PAPER)],
               selectforeground=[("readonly", "black")])
     style.configure("TEntry", padding=(5, 3))
+    style.configure("Cell.TEntry", padding=0)
     style.configure("TButton", padding=(8, 2))
     style.configure("TMenubutton", padding=(8, 3), arrowcolor="#333333")
-    style.configure("Treeview", background=PAPER, fieldbackground=PAPER, rowheight=ROW, borderwidth=0)
+    style.configure("Treeview", background=PAPER, fieldbackground=PAPER, rowheight=row_height(root), borderwidth=0)
     style.configure("Treeview.Heading", background=FACE, relief="flat", padding=(3, 4))
     # An icon and a text, and no mark of rows below a row.
     parts = [(part, {"side": "left", "sticky": ""}) for part in ("Treeitem.image", "Treeitem.text")]

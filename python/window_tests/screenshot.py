@@ -6,6 +6,7 @@
 --size WxH                       in pixels
 --sort ATTRIBUTE                 the greatest come first
 --edit PLACE                     a hit, from 0, whose type is being edited
+--columns NAME,NAME..            the attributes that are shown
 
 The picture is made once the window has stayed the same for two seconds.
 """
@@ -29,7 +30,7 @@ import display
 def options_of(words: List[str]) -> argparse.Namespace:
     """What the command line has."""
     parser = argparse.ArgumentParser(usage=__doc__)
-    for name in ("--socket", "--folder", "--sort"):
+    for name in ("--socket", "--folder", "--sort", "--columns"):
         parser.add_argument(name)
     parser.add_argument("--size", default=display.SIZE)
     parser.add_argument("--edit", type=int)
@@ -62,6 +63,9 @@ def show(source: Source, screen: display.Screen, options: argparse.Namespace) ->
     window = Window(root, source)
     window.ask(options.query)
     settle(window)
+    if options.columns is not None:
+        window.choose(options.columns.split(","))
+        settle(window)
     if options.sort is not None:
         for _ in range(2 if window.hits.attribute != options.sort else 1):
             window.sort(columns.column_of(options.sort))

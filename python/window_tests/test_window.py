@@ -19,6 +19,8 @@ import servers
 from common import HAS_TK, MadeSource, OnDisplay, file_of, files_store, press, shown, write
 
 if HAS_TK:
+    import tkinter
+    from tkinter import ttk
     from bestore_queries import theme
     from bestore_queries.window import Window
 
@@ -249,7 +251,7 @@ class Editing(OverStore):
     def edited(self, window: "Window", text: str) -> None:
         """Types a text into the editor, and ends it by Return."""
         window.root.update()
-        entry = window.list.editor._entry
+        entry = window.list.editor.entry
         assert entry is not None
         entry.delete(0, "end")
         entry.insert(0, text)
@@ -330,7 +332,7 @@ class Editing(OverStore):
         window = self.window("a")
         self.begin(window, 0, "BEOS:TYPE")
         window.root.update()
-        entry = window.list.editor._entry
+        entry = window.list.editor.entry
         assert entry is not None
         entry.insert("end", "x")
         entry.focus_force()
@@ -338,6 +340,51 @@ class Editing(OverStore):
         entry.event_generate("<Escape>")
         window.root.update()
         self.assertEqual((window.list.editor.cell, self.value(1, "BEOS:TYPE")), (None, "text/plain"))
+
+
+class Typing(OverStore):
+    def press_in(self, window: "Window", widget: "tkinter.Widget", key: str) -> None:
+        """Presses a key in a widget."""
+        widget.focus_force()
+        window.root.update()
+        widget.event_generate(key)
+
+    def selects_all(self, window: "Window", entry: "ttk.Entry") -> None:
+        """Fails if Ctrl-A doesn't select the whole text of an entry."""
+        entry.selection_clear()
+        self.press_in(window, entry, "<Control-a>")
+        self.assertTrue(entry.selection_present(), str(entry))
+        self.assertEqual((entry.index("sel.first"), entry.index("sel.last")), (0, len(entry.get())))
+
+    def test_select_all(self) -> None:
+        """Ctrl-A selects the whole text of each entry, and in the list each hit."""
+        window = self.window("a", "b")
+        window.list.selection.choose(0)
+        window.list.edit()
+        assert window.list.editor.entry is not None
+        self.selects_all(window, window.list.editor.entry)
+        self.press_in(window, window.list.tree, "<Control-a>")
+        self.assertEqual(len(window.list.selection), 2)
+        window.name_row.show("Mine")
+        self.selects_all(window, window.name_row.entry)
+        window.find_row.entry.insert(0, "a")  # which asks a query, so the list may change from here on
+        self.selects_all(window, window.find_row.entry)
+        self.selects_all(window, window.entry)
+
+    def test_paste(self) -> None:
+        """What is pasted while an attribute is edited takes the place of what is selected."""
+        window = self.window("a")
+        window.list.selection.choose(0)
+        window.list.edit()
+        entry = window.list.editor.entry
+        assert entry is not None
+        self.assertEqual((entry.get(), entry.selection_present()), ("text/plain", True))
+        window.root.clipboard_clear()
+        window.root.clipboard_append("text/html")
+        entry.focus_force()
+        window.root.update()
+        entry.event_generate("<<Paste>>")
+        self.assertEqual(entry.get(), "text/html")
 
 
 class Opening(OverStore):
@@ -413,6 +460,20 @@ class Listing(OverStore):
         window.ask("size>=0")
         self.shows(window, "a␣b", "node 2")
 
+    def test_eight_columns(self) -> None:
+        """Whatever the menu Attributes chooses can be seen, and names keep their room."""
+        window = self.window("a", "b")
+        window.choose(["name", "size", "last_modified", "BEOS:TYPE", "folder", "created", "Audio:Artist", "rating"])
+        self.shows(window, "a", "b")
+        self.becomes(window, lambda: bool(window.list.bar_below.winfo_viewable()))
+        tree = window.list.tree
+        self.assertGreaterEqual(tree.column("#0", "width"), 160)
+        tree.xview_moveto(1)
+        window.root.update()
+        x, _, width, _ = map(int, tree.bbox("0", "#7"))
+        self.assertLessEqual(x + width, tree.winfo_width())
+        self.assertGreaterEqual(x, 0)
+
     def test_resizing(self) -> None:
         for number in range(50):
             self.file(f"{number:02}")
@@ -471,7 +532,7 @@ class OverServer(OnDisplay):
         self.shows(window, "a", "b", "home")
         press(window, 0, 3)
         window.list.edit()
-        entry = window.list.editor._entry
+        entry = window.list.editor.entry
         assert entry is not None
         entry.insert(0, "text/x")
         window.list.editor._finish(True)
