@@ -25,6 +25,8 @@ pub enum Error {
     Newer { format: i32, known: i32 },
     /// Another server leads.
     Led { leader: String },
+    /// An earlier session of this server still has the lock.
+    OldSession,
     /// Another server leads now, though this one did.
     Deposed { leader: String, unsaved: u64 },
     /// The database has another log than before.
@@ -62,7 +64,7 @@ impl Error {
 
     /// Whether it may go better later.
     pub fn is_passing(&self) -> bool {
-        matches!(self, Error::Database(_) | Error::Slow(_))
+        matches!(self, Error::Database(_) | Error::Slow(_) | Error::OldSession)
     }
 }
 
@@ -90,6 +92,7 @@ impl fmt::Display for Error {
                 write!(f, "the log has format {format}, and format {known} is the one known here")
             }
             Error::Led { leader } => write!(f, "the log is led by {leader}; --follow follows it"),
+            Error::OldSession => f.write_str("PostgreSQL hasn't ended this server's earlier session, which has the lock of the leader"),
             Error::Deposed { leader, unsaved } => write!(
                 f,
                 "{leader} leads the log now; {unsaved} writes of this server, none of them confirmed, may be missing there"

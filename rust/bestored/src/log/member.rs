@@ -121,6 +121,8 @@ impl Member {
 
     /// Connects until it succeeds. A leader then has to find the log as it left it.
     async fn connect_again(&mut self, role: Role) -> Result<Turn> {
+        // Otherwise a session that hangs and goes on would keep the lock.
+        self.database.close();
         loop {
             if self.line.is_at_end() || role == Role::Follower && self.line.is_closing() {
                 return Ok(Turn::End);
@@ -132,7 +134,7 @@ impl Member {
                 if let Role::Leader { .. } = role {
                     self.lead_again(&database).await?;
                 }
-                Ok(database)
+                Result::Ok(database)
             };
             match connected.await {
                 Ok(database) => {
@@ -140,7 +142,6 @@ impl Member {
                     self.may_lead = Instant::now() + GRACE;
                     return Ok(Turn::Next);
                 }
-                Err(error @ Error::Led { .. }) => self.note(error),
                 Err(error) if error.is_passing() => self.note(error),
                 Err(error) => return Err(error),
             }
@@ -364,8 +365,7 @@ impl Member {
         if !database.try_lock().await? {
             let head = database.head().await?;
             return Err(match head.run == self.access.run {
-                // The old session hasn't ended yet.
-                true => Error::Led { leader: head.leader },
+                true => Error::OldSession,
                 false => self.deposed(&head),
             });
         }

@@ -90,8 +90,13 @@ pub fn command(socket: &Path, options: &[&str]) -> Command {
 }
 
 /// Waits until it is so.
-pub fn wait_until(what: &str, mut is_so: impl FnMut() -> bool) {
-    let until = Instant::now() + PATIENCE;
+pub fn wait_until(what: &str, is_so: impl FnMut() -> bool) {
+    wait_within(PATIENCE, what, is_so);
+}
+
+/// Waits until it is so, for a limited time.
+pub fn wait_within(time: Duration, what: &str, mut is_so: impl FnMut() -> bool) {
+    let until = Instant::now() + time;
     while !is_so() {
         assert!(Instant::now() < until, "waited too long: {what}");
         thread::sleep(Duration::from_millis(2));
