@@ -9,6 +9,7 @@ use bestore::saved::{self, SavedShelf};
 use bestore::{Shelf, ShelfPass};
 use bestore_client::wire;
 use std::error::Error;
+use std::fs::File;
 use std::io;
 use std::path::Path;
 use std::sync::Arc;
@@ -40,31 +41,33 @@ pub fn start(_: &Arc<Shared>) -> io::Result<()> {
 }
 
 impl Kept {
-    /// Opens the volumes of a server with this text of its run.
-    pub fn open(options: &Options, run: &str) -> Result<Self, Box<dyn Error>> {
+    /// Opens the volumes of a server with this text of its run. `None`: one of the signals has come while the database of a log
+    /// could not be reached.
+    pub fn open(options: &Options, run: &str, signals: &File) -> Result<Option<Self>, Box<dyn Error>> {
         if options.log.is_some() {
-            return Self::open_log(options, run);
+            return Self::open_log(options, run, signals);
         }
         let path = match &options.keep {
             None => {
                 let volumes = options.volumes.unwrap_or(1);
-                return Ok(Kept::Memory(Shelf::open(volumes, options.limits())?));
+                return Ok(Some(Kept::Memory(Shelf::open(volumes, options.limits())?)));
             }
             Some(path) => path,
         };
-        Ok(Kept::File {
+        Ok(Some(Kept::File {
             saved: open_files(options, path)?,
             each: options.every.is_none(),
-        })
+        }))
     }
 
     #[cfg(feature = "log")]
-    fn open_log(options: &Options, run: &str) -> Result<Self, Box<dyn Error>> {
-        Ok(Kept::Log(Box::new(Log::open(options, run)?)))
+    fn open_log(options: &Options, run: &str, signals: &File) -> Result<Option<Self>, Box<dyn Error>> {
+        let log = Log::open(options, run, signals)?;
+        Ok(log.map(|log| Kept::Log(Box::new(log))))
     }
 
     #[cfg(not(feature = "log"))]
-    fn open_log(_: &Options, _: &str) -> Result<Self, Box<dyn Error>> {
+    fn open_log(_: &Options, _: &str, _: &File) -> Result<Option<Self>, Box<dyn Error>> {
         Err("this program is built without the feature log".into())
     }
 

@@ -47,7 +47,10 @@ fn start(options: Options) -> Result<(), Box<dyn Error>> {
         None => Socket::make(&options.socket())?,
     };
     let run = server::run_text()?;
-    let kept = Kept::open(&options, &run)?;
+    let kept = match Kept::open(&options, &run, &signals)? {
+        Some(kept) => kept,
+        None => return Ok(()),
+    };
     let own = kept.pass()?;
     let shared = Shared {
         kept,

@@ -633,6 +633,30 @@ fn the_state_is_written_and_read() {
 }
 
 #[test]
+fn a_server_waits_for_its_database() {
+    let database = match database_of(Postgres::start()) {
+        Some(database) => database,
+        None => return,
+    };
+    database.postgres.end("INT");
+    let [waiting, ended] = [(); 2].map(|()| {
+        let member = Member::start(&database, "--log");
+        wait_within(SOON, "it says that it waits", || {
+            member.said().contains("it is tried again")
+        });
+        member
+    });
+    assert!(ended.server.end_by("TERM").success(), "{}", ended.said());
+    database.postgres.begin();
+    waiting.client().apply(Batch::new().new_node()).unwrap();
+    assert_eq!(waiting.said().lines().count(), 1, "{}", waiting.said());
+    // What doesn't pass by itself is an error.
+    let url = database.url().replace("///test", "///none");
+    let said = Member::start_at(Folder::in_memory(), &url, "--log").end();
+    assert!(said.contains("does not exist (3D000)"), "{said}");
+}
+
+#[test]
 fn what_is_no_log_is_refused() {
     let database = match database() {
         Some(database) => database,

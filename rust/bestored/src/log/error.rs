@@ -1,9 +1,14 @@
 //! Why the log can't be read or written, and why a server stops using it.
 
 use bestore::saved::Place;
+use std::error::Error as _;
 use std::fmt;
+use std::io;
 use std::sync::Arc;
 use std::time::Duration;
+
+/// Classes of PostgreSQL's errors: the connection is lost, resources are missing, somebody starts or ends the database.
+const NOT_NOW: [&str; 3] = ["08", "53", "57"];
 
 /// The result of a call of this module.
 pub type Result<T> = std::result::Result<T, Error>;
@@ -43,7 +48,7 @@ pub enum Error {
     /// An error of the store.
     Store(bestore::Error),
     /// There is no thread or no runtime for the log.
-    Thread(std::io::Error),
+    Thread(io::Error),
     /// The thread of the log has ended by a fault.
     Fault,
 }
@@ -65,6 +70,18 @@ impl Error {
     /// Whether it may go better later.
     pub fn is_passing(&self) -> bool {
         matches!(self, Error::Database(_) | Error::Slow(_) | Error::OldSession)
+    }
+
+    /// Whether the database isn't there, or takes no connections or statements for now, as while it starts.
+    pub fn is_unreachable(&self) -> bool {
+        match self {
+            Error::Slow(_) => true,
+            Error::Database(error) => match error.code() {
+                Some(code) => NOT_NOW.iter().any(|class| code.code().starts_with(class)),
+                None => error.is_closed() || error.source().map_or(false, |cause| cause.is::<io::Error>()),
+            },
+            _ => false,
+        }
     }
 }
 

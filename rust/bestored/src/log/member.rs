@@ -3,7 +3,7 @@
 use super::database::{Database, Entry, Head, Row, ENTRIES};
 use super::error::{Error, Result};
 use super::line::{Line, Role};
-use super::{state, Access, FOR_LOCK};
+use super::{state, Access, FOR_LOCK, REST};
 use crate::pressure::Pressure;
 use crate::server::Shared;
 use bestore::saved::Place;
@@ -20,9 +20,6 @@ const LEADING: Duration = Duration::from_secs(1);
 
 /// How long a follower lets the leader come back after the connection to the database has broken.
 const GRACE: Duration = Duration::from_secs(3);
-
-/// How long the thread rests before it tries again what has failed.
-const REST: Duration = Duration::from_millis(200);
 
 /// How long entries that find no page are tried again, while snapshots of clients keep pages.
 const FOR_PAGES: Duration = Duration::from_secs(60);
