@@ -54,11 +54,21 @@ pub fn send_now(stream: &UnixStream, bytes: &[u8]) -> io::Result<usize> {
 
 /// Waits until one of the descriptors can be read, and says of each whether it can.
 pub fn wait_readable<const N: usize>(descriptors: [RawFd; N], time: Option<Duration>) -> io::Result<[bool; N]> {
-    let mut polled = descriptors.map(|fd| libc::pollfd {
-        fd,
-        events: libc::POLLIN,
-        revents: 0,
-    });
+    wait(descriptors, libc::POLLIN, time)
+}
+
+/// Waits until the socket takes more, or for this time.
+pub fn wait_writable(stream: &UnixStream, time: Duration) -> io::Result<()> {
+    wait([stream.as_raw_fd()], libc::POLLOUT, Some(time)).map(drop)
+}
+
+/// Waits for one of these events of the descriptors, and says of each whether there is one.
+fn wait<const N: usize>(
+    descriptors: [RawFd; N],
+    events: libc::c_short,
+    time: Option<Duration>,
+) -> io::Result<[bool; N]> {
+    let mut polled = descriptors.map(|fd| libc::pollfd { fd, events, revents: 0 });
     let milliseconds = time.map_or(-1, |time| {
         let rounded_up = time.as_millis() + u128::from(time.subsec_nanos() % 1_000_000 > 0);
         libc::c_int::try_from(rounded_up).unwrap_or(libc::c_int::MAX)

@@ -4,6 +4,7 @@ use crate::common::postgres::{Database, Postgres};
 use crate::common::proxy::{Lost, Proxy};
 use crate::common::writers::{check_history, state_of, Writers};
 use crate::common::{command, wait_until, wait_within, Folder, Random, Server};
+use crate::slow;
 use bestore::Batch;
 use bestore_client::wire::{Command, LogStatus, Nothing, Write, Written};
 use bestore_client::{Client, Error};
@@ -259,6 +260,29 @@ fn followers_refuse_writes_and_wait_for_entries() {
     wait_until("the follower leads", || members[1].leads());
     follower.apply(&set_count(52)).unwrap();
     assert_eq!(follower.log().unwrap().term, Some(2));
+}
+
+#[test]
+fn a_follower_lives_on_beside_a_client_that_reads_nothing() {
+    let database = match database() {
+        Some(database) => database,
+        None => return,
+    };
+    let leader = Member::start(&database, "--log");
+    let mut client = leader.client();
+    slow::begin(&leader.server);
+    let follower = Member::start(&database, "--follow");
+    let first = client.log().unwrap().entry;
+    follower.client().wait_for_entry(first, SOON).unwrap();
+    let mut talk = slow::pinned(&follower.server);
+    let mut batch = Batch::new();
+    batch.set(1, "text0", 0_u64);
+    // The follower's pages are all used before the last of these.
+    for _ in 0..300 {
+        client.apply(&batch).unwrap();
+    }
+    follower.client().wait_for_entry(first + 300, SOON).unwrap();
+    slow::check_replies(&mut talk);
 }
 
 #[test]

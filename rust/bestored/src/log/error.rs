@@ -109,7 +109,7 @@ impl fmt::Display for Error {
                 write!(f, "the log has format {format}, and format {known} is the one known here")
             }
             Error::Led { leader } => write!(f, "the log is led by {leader}; --follow follows it"),
-            Error::OldSession => f.write_str("PostgreSQL hasn't ended this server's earlier session, which has the lock of the leader"),
+            Error::OldSession => f.write_str("an earlier session of this server still has the leader's lock"),
             Error::Deposed { leader, unsaved } => write!(
                 f,
                 "{leader} leads the log now; {unsaved} writes of this server, none of them confirmed, may be missing there"
