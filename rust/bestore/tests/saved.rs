@@ -448,12 +448,14 @@ fn on_a_full_disk_acknowledged_writes_are_kept() {
     let saved = saved::open(&path).unwrap();
     let mut pass = saved.pass().unwrap();
     let node = pass.new_node().unwrap();
+    assert!(saved.failure().is_none());
     let (acknowledged, error) = write_on(&pass, node);
     assert!(
         matches!(&error, Error::NotSaved(error) if matches!(**error, SavedError::DiskFull { .. })),
         "{error}"
     );
     assert!(acknowledged > 0);
+    assert!(matches!(saved.failure().as_deref(), Some(SavedError::DiskFull { .. })));
     assert!(matches!(pass.new_node(), Err(Error::Stopped(_))));
     let read = pass.pin().unwrap().get(node, "count").unwrap();
     assert_eq!(read, Some(Value::Uint64(acknowledged + 1)));

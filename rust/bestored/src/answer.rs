@@ -179,6 +179,10 @@ impl<'a> Desk<'a> {
 
     /// Answers a command other than `pin` and `unpin`.
     pub fn answer(&mut self, id: u64, command: Command<'_>, view: &mut View<'_, '_>) -> io::Result<()> {
+        if let (false, Err(failure)) = (matches!(command, Command::Status(_)), self.shared.kept.check()) {
+            self.refuse(Some(id), failure);
+            return Ok(());
+        }
         let answered = match command {
             Command::Batch(write) => self.write(id, &write, view),
             Command::Watch(watch) => match self.watch(watch, view) {
@@ -200,7 +204,7 @@ impl<'a> Desk<'a> {
                 let reached = reach::reach(view, &self.shared.pressure, &reach);
                 reached.map(|reached| self.reply(id, &reached))
             }
-            Command::Flush(_) => self.shared.kept.flush().map(|()| self.reply(id, &wire::Nothing {})),
+            Command::Flush(_) => self.flush(id),
             Command::Log(wanted) => {
                 // Earlier replies don't wait for an entry.
                 self.send(view.since())?;
@@ -225,16 +229,28 @@ impl<'a> Desk<'a> {
         if *count > batch.len() {
             return Err(Error::BadCount { count: *count }.into());
         }
+        self.shared.kept.check_room()?;
         let written = match volumes::is_for_all(write, view.volumes()) {
             true => view.read(|snapshot| volumes::write_indices(snapshot, batch)),
             false => volumes::write(&self.shared.pressure, view, write),
         };
         // Some volumes may have been written before another one refused.
         self.shared.watcher.written();
+        if written.is_err() {
+            self.shared.kept.end_if_failed();
+        }
         let mut written = written?;
         written.entry = self.shared.kept.entry(written.commit);
         self.reply(id, &written);
         Ok(())
+    }
+
+    fn flush(&mut self, id: u64) -> Result<(), Failure> {
+        let flushed = self.shared.kept.flush();
+        if flushed.is_err() {
+            self.shared.kept.end_if_failed();
+        }
+        flushed.map(|()| self.reply(id, &wire::Nothing {}))
     }
 
     /// Answers a command that reads in one snapshot.
@@ -300,6 +316,7 @@ impl<'a> Desk<'a> {
         let status = wire::Status {
             clients: self.shared.clients.count() as u64,
             watches: self.shared.watcher.count() as u64,
+            trouble: self.shared.kept.trouble(),
             ..volumes::status(&view.status()?)
         };
         self.reply(id, &status);

@@ -4,6 +4,7 @@
 
 mod answer;
 mod connection;
+mod disk;
 mod failure;
 mod kept;
 mod lines;

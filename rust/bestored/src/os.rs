@@ -2,6 +2,7 @@
 #![allow(unsafe_code)]
 #![deny(unsafe_op_in_unsafe_fn)]
 
+use std::ffi::CStr;
 use std::fs::File;
 use std::io;
 use std::mem::{self, MaybeUninit};
@@ -97,8 +98,22 @@ pub fn ending_signals() -> io::Result<File> {
     }
 }
 
+/// How many bytes of the disk with this file this user may still take. `None`: the file system doesn't say it.
+pub fn free_space(path: &CStr) -> io::Result<Option<u64>> {
+    let mut found = MaybeUninit::<libc::statvfs>::uninit();
+    // SAFETY: the path ends with a zero byte, and the call fills `found` if it succeeds.
+    let found = unsafe {
+        check(libc::statvfs(path.as_ptr(), found.as_mut_ptr()))?;
+        found.assume_init()
+    };
+    let blocks = match user() {
+        0 => found.f_bfree,
+        _ => found.f_bavail,
+    };
+    Ok((found.f_blocks > 0).then(|| blocks.saturating_mul(found.f_frsize)))
+}
+
 /// Ends the program as a signal does.
-#[cfg(feature = "log")]
 pub fn end_program() {
     // SAFETY: the call takes numbers alone.
     unsafe { libc::kill(libc::getpid(), libc::SIGTERM) };

@@ -200,6 +200,12 @@ impl Log {
         })
     }
 
+    /// Why the database can't be read or written, if it can't.
+    pub fn trouble(&self) -> Option<String> {
+        let state = self.line.lock();
+        state.trouble.as_ref().map(|trouble| trouble.why.to_string())
+    }
+
     /// Writes the state of now into the log, if this server leads.
     pub fn compact(&self) -> std::result::Result<(), Refused> {
         let _one = lock(&self.writing_state);
