@@ -93,7 +93,7 @@ pub fn run(socket: Socket, signals: &File, shared: Shared, own: ShelfPass) -> Re
     kept::start(&shared)?;
     let watching = {
         let shared = shared.clone();
-        thread::spawn(move || shared.watcher.run(own, &shared.kept))
+        thread::spawn(move || shared.watcher.run(own, &shared.pressure, &shared.kept))
     };
     accept(&socket.listener, signals, &shared);
     drop(socket);
