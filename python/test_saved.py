@@ -167,6 +167,18 @@ class Kept(Files):
             self.assertEqual(version.attributes(1, kinds=True), {"round": (2, bestore.UINT32), "size": (1, bestore.INT64)})
             self.assertEqual((version.indices(), len(list(version))), ({"size": bestore.INT64}, 6))
 
+    def test_modes(self):
+        def modes():
+            return {name: os.stat(os.path.join(self.folder, name)).st_mode & 0o7777 for name in os.listdir(self.folder)}
+        self.addCleanup(os.umask, os.umask(0))
+        with saved.open(self.path, pages=64) as store:
+            store.new_node()
+            self.assertEqual(modes(), {"test.bestore": 0o600, "test.bestore-wal": 0o600})
+        os.chmod(self.path, 0o640)  # what somebody has chosen stays
+        with saved.open(self.path, pages=64) as store:
+            store.new_node()
+            self.assertEqual(modes(), {"test.bestore": 0o640, "test.bestore-wal": 0o640})
+
     def test_each_call(self):
         """Each call that writes is saved, by each pass, also a node that is gone."""
         with saved.open(self.path, 64) as store, store.another() as other, other.another() as third:

@@ -6,7 +6,7 @@ import ctypes
 import os
 import sqlite3
 import weakref
-from contextlib import contextmanager
+from contextlib import contextmanager, suppress
 from itertools import chain
 from typing import Any, ClassVar, Iterable, Iterator, List, NamedTuple, Optional, Sequence, Tuple
 
@@ -45,6 +45,12 @@ class About(NamedTuple):
     """The number of the next node after it."""
 
 
+def _make_private(path: str) -> None:
+    """Makes the file if it isn't there, so that the user alone may read it. SQLite gives the file with `-wal` the same mode."""
+    with suppress(OSError, ValueError):  # if it can't be made, opening it says why
+        os.close(os.open(path, os.O_WRONLY | os.O_CREAT | os.O_EXCL, 0o600))
+
+
 class File:
     """The file, which is this process's alone until `close`. One thread at a time uses it."""
 
@@ -56,8 +62,9 @@ class File:
         self._reading: List[sqlite3.Cursor] = []
         with self._translated():
             # SQLite takes ":memory:" and an empty name for no file, and neither has a folder before it.
-            self._connection = sqlite3.connect(
-                os.path.join(os.curdir, path), timeout=0, isolation_level=None, check_same_thread=False)
+            within = os.path.join(os.curdir, path)
+            _make_private(within)
+            self._connection = sqlite3.connect(within, timeout=0, isolation_level=None, check_same_thread=False)
         File._open.add(self)
         try:
             self._take()

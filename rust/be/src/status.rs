@@ -28,5 +28,9 @@ pub fn show(client: &mut Client, line: &Line, output: &mut Output) -> Result<(),
         let value = format!("{} pages, {} free, {} entries", full.pages, full.free, full.entries);
         vec![format!("volume {volume}"), value]
     });
-    output.aligned(&lines.chain(volumes).collect::<Vec<_>>())
+    let trouble = status
+        .trouble
+        .iter()
+        .map(|trouble| vec!["trouble".into(), trouble.clone()]);
+    output.aligned(&lines.chain(volumes).chain(trouble).collect::<Vec<_>>())
 }

@@ -5,7 +5,9 @@ use bestore::saved::{self, Error as SavedError, Options, Place, Saved};
 use bestore::{Batch, Error, Kind, Limits, Live, Pass, Value};
 use rusqlite::Connection;
 use std::collections::BTreeMap;
+use std::fs::Permissions;
 use std::io::{BufRead, BufReader, Write};
+use std::os::unix::fs::PermissionsExt;
 use std::path::{Path, PathBuf};
 use std::process::{Child, Command, Stdio};
 use std::thread;
@@ -101,6 +103,35 @@ fn what_was_written_is_there_again() {
     assert_eq!(snapshot.get(1, "round").unwrap(), Some(Value::Uint64(2)));
     assert_eq!(snapshot.get(6, "size").unwrap(), Some(Value::Int64(9)));
     assert_eq!(snapshot.indices().unwrap(), [("size".to_owned(), Kind::Int64)]);
+}
+
+/// The mode of each file of the folder, by its name.
+fn modes(folder: &Folder) -> BTreeMap<String, u32> {
+    let files = std::fs::read_dir(&folder.0).unwrap().flatten();
+    let mode = |file: &std::fs::DirEntry| file.metadata().unwrap().permissions().mode() & 0o7777;
+    files
+        .map(|file| (file.file_name().into_string().unwrap(), mode(&file)))
+        .collect()
+}
+
+#[test]
+fn the_user_alone_may_read_a_file() {
+    let folder = Folder::new("modes");
+    let saved = saved::open(folder.file()).unwrap();
+    saved.pass().unwrap().new_node().unwrap();
+    let found = modes(&folder);
+    assert!(found.contains_key("test.bestore-wal"), "{found:?}");
+    assert!(found.values().all(|mode| *mode == 0o600), "{found:?}");
+    saved.close().unwrap();
+    // What somebody has chosen for a file stays.
+    std::fs::set_permissions(folder.file(), Permissions::from_mode(0o640)).unwrap();
+    let saved = saved::open(folder.file()).unwrap();
+    saved.pass().unwrap().new_node().unwrap();
+    let found = modes(&folder);
+    assert!(
+        found.len() > 1 && found.values().all(|mode| *mode == 0o640),
+        "{found:?}"
+    );
 }
 
 #[test]
@@ -448,12 +479,14 @@ fn on_a_full_disk_acknowledged_writes_are_kept() {
     let saved = saved::open(&path).unwrap();
     let mut pass = saved.pass().unwrap();
     let node = pass.new_node().unwrap();
+    assert!(saved.failure().is_none());
     let (acknowledged, error) = write_on(&pass, node);
     assert!(
         matches!(&error, Error::NotSaved(error) if matches!(**error, SavedError::DiskFull { .. })),
         "{error}"
     );
     assert!(acknowledged > 0);
+    assert!(matches!(saved.failure().as_deref(), Some(SavedError::DiskFull { .. })));
     assert!(matches!(pass.new_node(), Err(Error::Stopped(_))));
     let read = pass.pin().unwrap().get(node, "count").unwrap();
     assert_eq!(read, Some(Value::Uint64(acknowledged + 1)));

@@ -113,6 +113,8 @@ pub struct Desk<'a> {
     pub shared: &'a Shared,
     outbox: Arc<Outbox>,
     out: Vec<u8>,
+    /// Whether the outbox has something left that was to be sent.
+    is_left: bool,
     watches: Option<Arc<Watches>>,
     last_watch: u64,
 }
@@ -131,18 +133,23 @@ impl<'a> Desk<'a> {
             shared,
             outbox,
             out: Vec::new(),
+            is_left: false,
             watches: None,
             last_watch: 0,
         }
     }
 
-    /// Sends the replies that were collected.
-    pub fn send(&mut self) -> io::Result<()> {
-        if !self.out.is_empty() {
-            self.outbox.send(&self.out)?;
-            self.out.clear();
-            self.out.shrink_to(COLLECTED);
+    /// Sends the replies that were collected, and waits for the client to read them. If reads see a snapshot since this time, the
+    /// wait ends once it has to be given back, and what is left is sent later.
+    pub fn send(&mut self, since: Option<Instant>) -> io::Result<()> {
+        if self.out.is_empty() && !self.is_left {
+            return Ok(());
         }
+        let pressure = &self.shared.pressure;
+        let is_over = || since.map_or(false, |since| pressure.is_over(since));
+        self.is_left = !self.outbox.send(&self.out, is_over)?;
+        self.out.clear();
+        self.out.shrink_to(COLLECTED);
         Ok(())
     }
 
@@ -172,14 +179,18 @@ impl<'a> Desk<'a> {
 
     /// Answers a command other than `pin` and `unpin`.
     pub fn answer(&mut self, id: u64, command: Command<'_>, view: &mut View<'_, '_>) -> io::Result<()> {
+        if let (false, Err(failure)) = (matches!(command, Command::Status(_)), self.shared.kept.check()) {
+            self.refuse(Some(id), failure);
+            return Ok(());
+        }
         let answered = match command {
             Command::Batch(write) => self.write(id, &write, view),
             Command::Watch(watch) => match self.watch(watch, view) {
-                Ok((reply, watch)) => return self.begin(id, &reply, watch),
+                Ok((reply, watch)) => return self.begin(id, &reply, watch, view.since()),
                 Err(failure) => Err(failure),
             },
             Command::Refresh(watching) => match self.refresh(&watching, view) {
-                Ok((reply, watch)) => return self.begin(id, &reply, watch),
+                Ok((reply, watch)) => return self.begin(id, &reply, watch, view.since()),
                 Err(failure) => Err(failure),
             },
             Command::Unwatch(watching) => self.unwatch(id, &watching),
@@ -189,14 +200,14 @@ impl<'a> Desk<'a> {
             Command::State(from) => state(view, &from).map(|page| self.reply(id, &page)),
             Command::Reach(reach) => {
                 // Earlier replies don't wait for a commit.
-                self.send()?;
+                self.send(view.since())?;
                 let reached = reach::reach(view, &self.shared.pressure, &reach);
                 reached.map(|reached| self.reply(id, &reached))
             }
-            Command::Flush(_) => self.shared.kept.flush().map(|()| self.reply(id, &wire::Nothing {})),
+            Command::Flush(_) => self.flush(id),
             Command::Log(wanted) => {
                 // Earlier replies don't wait for an entry.
-                self.send()?;
+                self.send(view.since())?;
                 let status = view.check_waits(&wanted);
                 let status = status.and_then(|()| self.shared.kept.log_status(&wanted));
                 status.map(|status| self.reply(id, &status))
@@ -209,7 +220,7 @@ impl<'a> Desk<'a> {
         }
         match self.out.len() {
             0..=COLLECTED => Ok(()),
-            _ => self.send(),
+            _ => self.send(view.since()),
         }
     }
 
@@ -218,16 +229,28 @@ impl<'a> Desk<'a> {
         if *count > batch.len() {
             return Err(Error::BadCount { count: *count }.into());
         }
+        self.shared.kept.check_room()?;
         let written = match volumes::is_for_all(write, view.volumes()) {
             true => view.read(|snapshot| volumes::write_indices(snapshot, batch)),
             false => volumes::write(&self.shared.pressure, view, write),
         };
         // Some volumes may have been written before another one refused.
         self.shared.watcher.written();
+        if written.is_err() {
+            self.shared.kept.end_if_failed();
+        }
         let mut written = written?;
         written.entry = self.shared.kept.entry(written.commit);
         self.reply(id, &written);
         Ok(())
+    }
+
+    fn flush(&mut self, id: u64) -> Result<(), Failure> {
+        let flushed = self.shared.kept.flush();
+        if flushed.is_err() {
+            self.shared.kept.end_if_failed();
+        }
+        flushed.map(|()| self.reply(id, &wire::Nothing {}))
     }
 
     /// Answers a command that reads in one snapshot.
@@ -293,6 +316,7 @@ impl<'a> Desk<'a> {
         let status = wire::Status {
             clients: self.shared.clients.count() as u64,
             watches: self.shared.watcher.count() as u64,
+            trouble: self.shared.kept.trouble(),
             ..volumes::status(&view.status()?)
         };
         self.reply(id, &status);
@@ -340,9 +364,9 @@ impl<'a> Desk<'a> {
     }
 
     /// Sends the reply before anything can be pushed.
-    fn begin(&mut self, id: u64, reply: &impl Serialize, watch: Watch) -> io::Result<()> {
+    fn begin(&mut self, id: u64, reply: &impl Serialize, watch: Watch, since: Option<Instant>) -> io::Result<()> {
         self.reply(id, reply);
-        self.send()?;
+        self.send(since)?;
         let outbox = &self.outbox;
         let watches = self
             .watches

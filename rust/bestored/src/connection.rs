@@ -31,12 +31,12 @@ pub struct Connection<'a> {
 }
 
 impl<'a> Connection<'a> {
-    pub fn new(shared: &'a Shared, stream: Arc<UnixStream>) -> io::Result<Self> {
-        let outbox = Arc::new(Outbox::new(stream.clone())?);
-        Ok(Self {
+    pub fn new(shared: &'a Shared, stream: Arc<UnixStream>) -> Self {
+        let outbox = Arc::new(Outbox::new(stream.clone()));
+        Self {
             lines: Lines::new(stream),
             desk: Desk::new(shared, outbox),
-        })
+        }
     }
 
     /// Answers the client's requests until it closes the connection.
@@ -57,7 +57,7 @@ impl<'a> Connection<'a> {
             match turn {
                 Turn::Unpin { id } => self.desk.reply(id, &Nothing {}),
                 Turn::Expire => {}
-                Turn::Pin { .. } | Turn::Close => return Ok(()),
+                Turn::Pin { .. } | Turn::Close => return self.desk.send(None),
             }
             is_expired = turn == Turn::Expire;
         }
@@ -83,6 +83,12 @@ impl<'a> Connection<'a> {
     /// Answers requests until reads have to see another state.
     fn serve(&mut self, view: &mut View<'_, '_>) -> io::Result<Turn> {
         loop {
+            if view
+                .since()
+                .map_or(false, |since| self.desk.shared.pressure.is_over(since))
+            {
+                return Ok(Turn::Expire);
+            }
             let line = match self.lines.take() {
                 Some(line) => line,
                 None => match self.receive(view.since())? {
@@ -109,17 +115,10 @@ impl<'a> Connection<'a> {
         }
     }
 
-    /// Sends the replies that were made, and waits for more requests. `since`: when the snapshot was pinned, if one is.
+    /// Sends the replies that were made, and waits for more requests, or a moment if a snapshot is kept since some time.
     fn receive(&mut self, since: Option<Instant>) -> io::Result<Option<Turn>> {
-        self.desk.send()?;
-        let mut until = None;
-        if let Some(since) = since {
-            let pressure = &self.desk.shared.pressure;
-            if pressure.is_over(since) {
-                return Ok(Some(Turn::Expire));
-            }
-            until = Some(Instant::now() + pressure::LOOK);
-        }
+        self.desk.send(since)?;
+        let until = since.map(|_| Instant::now() + pressure::LOOK);
         let (name, message) = match self.lines.read(until)? {
             Received::Some | Received::Late => return Ok(None),
             Received::End => return Ok(Some(Turn::Close)),
@@ -127,7 +126,6 @@ impl<'a> Connection<'a> {
             Received::TooLong => ("LineTooLong", "the request has more than 1 MiB"),
         };
         self.desk.refuse(None, Failure::new(name, message));
-        self.desk.send()?;
         Ok(Some(Turn::Close))
     }
 }

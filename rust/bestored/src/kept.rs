@@ -1,28 +1,55 @@
 //! The volumes of the server: in memory alone, kept in files, or one in a log that machines share.
 
+use crate::disk::Disk;
 use crate::failure::Failure;
 #[cfg(feature = "log")]
 use crate::log::Log;
 use crate::options::Options;
+use crate::os;
 use crate::server::Shared;
-use bestore::saved::{self, SavedShelf};
+use bestore::saved::{self, Saved, SavedShelf};
 use bestore::{Shelf, ShelfPass};
 use bestore_client::wire;
 use std::error::Error;
+use std::fs::File;
 use std::io;
 use std::path::Path;
+use std::sync::atomic::{AtomicBool, Ordering};
 use std::sync::Arc;
 
 /// The volumes.
 #[derive(Debug)]
 pub enum Kept {
     Memory(Shelf),
-    File {
-        saved: SavedShelf,
-        each: bool,
-    },
+    File(Box<InFiles>),
     #[cfg(feature = "log")]
     Log(Box<Log>),
+}
+
+/// Volumes that are kept in files.
+#[derive(Debug)]
+pub struct InFiles {
+    saved: SavedShelf,
+    each: bool,
+    disk: Disk,
+    /// Whether a commit has failed, so that the server ends.
+    is_over: AtomicBool,
+}
+
+impl InFiles {
+    fn open(options: &Options, path: &Path) -> Result<Self, Box<dyn Error>> {
+        Ok(Self {
+            saved: open_files(options, path)?,
+            each: options.every.is_none(),
+            disk: Disk::of(path, options.spare)?,
+            is_over: AtomicBool::new(false),
+        })
+    }
+
+    /// The error of the first commit that failed.
+    fn failure(&self) -> Option<Arc<saved::Error>> {
+        self.saved.volumes().iter().find_map(Saved::failure)
+    }
 }
 
 /// Starts what the store does by itself.
@@ -40,38 +67,37 @@ pub fn start(_: &Arc<Shared>) -> io::Result<()> {
 }
 
 impl Kept {
-    /// Opens the volumes of a server with this text of its run.
-    pub fn open(options: &Options, run: &str) -> Result<Self, Box<dyn Error>> {
+    /// Opens the volumes of a server with this text of its run. `None`: one of the signals has come while the database of a log
+    /// could not be reached.
+    pub fn open(options: &Options, run: &str, signals: &File) -> Result<Option<Self>, Box<dyn Error>> {
         if options.log.is_some() {
-            return Self::open_log(options, run);
+            return Self::open_log(options, run, signals);
         }
         let path = match &options.keep {
             None => {
                 let volumes = options.volumes.unwrap_or(1);
-                return Ok(Kept::Memory(Shelf::open(volumes, options.limits())?));
+                return Ok(Some(Kept::Memory(Shelf::open(volumes, options.limits())?)));
             }
             Some(path) => path,
         };
-        Ok(Kept::File {
-            saved: open_files(options, path)?,
-            each: options.every.is_none(),
-        })
+        Ok(Some(Kept::File(Box::new(InFiles::open(options, path)?))))
     }
 
     #[cfg(feature = "log")]
-    fn open_log(options: &Options, run: &str) -> Result<Self, Box<dyn Error>> {
-        Ok(Kept::Log(Box::new(Log::open(options, run)?)))
+    fn open_log(options: &Options, run: &str, signals: &File) -> Result<Option<Self>, Box<dyn Error>> {
+        let log = Log::open(options, run, signals)?;
+        Ok(log.map(|log| Kept::Log(Box::new(log))))
     }
 
     #[cfg(not(feature = "log"))]
-    fn open_log(_: &Options, _: &str) -> Result<Self, Box<dyn Error>> {
+    fn open_log(_: &Options, _: &str, _: &File) -> Result<Option<Self>, Box<dyn Error>> {
         Err("this program is built without the feature log".into())
     }
 
     pub fn pass(&self) -> bestore::Result<ShelfPass> {
         match self {
             Kept::Memory(shelf) => shelf.pass(),
-            Kept::File { saved, .. } => saved.pass(),
+            Kept::File(files) => files.saved.pass(),
             #[cfg(feature = "log")]
             Kept::Log(log) => log.pass(),
         }
@@ -81,15 +107,60 @@ impl Kept {
     pub fn when(&self) -> &'static str {
         match self {
             Kept::Memory(_) => "no",
-            Kept::File { each: false, .. } => "every",
+            Kept::File(files) if !files.each => "every",
             _ => "each",
+        }
+    }
+
+    /// Refuses what would be read or written once a commit has failed.
+    pub fn check(&self) -> Result<(), Failure> {
+        match self {
+            Kept::File(files) if files.is_over.load(Ordering::Relaxed) => {
+                Err(Failure::new("Stopped", "a commit has failed, and the server ends"))
+            }
+            _ => Ok(()),
+        }
+    }
+
+    /// Refuses a write for which there is no room.
+    pub fn check_room(&self) -> Result<(), Failure> {
+        let trouble = match self {
+            Kept::File(files) => files.disk.trouble(),
+            _ => None,
+        };
+        match trouble {
+            Some(trouble) => Err(Failure::new("Stopped", format!("nothing was written: {trouble}"))),
+            None => Ok(()),
+        }
+    }
+
+    /// Why writes aren't kept now, if they aren't.
+    pub fn trouble(&self) -> Option<String> {
+        match self {
+            Kept::Memory(_) => None,
+            Kept::File(files) => {
+                let failure = files.failure().map(|error| error.to_string());
+                failure.or_else(|| files.disk.trouble())
+            }
+            #[cfg(feature = "log")]
+            Kept::Log(log) => log.trouble(),
+        }
+    }
+
+    /// Ends the server if a commit has failed: memory then has what the file lacks.
+    pub fn end_if_failed(&self) {
+        if let Kept::File(files) = self {
+            if files.failure().is_some() && !files.is_over.swap(true, Ordering::Relaxed) {
+                os::end_program();
+            }
         }
     }
 
     /// Waits until all that was written is kept, if the replies to writes wait for that.
     pub fn flush_if_each(&self) -> Result<(), Failure> {
         match self {
-            Kept::Memory(_) | Kept::File { each: false, .. } => Ok(()),
+            Kept::Memory(_) => Ok(()),
+            Kept::File(files) if !files.each => Ok(()),
             _ => self.flush(),
         }
     }
@@ -97,7 +168,7 @@ impl Kept {
     pub fn flush(&self) -> Result<(), Failure> {
         match self {
             Kept::Memory(_) => Err(not_kept()),
-            Kept::File { saved, .. } => Ok(saved.flush()?),
+            Kept::File(files) => Ok(files.saved.flush()?),
             #[cfg(feature = "log")]
             Kept::Log(log) => Ok(log.flush()?),
         }
@@ -106,7 +177,7 @@ impl Kept {
     pub fn compact(&self) -> Result<(), Failure> {
         match self {
             Kept::Memory(_) => Err(not_kept()),
-            Kept::File { saved, .. } => Ok(saved.compact()?),
+            Kept::File(files) => Ok(files.saved.compact()?),
             #[cfg(feature = "log")]
             Kept::Log(log) => Ok(log.compact()?),
         }
@@ -140,7 +211,7 @@ impl Kept {
     pub fn finish(&self) -> Result<(), Box<dyn Error>> {
         match self {
             Kept::Memory(_) => Ok(()),
-            Kept::File { saved, .. } => Ok(saved.flush()?),
+            Kept::File(files) => Ok(files.saved.flush()?),
             #[cfg(feature = "log")]
             Kept::Log(log) => Ok(log.finish()?),
         }

@@ -4,6 +4,7 @@
 
 mod answer;
 mod connection;
+mod disk;
 mod failure;
 mod kept;
 mod lines;
@@ -47,7 +48,10 @@ fn start(options: Options) -> Result<(), Box<dyn Error>> {
         None => Socket::make(&options.socket())?,
     };
     let run = server::run_text()?;
-    let kept = Kept::open(&options, &run)?;
+    let kept = match Kept::open(&options, &run, &signals)? {
+        Some(kept) => kept,
+        None => return Ok(()),
+    };
     let own = kept.pass()?;
     let shared = Shared {
         kept,

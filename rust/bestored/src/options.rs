@@ -15,6 +15,9 @@ const OWN_PASSES: u64 = 1;
 /// Passes of the store that a log of machines takes.
 const LOG_PASSES: u64 = 2;
 
+/// How many bytes of the disk of a kept file stay free if nothing is said.
+const SPARE: u64 = 1 << 20;
+
 /// The log that machines share, and what this one begins with.
 #[derive(Clone, Debug)]
 #[cfg_attr(not(feature = "log"), allow(dead_code))]
@@ -30,6 +33,8 @@ pub struct Options {
     pub socket: Option<PathBuf>,
     pub keep: Option<PathBuf>,
     pub every: Option<Duration>,
+    /// How many bytes of the disk of `keep` stay free.
+    pub spare: u64,
     /// The log, if machines share one.
     pub log: Option<InLog>,
     pub volumes: Option<u32>,
@@ -71,6 +76,14 @@ fn command() -> Command {
                 .requires("keep")
                 .help("Replies to writes don't wait for the file, which has them after this time"),
         )
+        .arg(
+            Arg::new("spare")
+                .long("spare")
+                .value_name("KIB")
+                .value_parser(value_parser!(u64).range(0..=1 << 30))
+                .requires("keep")
+                .help("Nothing is written while the disk of the file has less free than this; otherwise 1024"),
+        )
         .arg(url("log", &["keep", "follow", "volumes"]).help("Leads a log in PostgreSQL that several machines share"))
         .arg(url("follow", &["keep", "volumes"]).help("Follows such a log, and leads once nobody does"))
         .arg(
@@ -101,6 +114,7 @@ impl Options {
             socket: read.get_one("socket").cloned(),
             keep: read.get_one("keep").cloned(),
             every: read.get_one("every").copied().map(Duration::from_millis),
+            spare: read.get_one::<u64>("spare").map_or(SPARE, |kib| kib << 10),
             log,
             volumes: read.get_one("volumes").copied(),
             pages: number("pages"),
@@ -140,6 +154,7 @@ mod tests {
             ["--pages", "7"],
             ["--passes", "63"],
             ["--every", "5"],
+            ["--spare", "5"],
             ["--hold", "0"],
             ["--volumes", "0"],
             ["--volumes", "65"],

@@ -2,6 +2,7 @@
 #![allow(unsafe_code)]
 #![deny(unsafe_op_in_unsafe_fn)]
 
+use std::ffi::CStr;
 use std::fs::File;
 use std::io;
 use std::mem::{self, MaybeUninit};
@@ -54,11 +55,21 @@ pub fn send_now(stream: &UnixStream, bytes: &[u8]) -> io::Result<usize> {
 
 /// Waits until one of the descriptors can be read, and says of each whether it can.
 pub fn wait_readable<const N: usize>(descriptors: [RawFd; N], time: Option<Duration>) -> io::Result<[bool; N]> {
-    let mut polled = descriptors.map(|fd| libc::pollfd {
-        fd,
-        events: libc::POLLIN,
-        revents: 0,
-    });
+    wait(descriptors, libc::POLLIN, time)
+}
+
+/// Waits until the socket takes more, or for this time.
+pub fn wait_writable(stream: &UnixStream, time: Duration) -> io::Result<()> {
+    wait([stream.as_raw_fd()], libc::POLLOUT, Some(time)).map(drop)
+}
+
+/// Waits for one of these events of the descriptors, and says of each whether there is one.
+fn wait<const N: usize>(
+    descriptors: [RawFd; N],
+    events: libc::c_short,
+    time: Option<Duration>,
+) -> io::Result<[bool; N]> {
+    let mut polled = descriptors.map(|fd| libc::pollfd { fd, events, revents: 0 });
     let milliseconds = time.map_or(-1, |time| {
         let rounded_up = time.as_millis() + u128::from(time.subsec_nanos() % 1_000_000 > 0);
         libc::c_int::try_from(rounded_up).unwrap_or(libc::c_int::MAX)
@@ -87,8 +98,22 @@ pub fn ending_signals() -> io::Result<File> {
     }
 }
 
+/// How many bytes of the disk with this file this user may still take. `None`: the file system doesn't say it.
+pub fn free_space(path: &CStr) -> io::Result<Option<u64>> {
+    let mut found = MaybeUninit::<libc::statvfs>::uninit();
+    // SAFETY: the path ends with a zero byte, and the call fills `found` if it succeeds.
+    let found = unsafe {
+        check(libc::statvfs(path.as_ptr(), found.as_mut_ptr()))?;
+        found.assume_init()
+    };
+    let blocks = match user() {
+        0 => found.f_bfree,
+        _ => found.f_bavail,
+    };
+    Ok((found.f_blocks > 0).then(|| blocks.saturating_mul(found.f_frsize)))
+}
+
 /// Ends the program as a signal does.
-#[cfg(feature = "log")]
 pub fn end_program() {
     // SAFETY: the call takes numbers alone.
     unsafe { libc::kill(libc::getpid(), libc::SIGTERM) };

@@ -1,7 +1,7 @@
-//! What goes out to a client: replies by its own thread, which waits for it, and pushes by a thread that doesn't.
+//! What goes out to a client: replies by its own thread, which waits for the client, and pushes by a thread that doesn't.
 
 use crate::os;
-use std::io::{self, ErrorKind, Write};
+use std::io::{self, ErrorKind};
 use std::net::Shutdown;
 use std::os::unix::net::UnixStream;
 use std::sync::{Arc, Mutex, MutexGuard, PoisonError, TryLockError};
@@ -10,12 +10,56 @@ use std::time::{Duration, Instant};
 /// How long a client may leave unread what is sent to it.
 const PATIENCE: Duration = Duration::from_secs(30);
 
-/// The end of a pushed line that the socket didn't take.
+/// How often a thread that waits for a client looks whether it has to do something else.
+const LOOK: Duration = Duration::from_millis(50);
+
+/// The bytes that the socket didn't take yet. They go out before all others.
 #[derive(Debug, Default)]
 struct Unsent {
     bytes: Vec<u8>,
     /// When the socket last took something, or the bytes came.
     since: Option<Instant>,
+}
+
+impl Unsent {
+    /// Adds lines. If nothing is before them, what the socket takes at once isn't copied.
+    fn add(&mut self, stream: &UnixStream, lines: &[u8]) -> io::Result<()> {
+        let sent = match self.bytes.is_empty() {
+            true => send_some(stream, lines)?,
+            false => 0,
+        };
+        self.bytes.extend_from_slice(&lines[sent..]);
+        self.since = Some(Instant::now());
+        Ok(())
+    }
+
+    /// Sends what the socket takes at once. Returns whether nothing is left.
+    fn send(&mut self, stream: &UnixStream) -> io::Result<bool> {
+        while !self.bytes.is_empty() {
+            match send_some(stream, &self.bytes)? {
+                0 => return Ok(false),
+                count => {
+                    self.bytes.drain(..count);
+                    self.since = Some(Instant::now());
+                }
+            }
+        }
+        self.bytes = Vec::new();
+        Ok(true)
+    }
+
+    /// Whether the client has read nothing for this time.
+    fn waits_for(&self, time: Duration) -> bool {
+        self.since.map_or(false, |since| since.elapsed() > time)
+    }
+}
+
+/// Sends as many of the bytes as the socket takes at once, which may be none.
+fn send_some(stream: &UnixStream, bytes: &[u8]) -> io::Result<usize> {
+    match os::send_now(stream, bytes) {
+        Err(error) if matches!(error.kind(), ErrorKind::WouldBlock | ErrorKind::Interrupted) => Ok(0),
+        sent => sent,
+    }
 }
 
 /// The way out to one client. A line is never cut by another one.
@@ -27,24 +71,29 @@ pub struct Outbox {
 }
 
 impl Outbox {
-    pub fn new(stream: Arc<UnixStream>) -> io::Result<Self> {
-        stream.set_write_timeout(Some(PATIENCE))?;
-        Ok(Self {
+    pub fn new(stream: Arc<UnixStream>) -> Self {
+        Self {
             stream,
             unsent: Mutex::default(),
             patience: PATIENCE,
-        })
+        }
     }
 
-    /// Sends whole lines, and waits until the socket has taken them.
-    pub fn send(&self, lines: &[u8]) -> io::Result<()> {
+    /// Sends whole lines, and waits until the socket has taken them, or until `is_over`. Returns whether nothing is left; the next
+    /// call sends what is.
+    pub fn send(&self, lines: &[u8], is_over: impl Fn() -> bool) -> io::Result<bool> {
         let mut unsent = self.unsent.lock().unwrap_or_else(PoisonError::into_inner);
-        let mut stream = &*self.stream;
-        if !unsent.bytes.is_empty() {
-            stream.write_all(&unsent.bytes)?;
-            *unsent = Unsent::default();
+        unsent.add(&self.stream, lines)?;
+        while !unsent.send(&self.stream)? {
+            if is_over() {
+                return Ok(false);
+            }
+            if unsent.waits_for(self.patience) {
+                return Err(ErrorKind::TimedOut.into());
+            }
+            os::wait_writable(&self.stream, LOOK)?;
         }
-        stream.write_all(lines)
+        Ok(true)
     }
 
     /// Whoever pushes lines, if nothing is on its way: after the rest of the last line is sent.
@@ -83,28 +132,16 @@ impl Pusher<'_> {
 
     /// Whether nothing is left. The connection of a client that reads nothing for too long is closed.
     fn send_rest(&mut self) -> bool {
-        while !self.unsent.bytes.is_empty() {
-            match os::send_now(self.stream, &self.unsent.bytes) {
-                Ok(count) => {
-                    self.unsent.bytes.drain(..count);
-                    self.unsent.since = Some(Instant::now());
-                }
-                Err(error) if error.kind() == ErrorKind::Interrupted => {}
-                Err(error) if error.kind() == ErrorKind::WouldBlock => {
-                    if self.unsent.since.map_or(false, |since| since.elapsed() > self.patience) {
-                        eprintln!("bestored: a client is disconnected, since it doesn't read what is pushed");
-                        self.give_up();
-                    }
-                    return false;
-                }
-                Err(_) => {
-                    self.give_up();
-                    return false;
-                }
+        match self.unsent.send(self.stream) {
+            Ok(true) => return true,
+            Ok(false) if !self.unsent.waits_for(self.patience) => {}
+            Ok(false) => {
+                eprintln!("bestored: a client is disconnected, since it doesn't read what is pushed");
+                self.give_up();
             }
+            Err(_) => self.give_up(),
         }
-        self.unsent.bytes = Vec::new();
-        true
+        false
     }
 
     /// Closes the connection, so that the client's own thread ends.
@@ -122,7 +159,7 @@ mod tests {
 
     fn pair() -> (UnixStream, Outbox) {
         let (client, server) = UnixStream::pair().unwrap();
-        (client, Outbox::new(Arc::new(server)).unwrap())
+        (client, Outbox::new(Arc::new(server)))
     }
 
     /// Pushes lines until the socket takes no more.
@@ -145,7 +182,7 @@ mod tests {
             client.read_to_string(&mut text).unwrap();
             text
         });
-        outbox.send(b"b\n").unwrap();
+        assert!(outbox.send(b"b\n", || false).unwrap());
         drop(outbox);
         let text = reading.join().unwrap();
         assert_eq!(text.lines().count(), lines + 1);
@@ -162,7 +199,32 @@ mod tests {
         assert!(outbox.pusher().is_none());
         let mut text = Vec::new();
         client.read_to_end(&mut text).unwrap();
-        assert!(outbox.send(b"b\n").is_err());
+        assert!(outbox.send(b"b\n", || false).is_err());
+    }
+
+    #[test]
+    fn who_reads_no_reply_is_waited_for_so_long() {
+        let (_client, mut outbox) = pair();
+        outbox.patience = Duration::from_millis(50);
+        let error = outbox.send(&b"a".repeat(1 << 20), || false).unwrap_err();
+        assert_eq!(error.kind(), ErrorKind::TimedOut);
+    }
+
+    #[test]
+    fn what_is_left_goes_before_all_else() {
+        let (mut client, outbox) = pair();
+        let lines = b"a\n".repeat(1 << 19);
+        assert!(!outbox.send(&lines, || true).unwrap());
+        assert!(!outbox.send(b"b\n", || true).unwrap());
+        assert!(outbox.pusher().is_none());
+        let reading = thread::spawn(move || {
+            let mut read = Vec::new();
+            client.read_to_end(&mut read).unwrap();
+            read
+        });
+        assert!(outbox.send(b"c\n", || false).unwrap());
+        drop(outbox);
+        assert!(reading.join().unwrap() == [&lines[..], b"b\nc\n"].concat());
     }
 
     #[test]
@@ -170,7 +232,7 @@ mod tests {
         let (client, outbox) = pair();
         let outbox = &outbox;
         thread::scope(|scope| {
-            scope.spawn(|| outbox.send(&b"a".repeat(1 << 20)));
+            scope.spawn(|| outbox.send(&b"a".repeat(1 << 20), || false));
             while outbox.pusher().is_some() {
                 thread::yield_now();
             }

@@ -43,9 +43,13 @@ impl Pressure {
     /// Whether a snapshot that was pinned at this time has to be given back.
     pub fn is_over(&self, since: Instant) -> bool {
         let age = since.elapsed();
+        age >= self.hold || age >= AT_LEAST && self.is_on()
+    }
+
+    /// Whether a write waits, or did a moment ago.
+    pub fn is_on(&self) -> bool {
         let last = self.last.load(Ordering::Relaxed);
-        let is_waited_for = last != 0 && self.now() - last <= 2 * LOOK.as_millis() as u64;
-        age >= self.hold || age >= AT_LEAST && is_waited_for
+        last != 0 && self.now().saturating_sub(last) <= 2 * LOOK.as_millis() as u64
     }
 
     /// Writes the batch. While snapshots of others keep the pages that it needs, it waits for them.

@@ -93,7 +93,7 @@ pub fn run(socket: Socket, signals: &File, shared: Shared, own: ShelfPass) -> Re
     kept::start(&shared)?;
     let watching = {
         let shared = shared.clone();
-        thread::spawn(move || shared.watcher.run(own, &shared.kept))
+        thread::spawn(move || shared.watcher.run(own, &shared.pressure, &shared.kept))
     };
     accept(&socket.listener, signals, &shared);
     drop(socket);
@@ -180,7 +180,7 @@ fn serve(shared: &Shared, stream: Arc<UnixStream>) {
         Err(error) => return refuse(&stream, &error.into()),
     };
     // An error of the connection is its end, and nobody is left to report it to.
-    let _ = Connection::new(shared, stream).and_then(|mut connection| connection.run(pass));
+    let _ = Connection::new(shared, stream).run(pass);
 }
 
 fn take_pass(shared: &Shared) -> bestore::Result<ShelfPass> {

@@ -3,6 +3,7 @@
 use crate::failure::Failure;
 use crate::kept::Kept;
 use crate::outbox::{Outbox, Pusher};
+use crate::pressure::Pressure;
 use bestore::{Error, ShelfLive, ShelfPass, ShelfSnapshot, Updates};
 use bestore_client::wire::{self, Push, Refusal};
 use std::sync::atomic::{fence, AtomicUsize, Ordering};
@@ -82,6 +83,11 @@ impl Watch {
         self.numbers = snapshot.numbers().collect();
     }
 
+    /// Whether something has to be pushed.
+    fn has_news(&self) -> bool {
+        !self.is_pushed || self.failed.is_some()
+    }
+
     /// Asks the query in this snapshot, also if it is an older one, and returns what changed. What was found before and wasn't
     /// pushed comes first, and then there is `more`. An error leaves the watch as it was.
     pub fn refresh(&mut self, snapshot: &ShelfSnapshot<'_>) -> Result<Push, Failure> {
@@ -159,10 +165,26 @@ impl Watches {
         Some(list.swap_remove(at))
     }
 
-    /// Asks the queries, and pushes what changed. Returns whether something is left to be pushed.
-    fn go_on(&self, snapshot: &ShelfSnapshot<'_>) -> bool {
+    /// Asks the queries in the current snapshot, and in a newer one whenever a write waits for pages. Returns whether something
+    /// has to be pushed.
+    fn ask(&self, pass: &mut ShelfPass, pressure: &Pressure) -> bestore::Result<bool> {
         let mut list = lock(&self.list);
-        list.iter_mut().for_each(|watch| watch.ask(snapshot));
+        let mut left = list.iter_mut().peekable();
+        while left.peek().is_some() {
+            let snapshot = pass.pin()?;
+            for watch in left.by_ref() {
+                watch.ask(&snapshot);
+                if pressure.is_on() {
+                    break;
+                }
+            }
+        }
+        Ok(list.iter().any(Watch::has_news))
+    }
+
+    /// Pushes what was found. Returns whether something is left to be pushed.
+    fn push(&self) -> bool {
+        let mut list = lock(&self.list);
         let pusher = self.outbox.pusher();
         let is_sent = pusher.map_or(false, |pusher| push_all(&mut list, pusher));
         list.retain(|watch| !watch.is_over);
@@ -249,11 +271,11 @@ impl Watcher {
     }
 
     /// Serves the watches until the end.
-    pub fn run(&self, mut pass: ShelfPass, kept: &Kept) {
+    pub fn run(&self, mut pass: ShelfPass, pressure: &Pressure, kept: &Kept) {
         let mut is_left = false;
         while let Some(clients) = self.wait(is_left) {
             let started = Instant::now();
-            is_left = round(&clients, &mut pass, kept);
+            is_left = round(&clients, &mut pass, pressure, kept);
             thread::sleep(started.elapsed().clamp(REST.0, REST.1));
         }
     }
@@ -280,19 +302,20 @@ impl Watcher {
     }
 }
 
-/// Serves each client once, in one snapshot. Returns whether something is left to be pushed.
-fn round(clients: &[Arc<Watches>], pass: &mut ShelfPass, kept: &Kept) -> bool {
-    let snapshot = match pass.pin() {
-        Ok(snapshot) => snapshot,
-        Err(error) => {
-            eprintln!("bestored: no snapshot for the live queries: {error}");
-            return true;
+/// Serves each client once. No snapshot is kept while the file or a client is waited for. Returns whether something is left to be
+/// pushed.
+fn round(clients: &[Arc<Watches>], pass: &mut ShelfPass, pressure: &Pressure, kept: &Kept) -> bool {
+    let mut is_left = false;
+    for client in clients {
+        match client.ask(pass, pressure) {
+            // What the file or the log doesn't have isn't pushed. If a log can be written again, its thread says so.
+            Ok(true) if kept.flush_if_each().is_err() => return false,
+            Ok(_) => is_left |= client.push(),
+            Err(error) => {
+                eprintln!("bestored: no snapshot for the live queries: {error}");
+                is_left = true;
+            }
         }
-    };
-    if kept.flush_if_each().is_err() {
-        // What the file or the log doesn't have isn't pushed. If a log can be written again, its thread says so.
-        return false;
     }
-    let left = clients.iter().map(|client| client.go_on(&snapshot));
-    left.filter(|is_left| *is_left).count() > 0
+    is_left
 }

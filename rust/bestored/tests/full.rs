@@ -3,6 +3,7 @@
 use crate::common::disk::Disk;
 use crate::common::writers::{check_history, Writers};
 use crate::common::{command, Folder, Server};
+use bestore::Batch;
 use bestore_client::wire::{Command, Nothing};
 use bestore_client::{Client, Error};
 use std::process::Stdio;
@@ -30,6 +31,18 @@ struct Tally {
     compactions: AtomicU64,
 }
 
+/// Starts a server with a file on the disk, if the file can be opened.
+fn start(disk: &Disk, folder: &Folder, options: &[&str]) -> Option<Server> {
+    let socket = folder.join("socket");
+    let keep = disk.join("file");
+    let common = ["--pages", "512", "--passes", "16", "--keep", keep.to_str().unwrap()];
+    let server = command(&socket, &[&common, options].concat());
+    let mut running = disk.run(server.get_program().to_str().unwrap());
+    running.args(server.get_args()).stderr(Stdio::null());
+    let server = Server::run(running, &socket);
+    server.answers().then_some(server)
+}
+
 /// A file on a disk, and the clients that write to its servers.
 struct Kept<'a> {
     disk: &'a Disk,
@@ -54,16 +67,9 @@ impl<'a> Kept<'a> {
         kept
     }
 
-    /// Starts a server, if the file can be opened.
+    /// Starts a server that takes all of the disk, if the file can be opened.
     fn start(&self) -> Option<Server> {
-        let socket = self.folder.join("socket");
-        let keep = self.disk.join("file");
-        let options = ["--pages", "512", "--passes", "16", "--keep", keep.to_str().unwrap()];
-        let server = command(&socket, &options);
-        let mut running = self.disk.run(server.get_program().to_str().unwrap());
-        running.args(server.get_args()).stderr(Stdio::null());
-        let server = Server::run(running, &socket);
-        server.answers().then_some(server)
+        start(self.disk, &self.folder, &["--spare", "0"])
     }
 
     /// Lets the clients write until saving has failed, in some runs while the state is written anew. On a full disk the file can
@@ -82,13 +88,17 @@ impl<'a> Kept<'a> {
                 self.tally.compactions.fetch_add(compact(&mut client), Relaxed);
             }
         });
-        let mut errors = errors.iter();
-        assert!(errors.all(is_of_saving), "run {number}: {errors:?}");
-        // Reads go on.
-        self.writers.check(&mut client);
+        // Some may find that the server has ended.
+        let are_of_saving = errors
+            .iter()
+            .all(|error| is_of_saving(error) || error.refusal().is_none());
+        assert!(
+            are_of_saving && errors.iter().any(is_of_saving),
+            "run {number}: {errors:?}"
+        );
         match number % 3 {
             0 => server.kill(),
-            _ => assert!(!server.end_by("TERM").success()),
+            _ => assert!(!server.wait_end().success()),
         }
     }
 
@@ -119,7 +129,7 @@ fn compact(client: &mut Client) -> u64 {
     loop {
         match client.call::<Nothing>(Command::Compact(Nothing {})) {
             Ok(_) => {}
-            Err(error) if error.is("Stopped") => return failed,
+            Err(error) if error.is("Stopped") || error.refusal().is_none() => return failed,
             Err(error) => {
                 assert!(error.is("NotSaved"), "{error}");
                 failed += 1;
@@ -170,4 +180,82 @@ fn answered_writes_outlive_a_full_disk() {
 fn answered_writes_outlive_a_file_that_may_not_grow() {
     let disks = (0..DISKS).map(|_| Disk::limited()).collect();
     run_all("a file that may not grow", disks);
+}
+
+/// A disk of a test that needs one, or a line that says that there is none.
+fn disk_of(what: &str) -> Option<Disk> {
+    let disk = Disk::mounted();
+    if disk.is_none() {
+        println!("{what}: skipped, this user can mount nothing");
+    }
+    disk
+}
+
+fn count_of(client: &mut Client) -> Option<u64> {
+    client.get(1, "count").unwrap().and_then(|value| value.as_u64())
+}
+
+fn set_count(client: &mut Client, count: u64) -> Result<(), Error> {
+    client.apply(Batch::new().set(1, "count", count)).map(drop)
+}
+
+#[test]
+fn a_server_waits_for_room_on_its_disk() {
+    let disk = match disk_of("a disk with little room") {
+        Some(disk) => disk,
+        None => return,
+    };
+    let folder = Folder::new();
+    let server = start(&disk, &folder, &[]).unwrap();
+    let mut client = server.client();
+    client.apply(Batch::new().new_node().set(1, "count", 1_u64)).unwrap();
+    assert_eq!(client.status().unwrap().trouble, None);
+    let run = client.hello().unwrap().run;
+    for count in 2..5 {
+        disk.resize(disk.used() + 900);
+        let refused = set_count(&mut client, count).unwrap_err();
+        assert!(refused.is("Stopped"), "{refused}");
+        assert!(refused.to_string().contains("nothing was written"), "{refused}");
+        let trouble = client.status().unwrap().trouble.unwrap();
+        assert!(trouble.contains("900 KiB free"), "{trouble}");
+        // Nobody reads what was refused, and the next write is kept once there is room.
+        assert_eq!(count_of(&mut server.client()), Some(count - 1));
+        disk.resize(LARGE);
+        set_count(&mut client, count).unwrap();
+        assert_eq!(client.status().unwrap().trouble, None);
+    }
+    assert_eq!(client.hello().unwrap().run, run);
+    server.kill();
+    let server = start(&disk, &folder, &[]).unwrap();
+    assert_eq!(count_of(&mut server.client()), Some(4));
+}
+
+#[test]
+fn a_write_that_could_not_be_kept_is_read_by_nobody() {
+    let disk = match disk_of("a disk without room") {
+        Some(disk) => disk,
+        None => return,
+    };
+    let folder = Folder::new();
+    let server = start(&disk, &folder, &["--spare", "0"]).unwrap();
+    let (mut client, mut reading) = (server.client(), server.client());
+    client.apply(Batch::new().new_node().set(1, "count", 1_u64)).unwrap();
+    assert_eq!(count_of(&mut reading), Some(1));
+    disk.resize(disk.used());
+    let (mut kept, mut refused) = (1, None);
+    while refused.is_none() {
+        kept += 1;
+        refused = set_count(&mut client, kept).err();
+    }
+    assert!(refused.as_ref().unwrap().is("NotSaved"), "{refused:?}");
+    let read = reading.get(1, "count").unwrap_err();
+    assert!(is_of_saving(&read) || read.refusal().is_none(), "{read}");
+    assert!(!server.wait_end().success());
+    let server = start(&disk, &folder, &["--spare", "0"]).expect("the file can be opened on a full disk");
+    assert_eq!(count_of(&mut server.client()), Some(kept - 1));
+    disk.resize(LARGE);
+    set_count(&mut server.client(), kept).unwrap();
+    server.kill();
+    let server = start(&disk, &folder, &[]).unwrap();
+    assert_eq!(count_of(&mut server.client()), Some(kept));
 }

@@ -5,7 +5,7 @@ use bestore::{Batch, Kind};
 use bestore_client::wire::{self, Push};
 use bestore_client::Client;
 use std::collections::BTreeSet;
-use std::time::Duration;
+use std::time::{Duration, Instant};
 
 fn start() -> (Folder, Server) {
     let folder = Folder::new();
@@ -322,5 +322,62 @@ fn what_is_pushed_is_in_the_file() {
             found >= nodes + pushed && found <= nodes + 20,
             "{found} {nodes} {pushed}"
         );
+    }
+}
+
+/// Clients with live queries that take long, and how many each has.
+const WATCHING: usize = 8;
+const WATCHES: usize = 32;
+
+/// How long a write may wait beside these: for one query, on a loaded machine.
+const SOON: Duration = Duration::from_millis(500);
+
+/// A query that looks at each name 32 times, and finds none.
+fn long_query() -> String {
+    let patterns = (0..32).map(|at| format!("name==\"*{at}z*\""));
+    patterns.collect::<Vec<_>>().join(" || ")
+}
+
+/// Makes nodes with names, which take most of 640 pages.
+fn name_nodes(client: &mut Client) {
+    client.apply(Batch::new().make_index("name", Kind::Text)).unwrap();
+    for first in (1..=2_000).step_by(20) {
+        let mut batch = Batch::new();
+        for node in first..first + 20 {
+            batch
+                .new_node()
+                .set(node, "name", format!("a file of the number {node}"));
+        }
+        client.apply(&batch).unwrap();
+    }
+}
+
+/// A round of all live queries takes seconds, and a snapshot that it kept would have the pages that writes need.
+#[test]
+fn no_write_waits_for_a_round_of_live_queries() {
+    let folder = Folder::new();
+    let server = Server::start(&folder, &["--pages", "640"]);
+    let mut client = server.client();
+    name_nodes(&mut client);
+    let query = long_query();
+    let mut watching: Vec<Client> = (0..WATCHING).map(|_| server.client()).collect();
+    for client in &mut watching {
+        (0..WATCHES).for_each(|_| drop(client.watch(Some(&query)).unwrap()));
+    }
+    for count in 0..300_i64 {
+        let begin = Instant::now();
+        client.apply(Batch::new().set(1, "count", count)).unwrap();
+        let waited = begin.elapsed();
+        assert!(waited < SOON, "write {count} waited for {waited:?}");
+    }
+    // All are asked meanwhile: what changes is pushed.
+    client.apply(Batch::new().set(1, "name", "7z")).unwrap();
+    for client in &mut watching {
+        let mut found = BTreeSet::new();
+        while found.len() < WATCHES {
+            let push = next(client);
+            assert_eq!(push.created, [1]);
+            found.insert(push.watch);
+        }
     }
 }

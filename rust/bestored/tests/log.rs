@@ -3,11 +3,14 @@
 use crate::common::postgres::{Database, Postgres};
 use crate::common::proxy::{Lost, Proxy};
 use crate::common::writers::{check_history, state_of, Writers};
-use crate::common::{command, wait_until, Folder, Random, Server};
+use crate::common::{command, wait_until, wait_within, Folder, Random, Server};
+use crate::slow;
 use bestore::Batch;
 use bestore_client::wire::{Command, LogStatus, Nothing, Write, Written};
 use bestore_client::{Client, Error};
+use std::cell::RefCell;
 use std::fs::{self, File};
+use std::process;
 use std::sync::atomic::{AtomicBool, Ordering::Relaxed};
 use std::sync::Arc;
 use std::thread;
@@ -21,6 +24,13 @@ const TIME: Duration = Duration::from_secs(40);
 
 /// How many µs a leader lives at most after the first write.
 const LIFE: u64 = 60_000;
+
+/// How soon a leader writes again once its database replies.
+const SOON: Duration = Duration::from_secs(15);
+
+/// The session of the leader in the database.
+const OF_LEADER: &str = "FROM pg_locks JOIN pg_database ON database = pg_database.oid \
+                         WHERE locktype = 'advisory' AND datname = current_database()";
 
 /// A database, or a line that says that there is none.
 fn database_of(server: Option<Arc<Postgres>>) -> Option<Database> {
@@ -121,6 +131,12 @@ fn check_all_alike(members: &[Member], leader: usize) {
         other.pin().unwrap();
         assert!(state_of(&mut other) == state, "{}", member.folder.path().display());
     }
+}
+
+/// Sends a signal to the process with this number.
+fn signal(process: &str, signal: &str) {
+    let sent = process::Command::new("kill").args(["-s", signal, process]).status();
+    assert!(sent.unwrap().success());
 }
 
 fn set_count(count: u64) -> Batch {
@@ -247,6 +263,29 @@ fn followers_refuse_writes_and_wait_for_entries() {
 }
 
 #[test]
+fn a_follower_lives_on_beside_a_client_that_reads_nothing() {
+    let database = match database() {
+        Some(database) => database,
+        None => return,
+    };
+    let leader = Member::start(&database, "--log");
+    let mut client = leader.client();
+    slow::begin(&leader.server);
+    let follower = Member::start(&database, "--follow");
+    let first = client.log().unwrap().entry;
+    follower.client().wait_for_entry(first, SOON).unwrap();
+    let mut talk = slow::pinned(&follower.server);
+    let mut batch = Batch::new();
+    batch.set(1, "text0", 0_u64);
+    // The follower's pages are all used before the last of these.
+    for _ in 0..300 {
+        client.apply(&batch).unwrap();
+    }
+    follower.client().wait_for_entry(first + 300, SOON).unwrap();
+    slow::check_replies(&mut talk);
+}
+
+#[test]
 fn a_wrong_outcome_is_named_with_its_entry() {
     let database = match database() {
         Some(database) => database,
@@ -320,10 +359,7 @@ fn leave_leader(database: &Database, is_next_one_killed: bool) {
         operations: set_count(1).into(),
         ..Write::default()
     }));
-    database.sql(
-        "SELECT pg_terminate_backend(pid) FROM pg_locks JOIN pg_database ON database = pg_database.oid \
-         WHERE locktype = 'advisory' AND datname = current_database()",
-    );
+    database.sql(&format!("SELECT pg_terminate_backend(pid) {OF_LEADER}"));
     wait_until("the follower leads", || new.leads());
     let mut client = new.client();
     client.apply(&set_count(2)).unwrap();
@@ -475,6 +511,73 @@ fn the_database_is_started_again_while_clients_write() {
     }
 }
 
+/// Lets clients write while the database hangs, until the leader has asked for its lock in another session. Soon after that it
+/// writes again, and no write is lost or made twice.
+fn lead_through_a_hang(database: &Database, hang: impl FnOnce(), go_on: impl FnOnce()) {
+    let leader = Member::start(database, "--log");
+    let writers = Writers::default();
+    writers.begin(&mut leader.client(), 0);
+    hang();
+    let errors = writers.write(leader.server.socket(), || {
+        let mut client = leader.client();
+        wait_until("the leader asks for its lock", || {
+            let trouble = client.log().unwrap().trouble;
+            trouble.map_or(false, |trouble| !trouble.contains("reply within"))
+        });
+        go_on();
+        let mut batch = Batch::new();
+        batch.set(1, "again", 1_u64);
+        wait_within(SOON, "the leader writes again", || client.apply(&batch).is_ok());
+        leader.server.kill();
+    });
+    let mut refusals = errors.iter().filter(|error| error.refusal().is_some());
+    assert!(
+        refusals.all(|error| error.is("NotSaved") || error.is("Stopped")),
+        "{errors:?}"
+    );
+    let member = leader.follow_again(database);
+    wait_until("the follower leads", || member.leads());
+    let mut client = member.client();
+    writers.go_on(&mut client);
+    check_history(&mut client);
+}
+
+#[test]
+fn a_leader_whose_session_hangs_leads_on() {
+    let database = match database() {
+        Some(database) => database,
+        None => return,
+    };
+    let session = RefCell::default();
+    let hang = || {
+        wait_until("the session is stopped between two statements", || {
+            let leader = database.sql(&format!("SELECT pid {OF_LEADER}"));
+            signal(&leader, "STOP");
+            let waits_for = database.sql(&format!("SELECT wait_event FROM pg_stat_activity WHERE pid = {leader}"));
+            if waits_for != "ClientRead" {
+                signal(&leader, "CONT");
+            }
+            session.replace(leader);
+            waits_for == "ClientRead"
+        })
+    };
+    lead_through_a_hang(&database, hang, || signal(&session.borrow(), "CONT"));
+}
+
+#[test]
+fn a_leader_whose_standby_was_away_leads_on() {
+    let database = match database_of(Postgres::start()) {
+        Some(database) => database,
+        None => return,
+    };
+    let set = |setting: &str| {
+        database.sql(&format!("ALTER SYSTEM {setting}"));
+        database.sql("SELECT pg_reload_conf()");
+    };
+    let hang = || set("SET synchronous_standby_names = 'away'");
+    lead_through_a_hang(&database, hang, || set("RESET synchronous_standby_names"));
+}
+
 #[test]
 fn a_full_disk_of_the_database_stops_writes_until_there_is_room() {
     let database = match database() {
@@ -551,6 +654,30 @@ fn the_state_is_written_and_read() {
     database.sql("DELETE FROM bestore_state WHERE place > 1");
     let said = Member::start(&database, "--follow").end();
     assert!(said.contains("of the log: it has what no store did"), "{said}");
+}
+
+#[test]
+fn a_server_waits_for_its_database() {
+    let database = match database_of(Postgres::start()) {
+        Some(database) => database,
+        None => return,
+    };
+    database.postgres.end("INT");
+    let [waiting, ended] = [(); 2].map(|()| {
+        let member = Member::start(&database, "--log");
+        wait_within(SOON, "it says that it waits", || {
+            member.said().contains("it is tried again")
+        });
+        member
+    });
+    assert!(ended.server.end_by("TERM").success(), "{}", ended.said());
+    database.postgres.begin();
+    waiting.client().apply(Batch::new().new_node()).unwrap();
+    assert_eq!(waiting.said().lines().count(), 1, "{}", waiting.said());
+    // What doesn't pass by itself is an error.
+    let url = database.url().replace("///test", "///none");
+    let said = Member::start_at(Folder::in_memory(), &url, "--log").end();
+    assert!(said.contains("does not exist (3D000)"), "{said}");
 }
 
 #[test]

@@ -11,5 +11,6 @@ mod manual;
 mod memory;
 mod pages;
 mod protocol;
+mod slow;
 mod socket;
 mod volumes;

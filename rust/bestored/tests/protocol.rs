@@ -241,6 +241,64 @@ fn what_is_no_request() {
     talk.check(r#""next":{}"#, r#""ok":{"commit":0,"next":1}"#);
 }
 
+/// Parameters that say something else than they seem to: what isn't right in them, and what would be.
+#[test]
+fn no_parameter_is_read_loosely() {
+    let (_folder, server) = start(&[]);
+    let mut talk = server.talk();
+    for (request, wrong, right) in [
+        (
+            r#""batch":{"operations":[["new"]],"expected":null}"#,
+            "null",
+            "a commit number",
+        ),
+        (r#""batch":{"operations":[["new"]],"volume":null}"#, "null", "u32"),
+        (r#""batch":{"operations":[["new",5]]}"#, "5", r#"["new"]"#),
+        (
+            r#""batch":{"operations":[["set",1,"a",{"int64":"+5"}]]}"#,
+            r#""+5""#,
+            "digits",
+        ),
+        (
+            r#""batch":{"operations":[["set",1,"a",{"int64":"05"}]]}"#,
+            r#""05""#,
+            "digits",
+        ),
+        (
+            r#""batch":{"operations":[["set",1,"a",{"raw":"AP8"}]]}"#,
+            r#""AP8""#,
+            "with padding",
+        ),
+        (r#""batch":[[["new"]]]"#, "[[[", "an object of parameters"),
+        (r#""status":[]"#, "[]", "an object of parameters"),
+        (r#""status":null"#, "null", "an object of parameters"),
+        (r#""get":[1,"a"]"#, "[1", "an object of parameters"),
+        (r#""watch":{"query":null}"#, "null", "string"),
+        (r#""query":{"query":"a==1","columns":null}"#, "null", "a list of names"),
+        (r#""nodes":{"limit":null}"#, "null", "u64"),
+        (r#""reach":{"commit":0,"within":null}"#, "null", "u64"),
+        (r#""hello":{"protocol":null}"#, "null", "u64"),
+    ] {
+        let line = format!("{{\"id\":7,{request}}}");
+        let said: serde_json::Value = serde_json::from_str(&talk.ask(&line)).unwrap();
+        let error = &said["error"];
+        assert_eq!(
+            (&said["id"], &error["name"]),
+            (&7.into(), &"BadRequest".into()),
+            "{line}: {said}"
+        );
+        assert!(error["message"].as_str().unwrap().contains(right), "{line}: {said}");
+        // Of a list the byte before it is named.
+        let begin = line.find(wrong).unwrap() as u64 - 1;
+        let offset = error["offset"].as_u64().unwrap();
+        assert!(
+            (begin..=begin + 1 + wrong.len() as u64).contains(&offset),
+            "{line}: {said}"
+        );
+    }
+    talk.check(r#""next":{}"#, r#""ok":{"commit":0,"next":1}"#);
+}
+
 #[test]
 fn a_line_that_is_too_long_ends_the_connection() {
     let (_folder, server) = start(&[]);

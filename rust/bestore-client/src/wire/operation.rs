@@ -33,11 +33,32 @@ impl Serialize for Operations {
 
 impl<'de> Deserialize<'de> for Operations {
     fn deserialize<D: Deserializer<'de>>(from: D) -> Result<Self, D::Error> {
-        from.deserialize_seq(ListVisitor)
+        from.deserialize_seq(ListVisitor { are_made: true })
     }
 }
 
-struct ListVisitor;
+/// Operations of a request: the server gives new nodes their numbers.
+pub(super) mod asked_operations {
+    use super::{made, Deserializer, ListVisitor, Operations, Serialize, Serializer};
+
+    pub(in crate::wire) fn serialize<S: Serializer>(asked: &Operations, to: S) -> Result<S::Ok, S::Error> {
+        if made(&asked.batch).all(|node| node == 0) {
+            return asked.serialize(to);
+        }
+        let mut batch = asked.batch.clone();
+        batch.set_nodes(&vec![0; made(&asked.batch).count()]);
+        Operations::from(batch).serialize(to)
+    }
+
+    pub(in crate::wire) fn deserialize<'de, D: Deserializer<'de>>(from: D) -> Result<Operations, D::Error> {
+        from.deserialize_seq(ListVisitor { are_made: false })
+    }
+}
+
+/// Reads a list of operations. New nodes have a number if they were made already.
+struct ListVisitor {
+    are_made: bool,
+}
 
 impl<'de> Visitor<'de> for ListVisitor {
     type Value = Operations;
@@ -49,7 +70,11 @@ impl<'de> Visitor<'de> for ListVisitor {
     fn visit_seq<A: SeqAccess<'de>>(self, mut list: A) -> Result<Operations, A::Error> {
         let mut read = Operations::default();
         while read.count < KEPT {
-            match list.next_element_seed(OneOperation(&mut read.batch))? {
+            let one = OneOperation {
+                batch: &mut read.batch,
+                is_made: self.are_made,
+            };
+            match list.next_element_seed(one)? {
                 Some(()) => read.count += 1,
                 None => return Ok(read),
             }
@@ -62,7 +87,10 @@ impl<'de> Visitor<'de> for ListVisitor {
 }
 
 /// Reads one operation to the end of a batch.
-struct OneOperation<'a>(&'a mut Batch);
+struct OneOperation<'a> {
+    batch: &'a mut Batch,
+    is_made: bool,
+}
 
 impl<'de> DeserializeSeed<'de> for OneOperation<'_> {
     type Value = ();
@@ -84,33 +112,35 @@ impl<'de> Visitor<'de> for OneOperation<'_> {
         match &*what.0 {
             "new" => {
                 let made: Option<u64> = parts.next_element()?;
-                self.0.new_node();
-                if let Some(node) = made {
-                    set_last_node(self.0, node);
+                self.batch.new_node();
+                match made {
+                    Some(node) if self.is_made => set_last_node(self.batch, node),
+                    Some(_) => return Err(de::Error::custom("the server numbers new nodes; [\"new\"] makes one")),
+                    None => {}
                 }
             }
             "remove" => {
-                self.0.remove_node(next(&mut parts, "a node")?);
+                self.batch.remove_node(next(&mut parts, "a node")?);
             }
             "set" => {
                 let node = next(&mut parts, "a node")?;
                 let name: Text<'_> = next(&mut parts, "a name")?;
                 let value: Json = next(&mut parts, "a value")?;
-                self.0.set(node, &name.0, value.0);
+                self.batch.set(node, &name.0, value.0);
             }
             "unset" => {
                 let node = next(&mut parts, "a node")?;
                 let name: Text<'_> = next(&mut parts, "a name")?;
-                self.0.unset(node, &name.0);
+                self.batch.unset(node, &name.0);
             }
             "index" => {
                 let name: Text<'_> = next(&mut parts, "a name")?;
                 let kind = kind(next(&mut parts, "a kind")?)?;
-                self.0.make_index(&name.0, kind);
+                self.batch.make_index(&name.0, kind);
             }
             "unindex" => {
                 let name: Text<'_> = next(&mut parts, "a name")?;
-                self.0.remove_index(&name.0);
+                self.batch.remove_index(&name.0);
             }
             _ => return Err(de::Error::custom("there is no such operation")),
         }
@@ -228,5 +258,15 @@ mod tests {
         ] {
             assert!(serde_json::from_str::<Operations>(json).is_err(), "{json}");
         }
+    }
+
+    #[test]
+    fn a_request_numbers_no_node() {
+        let json = r#"[["new",7],["set",7,"size",5]]"#;
+        let made: Operations = serde_json::from_str(json).unwrap();
+        let asked = asked_operations::serialize(&made, serde_json::value::Serializer).unwrap();
+        assert_eq!(asked.to_string(), r#"[["new"],["set",7,"size",5]]"#);
+        assert!(asked_operations::deserialize(asked).is_ok());
+        assert!(asked_operations::deserialize(&mut serde_json::Deserializer::from_str(json)).is_err());
     }
 }

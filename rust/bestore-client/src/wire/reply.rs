@@ -216,6 +216,9 @@ replies! {
         pub clients: u64,
         /// How many live queries they have.
         pub watches: u64,
+        /// Why writes aren't kept now, if they aren't.
+        #[serde(default, skip_serializing_if = "Option::is_none")]
+        pub trouble: Option<String>,
         /// Each volume, if there are several. The numbers above are their sums.
         #[serde(default, skip_serializing_if = "Vec::is_empty")]
         pub volumes: Vec<VolumeStatus>,

@@ -1,10 +1,13 @@
 //! Requests: an `id` and one command.
 
+use super::operation::asked_operations;
 use super::Operations;
+use serde::de::value::MapAccessDeserializer;
 use serde::de::{self, Deserialize, Deserializer, IgnoredAny, MapAccess, Visitor};
 use serde::ser::{Serialize, SerializeMap, Serializer};
 use std::borrow::Cow;
 use std::fmt;
+use std::marker::PhantomData;
 
 macro_rules! parameters {
     ($($(#[$meta:meta])* $name:ident { $($body:tt)* })*) => {$(
@@ -24,6 +27,11 @@ macro_rules! parameters_with_texts {
     )*};
 }
 
+/// Reads a parameter that may be left out. `null` isn't the same as leaving it out.
+fn given<'de, T: Deserialize<'de>, D: Deserializer<'de>>(from: D) -> Result<Option<T>, D::Error> {
+    T::deserialize(from).map(Some)
+}
+
 parameters! {
     /// The parameters of a command that has none.
     Nothing {}
@@ -31,19 +39,20 @@ parameters! {
     /// Of `hello`.
     Greeting {
         /// The version of the protocol that the client speaks.
-        #[serde(default, skip_serializing_if = "Option::is_none")]
+        #[serde(default, deserialize_with = "given", skip_serializing_if = "Option::is_none")]
         pub protocol: Option<u64>,
     }
 
     /// Of `batch`.
     Write {
         /// The operations.
+        #[serde(with = "asked_operations")]
         pub operations: Operations,
         /// How many entries the journal has to have.
-        #[serde(default, skip_serializing_if = "Option::is_none")]
+        #[serde(default, deserialize_with = "given", skip_serializing_if = "Option::is_none")]
         pub expected: Option<Numbers>,
         /// The volume that is written.
-        #[serde(default, skip_serializing_if = "Option::is_none")]
+        #[serde(default, deserialize_with = "given", skip_serializing_if = "Option::is_none")]
         pub volume: Option<u32>,
     }
 
@@ -59,7 +68,7 @@ parameters! {
         #[serde(default)]
         pub from: u64,
         /// The most nodes.
-        #[serde(default, skip_serializing_if = "Option::is_none")]
+        #[serde(default, deserialize_with = "given", skip_serializing_if = "Option::is_none")]
         pub limit: Option<u64>,
     }
 
@@ -75,20 +84,20 @@ parameters! {
         #[serde(default)]
         pub from: u64,
         /// The most entries.
-        #[serde(default, skip_serializing_if = "Option::is_none")]
+        #[serde(default, deserialize_with = "given", skip_serializing_if = "Option::is_none")]
         pub limit: Option<u64>,
         /// The volume, if there are several.
-        #[serde(default, skip_serializing_if = "Option::is_none")]
+        #[serde(default, deserialize_with = "given", skip_serializing_if = "Option::is_none")]
         pub volume: Option<u32>,
     }
 
     /// Of `log`.
     OfLog {
         /// The entry of the log that the server has to have.
-        #[serde(default, skip_serializing_if = "Option::is_none")]
+        #[serde(default, deserialize_with = "given", skip_serializing_if = "Option::is_none")]
         pub entry: Option<u64>,
         /// For how many milliseconds it is waited for.
-        #[serde(default, skip_serializing_if = "Option::is_none")]
+        #[serde(default, deserialize_with = "given", skip_serializing_if = "Option::is_none")]
         pub within: Option<u64>,
     }
 
@@ -98,7 +107,7 @@ parameters! {
         #[serde(default)]
         pub from: u64,
         /// The volume, if there are several.
-        #[serde(default, skip_serializing_if = "Option::is_none")]
+        #[serde(default, deserialize_with = "given", skip_serializing_if = "Option::is_none")]
         pub volume: Option<u32>,
     }
 
@@ -107,7 +116,7 @@ parameters! {
         /// How many entries the journal has to have.
         pub commit: Numbers,
         /// How many milliseconds may pass.
-        #[serde(default, skip_serializing_if = "Option::is_none")]
+        #[serde(default, deserialize_with = "given", skip_serializing_if = "Option::is_none")]
         pub within: Option<u64>,
     }
 }
@@ -169,10 +178,10 @@ parameters_with_texts! {
         #[serde(borrow)]
         pub query: Cow<'a, str>,
         /// The attributes of each node that the reply has.
-        #[serde(borrow, default, skip_serializing_if = "Option::is_none")]
+        #[serde(borrow, default, deserialize_with = "given", skip_serializing_if = "Option::is_none")]
         pub columns: Option<Columns<'a>>,
         /// The most nodes.
-        #[serde(default, skip_serializing_if = "Option::is_none")]
+        #[serde(default, deserialize_with = "given", skip_serializing_if = "Option::is_none")]
         pub limit: Option<u64>,
         /// The lowest node.
         #[serde(default)]
@@ -192,7 +201,7 @@ parameters_with_texts! {
     /// Of `watch`.
     Watch {
         /// The query, if the nodes that it finds are watched.
-        #[serde(borrow, default, skip_serializing_if = "Option::is_none")]
+        #[serde(borrow, default, deserialize_with = "given", skip_serializing_if = "Option::is_none")]
         pub query: Option<Cow<'a, str>>,
     }
 
@@ -243,6 +252,29 @@ impl<'de: 'a, 'a> Deserialize<'de> for Columns<'a> {
     }
 }
 
+/// Parameters, which are an object: a list of their values in order would be read too otherwise.
+struct Object<T>(T);
+
+impl<'de, T: Deserialize<'de>> Deserialize<'de> for Object<T> {
+    fn deserialize<D: Deserializer<'de>>(from: D) -> Result<Self, D::Error> {
+        from.deserialize_map(ObjectVisitor(PhantomData)).map(Object)
+    }
+}
+
+struct ObjectVisitor<T>(PhantomData<T>);
+
+impl<'de, T: Deserialize<'de>> Visitor<'de> for ObjectVisitor<T> {
+    type Value = T;
+
+    fn expecting(&self, f: &mut fmt::Formatter<'_>) -> fmt::Result {
+        f.write_str("an object of parameters")
+    }
+
+    fn visit_map<A: MapAccess<'de>>(self, map: A) -> Result<T, A::Error> {
+        T::deserialize(MapAccessDeserializer::new(map))
+    }
+}
+
 macro_rules! commands {
     ($($(#[$meta:meta])* $variant:ident($parameters:ty) = $name:literal;)*) => {
         /// A command with its parameters.
@@ -255,7 +287,7 @@ macro_rules! commands {
             /// Reads the parameters of the command with this name.
             fn read<A: MapAccess<'a>>(name: &str, map: &mut A) -> Result<Self, A::Error> {
                 match name {
-                    $($name => Ok(Command::$variant(map.next_value()?)),)*
+                    $($name => Ok(Command::$variant(map.next_value::<Object<$parameters>>()?.0)),)*
                     _ => Err(de::Error::custom("there is no such command")),
                 }
             }
@@ -446,6 +478,12 @@ mod tests {
             (r#"{"id":5,"reach":{"commit":-1}}"#, Some(5)),
             (r#"{"id":5,"reach":{"commit":["a"]}}"#, Some(5)),
             (r#"{"id":5,"batch":{"operations":[],"volume":-1}}"#, Some(5)),
+            (r#"{"id":5,"batch":{"operations":[["new"]],"expected":null}}"#, Some(5)),
+            (r#"{"id":5,"batch":{"operations":[["new",7]]}}"#, Some(5)),
+            (r#"{"id":5,"journal":{"limit":null}}"#, Some(5)),
+            (r#"{"id":5,"watch":{"query":null}}"#, Some(5)),
+            (r#"{"id":5,"status":[]}"#, Some(5)),
+            (r#"{"id":5,"get":[1,"a"]}"#, Some(5)),
             (r#"[1]"#, None),
             ("", None),
         ] {

@@ -126,19 +126,25 @@ impl<'de> Visitor<'de> for JsonVisitor {
 }
 
 fn raw<E: de::Error>(text: Text<'_>) -> Result<Vec<u8>, E> {
-    base64::decode(text.0.as_bytes()).map_err(|error| E::custom(format_args!("no base64: {error}")))
+    if text.0.len() % 4 != 0 {
+        return Err(E::custom("bytes are base64 with padding, such as \"AP8=\""));
+    }
+    base64::decode(text.0.as_bytes()).map_err(|error| E::custom(format_args!("bytes are base64 with padding: {error}")))
 }
 
 /// A text that is borrowed from the line if it has no escapes.
 #[derive(serde::Deserialize)]
 pub(super) struct Text<'a>(#[serde(borrow)] pub(super) Cow<'a, str>);
 
+/// What an integer of a kind is in JSON.
+const INTEGER: &str = "an integer of its kind, or the digits of one as a text, such as \"-5\"";
+
 /// An integer, or its digits as a text.
 struct Integer<T>(T);
 
 impl<'de, T> Deserialize<'de> for Integer<T>
 where
-    T: FromStr + TryFrom<i64> + TryFrom<u64>,
+    T: FromStr + ToString + TryFrom<i64> + TryFrom<u64>,
 {
     fn deserialize<D: Deserializer<'de>>(from: D) -> Result<Self, D::Error> {
         from.deserialize_any(IntegerVisitor(std::marker::PhantomData))
@@ -149,18 +155,20 @@ struct IntegerVisitor<T>(std::marker::PhantomData<T>);
 
 impl<T> IntegerVisitor<T> {
     fn fitting<E: de::Error, F>(number: Result<T, F>) -> Result<Integer<T>, E> {
-        number.map(Integer).map_err(|_| E::custom("no integer of this kind"))
+        number
+            .map(Integer)
+            .map_err(|_| E::custom(format_args!("the value has to be {INTEGER}")))
     }
 }
 
 impl<T> Visitor<'_> for IntegerVisitor<T>
 where
-    T: FromStr + TryFrom<i64> + TryFrom<u64>,
+    T: FromStr + ToString + TryFrom<i64> + TryFrom<u64>,
 {
     type Value = Integer<T>;
 
     fn expecting(&self, f: &mut fmt::Formatter<'_>) -> fmt::Result {
-        f.write_str("an integer, or its digits as a text")
+        f.write_str(INTEGER)
     }
 
     fn visit_i64<E: de::Error>(self, number: i64) -> Result<Self::Value, E> {
@@ -172,7 +180,12 @@ where
     }
 
     fn visit_str<E: de::Error>(self, text: &str) -> Result<Self::Value, E> {
-        Self::fitting(text.parse())
+        Self::fitting(
+            text.parse()
+                .ok()
+                .filter(|number: &T| number.to_string() == text)
+                .ok_or(()),
+        )
     }
 }
 
@@ -228,6 +241,14 @@ mod tests {
             r#"{"uint32":-1}"#,
             r#"{"uint64":"-1"}"#,
             r#"{"int64":""}"#,
+            r#"{"int64":"+5"}"#,
+            r#"{"int64":"05"}"#,
+            r#"{"int64":"-0"}"#,
+            r#"{"int64":" 5"}"#,
+            r#"{"int64":"5.0"}"#,
+            r#"{"raw":"AP8"}"#,
+            r#"{"raw":"AP9="}"#,
+            r#"{"raw":"AP8=\n"}"#,
             r#"{"raw":"A"}"#,
             r#"{"raw":[1]}"#,
             r#"{"date":5}"#,

@@ -3,6 +3,8 @@
 use super::{Error, Place, Result};
 use crate::Batch;
 use rusqlite::{Connection, OpenFlags};
+use std::fs::OpenOptions;
+use std::os::unix::fs::OpenOptionsExt;
 use std::path::{Path, PathBuf};
 use std::time::Duration;
 
@@ -45,6 +47,13 @@ pub(super) struct Row {
     pub(super) batch: Vec<u8>,
 }
 
+/// Makes the file if it isn't there, so that the user alone may read it. SQLite gives the file with `-wal` the same mode.
+fn make_private(path: &Path) {
+    let made = OpenOptions::new().write(true).create_new(true).mode(0o600).open(path);
+    // If it can't be made, opening it says why.
+    drop(made);
+}
+
 #[derive(Debug)]
 pub(super) struct File {
     connection: Connection,
@@ -56,7 +65,9 @@ impl File {
     pub(super) fn open(path: &Path) -> Result<Self> {
         let flags = OpenFlags::SQLITE_OPEN_READ_WRITE | OpenFlags::SQLITE_OPEN_CREATE | OpenFlags::SQLITE_OPEN_NO_MUTEX;
         // SQLite takes ":memory:" and an empty name for no file, and neither has a folder before it.
-        let opened = Connection::open_with_flags(Path::new(".").join(path), flags);
+        let within = Path::new(".").join(path);
+        make_private(&within);
+        let opened = Connection::open_with_flags(within, flags);
         let file = Self {
             connection: opened.map_err(|error| Error::of_sqlite(path, error))?,
             path: path.to_owned(),

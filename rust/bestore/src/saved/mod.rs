@@ -42,6 +42,7 @@ use crate::{Batch, Limits, Pass, Snapshot, Store};
 use file::File;
 use queue::Queue;
 use std::path::Path;
+use std::sync::Arc;
 use std::time::Duration;
 
 /// The result of a call of this module.
@@ -182,6 +183,12 @@ impl Saved {
     pub fn flush(&self) -> Result<()> {
         self.store.check()?;
         self.queue.flush(None)
+    }
+
+    /// The error of the commit that failed, if one has. From then on the memory is ahead of the file.
+    #[must_use]
+    pub fn failure(&self) -> Option<Arc<Error>> {
+        self.queue.failure()
     }
 
     /// Writes the current snapshot into the file, in the place of the state and of the entries that it contains. Writes go on

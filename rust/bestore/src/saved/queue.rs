@@ -262,6 +262,10 @@ impl Queue {
         self.shared.with_file(work)
     }
 
+    pub(super) fn failure(&self) -> Option<Arc<Error>> {
+        lock(&self.shared.line).failed.clone()
+    }
+
     /// Waits until the entry with this number is saved, or all that were written.
     pub(super) fn flush(&self, number: Option<u64>) -> Result<()> {
         let line = lock(&self.shared.line);

@@ -8,6 +8,7 @@ use std::sync::Arc;
 use std::task::{Context, Poll};
 use std::time::Duration;
 use tokio::sync::Notify;
+use tokio::task::JoinHandle;
 use tokio_postgres::types::ToSql;
 use tokio_postgres::{AsyncMessage, Client, Config, NoTls, Row as SqlRow, Socket, Statement};
 
@@ -147,6 +148,14 @@ pub struct Database {
     client: Client,
     news: Arc<Notify>,
     append: Option<Statement>,
+    /// Receives from PostgreSQL. The connection is closed once it has ended.
+    receiving: JoinHandle<()>,
+}
+
+impl Drop for Database {
+    fn drop(&mut self) {
+        self.close();
+    }
 }
 
 impl fmt::Debug for Database {
@@ -161,19 +170,27 @@ impl Database {
         let (client, mut connection) = limited(config.connect(NoTls)).await?;
         let news = Arc::new(Notify::new());
         let of_task = news.clone();
-        tokio::spawn(async move {
+        let receiving = tokio::spawn(async move {
             while let Some(Ok(_)) = NextMessage(&mut connection).await {
                 of_task.notify_one();
             }
             // The client's calls say what has happened.
             of_task.notify_one();
         });
-        limited(client.batch_execute(SETTINGS)).await?;
-        Ok(Self {
+        let database = Self {
             client,
             news,
             append: None,
-        })
+            receiving,
+        };
+        limited(database.client.batch_execute(SETTINGS)).await?;
+        Ok(database)
+    }
+
+    /// Closes the connection without waiting for a reply. PostgreSQL then ends the session, and gives its lock back, once the
+    /// statement that it runs has ended.
+    pub fn close(&self) {
+        self.receiving.abort();
     }
 
     /// Whether the connection has ended.

@@ -1,9 +1,14 @@
 //! Why the log can't be read or written, and why a server stops using it.
 
 use bestore::saved::Place;
+use std::error::Error as _;
 use std::fmt;
+use std::io;
 use std::sync::Arc;
 use std::time::Duration;
+
+/// Classes of PostgreSQL's errors: the connection is lost, resources are missing, somebody starts or ends the database.
+const NOT_NOW: [&str; 3] = ["08", "53", "57"];
 
 /// The result of a call of this module.
 pub type Result<T> = std::result::Result<T, Error>;
@@ -25,6 +30,8 @@ pub enum Error {
     Newer { format: i32, known: i32 },
     /// Another server leads.
     Led { leader: String },
+    /// An earlier session of this server still has the lock.
+    OldSession,
     /// Another server leads now, though this one did.
     Deposed { leader: String, unsaved: u64 },
     /// The database has another log than before.
@@ -41,7 +48,7 @@ pub enum Error {
     /// An error of the store.
     Store(bestore::Error),
     /// There is no thread or no runtime for the log.
-    Thread(std::io::Error),
+    Thread(io::Error),
     /// The thread of the log has ended by a fault.
     Fault,
 }
@@ -62,7 +69,19 @@ impl Error {
 
     /// Whether it may go better later.
     pub fn is_passing(&self) -> bool {
-        matches!(self, Error::Database(_) | Error::Slow(_))
+        matches!(self, Error::Database(_) | Error::Slow(_) | Error::OldSession)
+    }
+
+    /// Whether the database isn't there, or takes no connections or statements for now, as while it starts.
+    pub fn is_unreachable(&self) -> bool {
+        match self {
+            Error::Slow(_) => true,
+            Error::Database(error) => match error.code() {
+                Some(code) => NOT_NOW.iter().any(|class| code.code().starts_with(class)),
+                None => error.is_closed() || error.source().map_or(false, |cause| cause.is::<io::Error>()),
+            },
+            _ => false,
+        }
     }
 }
 
@@ -90,6 +109,7 @@ impl fmt::Display for Error {
                 write!(f, "the log has format {format}, and format {known} is the one known here")
             }
             Error::Led { leader } => write!(f, "the log is led by {leader}; --follow follows it"),
+            Error::OldSession => f.write_str("an earlier session of this server still has the leader's lock"),
             Error::Deposed { leader, unsaved } => write!(
                 f,
                 "{leader} leads the log now; {unsaved} writes of this server, none of them confirmed, may be missing there"

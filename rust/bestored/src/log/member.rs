@@ -3,7 +3,7 @@
 use super::database::{Database, Entry, Head, Row, ENTRIES};
 use super::error::{Error, Result};
 use super::line::{Line, Role};
-use super::{state, Access, FOR_LOCK};
+use super::{state, Access, FOR_LOCK, REST};
 use crate::pressure::Pressure;
 use crate::server::Shared;
 use bestore::saved::Place;
@@ -20,9 +20,6 @@ const LEADING: Duration = Duration::from_secs(1);
 
 /// How long a follower lets the leader come back after the connection to the database has broken.
 const GRACE: Duration = Duration::from_secs(3);
-
-/// How long the thread rests before it tries again what has failed.
-const REST: Duration = Duration::from_millis(200);
 
 /// How long entries that find no page are tried again, while snapshots of clients keep pages.
 const FOR_PAGES: Duration = Duration::from_secs(60);
@@ -121,6 +118,8 @@ impl Member {
 
     /// Connects until it succeeds. A leader then has to find the log as it left it.
     async fn connect_again(&mut self, role: Role) -> Result<Turn> {
+        // Otherwise a session that hangs and goes on would keep the lock.
+        self.database.close();
         loop {
             if self.line.is_at_end() || role == Role::Follower && self.line.is_closing() {
                 return Ok(Turn::End);
@@ -132,7 +131,7 @@ impl Member {
                 if let Role::Leader { .. } = role {
                     self.lead_again(&database).await?;
                 }
-                Ok(database)
+                Result::Ok(database)
             };
             match connected.await {
                 Ok(database) => {
@@ -140,7 +139,6 @@ impl Member {
                     self.may_lead = Instant::now() + GRACE;
                     return Ok(Turn::Next);
                 }
-                Err(error @ Error::Led { .. }) => self.note(error),
                 Err(error) if error.is_passing() => self.note(error),
                 Err(error) => return Err(error),
             }
@@ -364,8 +362,7 @@ impl Member {
         if !database.try_lock().await? {
             let head = database.head().await?;
             return Err(match head.run == self.access.run {
-                // The old session hasn't ended yet.
-                true => Error::Led { leader: head.leader },
+                true => Error::OldSession,
                 false => self.deposed(&head),
             });
         }

@@ -23,7 +23,9 @@ use database::Database;
 use error::Result;
 use line::{Line, Role};
 use member::Member;
-use std::fs;
+use std::fs::{self, File};
+use std::mem;
+use std::os::unix::io::AsRawFd;
 use std::sync::{Arc, Mutex, MutexGuard, PoisonError};
 use std::thread;
 use std::time::Duration;
@@ -32,6 +34,9 @@ use tokio_postgres::Config;
 
 /// How long a leader waits for the lock when it starts, since the session of one that was killed may end a little later.
 const FOR_LOCK: Duration = Duration::from_secs(5);
+
+/// How long is rested before what has failed is tried again.
+const REST: Duration = Duration::from_millis(200);
 
 /// How to reach the log, and who this server is.
 #[derive(Clone, Debug)]
@@ -91,23 +96,42 @@ pub struct Log {
 }
 
 impl Log {
-    /// Connects, and makes the store again to the end of the log. To lead is refused while another server does.
-    pub fn open(options: &Options, run: &str) -> Result<Self> {
+    /// Connects, again and again while the database can't be reached, and makes the store again to the end of the log. `None`: a
+    /// signal has come first.
+    pub fn open(options: &Options, run: &str, signals: &File) -> Result<Option<Self>> {
         let in_log = options.log.as_ref().ok_or(Error::NoLog)?;
         let access = Access {
             config: config(&in_log.url)?,
             name: name(options),
             run: run.into(),
         };
+        let mut is_said = false;
+        loop {
+            match Self::begin(options, &access, in_log.leads) {
+                Err(error) if error.is_unreachable() => {
+                    if !mem::replace(&mut is_said, true) {
+                        eprintln!("bestored: {error}; it is tried again");
+                    }
+                }
+                begun => return begun.map(Some),
+            }
+            if os::wait_readable([signals.as_raw_fd()], Some(REST)).map_err(Error::Thread)? == [true] {
+                return Ok(None);
+            }
+        }
+    }
+
+    /// Connects once. To lead is refused while another server does.
+    fn begin(options: &Options, access: &Access, leads: bool) -> Result<Self> {
         let store = Store::open(options.limits())?;
         let pass = store.pass()?;
         let runtime = runtime()?;
-        let (member, line) = runtime.block_on(Member::begin(access.clone(), pass, in_log.leads))?;
+        let (member, line) = runtime.block_on(Member::begin(access.clone(), pass, leads))?;
         Ok(Self {
             shelf: Shelf::of_volumes(vec![store.clone()])?,
             store,
             line,
-            access,
+            access: access.clone(),
             writing_state: Mutex::default(),
             begun: Mutex::new(Some((runtime, member))),
         })
@@ -174,6 +198,12 @@ impl Log {
             commit: self.line.commit(state.saved),
             trouble: state.trouble.as_ref().map(|trouble| trouble.why.to_string()),
         })
+    }
+
+    /// Why the database can't be read or written, if it can't.
+    pub fn trouble(&self) -> Option<String> {
+        let state = self.line.lock();
+        state.trouble.as_ref().map(|trouble| trouble.why.to_string())
     }
 
     /// Writes the state of now into the log, if this server leads.

@@ -10,7 +10,7 @@ pub mod writers;
 
 use bestore_client::Client;
 use std::fs::{self, DirBuilder};
-use std::io::{BufRead, BufReader, Write};
+use std::io::{BufRead, BufReader, Chain, Cursor, Read, Write};
 use std::os::unix::fs::DirBuilderExt;
 use std::os::unix::net::UnixStream;
 use std::path::{Path, PathBuf};
@@ -90,8 +90,13 @@ pub fn command(socket: &Path, options: &[&str]) -> Command {
 }
 
 /// Waits until it is so.
-pub fn wait_until(what: &str, mut is_so: impl FnMut() -> bool) {
-    let until = Instant::now() + PATIENCE;
+pub fn wait_until(what: &str, is_so: impl FnMut() -> bool) {
+    wait_within(PATIENCE, what, is_so);
+}
+
+/// Waits until it is so, for a limited time.
+pub fn wait_within(time: Duration, what: &str, mut is_so: impl FnMut() -> bool) {
+    let until = Instant::now() + time;
     while !is_so() {
         assert!(Instant::now() < until, "waited too long: {what}");
         thread::sleep(Duration::from_millis(2));
@@ -231,14 +236,23 @@ impl Server {
 #[derive(Debug)]
 pub struct Talk {
     pub stream: UnixStream,
-    reader: BufReader<UnixStream>,
+    reader: BufReader<Chain<Cursor<Vec<u8>>, UnixStream>>,
 }
 
 impl Talk {
     pub fn new(stream: UnixStream) -> Self {
         stream.set_read_timeout(Some(PATIENCE)).unwrap();
-        let reader = BufReader::new(stream.try_clone().unwrap());
+        let reader = Self::reader_of(&stream, Vec::new());
         Self { stream, reader }
+    }
+
+    fn reader_of(stream: &UnixStream, first: Vec<u8>) -> BufReader<Chain<Cursor<Vec<u8>>, UnixStream>> {
+        BufReader::new(Cursor::new(first).chain(stream.try_clone().unwrap()))
+    }
+
+    /// Lets the next lines begin with what was read from the stream already.
+    pub fn begin_with(&mut self, first: Vec<u8>) {
+        self.reader = Self::reader_of(&self.stream, first);
     }
 
     pub fn send(&mut self, bytes: &[u8]) {

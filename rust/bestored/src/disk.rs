@@ -1,0 +1,43 @@
+//! The disk of the files. A write is refused before it is made if there is little room, since what memory has and the file hasn't
+//! can't be taken back.
+
+use crate::os;
+use std::ffi::CString;
+use std::io;
+use std::os::unix::ffi::OsStrExt;
+use std::path::Path;
+
+/// The disk that a folder is on.
+#[derive(Debug)]
+pub struct Disk {
+    folder: CString,
+    /// How many bytes of it stay free.
+    spare: u64,
+}
+
+impl Disk {
+    /// The disk of this file or folder, which is there.
+    pub fn of(path: &Path, spare: u64) -> io::Result<Self> {
+        let path = path.canonicalize()?;
+        let folder = match path.is_dir() {
+            true => &path,
+            false => path.parent().unwrap_or(&path),
+        };
+        Ok(Self {
+            folder: CString::new(folder.as_os_str().as_bytes())?,
+            spare,
+        })
+    }
+
+    /// Why nothing is written now, if there is too little room. A disk that doesn't say how much it has is not asked.
+    pub fn trouble(&self) -> Option<String> {
+        let free = os::free_space(&self.folder).ok().flatten()?;
+        (free < self.spare).then(|| {
+            let [free, spare] = [free, self.spare].map(|bytes| bytes >> 10);
+            format!(
+                "the disk of {} has {free} KiB free, and {spare} KiB have to stay free",
+                self.folder.to_string_lossy()
+            )
+        })
+    }
+}

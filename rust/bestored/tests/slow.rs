@@ -1,0 +1,111 @@
+//! Clients that pin a snapshot, and then don't read their replies, or read them slowly.
+
+use crate::common::{wait_until, Folder, Server, Talk};
+use bestore::Batch;
+use bestore_client::wire::Journal;
+use std::io::Read;
+use std::sync::atomic::{AtomicBool, Ordering::Relaxed};
+use std::thread;
+use std::time::{Duration, Instant};
+
+/// Few pages, so that writes soon need those of the snapshot.
+const PAGES: &str = "128";
+
+/// How long a write may wait: a snapshot that is waited for is taken back after one second, and a loaded machine takes its time.
+const MOST: Duration = Duration::from_secs(2);
+
+/// Entries whose texts are six times as long in JSON. A line has some ten of them.
+const ENTRIES: u64 = 16;
+
+/// Makes a node and a journal that doesn't fit between the server and a client that reads nothing.
+pub fn begin(server: &Server) {
+    let mut client = server.client();
+    client.apply(Batch::new().new_node()).unwrap();
+    for _ in 0..ENTRIES {
+        let mut batch = Batch::new();
+        for name in 0..64 {
+            batch.set(1, &format!("text{name}"), "\u{1}".repeat(255));
+        }
+        client.apply(&batch).unwrap();
+    }
+}
+
+/// A client that has pinned a snapshot, and doesn't read the long reply that comes then.
+pub fn pinned(server: &Server) -> Talk {
+    let mut talk = server.talk();
+    talk.send(b"{\"id\":1,\"pin\":{}}\n{\"id\":2,\"journal\":{}}\n");
+    wait_until("a snapshot is kept", || {
+        server.client().status().unwrap().oldest.is_some()
+    });
+    talk
+}
+
+/// Writes until all pages have been used some times. No write is refused, or waits for long.
+fn write(server: &Server) {
+    let mut client = server.client();
+    for count in 0..400_u64 {
+        let begin = Instant::now();
+        client.apply(Batch::new().set(1, "text0", count)).unwrap();
+        let waited = begin.elapsed();
+        assert!(waited < MOST, "write {count} waited for {waited:?}");
+    }
+}
+
+/// Reads the replies to `pinned`, and checks that the client learns what has become of its snapshot.
+pub fn check_replies(talk: &mut Talk) {
+    assert_eq!(talk.line(), r#"{"id":1,"ok":{"commit":17,"next":2}}"#);
+    let line: serde_json::Value = serde_json::from_str(&talk.line()).unwrap();
+    let journal: Journal = serde_json::from_value(line["ok"].clone()).unwrap();
+    assert_eq!(journal.entries.len() as u64, journal.more.unwrap());
+    let refused = talk.ask(r#"{"id":3,"get":{"node":1,"name":"text0"}}"#);
+    assert!(refused.contains(r#""name":"Expired""#), "{refused}");
+    talk.check(r#""unpin":{}"#, r#""ok":{}"#);
+}
+
+#[test]
+fn who_reads_nothing_gives_its_snapshot_back() {
+    let folder = Folder::new();
+    let server = Server::start(&folder, &["--pages", PAGES]);
+    begin(&server);
+    let mut talk = pinned(&server);
+    write(&server);
+    check_replies(&mut talk);
+}
+
+#[test]
+fn a_snapshot_is_taken_back_after_its_time_though_its_client_reads_nothing() {
+    let folder = Folder::new();
+    let server = Server::start(&folder, &["--pages", PAGES, "--hold", "1"]);
+    begin(&server);
+    let mut talk = pinned(&server);
+    let begin = Instant::now();
+    wait_until("the snapshot is given back", || {
+        assert!(begin.elapsed() < MOST + MOST);
+        server.client().status().unwrap().oldest.is_none()
+    });
+    check_replies(&mut talk);
+}
+
+#[test]
+fn who_reads_slowly_gives_its_snapshot_back() {
+    let folder = Folder::new();
+    let server = Server::start(&folder, &["--pages", PAGES]);
+    begin(&server);
+    let mut talk = pinned(&server);
+    let (mut stream, is_over) = (talk.stream.try_clone().unwrap(), &AtomicBool::new(false));
+    thread::scope(|scope| {
+        let reading = scope.spawn(move || {
+            let (mut read, mut some) = (Vec::new(), vec![0; 10_000]);
+            while !is_over.load(Relaxed) && read.len() < 800_000 {
+                let count = stream.read(&mut some).unwrap();
+                read.extend_from_slice(&some[..count]);
+                thread::sleep(Duration::from_millis(50));
+            }
+            read
+        });
+        write(&server);
+        is_over.store(true, Relaxed);
+        talk.begin_with(reading.join().unwrap());
+    });
+    check_replies(&mut talk);
+}
