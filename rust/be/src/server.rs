@@ -3,10 +3,8 @@
 use crate::failure::{complain, message, Failure};
 use bestore::Batch;
 use bestore_client::wire::{Command, Indices, Nothing};
-use bestore_client::{Client, Error};
+use bestore_client::{Client, Error, Socket};
 use std::collections::BTreeMap;
-use std::env;
-use std::ffi::OsString;
 use std::path::PathBuf;
 
 /// How often a write is tried again if another client is writing.
@@ -18,31 +16,15 @@ const OPERATIONS: usize = 64;
 /// How many snapshots a read is tried on.
 const SNAPSHOTS: u32 = 5;
 
-/// Connects to the server at this socket, otherwise where the environment says.
-pub fn connect(socket: Option<PathBuf>) -> Result<Client, Failure> {
-    let path = socket.unwrap_or_else(default_socket);
-    let mut client = match Client::connect(&path) {
-        Err(Error::Io(error)) => return Err(Failure::NoServer(path, error)),
+/// Connects to the server at the socket that the option names, otherwise where the environment says.
+pub fn connect(option: Option<PathBuf>) -> Result<Client, Failure> {
+    let socket = Socket::find(option);
+    let mut client = match Client::connect(socket.path()) {
+        Err(Error::Io(error)) => return Err(Failure::NoServer(socket.path().into(), error)),
         answer => answer?,
     };
     client.hello()?;
     Ok(client)
-}
-
-fn default_socket() -> PathBuf {
-    if let Some(socket) = variable("BESTORE_SOCKET") {
-        return socket.into();
-    }
-    let folder = match variable("XDG_RUNTIME_DIR") {
-        Some(folder) => PathBuf::from(folder).join("bestore"),
-        // SAFETY: getuid reads no memory of the program.
-        None => format!("/tmp/bestore-{}", unsafe { libc::getuid() }).into(),
-    };
-    folder.join("socket")
-}
-
-fn variable(name: &str) -> Option<OsString> {
-    env::var_os(name).filter(|value| !value.is_empty())
 }
 
 /// The names of kinds by the names of the indices.

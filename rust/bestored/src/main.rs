@@ -44,7 +44,7 @@ fn start(options: Options) -> Result<(), Box<dyn Error>> {
     let socket = match passed {
         Some(_) if options.socket.is_some() => return Err("--socket is given, and systemd has passed a socket".into()),
         Some(listener) => Socket::passed(listener)?,
-        None => Socket::make(&options.socket())?,
+        None => Socket::make(options.socket().path())?,
     };
     let run = server::run_text()?;
     let kept = Kept::open(&options, &run)?;

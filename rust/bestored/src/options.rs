@@ -1,7 +1,7 @@
 //! The options of the command line.
 
-use crate::socket;
 use bestore::{Limits, MOST_VOLUMES};
+use bestore_client::Socket;
 use clap::{value_parser, Arg, Command};
 use std::path::PathBuf;
 use std::time::Duration;
@@ -59,8 +59,9 @@ fn command() -> Command {
         .version(env!("CARGO_PKG_VERSION"))
         .about("Shares a store of attributes between the programs of a user")
         .arg(
-            path("socket", "PATH")
-                .help("The socket; otherwise bestore/socket in $XDG_RUNTIME_DIR, or in /tmp/bestore-UID"),
+            path("socket", "PATH").help(
+                "The socket; otherwise $BESTORE_SOCKET, $XDG_RUNTIME_DIR/bestore/socket or /tmp/bestore-UID/socket",
+            ),
         )
         .arg(path("keep", "FILE").help("The file in which the writes are kept, or the folder of several volumes"))
         .arg(
@@ -119,9 +120,9 @@ impl Options {
         }
     }
 
-    /// Where the socket is.
-    pub fn socket(&self) -> PathBuf {
-        self.socket.clone().unwrap_or_else(socket::default_path)
+    /// The socket at which the server listens.
+    pub fn socket(&self) -> Socket {
+        Socket::find(self.socket.clone())
     }
 }
 

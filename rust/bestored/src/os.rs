@@ -21,12 +21,6 @@ fn check(answer: libc::c_int) -> io::Result<libc::c_int> {
     }
 }
 
-/// The user as whom this process acts.
-pub fn user() -> u32 {
-    // SAFETY: the call takes nothing and always succeeds.
-    unsafe { libc::geteuid() }
-}
-
 /// The user who made the other end of the connection.
 pub fn peer_user(stream: &UnixStream) -> io::Result<u32> {
     let mut credentials = libc::ucred { pid: 0, uid: 0, gid: 0 };

@@ -9,6 +9,7 @@ use crate::pressure::{self, Pressure};
 use crate::socket::Socket;
 use crate::watcher::Watcher;
 use bestore::{Error, ShelfPass};
+use bestore_client::socket;
 use std::collections::BTreeMap;
 use std::fs::File;
 use std::io::{self, ErrorKind};
@@ -139,7 +140,7 @@ fn take_client(listener: &UnixListener, shared: &Arc<Shared>) -> bool {
 /// Starts the thread of a client, or refuses the client.
 fn welcome(shared: &Arc<Shared>, stream: Arc<UnixStream>) {
     match os::peer_user(&stream) {
-        Ok(user) if user == os::user() || user == 0 => {}
+        Ok(user) if user == socket::user() || user == 0 => {}
         _ => return refuse(&stream, &Failure::new("NotAllowed", "the server is another user's")),
     }
     let clients = shared.clients.count();

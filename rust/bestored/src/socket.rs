@@ -1,6 +1,7 @@
 //! The socket at which the server listens.
 
 use crate::os;
+use bestore_client::socket::user;
 use std::fs::{self, DirBuilder, File, Metadata};
 use std::io::{self, ErrorKind};
 use std::os::unix::fs::{DirBuilderExt, FileTypeExt, MetadataExt};
@@ -17,14 +18,6 @@ const TRIES: u32 = 50;
 pub struct Socket {
     pub listener: UnixListener,
     made: Option<(PathBuf, (u64, u64))>,
-}
-
-/// Where the socket is if nothing is said.
-pub fn default_path() -> PathBuf {
-    match std::env::var_os("XDG_RUNTIME_DIR") {
-        Some(folder) => Path::new(&folder).join("bestore/socket"),
-        None => format!("/tmp/bestore-{}/socket", os::user()).into(),
-    }
 }
 
 fn wrong(path: &Path, why: impl std::fmt::Display) -> io::Error {
@@ -85,7 +78,7 @@ fn safe_folder(folder: &Path) -> io::Result<File> {
     if !found.is_dir() {
         return Err(wrong(folder, "no folder"));
     }
-    if found.uid() != os::user() && found.uid() != 0 {
+    if found.uid() != user() && found.uid() != 0 {
         return Err(wrong(folder, "the folder belongs to another user"));
     }
     if found.mode() & 0o022 != 0 && found.mode() & 0o1000 == 0 {

@@ -6,6 +6,7 @@ use std::fs::{self, Permissions};
 use std::io::Read;
 use std::os::unix::fs::PermissionsExt;
 use std::os::unix::net::{UnixListener, UnixStream};
+use std::path::Path;
 use std::process::{Command, Output, Stdio};
 use std::time::{Duration, Instant};
 
@@ -63,6 +64,34 @@ fn the_socket_is_of_the_user_alone_and_goes_with_the_server() {
         assert!(server.end_by(signal).success());
         assert!(!socket.exists());
         assert_eq!(idle.line(), "");
+    }
+}
+
+/// A server without `--socket`, in this environment.
+fn in_environment(variables: &[(&str, &Path)]) -> Command {
+    let mut command = Command::new(env!("CARGO_BIN_EXE_bestored"));
+    command.env_remove("BESTORE_SOCKET").env_remove("XDG_RUNTIME_DIR");
+    command.envs(variables.iter().copied());
+    command
+}
+
+#[test]
+fn the_environment_says_where_the_socket_is() {
+    let folder = Folder::new();
+    let (named, none, in_folder) = (folder.join("named"), Path::new(""), folder.join("bestore/socket"));
+    for (variables, socket) in [
+        (
+            [("BESTORE_SOCKET", &*named), ("XDG_RUNTIME_DIR", folder.path())],
+            &named,
+        ),
+        (
+            [("BESTORE_SOCKET", none), ("XDG_RUNTIME_DIR", folder.path())],
+            &in_folder,
+        ),
+    ] {
+        let server = Server::run(in_environment(&variables), socket);
+        assert!(server.answers(), "{variables:?}");
+        assert!(server.end_by("TERM").success());
     }
 }
 
