@@ -3,7 +3,7 @@
 use crate::failure::{complain, message, Failure};
 use bestore::Batch;
 use bestore_client::wire::{Command, Indices, Nothing};
-use bestore_client::{Client, Error, Socket};
+use bestore_client::{Client, Error, SocketPath};
 use std::collections::BTreeMap;
 use std::path::PathBuf;
 
@@ -18,7 +18,7 @@ const SNAPSHOTS: u32 = 5;
 
 /// Connects to the server at the socket that the option names, otherwise where the environment says.
 pub fn connect(option: Option<PathBuf>) -> Result<Client, Failure> {
-    let socket = Socket::find(option);
+    let socket = SocketPath::find(option);
     let mut client = match Client::connect(socket.path()) {
         Err(Error::Io(error)) => return Err(Failure::NoServer(socket.path().into(), error)),
         answer => answer?,

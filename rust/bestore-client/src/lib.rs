@@ -24,11 +24,14 @@
 mod change;
 mod client;
 mod error;
+mod options;
 mod os;
+mod pushes;
 pub mod socket;
 pub mod wire;
 
 pub use change::Change;
 pub use client::{Client, Query};
 pub use error::{Error, Result};
-pub use socket::Socket;
+pub use options::Options;
+pub use socket::SocketPath;

@@ -1,22 +1,23 @@
-//! Where the socket of a server is. The server and all clients find it by the same rule.
+//! Where the socket of a server is, and whose server may be there. The server and all clients go by the same rule.
 
-use crate::os;
+use crate::{os, Error, Result};
 use std::env;
 use std::ffi::OsString;
+use std::os::unix::net::UnixStream;
 use std::path::{Path, PathBuf};
 
-pub use crate::os::user;
+pub use crate::os::{peer_user, user};
 
-/// The socket of a server, and whether somebody chose it.
+/// The path of a server's socket, and whether somebody named it.
 #[derive(Clone, Debug, PartialEq, Eq)]
-pub enum Socket {
+pub enum SocketPath {
     /// An option or the variable `BESTORE_SOCKET` names this path.
     Named(PathBuf),
     /// Nothing names a socket, and servers listen at this path by default.
     Default(PathBuf),
 }
 
-impl Socket {
+impl SocketPath {
     /// The socket that an option names. Without one it is the first of these:
     ///
     /// 1. the path in `BESTORE_SOCKET`, unless that is empty;
@@ -47,6 +48,27 @@ impl Socket {
             Self::Named(path) | Self::Default(path) => path,
         }
     }
+
+    /// Refuses a server of another user at a default path, since anybody can make a socket in the folder for temporary files. Who
+    /// names a path says whose server it is.
+    pub(crate) fn check_server(&self, stream: &UnixStream) -> Result<()> {
+        let socket = match self {
+            Self::Named(_) => return Ok(()),
+            Self::Default(socket) => socket.clone(),
+        };
+        let (server, user) = (peer_user(stream)?, user());
+        match server == user || server == 0 {
+            true => Ok(()),
+            false => Err(Error::OtherUser { socket, server, user }),
+        }
+    }
+}
+
+impl<P: AsRef<Path>> From<P> for SocketPath {
+    /// A path that somebody named.
+    fn from(path: P) -> Self {
+        Self::Named(path.as_ref().into())
+    }
 }
 
 #[cfg(test)]
@@ -54,23 +76,23 @@ mod tests {
     use super::*;
 
     /// `BESTORE_SOCKET`, `XDG_RUNTIME_DIR`, and the socket of user 7.
-    type Case = (Option<&'static str>, Option<&'static str>, Socket);
+    type Case = (Option<&'static str>, Option<&'static str>, SocketPath);
 
-    fn named(path: &str) -> Socket {
-        Socket::Named(path.into())
+    fn named(path: &str) -> SocketPath {
+        SocketPath::Named(path.into())
     }
 
-    fn default(path: &str) -> Socket {
-        Socket::Default(path.into())
+    fn default(path: &str) -> SocketPath {
+        SocketPath::Default(path.into())
     }
 
-    fn found(option: Option<&str>, socket: Option<&str>, folder: Option<&str>) -> Socket {
+    fn found(option: Option<&str>, socket: Option<&str>, folder: Option<&str>) -> SocketPath {
         let variable = |name: &str| match name {
             "BESTORE_SOCKET" => socket.map(OsString::from),
             "XDG_RUNTIME_DIR" => folder.map(OsString::from),
             _ => None,
         };
-        Socket::find_in(option.map(PathBuf::from), variable, 7)
+        SocketPath::find_in(option.map(PathBuf::from), variable, 7)
     }
 
     #[test]

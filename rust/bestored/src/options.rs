@@ -1,7 +1,7 @@
 //! The options of the command line.
 
 use bestore::{Limits, MOST_VOLUMES};
-use bestore_client::Socket;
+use bestore_client::SocketPath;
 use clap::{value_parser, Arg, Command};
 use std::path::PathBuf;
 use std::time::Duration;
@@ -121,8 +121,8 @@ impl Options {
     }
 
     /// The socket at which the server listens.
-    pub fn socket(&self) -> Socket {
-        Socket::find(self.socket.clone())
+    pub fn socket(&self) -> SocketPath {
+        SocketPath::find(self.socket.clone())
     }
 }
 

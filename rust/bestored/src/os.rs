@@ -21,23 +21,6 @@ fn check(answer: libc::c_int) -> io::Result<libc::c_int> {
     }
 }
 
-/// The user who made the other end of the connection.
-pub fn peer_user(stream: &UnixStream) -> io::Result<u32> {
-    let mut credentials = libc::ucred { pid: 0, uid: 0, gid: 0 };
-    let mut length = mem::size_of::<libc::ucred>() as libc::socklen_t;
-    // SAFETY: the option writes a `ucred`, and `length` has its size.
-    check(unsafe {
-        libc::getsockopt(
-            stream.as_raw_fd(),
-            libc::SOL_SOCKET,
-            libc::SO_PEERCRED,
-            ptr::addr_of_mut!(credentials).cast(),
-            &mut length,
-        )
-    })?;
-    Ok(credentials.uid)
-}
-
 /// Sends as many of the bytes as the socket takes at once.
 pub fn send_now(stream: &UnixStream, bytes: &[u8]) -> io::Result<usize> {
     let flags = libc::MSG_DONTWAIT | libc::MSG_NOSIGNAL;

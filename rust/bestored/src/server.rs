@@ -139,7 +139,7 @@ fn take_client(listener: &UnixListener, shared: &Arc<Shared>) -> bool {
 
 /// Starts the thread of a client, or refuses the client.
 fn welcome(shared: &Arc<Shared>, stream: Arc<UnixStream>) {
-    match os::peer_user(&stream) {
+    match socket::peer_user(&stream) {
         Ok(user) if user == socket::user() || user == 0 => {}
         _ => return refuse(&stream, &Failure::new("NotAllowed", "the server is another user's")),
     }
