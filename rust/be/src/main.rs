@@ -24,9 +24,9 @@ use output::Output;
 use std::process::ExitCode;
 
 fn main() -> ExitCode {
-    let CommandLine { socket, command } = CommandLine::parse();
+    let CommandLine { server, command } = CommandLine::parse();
     let mut output = Output::standard();
-    let connect = || server::connect(socket.clone());
+    let connect = || server::connect(&server);
     match run(command, &connect, &mut output).and_then(|()| output.flush()) {
         Ok(()) => ExitCode::SUCCESS,
         Err(failure) => failure.report(),

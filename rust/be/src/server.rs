@@ -1,11 +1,11 @@
 //! The server: where it is, and what several commands ask it for.
 
+use crate::command_line::ServerOptions;
 use crate::failure::{complain, message, Failure};
 use bestore::Batch;
 use bestore_client::wire::{Command, Indices, Nothing};
-use bestore_client::{Client, Error, SocketPath};
+use bestore_client::{Client, Error, Options, SocketPath};
 use std::collections::BTreeMap;
-use std::path::PathBuf;
 
 /// How often a write is tried again if another client is writing.
 const TRIES: u32 = 100;
@@ -17,10 +17,15 @@ const OPERATIONS: usize = 64;
 const SNAPSHOTS: u32 = 5;
 
 /// Connects to the server at the socket that the option names, otherwise where the environment says.
-pub fn connect(option: Option<PathBuf>) -> Result<Client, Failure> {
-    let socket = SocketPath::find(option);
-    let mut client = match Client::connect(socket.path()) {
-        Err(Error::Io(error)) => return Err(Failure::NoServer(socket.path().into(), error)),
+pub fn connect(line: &ServerOptions) -> Result<Client, Failure> {
+    let socket = SocketPath::find(line.socket.clone());
+    let mut options = Options::new();
+    options.wait(line.wait.unwrap_or_default());
+    if line.timeout.is_some() {
+        options.timeout(line.timeout);
+    }
+    let mut client = match options.connect(socket.clone()) {
+        Err(Error::Io(error)) => return Err(Failure::NoServer(socket, error)),
         answer => answer?,
     };
     client.hello()?;

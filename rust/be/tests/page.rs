@@ -50,7 +50,7 @@ fn the_completion_has_each_command_and_option() {
             .find(|line| line.trim_start().starts_with(&format!("{command}) ")));
         for name in options(command) {
             let option = format!("--{name}");
-            let common = ["socket", "help"].contains(&name.as_str());
+            let common = ["socket", "wait", "timeout", "help"].contains(&name.as_str());
             assert!(
                 common || line.map_or(false, |line| line.contains(&option)),
                 "{command} {option}"

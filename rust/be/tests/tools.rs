@@ -277,9 +277,17 @@ fn exit_statuses_are_those_of_the_page() {
         said.error.starts_with("be: no server answers at /nowhere/socket: "),
         "{said:?}"
     );
+    assert!(
+        said.error
+            .ends_with("  bestored --background --socket /nowhere/socket starts one\n"),
+        "{said:?}"
+    );
     for words in [
         &[][..],
         &["nothing"],
+        &["status", "--wait", "x"],
+        &["status", "--wait", "-1"],
+        &["status", "--timeout", "86401"],
         &["query"],
         &["query", "a==1", "b==1"],
         &["query", "--limit", "x", "a==1"],

@@ -2,7 +2,7 @@
 
 use bestore::{Limits, MOST_VOLUMES};
 use bestore_client::SocketPath;
-use clap::{value_parser, Arg, Command};
+use clap::{value_parser, Arg, ArgAction, Command};
 use std::path::PathBuf;
 use std::time::Duration;
 
@@ -28,6 +28,8 @@ pub struct InLog {
 pub struct Options {
     /// The path of the socket, if it was given.
     pub socket: Option<PathBuf>,
+    /// Whether the program ends once the server listens.
+    pub background: bool,
     pub keep: Option<PathBuf>,
     pub every: Option<Duration>,
     /// The log, if machines share one.
@@ -62,6 +64,12 @@ fn command() -> Command {
             path("socket", "PATH").help(
                 "The socket; otherwise $BESTORE_SOCKET, $XDG_RUNTIME_DIR/bestore/socket or /tmp/bestore-UID/socket",
             ),
+        )
+        .arg(
+            Arg::new("background")
+                .long("background")
+                .action(ArgAction::SetTrue)
+                .help("Ends once the server listens, which goes on in the background"),
         )
         .arg(path("keep", "FILE").help("The file in which the writes are kept, or the folder of several volumes"))
         .arg(
@@ -100,6 +108,7 @@ impl Options {
         let most = MOST_PASSES - OWN_PASSES - log.as_ref().map_or(0, |_| LOG_PASSES);
         Self {
             socket: read.get_one("socket").cloned(),
+            background: read.get_flag("background"),
             keep: read.get_one("keep").cloned(),
             every: read.get_one("every").copied().map(Duration::from_millis),
             log,

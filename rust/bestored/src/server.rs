@@ -1,21 +1,23 @@
 //! The server: a thread and a pass for each client.
 
+use crate::background::Starter;
 use crate::connection::Connection;
 use crate::failure::Failure;
 use crate::kept::{self, Kept};
 use crate::options::Options;
 use crate::os;
 use crate::pressure::{self, Pressure};
-use crate::socket::Socket;
+use crate::socket::{Place, Socket};
 use crate::watcher::Watcher;
 use bestore::{Error, ShelfPass};
-use bestore_client::socket;
+use bestore_client::socket::{peer_user, user};
 use std::collections::BTreeMap;
 use std::fs::File;
 use std::io::{self, ErrorKind};
 use std::net::Shutdown;
 use std::os::unix::io::AsRawFd;
 use std::os::unix::net::{UnixListener, UnixStream};
+use std::path::PathBuf;
 use std::sync::{Arc, Condvar, Mutex, MutexGuard, PoisonError};
 use std::thread;
 use std::time::{Duration, Instant, SystemTime};
@@ -88,10 +90,17 @@ impl Clients {
     }
 }
 
-/// Serves clients until a signal ends the program.
-pub fn run(socket: Socket, signals: &File, shared: Shared, own: ShelfPass) -> Result<(), Box<dyn std::error::Error>> {
+/// Listens, and serves clients until a signal ends the program.
+pub fn run(
+    place: Place,
+    starter: Option<Starter>,
+    signals: &File,
+    shared: Shared,
+    own: ShelfPass,
+) -> Result<(), Box<dyn std::error::Error>> {
     let shared = Arc::new(shared);
     kept::start(&shared)?;
+    let socket = listen(place, starter)?;
     let watching = {
         let shared = shared.clone();
         thread::spawn(move || shared.watcher.run(own, &shared.kept))
@@ -104,6 +113,16 @@ pub fn run(socket: Socket, signals: &File, shared: Shared, own: ShelfPass) -> Re
         eprintln!("bestored: the thread of the live queries has ended by a fault");
     }
     shared.kept.finish()
+}
+
+/// Listens, and says so to who has started the server.
+fn listen(place: Place, starter: Option<Starter>) -> io::Result<Socket> {
+    let path = place.path().map(PathBuf::from);
+    let socket = place.listen()?;
+    if let (Some(starter), Some(path)) = (starter, path) {
+        starter.listens_at(&path)?;
+    }
+    Ok(socket)
 }
 
 fn accept(listener: &UnixListener, signals: &File, shared: &Arc<Shared>) {
@@ -139,8 +158,8 @@ fn take_client(listener: &UnixListener, shared: &Arc<Shared>) -> bool {
 
 /// Starts the thread of a client, or refuses the client.
 fn welcome(shared: &Arc<Shared>, stream: Arc<UnixStream>) {
-    match socket::peer_user(&stream) {
-        Ok(user) if user == socket::user() || user == 0 => {}
+    match peer_user(&stream) {
+        Ok(client) if client == user() || client == 0 => {}
         _ => return refuse(&stream, &Failure::new("NotAllowed", "the server is another user's")),
     }
     let clients = shared.clients.count();
