@@ -18,18 +18,35 @@ const SNAPSHOTS: u32 = 5;
 
 /// Connects to the server at the socket that the option names, otherwise where the environment says.
 pub fn connect(line: &ServerOptions) -> Result<Client, Failure> {
+    let mut client = open(line)?;
+    client.hello()?;
+    Ok(client)
+}
+
+/// Connects as [`connect`], for a command that asks a few things and ends: it is answered for a moment also when there is no place for
+/// one more client.
+pub fn visit(line: &ServerOptions) -> Result<Client, Failure> {
+    match connect(line) {
+        Err(Failure::Server(error)) if error.is("NoPass") => {
+            let mut client = open(line)?;
+            client.visit()?;
+            Ok(client)
+        }
+        answer => answer,
+    }
+}
+
+fn open(line: &ServerOptions) -> Result<Client, Failure> {
     let socket = SocketPath::find(line.socket.clone());
     let mut options = Options::new();
     options.wait(line.wait.unwrap_or_default());
     if line.timeout.is_some() {
         options.timeout(line.timeout);
     }
-    let mut client = match options.connect(socket.clone()) {
-        Err(Error::Io(error)) => return Err(Failure::NoServer(socket, error)),
-        answer => answer?,
-    };
-    client.hello()?;
-    Ok(client)
+    match options.connect(socket.clone()) {
+        Err(Error::Io(error)) => Err(Failure::NoServer(socket, error)),
+        answer => Ok(answer?),
+    }
 }
 
 /// The names of kinds by the names of the indices.

@@ -1,7 +1,8 @@
 //! How the tool reaches its server: where that is, whose it is, and how long it may take.
 
 use crate::common::files::Folder;
-use crate::common::{server_program, Said, BE};
+use crate::common::{server_program, Said, Server, BE};
+use bestore_client::Client;
 use std::fs;
 use std::os::unix::fs::PermissionsExt;
 use std::os::unix::net::UnixListener;
@@ -78,6 +79,23 @@ fn a_server_that_does_not_reply_is_given_up() {
             "be: the server didn't reply within 50ms; whether a write was made is not known\n"
         )
     );
+}
+
+#[test]
+fn a_server_without_a_place_answers_short_commands() {
+    let server = server!(Server::start_with(&["--passes", "1"]));
+    let mut idle = Client::connect(server.socket()).unwrap();
+    idle.hello().unwrap();
+    server.done(&["mkindex", "name"]);
+    assert_eq!(server.done(&["addattr", "--new", "name", "a"]), "1\n");
+    assert_eq!(server.done(&["query", "-c", "name", "name==a"]), "1\ta\n");
+    assert!(server.done(&["status"]).contains("clients"));
+    for words in [&["query", "--watch", "name==a"][..], &["import", "/dev"]] {
+        let said = server.be(words);
+        let why = "be: 1 clients are connected (clients 1)\n";
+        assert_eq!((said.status, said.error.as_str()), (1, why));
+    }
+    idle.hello().unwrap();
 }
 
 /// A server of the user `NOBODY`, or `None` and a line that says why there can't be one.

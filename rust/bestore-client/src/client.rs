@@ -278,8 +278,23 @@ impl Client {
     /// # Errors
     /// As [`call`](Self::call), like all calls below.
     pub fn hello(&mut self) -> Result<wire::Hello> {
+        self.greet(false)
+    }
+
+    /// As [`hello`](Self::hello), by a client that asks a few things and goes. As its first request it gets the client a place when all
+    /// others are taken: for 2 seconds, and not while it sends nothing for a quarter of one. Such a client can't wait for commits or
+    /// begin a live query.
+    ///
+    /// # Errors
+    /// As `call`.
+    pub fn visit(&mut self) -> Result<wire::Hello> {
+        self.greet(true)
+    }
+
+    fn greet(&mut self, visit: bool) -> Result<wire::Hello> {
         self.call(Command::Hello(wire::Greeting {
             protocol: Some(wire::PROTOCOL),
+            visit,
         }))
     }
 

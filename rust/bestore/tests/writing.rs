@@ -335,3 +335,16 @@ fn threads_get_what_they_may() {
     can_be_shared::<Error>();
     can_be_shared::<Batch>();
 }
+
+#[test]
+fn a_store_has_as_many_passes_as_there_may_be_if_nothing_is_said() {
+    let store = Store::open(Limits::default()).unwrap();
+    let passes: Vec<Pass> = (0..63).map(|_| store.pass().unwrap()).collect();
+    assert!(matches!(store.pass(), Err(Error::NoPass)));
+    assert_eq!(passes[62].new_node().unwrap(), 1);
+    let more = Limits {
+        passes: 64,
+        ..Limits::default()
+    };
+    assert!(matches!(Store::open(more), Err(Error::BadLimits)));
+}

@@ -14,6 +14,7 @@ mod options;
 mod os;
 mod outbox;
 mod page;
+mod places;
 mod pressure;
 mod reach;
 mod server;
@@ -24,6 +25,7 @@ mod watcher;
 use background::{Side, Starter};
 use kept::Kept;
 use options::Options;
+use places::Places;
 use pressure::Pressure;
 use server::Shared;
 use socket::Place;
@@ -71,6 +73,8 @@ fn serve(options: Options, place: Place, starter: Option<Starter>) -> Result<(),
         watcher: Default::default(),
         pressure: Pressure::new(options.hold),
         clients: Default::default(),
+        places: Places::new(options.passes),
+        visits: Places::new(1),
         run,
         options,
     };

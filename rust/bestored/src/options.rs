@@ -9,8 +9,8 @@ use std::time::Duration;
 /// The most passes of a store.
 const MOST_PASSES: u64 = 63;
 
-/// Passes of the store that are the server's own.
-const OWN_PASSES: u64 = 1;
+/// Passes of the store that are the server's own: for live queries, and for clients that come when all places are taken.
+const OWN_PASSES: u64 = 2;
 
 /// Passes of the store that a log of machines takes.
 const LOG_PASSES: u64 = 2;
@@ -90,7 +90,7 @@ fn command() -> Command {
                 .help("Stores that one query searches; otherwise those of the folder, or 1"),
         )
         .arg(number("pages", "N", 8..=16_384, "4096").help("Pages of 4 KiB, of each volume"))
-        .arg(number("passes", "N", 1..=62, "62").help("Clients at the same time"))
+        .arg(number("passes", "N", 1..=61, "61").help("Clients at the same time"))
         .arg(number("commits", "N", 1..=u32::MAX.into(), "4294967295").help("Entries of the journal, of each volume"))
         .arg(number("hold", "SECONDS", 1..=86_400, "60").help("How long a client may keep a snapshot"))
 }
@@ -148,7 +148,7 @@ mod tests {
     fn numbers_out_of_range_are_refused() {
         for arguments in [
             ["--pages", "7"],
-            ["--passes", "63"],
+            ["--passes", "62"],
             ["--every", "5"],
             ["--hold", "0"],
             ["--volumes", "0"],

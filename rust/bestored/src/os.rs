@@ -29,6 +29,14 @@ pub fn send_now(stream: &UnixStream, bytes: &[u8]) -> io::Result<usize> {
     usize::try_from(sent).map_err(|_| io::Error::last_os_error())
 }
 
+/// Copies what has been received, and leaves it to be received. Returns how many bytes these are.
+pub fn look_ahead(stream: &UnixStream, bytes: &mut [u8]) -> io::Result<usize> {
+    let flags = libc::MSG_DONTWAIT | libc::MSG_PEEK;
+    // SAFETY: the pointer and the length are those of the slice.
+    let received = unsafe { libc::recv(stream.as_raw_fd(), bytes.as_mut_ptr().cast(), bytes.len(), flags) };
+    usize::try_from(received).map_err(|_| io::Error::last_os_error())
+}
+
 /// Waits until one of the descriptors can be read, and says of each whether it can.
 pub fn wait_readable<const N: usize>(descriptors: [RawFd; N], time: Option<Duration>) -> io::Result<[bool; N]> {
     let mut polled = descriptors.map(|fd| libc::pollfd {

@@ -6,11 +6,13 @@ use crate::failure::Failure;
 use crate::kept::{self, Kept};
 use crate::options::Options;
 use crate::os;
+use crate::places::Places;
 use crate::pressure::{self, Pressure};
 use crate::socket::{Place, Socket};
 use crate::watcher::Watcher;
 use bestore::{Error, ShelfPass};
 use bestore_client::socket::{peer_user, user};
+use bestore_client::wire::{Command, Greeting, Request};
 use std::collections::BTreeMap;
 use std::fs::File;
 use std::io::{self, ErrorKind};
@@ -25,8 +27,14 @@ use std::time::{Duration, Instant, SystemTime};
 /// How many connections there may be beyond those that have a pass: they wait a moment for one.
 const WAITING: usize = 16;
 
-/// How long a connection waits for a pass, since a client that has just gone may leave one.
-const FOR_PASS: Duration = Duration::from_millis(200);
+/// How long a connection waits for a place, since a client that has just gone may leave one.
+const FOR_PLACE: Duration = Duration::from_millis(200);
+
+/// How long a connection waits for the place of visitors, who come when all others are taken.
+const FOR_VISIT: Duration = Duration::from_secs(10);
+
+/// The most bytes of a first request by which a client asks for that place.
+const GREETING: usize = 256;
 
 /// How long at the end clients may take to read their last replies.
 const LAST: Duration = Duration::from_secs(5);
@@ -39,6 +47,10 @@ pub struct Shared {
     pub watcher: Watcher,
     pub pressure: Pressure,
     pub clients: Clients,
+    /// The places of clients.
+    pub places: Places,
+    /// The place of clients that find none: each has it for a moment.
+    pub visits: Places,
     /// Another text for each run.
     pub run: String,
 }
@@ -164,7 +176,7 @@ fn welcome(shared: &Arc<Shared>, stream: Arc<UnixStream>) {
     }
     let clients = shared.clients.count();
     if clients >= shared.options.passes as usize + WAITING {
-        return refuse(&stream, &no_pass(clients));
+        return refuse(&stream, &no_pass(shared));
     }
     let number = shared.clients.enter(stream.clone());
     let of_thread = shared.clone();
@@ -194,30 +206,44 @@ impl Drop for Leaving<'_> {
 }
 
 fn serve(shared: &Shared, stream: Arc<UnixStream>) {
+    let place = shared.places.take(FOR_PLACE);
+    let visit = match place {
+        Some(_) => None,
+        None if !is_visit(&stream) => None,
+        None => shared.visits.take(FOR_VISIT),
+    };
+    if place.is_none() && visit.is_none() {
+        return refuse(&stream, &no_pass(shared));
+    }
     let pass = match take_pass(shared) {
         Ok(pass) => pass,
-        Err(Error::NoPass) => return refuse(&stream, &no_pass(shared.options.passes as usize)),
         Err(error) => return refuse(&stream, &error.into()),
     };
     // An error of the connection is its end, and nobody is left to report it to.
-    let _ = Connection::new(shared, stream).and_then(|mut connection| connection.run(pass));
+    let _ = Connection::new(shared, stream, visit.is_some()).and_then(|mut connection| connection.run(pass));
+}
+
+/// Whether the first request that the client has sent says that it asks a few things and goes.
+fn is_visit(stream: &UnixStream) -> bool {
+    let mut bytes = [0; GREETING];
+    let length = os::look_ahead(stream, &mut bytes).unwrap_or(0);
+    let line = bytes[..length].split(|byte| *byte == b'\n').next().unwrap_or_default();
+    let request = serde_json::from_slice::<Request<'_>>(line);
+    matches!(
+        request.map(|request| request.command),
+        Ok(Command::Hello(Greeting { visit: true, .. }))
+    )
 }
 
 fn take_pass(shared: &Shared) -> bestore::Result<ShelfPass> {
-    let until = Instant::now() + FOR_PASS;
-    loop {
-        match shared.kept.pass().map_err(Error::without_volume) {
-            Err(Error::NoPass) if Instant::now() < until => thread::sleep(Duration::from_millis(5)),
-            answer => {
-                let mut pass = answer?;
-                pass.set_retry(pressure::retry());
-                return Ok(pass);
-            }
-        }
-    }
+    let mut pass = shared.kept.pass().map_err(Error::without_volume)?;
+    pass.set_retry(pressure::retry());
+    Ok(pass)
 }
 
-fn no_pass(clients: usize) -> Failure {
+/// All places are taken.
+pub fn no_pass(shared: &Shared) -> Failure {
+    let clients = shared.options.passes;
     let message = format!("{clients} clients are connected");
     Failure::new("NoPass", message).numbered(68).with("clients", clients)
 }
