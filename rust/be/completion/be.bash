@@ -63,8 +63,8 @@ _be() {
     *)
         case $command:$cur in
         *:-*) _be_offer < <(_be_options "$command") ;;
-        :*) _be_offer < <(printf '%s\n' query addattr catattr listattr rmattr rmnode import mkindex lsindex rmindex status) ;;
-        query:* | addattr:* | catattr:* | rmattr:* | rmindex:*) _be_offer < <(_be_indices) ;;
+        :*) _be_offer < <(printf '%s\n' query addattr catattr listattr rmattr rmnode import mkindex lsindex rmindex reindex status) ;;
+        query:* | addattr:* | catattr:* | rmattr:* | rmindex:* | reindex:*) _be_offer < <(_be_indices) ;;
         import:*) compopt -o dirnames ;;
         esac
         ;;

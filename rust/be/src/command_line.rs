@@ -43,6 +43,7 @@ pub enum Command {
     Mkindex(MakeIndex),
     Lsindex(ListIndices),
     Rmindex(RemoveIndex),
+    Reindex(Reindex),
     Status(Status),
 }
 
@@ -216,6 +217,13 @@ pub struct ListIndices {
 #[derive(Debug, Args)]
 pub struct RemoveIndex {
     /// Its name
+    pub name: String,
+}
+
+/// Set again the attributes that an index lacks, because they were set before it was made
+#[derive(Debug, Args)]
+pub struct Reindex {
+    /// The name of the index
     pub name: String,
 }
 

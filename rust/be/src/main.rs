@@ -48,6 +48,7 @@ fn run(command: Command, server: &ServerOptions, output: &mut Output) -> Result<
         Command::Mkindex(line) => indices::make(&mut visit()?, &line),
         Command::Lsindex(line) => indices::list(&mut visit()?, &line, output),
         Command::Rmindex(line) => indices::remove(&mut visit()?, &line),
+        Command::Reindex(line) => indices::fill(&mut server::connect(server)?, &line, output),
         Command::Status(line) => status::show(&mut visit()?, &line, output),
     }
 }

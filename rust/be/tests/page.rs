@@ -4,8 +4,9 @@ use crate::common::{Said, BE};
 use std::path::PathBuf;
 use std::process::Command;
 
-const COMMANDS: [&str; 11] = [
-    "query", "addattr", "catattr", "listattr", "rmattr", "rmnode", "import", "mkindex", "lsindex", "rmindex", "status",
+const COMMANDS: [&str; 12] = [
+    "query", "addattr", "catattr", "listattr", "rmattr", "rmnode", "import", "mkindex", "lsindex", "rmindex",
+    "reindex", "status",
 ];
 
 fn page() -> PathBuf {

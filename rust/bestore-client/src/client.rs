@@ -33,6 +33,8 @@ pub struct Client {
     pushes: Pushes,
     /// How long the server may wait before it replies, of each such request.
     waits: BTreeMap<u64, Duration>,
+    /// The queries of requests whose replies haven't come.
+    queries: BTreeMap<u64, String>,
     /// Whether a call has timed out. What the server sends after that belongs to no call.
     is_over: bool,
 }
@@ -71,6 +73,15 @@ fn wait_of(command: &Command<'_>) -> Option<Duration> {
         _ => return None,
     };
     Some(within.map_or(WITHIN, Duration::from_millis).min(MOST_WITHIN))
+}
+
+/// The text of the query that the server is asked.
+fn query_of<'a>(command: &'a Command<'_>) -> Option<&'a str> {
+    match command {
+        Command::Query(wire::Query { query, .. }) | Command::Explain(wire::QueryText { query }) => Some(query),
+        Command::Watch(watch) => watch.query.as_deref(),
+        _ => None,
+    }
 }
 
 fn bad(error: impl std::fmt::Display) -> Error {
@@ -113,6 +124,7 @@ impl Client {
             searched: 0,
             pushes: Pushes::new(options.most_pushed),
             waits: BTreeMap::new(),
+            queries: BTreeMap::new(),
             is_over: false,
         }
     }
@@ -137,6 +149,9 @@ impl Client {
         self.last += 1;
         if let Some(wait) = wait_of(&command) {
             self.waits.insert(self.last, wait);
+        }
+        if let Some(query) = query_of(&command) {
+            self.queries.insert(self.last, query.into());
         }
         let request = Request { id: self.last, command };
         let mut line = serde_json::to_vec(&request).map_err(bad)?;
@@ -170,6 +185,14 @@ impl Client {
     /// # Errors
     /// As [`call`](Self::call).
     pub fn receive<T: DeserializeOwned>(&mut self, id: u64) -> Result<T> {
+        let query = self.queries.remove(&id);
+        self.receive_any(id).map_err(|error| match error {
+            Error::Refused(refusal) => Error::Refused(Refusal { query, ..refusal }),
+            other => other,
+        })
+    }
+
+    fn receive_any<T: DeserializeOwned>(&mut self, id: u64) -> Result<T> {
         let wait = self.waits.remove(&id).unwrap_or_default();
         let time = self.options.timeout.map(|timeout| timeout + wait);
         let until = time.map(|time| Instant::now() + time);
@@ -619,6 +642,21 @@ mod tests {
             client.next_push(Duration::from_secs(9)),
             Err(Error::BadLine(_))
         ));
+    }
+
+    #[test]
+    fn a_query_that_is_refused_has_a_caret() {
+        let error = r#""error":{"name":"Syntax","number":12,"message":"no query","offset":6}"#;
+        let lines = format!("{{\"id\":1,{error}}}\n{{\"id\":2,{error}}}\n{{\"id\":3,{error}}}\n");
+        let (_server, mut client) = client_of(&lines);
+        let said = "Syntax: no query\n  größe>\n      ^";
+        assert_eq!(client.query("größe>").unwrap_err().to_string(), said);
+        assert_eq!(
+            client.watch(Some("size>5")).unwrap_err().to_string(),
+            "Syntax: no query\n  size>5\n        ^"
+        );
+        assert_eq!(client.unpin().unwrap_err().to_string(), "Syntax: no query");
+        assert!(client.queries.is_empty());
     }
 
     #[test]

@@ -24,6 +24,7 @@
 mod change;
 mod client;
 mod error;
+mod indices;
 mod options;
 mod os;
 mod pushes;
