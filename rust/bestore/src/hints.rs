@@ -109,7 +109,7 @@ fn is_never_true(operator: Comparing, number: Option<i128>, range: &RangeInclusi
 mod tests {
     use super::*;
 
-    /// Where the comparisons begin that are never true, beside texts `t`, and integers `i`, `l`, `u` and `w`.
+    /// The offsets of what is never true. There are texts `t`, and integers `i`, `l`, `u` and `w`.
     fn offsets(query: &str) -> Vec<usize> {
         let kind_of = |name: &str| match name {
             "t" => Some(Kind::Text),
