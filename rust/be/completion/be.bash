@@ -15,7 +15,7 @@ _be_command() {
     local at
     for ((at = 1; at < cword; at++)); do
         case ${words[at]} in
-        --socket) ((at++)) ;;
+        --socket | --wait | --timeout) ((at++)) ;;
         -*) ;;
         *)
             echo "${words[at]}"
@@ -37,7 +37,7 @@ _be_options() {
     lsindex) printf '%s\n' --long --verbose --json ;;
     status) echo --json ;;
     esac
-    printf '%s\n' --socket --help
+    printf '%s\n' --socket --wait --timeout --help
 }
 
 # Offers the lines that begin with the word at the cursor.
@@ -55,6 +55,7 @@ _be() {
     _get_comp_words_by_ref -n : cur prev words cword
     command=$(_be_command)
     case $command:$prev in
+    *:--wait | *:--timeout) ;;
     *:--socket | addattr:-f | addattr:--file) compopt -o default ;;
     addattr:-t | addattr:--type | mkindex:-t | mkindex:--type)
         _be_offer < <(printf '%s\n' string mime int32 int64 uint32 uint64 raw)
@@ -62,8 +63,8 @@ _be() {
     *)
         case $command:$cur in
         *:-*) _be_offer < <(_be_options "$command") ;;
-        :*) _be_offer < <(printf '%s\n' query addattr catattr listattr rmattr rmnode import mkindex lsindex rmindex status) ;;
-        query:* | addattr:* | catattr:* | rmattr:* | rmindex:*) _be_offer < <(_be_indices) ;;
+        :*) _be_offer < <(printf '%s\n' query addattr catattr listattr rmattr rmnode import mkindex lsindex rmindex reindex status) ;;
+        query:* | addattr:* | catattr:* | rmattr:* | rmindex:* | reindex:*) _be_offer < <(_be_indices) ;;
         import:*) compopt -o dirnames ;;
         esac
         ;;

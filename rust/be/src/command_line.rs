@@ -6,16 +6,29 @@ use clap::builder::{OsStringValueParser, TypedValueParser};
 use clap::{Args, Parser, Subcommand};
 use std::ffi::OsString;
 use std::path::PathBuf;
+use std::time::Duration;
 
 /// The attribute tools of BeOS, over a store that bestored shares
 #[derive(Debug, Parser)]
 #[command(name = "be", version, disable_help_subcommand = true)]
 pub struct CommandLine {
+    #[command(flatten)]
+    pub server: ServerOptions,
+    #[command(subcommand)]
+    pub command: Command,
+}
+
+#[derive(Clone, Debug, Args)]
+pub struct ServerOptions {
     /// The socket of the server. Otherwise $BESTORE_SOCKET, or the one that bestored has by default
     #[arg(long, value_name = "PATH", global = true)]
     pub socket: Option<PathBuf>,
-    #[command(subcommand)]
-    pub command: Command,
+    /// Wait for a server that starts, up to this time
+    #[arg(long, value_name = "SECONDS", global = true, value_parser = seconds)]
+    pub wait: Option<Duration>,
+    /// How long a reply of the server may take, 60 by default
+    #[arg(long, value_name = "SECONDS", global = true, value_parser = seconds)]
+    pub timeout: Option<Duration>,
 }
 
 #[derive(Debug, Subcommand)]
@@ -30,6 +43,7 @@ pub enum Command {
     Mkindex(MakeIndex),
     Lsindex(ListIndices),
     Rmindex(RemoveIndex),
+    Reindex(Reindex),
     Status(Status),
 }
 
@@ -206,12 +220,30 @@ pub struct RemoveIndex {
     pub name: String,
 }
 
+/// Set again the attributes that an index lacks, because they were set before it was made
+#[derive(Debug, Args)]
+pub struct Reindex {
+    /// The name of the index
+    pub name: String,
+}
+
 /// Print how full the store is, and who keeps an old snapshot
 #[derive(Debug, Args)]
 pub struct Status {
     /// Print JSON
     #[arg(long)]
     pub json: bool,
+}
+
+/// The longest time of an option, in seconds: a day.
+const MOST_SECONDS: f64 = 86_400.0;
+
+/// Reads a time.
+fn seconds(text: &str) -> Result<Duration, String> {
+    match text.parse() {
+        Ok(seconds) if (0.0..=MOST_SECONDS).contains(&seconds) => Ok(Duration::from_secs_f64(seconds)),
+        _ => Err(format!("a time has 0 to {MOST_SECONDS} seconds")),
+    }
 }
 
 /// Reads what names a node: digits are a number, and other words a path.

@@ -4,7 +4,7 @@ use crate::import::follow;
 use crate::kind::shown_name;
 use crate::text::{escaped, excerpt};
 use bestore_client::wire::Refusal;
-use bestore_client::Error;
+use bestore_client::{Error, SocketPath};
 use std::collections::BTreeMap;
 use std::io::Write as _;
 use std::path::{Path, PathBuf};
@@ -15,7 +15,7 @@ use std::{fmt, io};
 #[derive(Debug)]
 pub enum Failure {
     /// No server answers at the socket.
-    NoServer(PathBuf, io::Error),
+    NoServer(SocketPath, io::Error),
     /// The server refused, or the connection failed.
     Server(Error),
     /// A query was refused.
@@ -79,9 +79,13 @@ impl From<io::Error> for Failure {
 impl fmt::Display for Failure {
     fn fmt(&self, f: &mut fmt::Formatter<'_>) -> fmt::Result {
         match self {
-            Failure::NoServer(path, error) => {
-                writeln!(f, "no server answers at {}: {error}", shown(path))?;
-                write!(f, "  bestored --socket PATH starts one")
+            Failure::NoServer(socket, error) => {
+                let path = shown(socket.path());
+                writeln!(f, "no server answers at {path}: {error}")?;
+                match socket {
+                    SocketPath::Named(_) => write!(f, "  bestored --background --socket {path} starts one"),
+                    SocketPath::Default(_) => write!(f, "  bestored --background starts one"),
+                }
             }
             Failure::Server(error) => f.write_str(&message(error)),
             Failure::Query(refused) => refused.fmt(f),

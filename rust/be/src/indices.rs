@@ -1,6 +1,6 @@
-//! `mkindex`, `lsindex` and `rmindex`.
+//! `mkindex`, `lsindex`, `rmindex` and `reindex`.
 
-use crate::command_line::{ListIndices, MakeIndex, RemoveIndex};
+use crate::command_line::{ListIndices, MakeIndex, Reindex, RemoveIndex};
 use crate::failure::Failure;
 use crate::kind::shown_name;
 use crate::output::Output;
@@ -17,6 +17,11 @@ pub fn make(client: &mut Client, line: &MakeIndex) -> Result<(), Failure> {
 
 pub fn remove(client: &mut Client, line: &RemoveIndex) -> Result<(), Failure> {
     Ok(server::apply(client, Batch::new().remove_index(&line.name))?)
+}
+
+pub fn fill(client: &mut Client, line: &Reindex, output: &mut Output) -> Result<(), Failure> {
+    let set = client.reindex(&line.name)?;
+    output.line(set.to_string().as_bytes())
 }
 
 pub fn list(client: &mut Client, line: &ListIndices, output: &mut Output) -> Result<(), Failure> {

@@ -15,40 +15,41 @@ mod status;
 mod text;
 
 use attributes::Added;
-use bestore_client::Client;
 use clap::error::ErrorKind;
 use clap::{CommandFactory, Parser};
-use command_line::{AddAttribute, Command, CommandLine};
+use command_line::{AddAttribute, Command, CommandLine, ServerOptions};
 use failure::Failure;
 use output::Output;
 use std::process::ExitCode;
 
 fn main() -> ExitCode {
-    let CommandLine { socket, command } = CommandLine::parse();
+    let CommandLine { server, command } = CommandLine::parse();
     let mut output = Output::standard();
-    let connect = || server::connect(socket.clone());
-    match run(command, &connect, &mut output).and_then(|()| output.flush()) {
+    match run(command, &server, &mut output).and_then(|()| output.flush()) {
         Ok(()) => ExitCode::SUCCESS,
         Err(failure) => failure.report(),
     }
 }
 
-fn run(command: Command, connect: &dyn Fn() -> Result<Client, Failure>, output: &mut Output) -> Result<(), Failure> {
+fn run(command: Command, server: &ServerOptions, output: &mut Output) -> Result<(), Failure> {
+    let visit = || server::visit(server);
     match command {
-        Command::Query(line) => query::run(&mut connect()?, &line, output),
+        Command::Query(line) if line.watch => query::run(&mut server::connect(server)?, &line, output),
+        Command::Query(line) => query::run(&mut visit()?, &line, output),
         Command::Addattr(line) => {
             let added = read_added(line)?;
-            attributes::add(&mut connect()?, &added, output)
+            attributes::add(&mut visit()?, &added, output)
         }
-        Command::Catattr(line) => attributes::show(&mut connect()?, &line, output),
-        Command::Listattr(line) => attributes::list(&mut connect()?, &line, output),
-        Command::Rmattr(line) => attributes::remove(&mut connect()?, &line),
-        Command::Rmnode(line) => attributes::remove_nodes(&mut connect()?, &line),
-        Command::Import(line) => import::run(connect, &line, output),
-        Command::Mkindex(line) => indices::make(&mut connect()?, &line),
-        Command::Lsindex(line) => indices::list(&mut connect()?, &line, output),
-        Command::Rmindex(line) => indices::remove(&mut connect()?, &line),
-        Command::Status(line) => status::show(&mut connect()?, &line, output),
+        Command::Catattr(line) => attributes::show(&mut visit()?, &line, output),
+        Command::Listattr(line) => attributes::list(&mut visit()?, &line, output),
+        Command::Rmattr(line) => attributes::remove(&mut visit()?, &line),
+        Command::Rmnode(line) => attributes::remove_nodes(&mut visit()?, &line),
+        Command::Import(line) => import::run(&|| server::connect(server), &line, output),
+        Command::Mkindex(line) => indices::make(&mut visit()?, &line),
+        Command::Lsindex(line) => indices::list(&mut visit()?, &line, output),
+        Command::Rmindex(line) => indices::remove(&mut visit()?, &line),
+        Command::Reindex(line) => indices::fill(&mut server::connect(server)?, &line, output),
+        Command::Status(line) => status::show(&mut visit()?, &line, output),
     }
 }
 

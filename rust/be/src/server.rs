@@ -1,13 +1,11 @@
 //! The server: where it is, and what several commands ask it for.
 
+use crate::command_line::ServerOptions;
 use crate::failure::{complain, message, Failure};
 use bestore::Batch;
 use bestore_client::wire::{Command, Indices, Nothing};
-use bestore_client::{Client, Error};
+use bestore_client::{Client, Error, Options, SocketPath};
 use std::collections::BTreeMap;
-use std::env;
-use std::ffi::OsString;
-use std::path::PathBuf;
 
 /// How often a write is tried again if another client is writing.
 const TRIES: u32 = 100;
@@ -18,31 +16,37 @@ const OPERATIONS: usize = 64;
 /// How many snapshots a read is tried on.
 const SNAPSHOTS: u32 = 5;
 
-/// Connects to the server at this socket, otherwise where the environment says.
-pub fn connect(socket: Option<PathBuf>) -> Result<Client, Failure> {
-    let path = socket.unwrap_or_else(default_socket);
-    let mut client = match Client::connect(&path) {
-        Err(Error::Io(error)) => return Err(Failure::NoServer(path, error)),
-        answer => answer?,
-    };
+/// Connects to the server at the socket that the option names, otherwise where the environment says.
+pub fn connect(line: &ServerOptions) -> Result<Client, Failure> {
+    let mut client = open(line)?;
     client.hello()?;
     Ok(client)
 }
 
-fn default_socket() -> PathBuf {
-    if let Some(socket) = variable("BESTORE_SOCKET") {
-        return socket.into();
+/// Connects as [`connect`], for a command that asks a few things and ends: it is answered for a moment also when there is no place for
+/// one more client.
+pub fn visit(line: &ServerOptions) -> Result<Client, Failure> {
+    match connect(line) {
+        Err(Failure::Server(error)) if error.is("NoPass") => {
+            let mut client = open(line)?;
+            client.visit()?;
+            Ok(client)
+        }
+        answer => answer,
     }
-    let folder = match variable("XDG_RUNTIME_DIR") {
-        Some(folder) => PathBuf::from(folder).join("bestore"),
-        // SAFETY: getuid reads no memory of the program.
-        None => format!("/tmp/bestore-{}", unsafe { libc::getuid() }).into(),
-    };
-    folder.join("socket")
 }
 
-fn variable(name: &str) -> Option<OsString> {
-    env::var_os(name).filter(|value| !value.is_empty())
+fn open(line: &ServerOptions) -> Result<Client, Failure> {
+    let socket = SocketPath::find(line.socket.clone());
+    let mut options = Options::new();
+    options.wait(line.wait.unwrap_or_default());
+    if line.timeout.is_some() {
+        options.timeout(line.timeout);
+    }
+    match options.connect(socket.clone()) {
+        Err(Error::Io(error)) => Err(Failure::NoServer(socket, error)),
+        answer => Ok(answer?),
+    }
 }
 
 /// The names of kinds by the names of the indices.

@@ -8,4 +8,5 @@ mod guide;
 mod import;
 mod page;
 mod queries;
+mod reaching;
 mod tools;

@@ -4,8 +4,9 @@ use crate::common::{Said, BE};
 use std::path::PathBuf;
 use std::process::Command;
 
-const COMMANDS: [&str; 11] = [
-    "query", "addattr", "catattr", "listattr", "rmattr", "rmnode", "import", "mkindex", "lsindex", "rmindex", "status",
+const COMMANDS: [&str; 12] = [
+    "query", "addattr", "catattr", "listattr", "rmattr", "rmnode", "import", "mkindex", "lsindex", "rmindex",
+    "reindex", "status",
 ];
 
 fn page() -> PathBuf {
@@ -50,7 +51,7 @@ fn the_completion_has_each_command_and_option() {
             .find(|line| line.trim_start().starts_with(&format!("{command}) ")));
         for name in options(command) {
             let option = format!("--{name}");
-            let common = ["socket", "help"].contains(&name.as_str());
+            let common = ["socket", "wait", "timeout", "help"].contains(&name.as_str());
             assert!(
                 common || line.map_or(false, |line| line.contains(&option)),
                 "{command} {option}"

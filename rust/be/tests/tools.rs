@@ -1,6 +1,7 @@
 //! Each command over a server of its own.
 
 use crate::common::{Said, Server, BE};
+use bestore_client::Client;
 use std::collections::BTreeSet;
 use std::os::unix::ffi::OsStrExt;
 use std::process::{Command, Stdio};
@@ -265,6 +266,33 @@ fn the_status_is_a_table_or_json() {
 }
 
 #[test]
+fn an_index_gets_what_was_set_before_it() {
+    for options in [&["--pages", "1024"][..], &["--pages", "1024", "--volumes", "2"]] {
+        let server = server!(Server::start_with(options));
+        server.make(70, "a b", "x");
+        assert_eq!(
+            server
+                .done(&["addattr", "--new", "-t", "int32", "a b", "5"])
+                .lines()
+                .count(),
+            1
+        );
+        refused(&server, &["reindex", "a b"], "be: there is no index \"a b\"\n");
+        server.done(&["mkindex", "a b"]);
+        server.make(1, "a b", "x");
+        assert_eq!(server.done(&["query", "--count", "'a b'==x"]), "1\n");
+        assert_eq!(server.done(&["reindex", "a b"]), "70\n");
+        assert_eq!(server.done(&["query", "--count", "'a b'==x"]), "71\n");
+        assert_eq!(server.done(&["reindex", "a b"]), "0\n");
+        let mut client = Client::connect(server.socket()).unwrap();
+        assert_eq!(client.pairs("a b").unwrap(), 71);
+        server.done(&["mkindex", "-t", "int64", "size"]);
+        let hints = client.hints("'a b'==x && size==x").unwrap();
+        assert_eq!(hints.iter().map(|hint| hint.offset).collect::<Vec<_>>(), [12]);
+    }
+}
+
+#[test]
 fn exit_statuses_are_those_of_the_page() {
     let none = |words: &[&str]| -> Said {
         let mut command = Command::new(BE);
@@ -277,9 +305,17 @@ fn exit_statuses_are_those_of_the_page() {
         said.error.starts_with("be: no server answers at /nowhere/socket: "),
         "{said:?}"
     );
+    assert!(
+        said.error
+            .ends_with("  bestored --background --socket /nowhere/socket starts one\n"),
+        "{said:?}"
+    );
     for words in [
         &[][..],
         &["nothing"],
+        &["status", "--wait", "x"],
+        &["status", "--wait", "-1"],
+        &["status", "--timeout", "86401"],
         &["query"],
         &["query", "a==1", "b==1"],
         &["query", "--limit", "x", "a==1"],

@@ -1,13 +1,15 @@
 //! A connection to the server.
 
+use crate::pushes::Pushes;
 use crate::wire::{self, Command, Json, Nothing, Numbers, Push, Refusal, Request};
-use crate::{Error, Result};
+use crate::{Error, Options, Result, SocketPath};
 use bestore::{Batch, Value, Written};
 use serde::de::DeserializeOwned;
 use serde::Deserialize;
 use std::borrow::Cow;
-use std::collections::{BTreeMap, VecDeque};
-use std::io::{ErrorKind, Read, Write};
+use std::collections::BTreeMap;
+use std::io::{self, ErrorKind, Read, Write};
+use std::net::Shutdown;
 use std::os::unix::net::UnixStream;
 use std::path::Path;
 use std::time::{Duration, Instant};
@@ -15,15 +17,26 @@ use std::time::{Duration, Instant};
 /// The most bytes of a line of the server.
 const LINE: usize = 2 << 20;
 
+/// How long a command waits on the server if it says nothing, and at most.
+const WITHIN: Duration = Duration::from_secs(5);
+const MOST_WITHIN: Duration = Duration::from_secs(60);
+
 /// A connection, and with it a pass of the server's store.
 #[derive(Debug)]
 pub struct Client {
     stream: UnixStream,
+    options: Options,
     last: u64,
     received: Vec<u8>,
     /// How many of the received bytes have been looked at and have no end of a line.
     searched: usize,
-    pushes: VecDeque<Push>,
+    pushes: Pushes,
+    /// How long the server may wait before it replies, of each such request.
+    waits: BTreeMap<u64, Duration>,
+    /// The queries of requests whose replies haven't come.
+    queries: BTreeMap<u64, String>,
+    /// Whether a call has timed out. What the server sends after that belongs to no call.
+    is_over: bool,
 }
 
 /// A query with what the reply has besides the nodes, by [`Client::hits`].
@@ -52,6 +65,25 @@ struct Line<'a> {
     error: Option<Refusal>,
 }
 
+/// How long the server may wait before it replies.
+fn wait_of(command: &Command<'_>) -> Option<Duration> {
+    let within = match command {
+        Command::Reach(reach) => reach.within,
+        Command::Log(log) if log.entry.is_some() => log.within,
+        _ => return None,
+    };
+    Some(within.map_or(WITHIN, Duration::from_millis).min(MOST_WITHIN))
+}
+
+/// The text of the query that the server is asked.
+fn query_of<'a>(command: &'a Command<'_>) -> Option<&'a str> {
+    match command {
+        Command::Query(wire::Query { query, .. }) | Command::Explain(wire::QueryText { query }) => Some(query),
+        Command::Watch(watch) => watch.query.as_deref(),
+        _ => None,
+    }
+}
+
 fn bad(error: impl std::fmt::Display) -> Error {
     Error::BadLine(error.to_string())
 }
@@ -67,24 +99,40 @@ fn pushed(line: &[u8]) -> Result<Push> {
 }
 
 impl Client {
-    /// Connects to the server at this socket.
+    /// Connects to the server at this socket, whoever runs it. A reply may take a minute; [`Options`] sets another time.
     ///
     /// # Errors
-    /// [`Error::Io`]: there is no server. A server that refuses the connection does so at the first call.
+    /// As [`Options::connect`].
     pub fn connect(path: impl AsRef<Path>) -> Result<Self> {
-        Ok(Self {
-            stream: UnixStream::connect(path)?,
+        Options::new().connect(path.as_ref())
+    }
+
+    /// Connects to the server that [`SocketPath::find`] finds.
+    ///
+    /// # Errors
+    /// As [`Options::connect`].
+    pub fn connect_default() -> Result<Self> {
+        Options::new().connect(SocketPath::find(None))
+    }
+
+    pub(crate) fn over(stream: UnixStream, options: Options) -> Self {
+        Self {
+            stream,
+            options,
             last: 0,
             received: Vec::new(),
             searched: 0,
-            pushes: VecDeque::new(),
-        })
+            pushes: Pushes::new(options.most_pushed),
+            waits: BTreeMap::new(),
+            queries: BTreeMap::new(),
+            is_over: false,
+        }
     }
 
     /// Sends a command, and returns the `ok` of its reply.
     ///
     /// # Errors
-    /// [`Error::Refused`], [`Error::Io`], [`Error::Closed`], [`Error::BadLine`].
+    /// [`Error::Refused`], [`Error::Io`], [`Error::Closed`], [`Error::BadLine`], [`Error::TimedOut`].
     pub fn call<T: DeserializeOwned>(&mut self, command: Command<'_>) -> Result<T> {
         let id = self.send(command)?;
         self.receive(id)
@@ -93,17 +141,43 @@ impl Client {
     /// Sends a command. Its reply is received by [`receive`](Self::receive), after those of earlier ones.
     ///
     /// # Errors
-    /// [`Error::Io`].
+    /// [`Error::Io`], [`Error::TimedOut`], and [`Error::Closed`] after a call that timed out.
     pub fn send(&mut self, command: Command<'_>) -> Result<u64> {
+        if self.is_over {
+            return Err(Error::Closed);
+        }
         self.last += 1;
+        if let Some(wait) = wait_of(&command) {
+            self.waits.insert(self.last, wait);
+        }
+        if let Some(query) = query_of(&command) {
+            self.queries.insert(self.last, query.into());
+        }
         let request = Request { id: self.last, command };
         let mut line = serde_json::to_vec(&request).map_err(bad)?;
         line.push(b'\n');
         match self.stream.write_all(&line) {
             // The server may have said why it closed the connection.
             Err(error) if matches!(error.kind(), ErrorKind::BrokenPipe | ErrorKind::ConnectionReset) => Ok(self.last),
-            answer => Ok(answer.map(|()| self.last)?),
+            Err(error) => Err(self.failed(error)),
+            Ok(()) => Ok(self.last),
         }
+    }
+
+    /// The error of a write. After a part of a line nothing can follow.
+    fn failed(&mut self, error: io::Error) -> Error {
+        let error = self.options.late_or(error);
+        if matches!(error, Error::TimedOut(_)) {
+            self.end();
+        }
+        error
+    }
+
+    /// Closes the connection.
+    fn end(&mut self) {
+        self.is_over = true;
+        // It fails if the server has closed the connection, and then it needs no closing.
+        let _ = self.stream.shutdown(Shutdown::Both);
     }
 
     /// Receives the reply to the request with this number, which is the oldest one without.
@@ -111,8 +185,25 @@ impl Client {
     /// # Errors
     /// As [`call`](Self::call).
     pub fn receive<T: DeserializeOwned>(&mut self, id: u64) -> Result<T> {
+        let query = self.queries.remove(&id);
+        self.receive_any(id).map_err(|error| match error {
+            Error::Refused(refusal) => Error::Refused(Refusal { query, ..refusal }),
+            other => other,
+        })
+    }
+
+    fn receive_any<T: DeserializeOwned>(&mut self, id: u64) -> Result<T> {
+        let wait = self.waits.remove(&id).unwrap_or_default();
+        let time = self.options.timeout.map(|timeout| timeout + wait);
+        let until = time.map(|time| Instant::now() + time);
         loop {
-            let end = self.read_line(None)?.ok_or(Error::Closed)?;
+            let end = match (self.read_line(until)?, time) {
+                (Some(end), _) => end,
+                (None, time) => {
+                    self.end();
+                    return Err(time.map_or(Error::Closed, Error::TimedOut));
+                }
+            };
             let answer = self.reply(id, end);
             self.received.drain(..end);
             if let Some(answer) = answer? {
@@ -126,7 +217,7 @@ impl Client {
         let line: Line<'_> = serde_json::from_slice(&self.received[..end]).map_err(bad)?;
         if line.watch.is_some() {
             let push = serde_json::from_slice(&self.received[..end]).map_err(bad)?;
-            self.pushes.push_back(push);
+            self.pushes.add(end, push);
             return Ok(None);
         }
         match (line.ok, line.error) {
@@ -156,6 +247,9 @@ impl Client {
     }
 
     fn read_some(&mut self, until: Option<Instant>) -> Result<bool> {
+        if self.is_over {
+            return Err(Error::Closed);
+        }
         let left = match until.map(|until| until.saturating_duration_since(Instant::now())) {
             Some(left) if left.is_zero() => return Ok(false),
             left => left,
@@ -181,21 +275,25 @@ impl Client {
         }
     }
 
-    /// The next line that was pushed for a live query, if one comes within the time.
+    /// The next line that was pushed for a live query, if one comes within the time. Lines that come while another call waits for its
+    /// reply are kept up to [`Options::most_pushed`]. A push with an `error` is the last one of its live query.
     ///
     /// # Errors
     /// [`Error::Refused`]: the server says why it closes the connection. [`Error::Io`], [`Error::Closed`], [`Error::BadLine`].
     pub fn next_push(&mut self, within: Duration) -> Result<Option<Push>> {
-        if let Some(push) = self.pushes.pop_front() {
+        if let Some(push) = self.pushes.take() {
             return Ok(Some(push));
         }
-        let end = match self.read_line(Some(Instant::now() + within))? {
-            Some(end) => end,
-            None => return Ok(None),
-        };
-        let push = pushed(&self.received[..end]);
-        self.received.drain(..end);
-        push.map(Some)
+        let until = Instant::now() + within;
+        while let Some(end) = self.read_line(Some(until))? {
+            let push = pushed(&self.received[..end]);
+            self.received.drain(..end);
+            match push {
+                Ok(push) if self.pushes.is_lost(&push) => {}
+                answer => return answer.map(Some),
+            }
+        }
+        Ok(None)
     }
 
     /// Versions and limits of the server.
@@ -203,8 +301,23 @@ impl Client {
     /// # Errors
     /// As [`call`](Self::call), like all calls below.
     pub fn hello(&mut self) -> Result<wire::Hello> {
+        self.greet(false)
+    }
+
+    /// As [`hello`](Self::hello), by a client that asks a few things and goes. As its first request it gets the client a place when all
+    /// others are taken: for 2 seconds, and not while it sends nothing for a quarter of one. Such a client can't wait for commits or
+    /// begin a live query.
+    ///
+    /// # Errors
+    /// As `call`.
+    pub fn visit(&mut self) -> Result<wire::Hello> {
+        self.greet(true)
+    }
+
+    fn greet(&mut self, visit: bool) -> Result<wire::Hello> {
         self.call(Command::Hello(wire::Greeting {
             protocol: Some(wire::PROTOCOL),
+            visit,
         }))
     }
 
@@ -439,14 +552,76 @@ mod tests {
     fn client_of(lines: &str) -> (UnixStream, Client) {
         let (stream, mut server) = UnixStream::pair().unwrap();
         server.write_all(lines.as_bytes()).unwrap();
-        let client = Client {
-            stream,
-            last: 0,
-            received: Vec::new(),
-            searched: 0,
-            pushes: VecDeque::new(),
-        };
-        (server, client)
+        (server, Client::over(stream, Options::new()))
+    }
+
+    fn client_with(timeout: u64) -> (UnixStream, Client) {
+        let (stream, server) = UnixStream::pair().unwrap();
+        let mut options = Options::new();
+        options.timeout(Some(Duration::from_millis(timeout)));
+        stream.set_write_timeout(options.timeout).unwrap();
+        (server, Client::over(stream, options))
+    }
+
+    #[test]
+    fn a_reply_that_does_not_come_ends_the_connection() {
+        let (mut server, mut client) = client_with(20);
+        assert!(matches!(client.status(), Err(Error::TimedOut(time)) if time == Duration::from_millis(20)));
+        server.write_all(b"{\"id\":1,\"ok\":{}}\n").unwrap_err();
+        assert!(matches!(client.unpin(), Err(Error::Closed)));
+        assert!(matches!(client.next_push(Duration::ZERO), Err(Error::Closed)));
+    }
+
+    #[test]
+    fn pushes_are_no_reply() {
+        let (mut server, mut client) = client_with(200);
+        let pushing = std::thread::spawn(move || {
+            while server.write_all(b"{\"watch\":1,\"commit\":2}\n").is_ok() {
+                std::thread::sleep(Duration::from_millis(1));
+            }
+        });
+        assert!(matches!(client.status(), Err(Error::TimedOut(_))));
+        pushing.join().unwrap();
+    }
+
+    #[test]
+    fn a_request_that_nobody_takes_ends_the_connection() {
+        let (_server, mut client) = client_with(20);
+        let long = "a".repeat(1 << 20);
+        let sent = std::iter::repeat_with(|| client.send(Command::Explain(wire::QueryText { query: (&long).into() })));
+        let failed = sent.take(64).find_map(|sent| sent.err());
+        assert!(matches!(failed, Some(Error::TimedOut(_))));
+        assert!(matches!(client.status(), Err(Error::Closed)));
+    }
+
+    #[test]
+    fn what_waits_on_the_server_gets_that_time_too() {
+        let (mut server, mut client) = client_with(1);
+        let answering = std::thread::spawn(move || {
+            let _ = server.read(&mut [0; 99]).unwrap();
+            std::thread::sleep(Duration::from_millis(50));
+            server.write_all(b"{\"id\":1,\"ok\":{\"commit\":5}}\n").unwrap();
+            server
+        });
+        assert_eq!(client.reach(&[5], Duration::from_secs(30)).unwrap().commit, 5);
+        drop(answering.join().unwrap());
+    }
+
+    #[test]
+    fn a_watch_whose_pushes_have_no_room_has_ended() {
+        let line = "{\"watch\":1,\"commit\":2}\n";
+        let (stream, mut server) = UnixStream::pair().unwrap();
+        let mut options = Options::new();
+        options.most_pushed(3 * line.len());
+        let mut client = Client::over(stream, options);
+        let reply = "{\"id\":1,\"ok\":{}}\n";
+        server
+            .write_all([&line.repeat(9), reply, line].concat().as_bytes())
+            .unwrap();
+        client.unpin().unwrap();
+        let end = client.next_push(Duration::ZERO).unwrap().unwrap();
+        assert!(end.error.unwrap().name == "PushesLost" && end.watch == 1);
+        assert!(client.next_push(Duration::from_millis(20)).unwrap().is_none());
     }
 
     #[test]
@@ -467,6 +642,21 @@ mod tests {
             client.next_push(Duration::from_secs(9)),
             Err(Error::BadLine(_))
         ));
+    }
+
+    #[test]
+    fn a_query_that_is_refused_has_a_caret() {
+        let error = r#""error":{"name":"Syntax","number":12,"message":"no query","offset":6}"#;
+        let lines = format!("{{\"id\":1,{error}}}\n{{\"id\":2,{error}}}\n{{\"id\":3,{error}}}\n");
+        let (_server, mut client) = client_of(&lines);
+        let said = "Syntax: no query\n  größe>\n      ^";
+        assert_eq!(client.query("größe>").unwrap_err().to_string(), said);
+        assert_eq!(
+            client.watch(Some("size>5")).unwrap_err().to_string(),
+            "Syntax: no query\n  size>5\n        ^"
+        );
+        assert_eq!(client.unpin().unwrap_err().to_string(), "Syntax: no query");
+        assert!(client.queries.is_empty());
     }
 
     #[test]

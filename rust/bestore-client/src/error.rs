@@ -1,6 +1,8 @@
 //! Why a call failed.
 
 use crate::wire::Refusal;
+use std::path::PathBuf;
+use std::time::Duration;
 use std::{fmt, io};
 
 /// The result of a call of this crate.
@@ -18,6 +20,17 @@ pub enum Error {
     Closed,
     /// The server sent what is no line of the protocol.
     BadLine(String),
+    /// The server didn't reply within this time, and the connection is closed. Whether a write was made is not known.
+    TimedOut(Duration),
+    /// The server at a default path runs as another user, and nothing was sent to it.
+    OtherUser {
+        /// The path of the socket.
+        socket: PathBuf,
+        /// The user as whom the server runs.
+        server: u32,
+        /// The user as whom this process acts.
+        user: u32,
+    },
 }
 
 impl Error {
@@ -50,6 +63,16 @@ impl fmt::Display for Error {
             Error::Io(error) => write!(f, "the connection to the server: {error}"),
             Error::Closed => f.write_str("the server closed the connection"),
             Error::BadLine(why) => write!(f, "the server sent what is no line of the protocol: {why}"),
+            Error::TimedOut(time) => write!(
+                f,
+                "the server didn't reply within {time:?}; whether a write was made is not known"
+            ),
+            Error::OtherUser { socket, server, user } => write!(
+                f,
+                "the server at {} runs as user {server}, and has to run as user {user} or as root; BESTORE_SOCKET or an \
+                 option can name the socket of a server that you trust",
+                socket.display()
+            ),
         }
     }
 }

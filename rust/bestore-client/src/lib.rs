@@ -19,13 +19,20 @@
 //!
 //! [`wire`] has the lines of the protocol, and [`Client::call`] sends any of them.
 #![warn(missing_docs, missing_debug_implementations, rust_2018_idioms)]
-#![forbid(unsafe_code)]
+#![deny(unsafe_code)]
 
 mod change;
 mod client;
 mod error;
+mod indices;
+mod options;
+mod os;
+mod pushes;
+pub mod socket;
 pub mod wire;
 
 pub use change::Change;
 pub use client::{Client, Query};
 pub use error::{Error, Result};
+pub use options::Options;
+pub use socket::SocketPath;

@@ -81,6 +81,21 @@ impl<'a> Change<'a> {
         }
     }
 
+    /// Sets the attributes of these nodes to the values that they have, if those are of this kind. Returns how many are.
+    pub(crate) fn set_again(&mut self, nodes: &[u64], name: &str, kind: Kind) -> Result<u64> {
+        let mut count = 0;
+        for node in nodes {
+            match self.snapshot.get(*node, name)? {
+                Some(value) if value.kind() == kind => {
+                    self.set(*node, name, value)?;
+                    count += 1;
+                }
+                _ => {}
+            }
+        }
+        Ok(count)
+    }
+
     /// Removes the attribute.
     pub fn unset(&mut self, node: u64, name: &str) -> &mut Self {
         self.batch.unset(node, name);

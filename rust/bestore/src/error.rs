@@ -241,11 +241,10 @@ impl Error {
     pub(crate) fn with_missing(self, has_index: impl Fn(&str) -> bool) -> Self {
         match self {
             Error::Query(mut error) if error.fault == QueryFault::NotCovered => {
-                let mut names = text::names(&error.text).into_iter();
-                let missing = names.find(|(_, name)| !has_index(name));
-                if let Some((offset, name)) = missing {
-                    error.offset = Some(offset);
-                    error.missing = Some(name);
+                let mut compared = text::comparisons(&error.text).into_iter();
+                if let Some(missing) = compared.find(|comparison| !has_index(&comparison.name)) {
+                    error.offset = Some(missing.offset);
+                    error.missing = Some(missing.name);
                 }
                 Error::Query(error)
             }
@@ -500,35 +499,18 @@ impl QueryError {
     /// The character of the text at which it is wrong, from 0, if that is known.
     #[must_use]
     pub fn column(&self) -> Option<usize> {
-        self.offset
-            .map(|offset| self.text.char_indices().take_while(|(at, _)| *at < offset).count())
+        self.offset.map(|offset| text::column_at(&self.text, offset))
     }
 }
-
-/// How many characters of a text are shown before and after the one that is wrong.
-const SHOWN: usize = 60;
 
 /// What is wrong, the text, and a caret under the place. Of a long text the part round the place is shown.
 impl fmt::Display for QueryError {
     fn fmt(&self, f: &mut fmt::Formatter<'_>) -> fmt::Result {
-        let column = self.column();
-        let first = column.unwrap_or(0).saturating_sub(SHOWN);
-        let shown: String = self
-            .text
-            .chars()
-            .skip(first)
-            .take(2 * SHOWN)
-            .map(|character| if character.is_control() { ' ' } else { character })
-            .collect();
         self.fault.fmt(f)?;
         if let Some(name) = &self.missing {
             write!(f, ": {name:?} has none")?;
         }
-        write!(f, "\n  {shown}")?;
-        match column {
-            Some(column) => write!(f, "\n  {:1$}^", "", column - first),
-            None => Ok(()),
-        }
+        write!(f, "\n{}", text::with_caret(&self.text, self.column()))
     }
 }
 
@@ -537,6 +519,7 @@ impl std::error::Error for QueryError {}
 #[cfg(test)]
 mod tests {
     use super::*;
+    use crate::text::SHOWN;
 
     fn refused(code: u32, carried: u64) -> Refused {
         Refused { code, carried }

@@ -67,6 +67,7 @@ mod batch;
 mod bytes;
 mod change;
 mod error;
+mod hints;
 mod journal;
 mod pass;
 mod predicate;
@@ -83,6 +84,7 @@ mod value;
 pub use batch::{Batch, Operation, Operations};
 pub use change::Change;
 pub use error::{Error, QueryError, QueryFault, Result};
+pub use hints::{hints, Hint};
 pub use journal::{Entries, Entry};
 pub use pass::{Keeper, Oldest, Pass, Retry, Status, Witness, Written};
 pub use predicate::{attribute, Attribute, Operand, Predicate};
@@ -92,7 +94,7 @@ pub use shelf::{
 };
 pub use snapshot::{Nodes, Snapshot, State};
 pub use store::{Limits, Store};
-pub use text::{any_case, escape};
+pub use text::{any_case, caret, escape};
 pub use value::{Kind, Value};
 
 /// The version of the library that runs: major, minor and patch.

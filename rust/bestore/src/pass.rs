@@ -1,6 +1,6 @@
 //! Passes: one thread's handle on a store.
 
-use crate::raw::{Answer, RawPass, RawWitness};
+use crate::raw::{Answer, RawPass, RawWitness, OPERATIONS};
 use crate::{Batch, Change, Entries, Error, Kind, Result, Snapshot, Value};
 use bestore_sys as sys;
 use std::fmt;
@@ -398,7 +398,8 @@ impl Pass {
         self.apply(Batch::new().unset(node, name)).map(drop)
     }
 
-    /// Makes an index, which takes attributes of this name and kind that are set from then on.
+    /// Makes an index, which takes attributes of this name and kind that are set from then on. [`reindex`](Self::reindex) sets the
+    /// others again.
     ///
     /// # Errors
     /// As [`apply`](Self::apply).
@@ -412,6 +413,35 @@ impl Pass {
     /// As [`apply`](Self::apply).
     pub fn remove_index(&self, name: &str) -> Result<()> {
         self.apply(Batch::new().remove_index(name)).map(drop)
+    }
+
+    /// Sets again, to the values that they have, the attributes that the index of this name lacks, because they were set before it was
+    /// made. Each change sets up to 64 of them, so no newer value is lost. Returns how many were set. Takes a read of each node, and a
+    /// write of each such attribute.
+    ///
+    /// ```
+    /// # use bestore::{Kind, Limits, Store};
+    /// # let mut pass = Store::open(Limits::default())?.pass()?;
+    /// let letter = pass.new_node()?;
+    /// pass.set(letter, "MAIL:from", "Ada")?;
+    /// pass.make_index("MAIL:from", Kind::Text)?;
+    /// assert_eq!(pass.reindex("MAIL:from")?, 1);
+    /// assert_eq!(pass.pin()?.query("MAIL:from==Ada")?, [letter]);
+    /// # Ok::<(), bestore::Error>(())
+    /// ```
+    ///
+    /// # Errors
+    /// [`Error::NoIndex`]; otherwise as [`change`](Self::change).
+    pub fn reindex(&mut self, name: &str) -> Result<u64> {
+        let snapshot = self.pin()?;
+        let kind = snapshot.index(name)?;
+        let nodes = snapshot.not_indexed(name, kind)?;
+        drop(snapshot);
+        let mut set = 0;
+        for nodes in nodes.chunks(OPERATIONS) {
+            set += self.change(|change| change.set_again(nodes, name, kind))?;
+        }
+        Ok(set)
     }
 
     /// The entries of the journal after the first `from`, so the commit numbers `from + 1` and on.

@@ -1,6 +1,6 @@
 //! Queries that are built, and not parsed.
 
-use crate::{Error, Prepared, Result};
+use crate::{Error, Kind, Prepared, Result};
 use bestore_sys as sys;
 use std::ops::{BitAnd, BitOr, Not};
 use sys::bes_item;
@@ -76,6 +76,17 @@ impl Attribute {
         begins_with by BES_ITEM_BEGINS_WITH;
         /// The attribute ends with the text, which is no pattern.
         ends_with by BES_ITEM_ENDS_WITH;
+    }
+
+    /// The attribute is in the index of this name, which has this kind.
+    #[must_use]
+    pub fn any(self, kind: Kind) -> Predicate {
+        match kind {
+            Kind::Int32 => self.ge(i32::MIN),
+            Kind::Int64 => self.ge(i64::MIN),
+            Kind::Uint32 | Kind::Uint64 => self.ge(0_u32),
+            Kind::Text | Kind::Mime | Kind::Raw => self.eq("*"),
+        }
     }
 
     fn compare(self, operator: u32, value: Operand) -> Predicate {

@@ -353,6 +353,30 @@ impl RawPass {
         })
     }
 
+    /// How many nodes the query finds.
+    pub(crate) fn count(&self, text: &str) -> Answer<u64> {
+        let (pass, mut count) = (self.handle.get()?, 0);
+        // SAFETY: as the module says; there is no room, so that nothing is written but the count.
+        let code = unsafe {
+            sys::bes_query(
+                pass,
+                text.as_ptr(),
+                text.len(),
+                NonNull::dangling().as_ptr(),
+                0,
+                &mut count,
+            )
+        };
+        check(code, count).map(|()| count)
+    }
+
+    pub(crate) fn count_prepared(&self, prepared: &RawPrepared) -> Answer<u64> {
+        let (pass, prepared, mut count) = (self.handle.get()?, prepared.0.get()?, 0);
+        // SAFETY: as the module says; there is no room, so that nothing is written but the count.
+        let code = unsafe { sys::bes_query_prepared(pass, prepared, NonNull::dangling().as_ptr(), 0, &mut count) };
+        check(code, count).map(|()| count)
+    }
+
     /// The nodes that came and those that went.
     pub(crate) fn refresh(&self, prepared: &RawPrepared) -> Answer<(Vec<u64>, Vec<u64>)> {
         let prepared = prepared.0.get()?;

@@ -1,8 +1,9 @@
 //! Snapshots: what a pass reads while it is pinned.
 
 use crate::raw::{checked_name, List, RawPlace, Refused};
-use crate::{Batch, Error, Kind, Pass, Prepared, Result, Value};
+use crate::{attribute, hints, Batch, Error, Hint, Kind, Pass, Prepared, Result, Value};
 use bestore_sys as sys;
+use std::collections::BTreeMap;
 
 /// A pinned snapshot: the store after the first [`number`](Self::number) entries of its journal, whatever is written meanwhile.
 ///
@@ -69,6 +70,61 @@ impl<'a> Snapshot<'a> {
     pub fn query_prepared(&self, prepared: &Prepared) -> Result<Vec<u64>> {
         let answer = self.pass.raw().query_prepared(prepared.raw());
         answer.map_err(|refused| self.query_error(refused, || prepared.text_or_empty()))
+    }
+
+    /// How many nodes the query finds. Takes what the query takes, but for the list.
+    ///
+    /// # Errors
+    /// As [`query`](Self::query).
+    pub fn count(&self, text: &str) -> Result<u64> {
+        let answer = self.pass.raw().count(text);
+        answer.map_err(|refused| self.query_error(refused, || text.into()))
+    }
+
+    /// How many nodes the prepared query finds.
+    ///
+    /// # Errors
+    /// As [`query`](Self::query).
+    pub fn count_prepared(&self, prepared: &Prepared) -> Result<u64> {
+        let answer = self.pass.raw().count_prepared(prepared.raw());
+        answer.map_err(|refused| self.query_error(refused, || prepared.text_or_empty()))
+    }
+
+    /// How many pairs of a value and a node the index of this name has. Takes the time to read the whole index.
+    ///
+    /// # Errors
+    /// [`Error::NoIndex`]; otherwise as [`query`](Self::query).
+    pub fn pairs(&self, name: &str) -> Result<u64> {
+        self.count_prepared(&attribute(name).any(self.index(name)?).prepare()?)
+    }
+
+    /// The kind of the index of this name.
+    pub(crate) fn index(&self, name: &str) -> Result<Kind> {
+        let mut indices = self.indices()?.into_iter();
+        let found = indices.find(|(index, _)| index == name);
+        found.map(|(_, kind)| kind).ok_or(Error::NoIndex)
+    }
+
+    /// The comparisons of a query that are never true in a store with these indices, as `size>1.5`.
+    ///
+    /// # Errors
+    /// As [`hints`](crate::hints()); [`Error::Forked`].
+    pub fn hints(&self, text: &str) -> Result<Vec<Hint>> {
+        let indices: BTreeMap<_, _> = self.indices()?.into_iter().collect();
+        hints(text, |name| indices.get(name).copied())
+    }
+
+    /// The nodes with an attribute of this name and kind that the index of the name lacks.
+    pub(crate) fn not_indexed(&self, name: &str, kind: Kind) -> Result<Vec<u64>> {
+        let held = self.query_prepared(&attribute(name).any(kind).prepare()?)?;
+        let mut lacking = Vec::new();
+        for node in self.nodes() {
+            let node = node?;
+            if held.binary_search(&node).is_err() && self.get(node, name)?.map(|value| value.kind()) == Some(kind) {
+                lacking.push(node);
+            }
+        }
+        Ok(lacking)
     }
 
     /// The error of a query, with the first index that is missing.

@@ -296,3 +296,30 @@ fn names_that_no_attribute_has_are_refused() {
     ));
     assert!(matches!(snapshot.get(1, "a\0"), Err(Error::HasNul { .. })));
 }
+
+#[test]
+fn queries_and_pairs_are_counted() {
+    let mut pass = ten();
+    pass.set(1, "size", "no number").unwrap();
+    let snapshot = pass.pin().unwrap();
+    assert_eq!(snapshot.count("size>=5").unwrap(), 6);
+    assert_eq!(snapshot.count_prepared(&"size<5".parse().unwrap()).unwrap(), 3);
+    assert_eq!(snapshot.pairs("size").unwrap(), 9);
+    assert!(matches!(snapshot.pairs("name"), Err(Error::NoIndex)));
+    let refused = snapshot.count("size>=5 && [").unwrap_err();
+    assert_eq!(
+        refused.to_string(),
+        snapshot.query("size>=5 && [").unwrap_err().to_string()
+    );
+    assert!(matches!(snapshot.count("name==a"), Err(Error::Query(error)) if error.missing() == Some("name")));
+}
+
+#[test]
+fn comparisons_that_are_never_true_are_found() {
+    let mut pass = ten();
+    let snapshot = pass.pin().unwrap();
+    let hints = snapshot.hints("name==a || !(size<=1.5)").unwrap();
+    let said: Vec<String> = hints.iter().map(|hint| hint.to_string()).collect();
+    assert_eq!(said, [r#"never true: "size" is i64, and "1.5" is no whole number"#]);
+    assert_eq!((hints[0].offset, hints[0].is_number), (13, false));
+}

@@ -410,3 +410,21 @@ fn count(pass: &mut ShelfPass, nodes: [u64; 2], writes: i64) {
         }
     }
 }
+
+#[test]
+fn volumes_are_counted_and_indexed_together() {
+    let mut pass = shelf(2).pass().unwrap();
+    sized(&mut pass, 0, 1);
+    sized(&mut pass, 1, 2);
+    pass.make_index("size", Kind::Int64).unwrap();
+    sized(&mut pass, 1, 3);
+    assert_eq!(pass.pin().unwrap().pairs("size").unwrap(), 1);
+    assert_eq!(pass.reindex("size").unwrap(), 2);
+    let snapshot = pass.pin().unwrap();
+    assert_eq!(snapshot.count("size>1").unwrap(), 2);
+    assert_eq!(snapshot.count_prepared(&"size>=1".parse().unwrap()).unwrap(), 3);
+    assert_eq!(snapshot.hints("size==x").unwrap().len(), 1);
+    assert!(matches!(snapshot.count("name==a"), Err(error) if error.volume() == Some(0)));
+    drop(snapshot);
+    assert!(matches!(pass.reindex("name"), Err(Error::NoIndex)));
+}

@@ -335,3 +335,44 @@ fn threads_get_what_they_may() {
     can_be_shared::<Error>();
     can_be_shared::<Batch>();
 }
+
+#[test]
+fn a_store_has_as_many_passes_as_there_may_be_if_nothing_is_said() {
+    let store = Store::open(Limits::default()).unwrap();
+    let passes: Vec<Pass> = (0..63).map(|_| store.pass().unwrap()).collect();
+    assert!(matches!(store.pass(), Err(Error::NoPass)));
+    assert_eq!(passes[62].new_node().unwrap(), 1);
+    let more = Limits {
+        passes: 64,
+        ..Limits::default()
+    };
+    assert!(matches!(Store::open(more), Err(Error::BadLimits)));
+}
+
+#[test]
+fn an_index_gets_what_was_set_before_it() {
+    let mut pass = sized(1024).pass().unwrap();
+    for number in 0..150_i64 {
+        let node = pass.new_node().unwrap();
+        match number % 3 {
+            0 => pass.set(node, "a \"b\"", number).unwrap(),
+            1 => pass.set(node, "a \"b\"", "text").unwrap(),
+            _ => {}
+        }
+    }
+    assert!(matches!(pass.reindex("a \"b\""), Err(Error::NoIndex)));
+    pass.make_index("a \"b\"", Kind::Int64).unwrap();
+    pass.set(1, "a \"b\"", -1_i64).unwrap();
+    let before = pass.status().unwrap().entries;
+    assert_eq!(pass.reindex("a \"b\"").unwrap(), 49);
+    assert_eq!(pass.status().unwrap().entries, before + 1);
+    assert_eq!(pass.pin().unwrap().pairs("a \"b\"").unwrap(), 50);
+    assert_eq!(pass.pin().unwrap().query("'a \"b\"'==-1").unwrap(), [1]);
+    assert_eq!(pass.reindex("a \"b\"").unwrap(), 0);
+    for kind in [Kind::Text, Kind::Int32, Kind::Uint32, Kind::Uint64] {
+        pass.remove_index("a \"b\"").unwrap();
+        pass.make_index("a \"b\"", kind).unwrap();
+        let expected = if kind == Kind::Text { 50 } else { 0 };
+        assert_eq!(pass.reindex("a \"b\"").unwrap(), expected, "{kind}");
+    }
+}

@@ -5,14 +5,20 @@ use crate::failure::Failure;
 use crate::lines::{Lines, Received};
 use crate::outbox::Outbox;
 use crate::pressure;
-use crate::server::Shared;
+use crate::server::{no_pass, Shared};
 use crate::volumes;
 use bestore::ShelfPass;
 use bestore_client::wire::{id_of, Command, Nothing, Request};
 use std::io;
 use std::os::unix::net::UnixStream;
 use std::sync::Arc;
-use std::time::Instant;
+use std::time::{Duration, Instant};
+
+/// How long a visitor may stay: a client that came when all places were taken.
+const VISIT: Duration = Duration::from_secs(2);
+
+/// How long a visitor may take from a reply to the next request.
+const IDLE: Duration = Duration::from_millis(250);
 
 /// Why reads see another state from now on.
 #[derive(Clone, Copy, Debug, PartialEq, Eq)]
@@ -28,14 +34,17 @@ enum Turn {
 pub struct Connection<'a> {
     lines: Lines,
     desk: Desk<'a>,
+    /// When a visitor has to go.
+    visit: Option<Instant>,
 }
 
 impl<'a> Connection<'a> {
-    pub fn new(shared: &'a Shared, stream: Arc<UnixStream>) -> Self {
+    pub fn new(shared: &'a Shared, stream: Arc<UnixStream>, is_visitor: bool) -> Self {
         let outbox = Arc::new(Outbox::new(stream.clone()));
         Self {
             lines: Lines::new(stream),
             desk: Desk::new(shared, outbox),
+            visit: is_visitor.then(|| Instant::now() + VISIT),
         }
     }
 
@@ -110,6 +119,9 @@ impl<'a> Connection<'a> {
                 (Command::Pin(_), _) => return Ok(Turn::Pin { id }),
                 (Command::Unpin(_), View::Current(_)) => self.desk.refuse(Some(id), Failure::not_pinned()),
                 (Command::Unpin(_), _) => return Ok(Turn::Unpin { id }),
+                (command, _) if self.visit.is_some() && waits(&command) => {
+                    self.desk.refuse(Some(id), no_pass(self.desk.shared))
+                }
                 (command, _) => self.desk.answer(id, command, view)?,
             }
         }
@@ -118,8 +130,15 @@ impl<'a> Connection<'a> {
     /// Sends the replies that were made, and waits for more requests, or a moment if a snapshot is kept since some time.
     fn receive(&mut self, since: Option<Instant>) -> io::Result<Option<Turn>> {
         self.desk.send(since)?;
-        let until = since.map(|_| Instant::now() + pressure::LOOK);
+        let looks = since.map(|_| Instant::now() + pressure::LOOK);
+        let leaves = self.visit.map(|visit| visit.min(Instant::now() + IDLE));
+        let until = [looks, leaves].into_iter().flatten().min();
         let (name, message) = match self.lines.read(until)? {
+            Received::Late if leaves.map_or(false, |leaves| leaves <= Instant::now()) => {
+                self.desk.refuse(None, no_pass(self.desk.shared));
+                self.desk.send(None)?;
+                return Ok(Some(Turn::Close));
+            }
             Received::Some | Received::Late => return Ok(None),
             Received::End => return Ok(Some(Turn::Close)),
             Received::Half => ("Timeout", "the rest of the request didn't come"),
@@ -127,6 +146,15 @@ impl<'a> Connection<'a> {
         };
         self.desk.refuse(None, Failure::new(name, message));
         Ok(Some(Turn::Close))
+    }
+}
+
+/// Whether the command goes on for long, so that no visitor may send it.
+fn waits(command: &Command<'_>) -> bool {
+    match command {
+        Command::Watch(_) | Command::Reach(_) => true,
+        Command::Log(wanted) => wanted.entry.is_some(),
+        _ => false,
     }
 }
 

@@ -3,6 +3,7 @@
 #![deny(unsafe_code)]
 
 mod answer;
+mod background;
 mod connection;
 mod disk;
 mod failure;
@@ -14,6 +15,7 @@ mod options;
 mod os;
 mod outbox;
 mod page;
+mod places;
 mod pressure;
 mod reach;
 mod server;
@@ -21,32 +23,49 @@ mod socket;
 mod volumes;
 mod watcher;
 
+use background::{Side, Starter};
 use kept::Kept;
 use options::Options;
+use places::Places;
 use pressure::Pressure;
 use server::Shared;
-use socket::Socket;
+use socket::Place;
 use std::error::Error;
 use std::process::ExitCode;
 
 fn main() -> ExitCode {
-    match start(Options::read()) {
-        Ok(()) => ExitCode::SUCCESS,
-        Err(error) => {
-            eprintln!("bestored: {error}");
-            ExitCode::FAILURE
-        }
+    start(Options::read()).unwrap_or_else(|error| {
+        eprintln!("bestored: {error}");
+        ExitCode::FAILURE
+    })
+}
+
+fn start(options: Options) -> Result<ExitCode, Box<dyn Error>> {
+    let place = place(&options)?;
+    let starter = match options.background {
+        false => None,
+        true => match background::begin()? {
+            Side::Starter(status) => return Ok(status),
+            Side::Server(starter) => Some(starter),
+        },
+    };
+    serve(options, place, starter)?;
+    Ok(ExitCode::SUCCESS)
+}
+
+/// Where the server is going to listen.
+fn place(options: &Options) -> Result<Place, Box<dyn Error>> {
+    match os::passed_socket()? {
+        None => Ok(Place::find(&options.socket())?),
+        Some(_) if options.socket.is_some() => Err("--socket is given, and systemd has passed a socket".into()),
+        Some(_) if options.background => Err("--background is given, and systemd has passed a socket".into()),
+        Some(listener) => Ok(Place::Passed(listener)),
     }
 }
 
-fn start(options: Options) -> Result<(), Box<dyn Error>> {
+/// Opens the store, and serves clients until a signal ends the program.
+fn serve(options: Options, place: Place, starter: Option<Starter>) -> Result<(), Box<dyn Error>> {
     let signals = os::ending_signals()?;
-    let passed = os::passed_socket()?;
-    let socket = match passed {
-        Some(_) if options.socket.is_some() => return Err("--socket is given, and systemd has passed a socket".into()),
-        Some(listener) => Socket::passed(listener)?,
-        None => Socket::make(&options.socket())?,
-    };
     let run = server::run_text()?;
     let kept = match Kept::open(&options, &run, &signals)? {
         Some(kept) => kept,
@@ -58,8 +77,10 @@ fn start(options: Options) -> Result<(), Box<dyn Error>> {
         watcher: Default::default(),
         pressure: Pressure::new(options.hold),
         clients: Default::default(),
+        places: Places::new(options.passes),
+        visits: Places::new(1),
         run,
         options,
     };
-    server::run(socket, &signals, shared, own)
+    server::run(place, starter, &signals, shared, own)
 }

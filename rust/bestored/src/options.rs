@@ -1,16 +1,16 @@
 //! The options of the command line.
 
-use crate::socket;
 use bestore::{Limits, MOST_VOLUMES};
-use clap::{value_parser, Arg, Command};
+use bestore_client::SocketPath;
+use clap::{value_parser, Arg, ArgAction, Command};
 use std::path::PathBuf;
 use std::time::Duration;
 
 /// The most passes of a store.
 const MOST_PASSES: u64 = 63;
 
-/// Passes of the store that are the server's own.
-const OWN_PASSES: u64 = 1;
+/// Passes of the store that are the server's own: for live queries, and for clients that come when all places are taken.
+const OWN_PASSES: u64 = 2;
 
 /// Passes of the store that a log of machines takes.
 const LOG_PASSES: u64 = 2;
@@ -31,6 +31,8 @@ pub struct InLog {
 pub struct Options {
     /// The path of the socket, if it was given.
     pub socket: Option<PathBuf>,
+    /// Whether the program ends once the server listens.
+    pub background: bool,
     pub keep: Option<PathBuf>,
     pub every: Option<Duration>,
     /// How many bytes of the disk of `keep` stay free.
@@ -64,8 +66,15 @@ fn command() -> Command {
         .version(env!("CARGO_PKG_VERSION"))
         .about("Shares a store of attributes between the programs of a user")
         .arg(
-            path("socket", "PATH")
-                .help("The socket; otherwise bestore/socket in $XDG_RUNTIME_DIR, or in /tmp/bestore-UID"),
+            path("socket", "PATH").help(
+                "The socket; otherwise $BESTORE_SOCKET, $XDG_RUNTIME_DIR/bestore/socket or /tmp/bestore-UID/socket",
+            ),
+        )
+        .arg(
+            Arg::new("background")
+                .long("background")
+                .action(ArgAction::SetTrue)
+                .help("Ends once the server listens, which goes on in the background"),
         )
         .arg(path("keep", "FILE").help("The file in which the writes are kept, or the folder of several volumes"))
         .arg(
@@ -94,7 +103,7 @@ fn command() -> Command {
                 .help("Stores that one query searches; otherwise those of the folder, or 1"),
         )
         .arg(number("pages", "N", 8..=16_384, "4096").help("Pages of 4 KiB, of each volume"))
-        .arg(number("passes", "N", 1..=62, "62").help("Clients at the same time"))
+        .arg(number("passes", "N", 1..=61, "61").help("Clients at the same time"))
         .arg(number("commits", "N", 1..=u32::MAX.into(), "4294967295").help("Entries of the journal, of each volume"))
         .arg(number("hold", "SECONDS", 1..=86_400, "60").help("How long a client may keep a snapshot"))
 }
@@ -112,6 +121,7 @@ impl Options {
         let most = MOST_PASSES - OWN_PASSES - log.as_ref().map_or(0, |_| LOG_PASSES);
         Self {
             socket: read.get_one("socket").cloned(),
+            background: read.get_flag("background"),
             keep: read.get_one("keep").cloned(),
             every: read.get_one("every").copied().map(Duration::from_millis),
             spare: read.get_one::<u64>("spare").map_or(SPARE, |kib| kib << 10),
@@ -133,9 +143,9 @@ impl Options {
         }
     }
 
-    /// Where the socket is.
-    pub fn socket(&self) -> PathBuf {
-        self.socket.clone().unwrap_or_else(socket::default_path)
+    /// The socket at which the server listens.
+    pub fn socket(&self) -> SocketPath {
+        SocketPath::find(self.socket.clone())
     }
 }
 
@@ -152,7 +162,7 @@ mod tests {
     fn numbers_out_of_range_are_refused() {
         for arguments in [
             ["--pages", "7"],
-            ["--passes", "63"],
+            ["--passes", "62"],
             ["--every", "5"],
             ["--spare", "5"],
             ["--hold", "0"],

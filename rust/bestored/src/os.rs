@@ -3,7 +3,7 @@
 #![deny(unsafe_op_in_unsafe_fn)]
 
 use std::ffi::CStr;
-use std::fs::File;
+use std::fs::{File, OpenOptions};
 use std::io;
 use std::mem::{self, MaybeUninit};
 use std::os::unix::io::{AsRawFd, FromRawFd, RawFd};
@@ -22,35 +22,20 @@ fn check(answer: libc::c_int) -> io::Result<libc::c_int> {
     }
 }
 
-/// The user as whom this process acts.
-pub fn user() -> u32 {
-    // SAFETY: the call takes nothing and always succeeds.
-    unsafe { libc::geteuid() }
-}
-
-/// The user who made the other end of the connection.
-pub fn peer_user(stream: &UnixStream) -> io::Result<u32> {
-    let mut credentials = libc::ucred { pid: 0, uid: 0, gid: 0 };
-    let mut length = mem::size_of::<libc::ucred>() as libc::socklen_t;
-    // SAFETY: the option writes a `ucred`, and `length` has its size.
-    check(unsafe {
-        libc::getsockopt(
-            stream.as_raw_fd(),
-            libc::SOL_SOCKET,
-            libc::SO_PEERCRED,
-            ptr::addr_of_mut!(credentials).cast(),
-            &mut length,
-        )
-    })?;
-    Ok(credentials.uid)
-}
-
 /// Sends as many of the bytes as the socket takes at once.
 pub fn send_now(stream: &UnixStream, bytes: &[u8]) -> io::Result<usize> {
     let flags = libc::MSG_DONTWAIT | libc::MSG_NOSIGNAL;
     // SAFETY: the pointer and the length are those of the slice.
     let sent = unsafe { libc::send(stream.as_raw_fd(), bytes.as_ptr().cast(), bytes.len(), flags) };
     usize::try_from(sent).map_err(|_| io::Error::last_os_error())
+}
+
+/// Copies what has been received, and leaves it to be received. Returns how many bytes these are.
+pub fn look_ahead(stream: &UnixStream, bytes: &mut [u8]) -> io::Result<usize> {
+    let flags = libc::MSG_DONTWAIT | libc::MSG_PEEK;
+    // SAFETY: the pointer and the length are those of the slice.
+    let received = unsafe { libc::recv(stream.as_raw_fd(), bytes.as_mut_ptr().cast(), bytes.len(), flags) };
+    usize::try_from(received).map_err(|_| io::Error::last_os_error())
 }
 
 /// Waits until one of the descriptors can be read, and says of each whether it can.
@@ -119,7 +104,7 @@ pub fn end_program() {
     unsafe { libc::kill(libc::getpid(), libc::SIGTERM) };
 }
 
-/// Runs `make` so that the files that it makes have no rights in this mask. To be called while there is one thread.
+/// Runs `make` so that the files that it makes have no rights in this mask. What other threads make meanwhile has none of them either.
 pub fn with_mask<T>(mask: libc::mode_t, make: impl FnOnce() -> T) -> T {
     // SAFETY: the call always succeeds.
     let before = unsafe { libc::umask(mask) };
@@ -127,6 +112,65 @@ pub fn with_mask<T>(mask: libc::mode_t, make: impl FnOnce() -> T) -> T {
     // SAFETY: as above.
     unsafe { libc::umask(before) };
     made
+}
+
+/// A process that this one has made.
+#[derive(Debug)]
+pub struct Process(libc::pid_t);
+
+/// Makes a process that goes on as this one does: `None` there. To be called while there is one thread.
+pub fn fork() -> io::Result<Option<Process>> {
+    // SAFETY: there is no other thread, so nothing of the program is in use but by this one.
+    let number = check(unsafe { libc::fork() })?;
+    Ok((number != 0).then_some(Process(number)))
+}
+
+impl Process {
+    pub fn number(&self) -> libc::pid_t {
+        self.0
+    }
+
+    /// Waits for its end, and returns its status. `None`: a signal ended it.
+    pub fn wait(&self) -> io::Result<Option<u8>> {
+        let mut status = 0;
+        loop {
+            // SAFETY: the call writes an int.
+            match check(unsafe { libc::waitpid(self.0, &mut status, 0) }) {
+                Err(error) if error.kind() == io::ErrorKind::Interrupted => {}
+                Err(error) => return Err(error),
+                Ok(_) => break,
+            }
+        }
+        Ok(libc::WIFEXITED(status).then(|| libc::WEXITSTATUS(status) as u8))
+    }
+}
+
+/// Begins a session of its own, which the end of a terminal doesn't end, and gives standard input and output up.
+pub fn leave_terminal() -> io::Result<()> {
+    // SAFETY: the call takes nothing.
+    check(unsafe { libc::setsid() })?;
+    replace_by_nothing(libc::STDIN_FILENO)?;
+    replace_by_nothing(libc::STDOUT_FILENO)
+}
+
+/// Gives standard error up, unless it is a file.
+pub fn leave_errors() -> io::Result<()> {
+    let mut found = MaybeUninit::<libc::stat>::uninit();
+    // SAFETY: the call writes a `stat`, which is read if it has done so.
+    let is_file = unsafe {
+        libc::fstat(libc::STDERR_FILENO, found.as_mut_ptr()) == 0
+            && found.assume_init().st_mode & libc::S_IFMT == libc::S_IFREG
+    };
+    match is_file {
+        true => Ok(()),
+        false => replace_by_nothing(libc::STDERR_FILENO),
+    }
+}
+
+fn replace_by_nothing(descriptor: RawFd) -> io::Result<()> {
+    let nothing = OpenOptions::new().read(true).write(true).open("/dev/null")?;
+    // SAFETY: both descriptors are numbers, and the standard ones belong to the whole program.
+    check(unsafe { libc::dup2(nothing.as_raw_fd(), descriptor) }).map(drop)
 }
 
 /// Takes the lock of a file or folder, if nobody has it. It is given back when the file is closed.

@@ -1,20 +1,25 @@
 //! The server: a thread and a pass for each client.
 
+use crate::background::Starter;
 use crate::connection::Connection;
 use crate::failure::Failure;
 use crate::kept::{self, Kept};
 use crate::options::Options;
 use crate::os;
+use crate::places::Places;
 use crate::pressure::{self, Pressure};
-use crate::socket::Socket;
+use crate::socket::{Place, Socket};
 use crate::watcher::Watcher;
 use bestore::{Error, ShelfPass};
+use bestore_client::socket::{peer_user, user};
+use bestore_client::wire::{Command, Greeting, Request};
 use std::collections::BTreeMap;
 use std::fs::File;
 use std::io::{self, ErrorKind};
 use std::net::Shutdown;
 use std::os::unix::io::AsRawFd;
 use std::os::unix::net::{UnixListener, UnixStream};
+use std::path::PathBuf;
 use std::sync::{Arc, Condvar, Mutex, MutexGuard, PoisonError};
 use std::thread;
 use std::time::{Duration, Instant, SystemTime};
@@ -22,8 +27,14 @@ use std::time::{Duration, Instant, SystemTime};
 /// How many connections there may be beyond those that have a pass: they wait a moment for one.
 const WAITING: usize = 16;
 
-/// How long a connection waits for a pass, since a client that has just gone may leave one.
-const FOR_PASS: Duration = Duration::from_millis(200);
+/// How long a connection waits for a place, since a client that has just gone may leave one.
+const FOR_PLACE: Duration = Duration::from_millis(200);
+
+/// How long a connection waits for the place of visitors, who come when all others are taken.
+const FOR_VISIT: Duration = Duration::from_secs(10);
+
+/// The most bytes of a first request by which a client asks for that place.
+const GREETING: usize = 256;
 
 /// How long at the end clients may take to read their last replies.
 const LAST: Duration = Duration::from_secs(5);
@@ -36,6 +47,10 @@ pub struct Shared {
     pub watcher: Watcher,
     pub pressure: Pressure,
     pub clients: Clients,
+    /// The places of clients.
+    pub places: Places,
+    /// The place of clients that find none: each has it for a moment.
+    pub visits: Places,
     /// Another text for each run.
     pub run: String,
 }
@@ -87,10 +102,17 @@ impl Clients {
     }
 }
 
-/// Serves clients until a signal ends the program.
-pub fn run(socket: Socket, signals: &File, shared: Shared, own: ShelfPass) -> Result<(), Box<dyn std::error::Error>> {
+/// Listens, and serves clients until a signal ends the program.
+pub fn run(
+    place: Place,
+    starter: Option<Starter>,
+    signals: &File,
+    shared: Shared,
+    own: ShelfPass,
+) -> Result<(), Box<dyn std::error::Error>> {
     let shared = Arc::new(shared);
     kept::start(&shared)?;
+    let socket = listen(place, starter)?;
     let watching = {
         let shared = shared.clone();
         thread::spawn(move || shared.watcher.run(own, &shared.pressure, &shared.kept))
@@ -103,6 +125,16 @@ pub fn run(socket: Socket, signals: &File, shared: Shared, own: ShelfPass) -> Re
         eprintln!("bestored: the thread of the live queries has ended by a fault");
     }
     shared.kept.finish()
+}
+
+/// Listens, and says so to who has started the server.
+fn listen(place: Place, starter: Option<Starter>) -> io::Result<Socket> {
+    let path = place.path().map(PathBuf::from);
+    let socket = place.listen()?;
+    if let (Some(starter), Some(path)) = (starter, path) {
+        starter.listens_at(&path)?;
+    }
+    Ok(socket)
 }
 
 fn accept(listener: &UnixListener, signals: &File, shared: &Arc<Shared>) {
@@ -138,13 +170,13 @@ fn take_client(listener: &UnixListener, shared: &Arc<Shared>) -> bool {
 
 /// Starts the thread of a client, or refuses the client.
 fn welcome(shared: &Arc<Shared>, stream: Arc<UnixStream>) {
-    match os::peer_user(&stream) {
-        Ok(user) if user == os::user() || user == 0 => {}
+    match peer_user(&stream) {
+        Ok(client) if client == user() || client == 0 => {}
         _ => return refuse(&stream, &Failure::new("NotAllowed", "the server is another user's")),
     }
     let clients = shared.clients.count();
     if clients >= shared.options.passes as usize + WAITING {
-        return refuse(&stream, &no_pass(clients));
+        return refuse(&stream, &no_pass(shared));
     }
     let number = shared.clients.enter(stream.clone());
     let of_thread = shared.clone();
@@ -174,30 +206,44 @@ impl Drop for Leaving<'_> {
 }
 
 fn serve(shared: &Shared, stream: Arc<UnixStream>) {
+    let place = shared.places.take(FOR_PLACE);
+    let visit = match place {
+        Some(_) => None,
+        None if !is_visit(&stream) => None,
+        None => shared.visits.take(FOR_VISIT),
+    };
+    if place.is_none() && visit.is_none() {
+        return refuse(&stream, &no_pass(shared));
+    }
     let pass = match take_pass(shared) {
         Ok(pass) => pass,
-        Err(Error::NoPass) => return refuse(&stream, &no_pass(shared.options.passes as usize)),
         Err(error) => return refuse(&stream, &error.into()),
     };
     // An error of the connection is its end, and nobody is left to report it to.
-    let _ = Connection::new(shared, stream).run(pass);
+    let _ = Connection::new(shared, stream, visit.is_some()).run(pass);
+}
+
+/// Whether the first request that the client has sent says that it asks a few things and goes.
+fn is_visit(stream: &UnixStream) -> bool {
+    let mut bytes = [0; GREETING];
+    let length = os::look_ahead(stream, &mut bytes).unwrap_or(0);
+    let line = bytes[..length].split(|byte| *byte == b'\n').next().unwrap_or_default();
+    let request = serde_json::from_slice::<Request<'_>>(line);
+    matches!(
+        request.map(|request| request.command),
+        Ok(Command::Hello(Greeting { visit: true, .. }))
+    )
 }
 
 fn take_pass(shared: &Shared) -> bestore::Result<ShelfPass> {
-    let until = Instant::now() + FOR_PASS;
-    loop {
-        match shared.kept.pass().map_err(Error::without_volume) {
-            Err(Error::NoPass) if Instant::now() < until => thread::sleep(Duration::from_millis(5)),
-            answer => {
-                let mut pass = answer?;
-                pass.set_retry(pressure::retry());
-                return Ok(pass);
-            }
-        }
-    }
+    let mut pass = shared.kept.pass().map_err(Error::without_volume)?;
+    pass.set_retry(pressure::retry());
+    Ok(pass)
 }
 
-fn no_pass(clients: usize) -> Failure {
+/// All places are taken.
+pub fn no_pass(shared: &Shared) -> Failure {
+    let clients = shared.options.passes;
     let message = format!("{clients} clients are connected");
     Failure::new("NoPass", message).numbered(68).with("clients", clients)
 }

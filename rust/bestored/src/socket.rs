@@ -1,9 +1,11 @@
 //! The socket at which the server listens.
 
 use crate::os;
-use std::fs::{self, DirBuilder, File, Metadata};
+use bestore_client::socket::user;
+use bestore_client::SocketPath;
+use std::fs::{self, DirBuilder, File, Metadata, OpenOptions};
 use std::io::{self, ErrorKind};
-use std::os::unix::fs::{DirBuilderExt, FileTypeExt, MetadataExt};
+use std::os::unix::fs::{DirBuilderExt, FileTypeExt, MetadataExt, OpenOptionsExt};
 use std::os::unix::net::{UnixListener, UnixStream};
 use std::path::{Path, PathBuf};
 use std::thread;
@@ -19,12 +21,13 @@ pub struct Socket {
     made: Option<(PathBuf, (u64, u64))>,
 }
 
-/// Where the socket is if nothing is said.
-pub fn default_path() -> PathBuf {
-    match std::env::var_os("XDG_RUNTIME_DIR") {
-        Some(folder) => Path::new(&folder).join("bestore/socket"),
-        None => format!("/tmp/bestore-{}/socket", os::user()).into(),
-    }
+/// Where the server is going to listen.
+#[derive(Debug)]
+pub enum Place {
+    /// At the socket that systemd has passed.
+    Passed(UnixListener),
+    /// At a path where nobody listens, in a folder that others can't change.
+    Path(PathBuf),
 }
 
 fn wrong(path: &Path, why: impl std::fmt::Display) -> io::Error {
@@ -35,22 +38,48 @@ fn identity(file: &Metadata) -> (u64, u64) {
     (file.dev(), file.ino())
 }
 
-impl Socket {
-    /// The socket that systemd has passed.
-    pub fn passed(listener: UnixListener) -> io::Result<Self> {
-        listener.set_nonblocking(true)?;
-        Ok(Self { listener, made: None })
+impl Place {
+    /// Looks whether a server can listen at this path. The folder is made, and the socket isn't yet.
+    pub fn find(socket: &SocketPath) -> io::Result<Self> {
+        let path = socket.path();
+        let folder = folder_of(path);
+        let opened = match socket {
+            SocketPath::Named(_) => open_folder(folder)?,
+            SocketPath::Default(_) => open_own_folder(folder)?,
+        };
+        drop(opened);
+        look(path)?;
+        Ok(Self::Path(path.into()))
     }
 
-    /// Makes the socket, in the place of one whose server is dead. To be called while there is one thread.
-    pub fn make(path: &Path) -> io::Result<Self> {
-        let folder = match path.parent() {
-            Some(folder) if !folder.as_os_str().is_empty() => folder,
-            _ => Path::new("."),
-        };
+    /// Listens, in the place of a server that died. Clients are taken from then on, so this comes once the store is there.
+    pub fn listen(self) -> io::Result<Socket> {
+        match self {
+            Self::Passed(listener) => {
+                listener.set_nonblocking(true)?;
+                Ok(Socket { listener, made: None })
+            }
+            Self::Path(path) => Socket::make(&path),
+        }
+    }
+
+    /// The path at which the server is going to listen, unless systemd has passed the socket.
+    pub fn path(&self) -> Option<&Path> {
+        match self {
+            Self::Passed(_) => None,
+            Self::Path(path) => Some(path),
+        }
+    }
+}
+
+impl Socket {
+    fn make(path: &Path) -> io::Result<Self> {
+        let folder = folder_of(path);
         // It is held until the end of this function.
-        let _lock = lock(safe_folder(folder)?).map_err(|error| wrong(folder, error))?;
-        remove_dead(path)?;
+        let _lock = lock(open_folder(folder)?).map_err(|error| wrong(folder, error))?;
+        if look(path)? == Found::Dead {
+            fs::remove_file(path)?;
+        }
         let bound = os::with_mask(0o177, || UnixListener::bind(path));
         let listener = bound.map_err(|error| wrong(path, error))?;
         listener.set_nonblocking(true)?;
@@ -72,26 +101,73 @@ impl Drop for Socket {
     }
 }
 
+fn folder_of(path: &Path) -> &Path {
+    match path.parent() {
+        Some(folder) if !folder.as_os_str().is_empty() => folder,
+        _ => Path::new("."),
+    }
+}
+
 /// Opens the folder, or makes it. Others may not replace files in it.
-fn safe_folder(folder: &Path) -> io::Result<File> {
-    let mut builder = DirBuilder::new();
-    if let Err(error) = builder.mode(0o700).create(folder) {
+fn open_folder(folder: &Path) -> io::Result<File> {
+    let opened = open_or_make(folder, 0)?;
+    let found = opened.metadata()?;
+    if found.uid() != user() && found.uid() != 0 {
+        return Err(wrong(
+            folder,
+            format!(
+                "the folder belongs to user {}, and has to belong to user {} or to root",
+                found.uid(),
+                user()
+            ),
+        ));
+    }
+    let (writable, sticky) = (found.mode() & 0o022 != 0, found.mode() & 0o1000 != 0);
+    if writable && !sticky {
+        return Err(wrong(
+            folder,
+            "others may write in the folder; chmod go-w takes that right away",
+        ));
+    }
+    Ok(opened)
+}
+
+/// Opens the folder of a default path, or makes it. It is the user's own, since anybody may have made it before: others may not write
+/// in it, and it is no link to another folder.
+fn open_own_folder(folder: &Path) -> io::Result<File> {
+    let opened = open_or_make(folder, libc::O_NOFOLLOW)?;
+    let found = opened.metadata()?;
+    if found.uid() != user() {
+        return Err(wrong(
+            folder,
+            format!(
+                "the folder belongs to user {}, and has to belong to user {}",
+                found.uid(),
+                user()
+            ),
+        ));
+    }
+    if found.mode() & 0o022 != 0 {
+        return Err(wrong(
+            folder,
+            "others may write in the folder; chmod go-w takes that right away",
+        ));
+    }
+    Ok(opened)
+}
+
+fn open_or_make(folder: &Path, flags: libc::c_int) -> io::Result<File> {
+    if let Err(error) = DirBuilder::new().mode(0o700).create(folder) {
         if error.kind() != ErrorKind::AlreadyExists {
             return Err(wrong(folder, error));
         }
     }
-    let opened = File::open(folder).map_err(|error| wrong(folder, error))?;
-    let found = opened.metadata()?;
-    if !found.is_dir() {
-        return Err(wrong(folder, "no folder"));
-    }
-    if found.uid() != os::user() && found.uid() != 0 {
-        return Err(wrong(folder, "the folder belongs to another user"));
-    }
-    if found.mode() & 0o022 != 0 && found.mode() & 0o1000 == 0 {
-        return Err(wrong(folder, "others may write in the folder"));
-    }
-    Ok(opened)
+    let mut options = OpenOptions::new();
+    options.read(true).custom_flags(libc::O_DIRECTORY | flags);
+    options.open(folder).map_err(|error| match error.raw_os_error() {
+        Some(libc::ENOTDIR) => wrong(folder, "it is no folder, but a file or a link"),
+        _ => wrong(folder, error),
+    })
 }
 
 /// Takes the lock of the folder, so that of several servers that start one at a time looks for a dead socket.
@@ -108,17 +184,24 @@ fn lock(folder: File) -> io::Result<File> {
     ))
 }
 
-/// Removes a socket at which nobody listens.
-fn remove_dead(path: &Path) -> io::Result<()> {
+/// What is at a path where nobody listens.
+#[derive(Clone, Copy, Debug, PartialEq, Eq)]
+enum Found {
+    Nothing,
+    /// The socket of a server that died.
+    Dead,
+}
+
+fn look(path: &Path) -> io::Result<Found> {
     match fs::symlink_metadata(path) {
-        Err(error) if error.kind() == ErrorKind::NotFound => return Ok(()),
+        Err(error) if error.kind() == ErrorKind::NotFound => return Ok(Found::Nothing),
         Err(error) => return Err(wrong(path, error)),
         Ok(found) if !found.file_type().is_socket() => return Err(wrong(path, "there is a file that is no socket")),
         Ok(_) => {}
     }
     match UnixStream::connect(path) {
         Ok(_) => Err(wrong(path, "a server is listening there")),
-        Err(error) if error.kind() == ErrorKind::ConnectionRefused => fs::remove_file(path),
+        Err(error) if error.kind() == ErrorKind::ConnectionRefused => Ok(Found::Dead),
         Err(error) => Err(wrong(path, error)),
     }
 }

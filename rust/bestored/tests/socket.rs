@@ -6,7 +6,9 @@ use std::fs::{self, Permissions};
 use std::io::Read;
 use std::os::unix::fs::PermissionsExt;
 use std::os::unix::net::{UnixListener, UnixStream};
+use std::path::Path;
 use std::process::{Command, Output, Stdio};
+use std::thread;
 use std::time::{Duration, Instant};
 
 /// For how long the server answers at its end, and how many requests have arrived by then.
@@ -63,6 +65,34 @@ fn the_socket_is_of_the_user_alone_and_goes_with_the_server() {
         assert!(server.end_by(signal).success());
         assert!(!socket.exists());
         assert_eq!(idle.line(), "");
+    }
+}
+
+/// A server without `--socket`, in this environment.
+fn in_environment(variables: &[(&str, &Path)]) -> Command {
+    let mut command = Command::new(env!("CARGO_BIN_EXE_bestored"));
+    command.env_remove("BESTORE_SOCKET").env_remove("XDG_RUNTIME_DIR");
+    command.envs(variables.iter().copied());
+    command
+}
+
+#[test]
+fn the_environment_says_where_the_socket_is() {
+    let folder = Folder::new();
+    let (named, none, in_folder) = (folder.join("named"), Path::new(""), folder.join("bestore/socket"));
+    for (variables, socket) in [
+        (
+            [("BESTORE_SOCKET", &*named), ("XDG_RUNTIME_DIR", folder.path())],
+            &named,
+        ),
+        (
+            [("BESTORE_SOCKET", none), ("XDG_RUNTIME_DIR", folder.path())],
+            &in_folder,
+        ),
+    ] {
+        let server = Server::run(in_environment(&variables), socket);
+        assert!(server.answers(), "{variables:?}");
+        assert!(server.end_by("TERM").success());
     }
 }
 
@@ -194,24 +224,81 @@ fn systemd_passes_the_socket() {
     assert!(socket.exists());
 }
 
+/// What is said to a client for whom there is no place.
+const NO_PLACE: &str =
+    r#"{"id":null,"error":{"name":"NoPass","number":68,"message":"2 clients are connected","clients":2}}"#;
+
+/// A server whose two places are taken.
+fn full_server(folder: &Folder) -> (Server, [Talk; 2]) {
+    let server = Server::start(folder, &["--passes", "2"]);
+    let mut idle = [server.talk(), server.talk()];
+    for talk in &mut idle {
+        talk.check(r#""next":{}"#, r#""ok":{"commit":0,"next":1}"#);
+    }
+    (server, idle)
+}
+
 #[test]
 fn a_client_without_a_pass_is_told_so() {
     let folder = Folder::new();
-    let server = Server::start(&folder, &["--passes", "2"]);
-    let (mut one, mut two) = (server.talk(), server.talk());
-    one.check(r#""next":{}"#, r#""ok":{"commit":0,"next":1}"#);
-    two.check(r#""next":{}"#, r#""ok":{"commit":0,"next":1}"#);
+    let (server, [one, mut two]) = full_server(&folder);
     let mut three = server.talk();
-    let said = three.line();
-    let expected =
-        r#"{"id":null,"error":{"name":"NoPass","number":68,"message":"2 clients are connected","clients":2}}"#;
-    assert_eq!(said, expected);
+    assert_eq!(three.line(), NO_PLACE);
     assert_eq!(three.line(), "");
-    let mut client = server.client();
-    assert!(client.hello().unwrap_err().is("NoPass"));
+    assert!(server.client().hello().unwrap_err().is("NoPass"));
     drop(one);
-    server.client().hello().unwrap();
+    wait_until("a place is free", || server.client().hello().is_ok());
     two.check(r#""next":{}"#, r#""ok":{"commit":0,"next":1}"#);
+}
+
+#[test]
+fn a_visitor_is_answered_for_a_moment() {
+    let folder = Folder::new();
+    let (server, _idle) = full_server(&folder);
+    let visiting = || {
+        let mut visitor = server.talk();
+        let said = visitor.ask(r#"{"id":1,"hello":{"protocol":1,"visit":true}}"#);
+        assert!(said.starts_with(r#"{"id":1,"ok":{"protocol":1,"#), "{said}");
+        visitor
+    };
+    let mut visitor = visiting();
+    visitor.check(r#""pin":{}"#, r#""ok":{"commit":0,"next":1}"#);
+    visitor.check(r#""unpin":{}"#, r#""ok":{}"#);
+    for waiting in [r#""watch":{}"#, r#""reach":{"commit":1}"#, r#""log":{"entry":1}"#] {
+        let refused = NO_PLACE.strip_prefix(r#"{"id":null,"#).unwrap();
+        visitor.check(waiting, refused.strip_suffix('}').unwrap());
+    }
+    assert_eq!(visitor.line(), NO_PLACE);
+    assert_eq!(visitor.line(), "");
+    // Neither a snapshot nor a request again and again keeps the place.
+    let mut pinned = visiting();
+    pinned.check(r#""pin":{}"#, r#""ok":{"commit":0,"next":1}"#);
+    assert_eq!(pinned.line(), NO_PLACE);
+    let mut busy = server.client();
+    busy.visit().unwrap();
+    wait_until("the visitor has to go", || busy.hello().is_err());
+}
+
+#[test]
+fn idle_clients_keep_no_visitor_out() {
+    let folder = Folder::new();
+    let server = &Server::start(&folder, &[]);
+    let mut idle: Vec<Talk> = (0..61).map(|_| server.talk()).collect();
+    for talk in &mut idle {
+        talk.check(r#""next":{}"#, r#""ok":{"commit":0,"next":1}"#);
+    }
+    let refused =
+        r#"{"id":null,"error":{"name":"NoPass","number":68,"message":"61 clients are connected","clients":61}}"#;
+    assert_eq!(server.talk().line(), refused);
+    let visit = || {
+        for _ in 0..5 {
+            let mut visitor = server.client();
+            assert_eq!(visitor.visit().unwrap().limits.passes, 61);
+            assert!(visitor.status().unwrap().clients > 61);
+        }
+    };
+    thread::scope(|scope| (0..8).for_each(|_| drop(scope.spawn(visit))));
+    idle[0].check(r#""next":{}"#, r#""ok":{"commit":0,"next":1}"#);
 }
 
 #[test]
@@ -260,7 +347,7 @@ fn a_kept_store_is_written_every_so_often_or_by_flush() {
     let mut talk = server.talk();
     let said = talk.ask(r#"{"id":1,"nodes":{}}"#);
     assert!(said.ends_with(r#""nodes":[1]}}"#), "{said}");
-    std::thread::sleep(Duration::from_millis(1));
+    thread::sleep(Duration::from_millis(1));
     let other = Folder::new();
     refused(command(&other.join("socket"), &options), "the file is in use");
 }

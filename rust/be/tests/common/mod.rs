@@ -54,7 +54,7 @@ impl From<Output> for Said {
 }
 
 /// The program `bestored`: beside the tool, or where the environment says.
-fn server_program() -> Option<PathBuf> {
+pub fn server_program() -> Option<PathBuf> {
     let beside = Path::new(BE).with_file_name("bestored");
     let program = env::var_os("BESTORED").map_or(beside, PathBuf::from);
     program.exists().then_some(program)

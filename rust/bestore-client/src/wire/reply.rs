@@ -329,6 +329,9 @@ replies! {
         /// What goes with it, by names.
         #[serde(flatten)]
         pub details: BTreeMap<String, serde_json::Value>,
+        /// The text of the query that was refused, as this client has sent it.
+        #[serde(skip)]
+        pub query: Option<String>,
     }
 }
 
@@ -352,8 +355,16 @@ impl Refusal {
     }
 }
 
+/// The name and the message. Of a query the text follows, with a caret under the place that is wrong.
 impl fmt::Display for Refusal {
     fn fmt(&self, f: &mut fmt::Formatter<'_>) -> fmt::Result {
-        write!(f, "{}: {}", self.name, self.message)
+        write!(f, "{}: {}", self.name, self.message)?;
+        match (&self.query, self.number_of("offset")) {
+            (Some(query), Some(offset)) => {
+                let offset = usize::try_from(offset).unwrap_or(usize::MAX);
+                write!(f, "\n{}", bestore::caret(query, offset))
+            }
+            _ => Ok(()),
+        }
     }
 }

@@ -41,6 +41,9 @@ parameters! {
         /// The version of the protocol that the client speaks.
         #[serde(default, deserialize_with = "given", skip_serializing_if = "Option::is_none")]
         pub protocol: Option<u64>,
+        /// Whether the client asks a few things and goes, so that it gets a place when all others are taken.
+        #[serde(default, skip_serializing_if = "std::ops::Not::not")]
+        pub visit: bool,
     }
 
     /// Of `batch`.
@@ -446,6 +449,7 @@ mod tests {
             r#"{"id":2,"query":{"query":"size>=5","columns":["size"],"limit":3,"from":0,"count":false}}"#,
             r#"{"id":3,"watch":{}}"#,
             r#"{"id":3,"log":{"entry":7,"within":0}}"#,
+            r#"{"id":3,"hello":{"protocol":1,"visit":true}}"#,
             r#"{"id":4,"batch":{"operations":[["new"]],"expected":[3,0],"volume":1}}"#,
             r#"{"id":5,"reach":{"commit":[3,0],"within":5}}"#,
             r#"{"id":3,"get":{"node":1,"name":"a\"b"}}"#,

@@ -225,6 +225,25 @@ impl ShelfPass {
         self.pin()?.make_index(name, kind)
     }
 
+    /// Sets again, to the values that they have, the attributes that the index of this name lacks, as [`Pass::reindex`] in each volume.
+    /// Returns how many were set.
+    ///
+    /// # Errors
+    /// [`Error::NoIndex`]: not each volume has the index. Otherwise as `Pass::reindex`.
+    pub fn reindex(&mut self, name: &str) -> Result<u64> {
+        let indices = self.pin()?.indices()?;
+        if !indices.iter().any(|(index, _)| index == name) {
+            return Err(Error::NoIndex);
+        }
+        let is_one = self.volumes.len() == 1;
+        let each = (0..).zip(&mut self.volumes);
+        each.map(|(volume, pass)| match pass.reindex(name) {
+            Err(error) if !is_one => Err(error.in_volume(volume)),
+            answer => answer,
+        })
+        .sum()
+    }
+
     /// Removes the index from each volume that has it, as [`ShelfSnapshot::remove_index`].
     ///
     /// # Errors

@@ -2,7 +2,7 @@
 
 use super::node::extend;
 use super::Node;
-use crate::{Batch, Error, Kind, Nodes, Pass, Prepared, Result, Snapshot, Status, Value};
+use crate::{hints, Batch, Error, Hint, Kind, Nodes, Pass, Prepared, Result, Snapshot, Status, Value};
 use std::collections::BTreeMap;
 use std::sync::{Mutex, PoisonError};
 
@@ -96,6 +96,52 @@ impl<'a> ShelfSnapshot<'a> {
     /// As [`query`](Self::query).
     pub fn query_prepared(&self, prepared: &Prepared) -> Result<Vec<u64>> {
         self.found(|snapshot| snapshot.query_prepared(prepared))
+    }
+
+    /// How many nodes of all volumes the query finds. Takes what the query takes, but for the list.
+    ///
+    /// # Errors
+    /// As [`query`](Self::query).
+    pub fn count(&self, text: &str) -> Result<u64> {
+        let prepared = Prepared::new(text)?;
+        self.sum(|snapshot| {
+            let counted = snapshot.count_prepared(&prepared);
+            // The error of the text has the place in it that is wrong.
+            counted.or_else(|_| snapshot.count(text))
+        })
+    }
+
+    /// How many nodes of all volumes the prepared query finds.
+    ///
+    /// # Errors
+    /// As [`query`](Self::query).
+    pub fn count_prepared(&self, prepared: &Prepared) -> Result<u64> {
+        self.sum(|snapshot| snapshot.count_prepared(prepared))
+    }
+
+    /// How many pairs of a value and a node the index of this name has in all volumes.
+    ///
+    /// # Errors
+    /// As [`Snapshot::pairs`].
+    pub fn pairs(&self, name: &str) -> Result<u64> {
+        self.sum(|snapshot| snapshot.pairs(name))
+    }
+
+    fn sum(&self, count: impl Fn(&Snapshot<'a>) -> Result<u64>) -> Result<u64> {
+        let counts = self.each().map(|(volume, snapshot)| {
+            let counted = count(snapshot);
+            counted.map_err(|error| self.error(volume, error))
+        });
+        counts.sum()
+    }
+
+    /// The comparisons of a query that are never true, by the indices that each volume has with one kind.
+    ///
+    /// # Errors
+    /// As [`Snapshot::hints`].
+    pub fn hints(&self, text: &str) -> Result<Vec<Hint>> {
+        let indices: BTreeMap<_, _> = self.indices()?.into_iter().collect();
+        hints(text, |name| indices.get(name).copied())
     }
 
     /// The chosen indices of the query in the first volume, and the cost there. The others choose the same if they have the same

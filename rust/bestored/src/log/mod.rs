@@ -71,7 +71,7 @@ fn config(url: &str) -> Result<Config> {
 /// The machine and the path of the socket.
 fn name(options: &Options) -> String {
     let machine = fs::read_to_string("/proc/sys/kernel/hostname").unwrap_or_default();
-    format!("{}:{}", machine.trim(), options.socket().display())
+    format!("{}:{}", machine.trim(), options.socket().path().display())
 }
 
 fn runtime() -> Result<Runtime> {

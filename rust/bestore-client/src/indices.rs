@@ -1,0 +1,166 @@
+//! What a client does about indices by several requests.
+
+use crate::wire::{self, Command, Nothing, Refusal};
+use crate::{Client, Error, Result};
+use bestore::{attribute, Hint, Kind, Node, Value};
+use std::collections::BTreeMap;
+use std::io;
+
+/// The most operations of a batch, and how many nodes are asked for before the first reply is read.
+const OPERATIONS: usize = 64;
+
+/// An error of the library in this process.
+fn local(error: bestore::Error) -> Error {
+    match error {
+        bestore::Error::Query(query) => Error::Refused(Refusal {
+            name: "Syntax".into(),
+            message: query.fault().to_string(),
+            details: query
+                .offset()
+                .map(|at| ("offset".into(), at.into()))
+                .into_iter()
+                .collect(),
+            query: Some(query.text().into()),
+            ..Refusal::default()
+        }),
+        error => Error::Io(io::Error::new(io::ErrorKind::Other, error)),
+    }
+}
+
+/// The query for all that is in an index.
+fn all_of(name: &str, kind: Kind) -> Result<String> {
+    let prepared = attribute(name).any(kind).prepare();
+    prepared.and_then(|prepared| prepared.text()).map_err(local)
+}
+
+/// How many of these nodes, which ascend, a batch can be about: those of the volume of the first one.
+fn of_a_batch(nodes: &[u64]) -> usize {
+    let volume = |node: &u64| Node::from(*node).volume;
+    let first = nodes.first().map(volume);
+    nodes
+        .iter()
+        .take(OPERATIONS)
+        .take_while(|node| Some(volume(node)) == first)
+        .count()
+}
+
+impl Client {
+    /// The indices with their kinds.
+    ///
+    /// # Errors
+    /// As [`call`](Self::call).
+    pub fn indices(&mut self) -> Result<BTreeMap<String, Kind>> {
+        let read: wire::Indices = self.call(Command::Indices(Nothing {}))?;
+        let named = read.indices.into_iter();
+        Ok(named
+            .filter_map(|(name, kind)| Some((name, wire::kind_named(&kind)?)))
+            .collect())
+    }
+
+    fn index(&mut self, name: &str) -> Result<Kind> {
+        self.indices()?.remove(name).ok_or_else(|| {
+            let error = bestore::Error::NoIndex;
+            Error::Refused(Refusal {
+                name: "NoIndex".into(),
+                number: error.code(),
+                message: format!("there is no index {name:?}"),
+                ..Refusal::default()
+            })
+        })
+    }
+
+    /// How many pairs of a value and a node the index of this name has.
+    ///
+    /// # Errors
+    /// `NoIndex`; otherwise as [`call`](Self::call).
+    pub fn pairs(&mut self, name: &str) -> Result<u64> {
+        let kind = self.index(name)?;
+        self.count(&all_of(name, kind)?)
+    }
+
+    /// The comparisons of a query that are never true in a store with these indices, as `size>1.5`.
+    ///
+    /// # Errors
+    /// `Syntax`: the text is no query. Otherwise as [`call`](Self::call).
+    pub fn hints(&mut self, query: &str) -> Result<Vec<Hint>> {
+        let indices = self.indices()?;
+        bestore::hints(query, |name| indices.get(name).copied()).map_err(local)
+    }
+
+    /// Sets again, to the values that they have, the attributes that the index of this name lacks, because they were set before it was
+    /// made. Each change sets up to 64 of them, so no newer value is lost. Returns how many were set. Reads each node that isn't in the
+    /// index.
+    ///
+    /// # Errors
+    /// `NoIndex`; otherwise as [`change`](Self::change).
+    pub fn reindex(&mut self, name: &str) -> Result<u64> {
+        let kind = self.index(name)?;
+        let lacking = self.not_indexed(name, kind)?;
+        let (mut rest, mut set) = (&lacking[..], 0);
+        while !rest.is_empty() {
+            let (nodes, others) = rest.split_at(of_a_batch(rest));
+            set += self.change(|change| {
+                let values = change.client().values_of(nodes, name, kind)?;
+                for (node, value) in &values {
+                    change.batch().set(*node, name, value.clone());
+                }
+                Ok(values.len() as u64)
+            })?;
+            rest = others;
+        }
+        Ok(set)
+    }
+
+    /// The nodes with an attribute of this name and kind that the index of the name lacks.
+    fn not_indexed(&mut self, name: &str, kind: Kind) -> Result<Vec<u64>> {
+        let held = self.query(&all_of(name, kind)?)?;
+        let (mut lacking, mut from) = (Vec::new(), Some(0));
+        while let Some(first) = from {
+            let page: wire::Nodes = self.call(Command::Nodes(wire::NodesFrom {
+                from: first,
+                ..wire::NodesFrom::default()
+            }))?;
+            let others: Vec<u64> = page
+                .nodes
+                .into_iter()
+                .filter(|node| held.binary_search(node).is_err())
+                .collect();
+            for nodes in others.chunks(OPERATIONS) {
+                lacking.extend(self.values_of(nodes, name, kind)?.into_iter().map(|(node, _)| node));
+            }
+            from = page.more;
+        }
+        Ok(lacking)
+    }
+
+    /// The attributes of this name of these nodes, if they are of this kind. All requests are sent before the first reply is read.
+    fn values_of(&mut self, nodes: &[u64], name: &str, kind: Kind) -> Result<Vec<(u64, Value)>> {
+        let mut asked = Vec::with_capacity(nodes.len());
+        for &node in nodes {
+            let name = name.into();
+            asked.push((node, self.send(Command::Get(wire::Get { node, name }))?));
+        }
+        let mut values = Vec::new();
+        for (node, id) in asked {
+            let read: wire::Value = self.receive(id)?;
+            let value = read.value.map(|value| value.0);
+            values.extend(value.filter(|value| value.kind() == kind).map(|value| (node, value)));
+        }
+        Ok(values)
+    }
+}
+
+#[cfg(test)]
+mod tests {
+    use super::*;
+
+    #[test]
+    fn a_batch_is_about_one_volume() {
+        let nodes: Vec<u64> = (0..70)
+            .chain((0..3).map(|number| Node { volume: 1, number }.into()))
+            .collect();
+        assert_eq!(of_a_batch(&nodes), 64);
+        assert_eq!(of_a_batch(&nodes[64..]), 6);
+        assert_eq!(of_a_batch(&nodes[70..]), 3);
+    }
+}

@@ -1,0 +1,109 @@
+//! How a client connects.
+
+use crate::{os, Client, Error, Result, SocketPath};
+use std::io::{self, ErrorKind};
+use std::thread;
+use std::time::{Duration, Instant};
+
+/// How long a reply may take if nothing else is said.
+const TIMEOUT: Duration = Duration::from_secs(60);
+
+/// How many bytes of pushed lines are kept if nothing else is said.
+const PUSHED: usize = 64 << 20;
+
+/// How often a server that isn't there yet is tried again.
+const AGAIN: Duration = Duration::from_millis(10);
+
+/// How a client connects, and how long it waits.
+///
+/// ```no_run
+/// use bestore_client::{Options, SocketPath};
+/// use std::time::Duration;
+///
+/// let mut options = Options::new();
+/// options.wait(Duration::from_secs(5)).timeout(Some(Duration::from_secs(9)));
+/// let mut client = options.connect(SocketPath::find(None))?;
+/// println!("{} pages are free", client.status()?.free);
+/// # Ok::<(), bestore_client::Error>(())
+/// ```
+#[derive(Clone, Copy, Debug)]
+pub struct Options {
+    pub(crate) timeout: Option<Duration>,
+    pub(crate) most_pushed: usize,
+    wait: Duration,
+}
+
+impl Default for Options {
+    fn default() -> Self {
+        Self {
+            timeout: Some(TIMEOUT),
+            most_pushed: PUSHED,
+            wait: Duration::ZERO,
+        }
+    }
+}
+
+impl Options {
+    /// The defaults of each call below.
+    #[must_use]
+    pub fn new() -> Self {
+        Self::default()
+    }
+
+    /// Sets how long connecting may take, and each reply: a minute by default, and without an end by `None`. A command that waits on
+    /// the server, as [`Client::reach`] does, gets that time too. At the end the call fails with [`Error::TimedOut`], and the connection
+    /// is closed.
+    pub fn timeout(&mut self, timeout: Option<Duration>) -> &mut Self {
+        // The system takes no time of zero.
+        self.timeout = timeout.map(|time| time.max(Duration::from_millis(1)));
+        self
+    }
+
+    /// Sets how long [`connect`](Self::connect) waits for a server that starts. By default it doesn't wait.
+    pub fn wait(&mut self, time: Duration) -> &mut Self {
+        self.wait = time;
+        self
+    }
+
+    /// Sets how many bytes of pushed lines are kept for [`Client::next_push`], 64 MiB by default. A live query whose line doesn't fit
+    /// loses all its lines, and has ended: its next push has the error `PushesLost`.
+    pub fn most_pushed(&mut self, bytes: usize) -> &mut Self {
+        self.most_pushed = bytes;
+        self
+    }
+
+    /// Connects to the server at this socket: [`SocketPath::find`], or the path of one.
+    ///
+    /// # Errors
+    /// [`Error::Io`]: there is no server. [`Error::OtherUser`]: nobody named the socket, and the server runs neither as the effective
+    /// user nor as root. [`Error::TimedOut`]. A server that refuses the connection does so at the first call.
+    pub fn connect(&self, socket: impl Into<SocketPath>) -> Result<Client> {
+        let socket = socket.into();
+        let until = Instant::now() + self.wait;
+        loop {
+            match self.connect_once(&socket) {
+                Err(Error::Io(error)) if may_start(&error) && Instant::now() < until => thread::sleep(AGAIN),
+                answer => return answer,
+            }
+        }
+    }
+
+    fn connect_once(&self, socket: &SocketPath) -> Result<Client> {
+        let stream = os::connect(socket.path(), self.timeout).map_err(|error| self.late_or(error))?;
+        socket.check_server(&stream)?;
+        Ok(Client::over(stream, *self))
+    }
+
+    /// The error of a call that the system has ended at the end of the time, otherwise that of the connection.
+    pub(crate) fn late_or(&self, error: io::Error) -> Error {
+        match (error.kind(), self.timeout) {
+            (ErrorKind::WouldBlock | ErrorKind::TimedOut, Some(time)) => Error::TimedOut(time),
+            _ => Error::Io(error),
+        }
+    }
+}
+
+/// Whether a server that starts has no socket yet.
+fn may_start(error: &io::Error) -> bool {
+    matches!(error.kind(), ErrorKind::NotFound | ErrorKind::ConnectionRefused)
+}

@@ -1,0 +1,114 @@
+//! Calls of the system that the standard library doesn't have. All unsafe code of the crate is here.
+#![allow(unsafe_code)]
+#![deny(unsafe_op_in_unsafe_fn)]
+
+use std::io::{self, ErrorKind};
+use std::mem;
+use std::os::unix::ffi::OsStrExt;
+use std::os::unix::io::{AsRawFd, FromRawFd};
+use std::os::unix::net::UnixStream;
+use std::path::Path;
+use std::ptr;
+use std::time::Duration;
+
+fn check(answer: libc::c_int) -> io::Result<libc::c_int> {
+    if answer < 0 {
+        Err(io::Error::last_os_error())
+    } else {
+        Ok(answer)
+    }
+}
+
+/// The user as whom this process acts.
+pub fn user() -> u32 {
+    // SAFETY: the call takes nothing and always succeeds.
+    unsafe { libc::geteuid() }
+}
+
+/// The user as whom the other end of the connection was made.
+///
+/// # Errors
+/// Those of the system, if the connection isn't open.
+pub fn peer_user(stream: &UnixStream) -> io::Result<u32> {
+    let mut credentials = libc::ucred { pid: 0, uid: 0, gid: 0 };
+    let mut length = mem::size_of::<libc::ucred>() as libc::socklen_t;
+    // SAFETY: the option writes a `ucred`, and `length` has its size.
+    check(unsafe {
+        libc::getsockopt(
+            stream.as_raw_fd(),
+            libc::SOL_SOCKET,
+            libc::SO_PEERCRED,
+            ptr::addr_of_mut!(credentials).cast(),
+            &mut length,
+        )
+    })?;
+    Ok(credentials.uid)
+}
+
+/// Connects to a socket. Connecting, and later each write, fails with `WouldBlock` at the end of the time.
+pub fn connect(path: &Path, within: Option<Duration>) -> io::Result<UnixStream> {
+    let address = address(path)?;
+    // SAFETY: the call takes numbers alone, and nobody else has the new descriptor.
+    let stream = unsafe {
+        let kind = libc::SOCK_STREAM | libc::SOCK_CLOEXEC;
+        UnixStream::from_raw_fd(check(libc::socket(libc::AF_UNIX, kind, 0))?)
+    };
+    stream.set_write_timeout(within)?;
+    let length = mem::size_of_val(&address) as libc::socklen_t;
+    loop {
+        // SAFETY: the address is as long as `length` says.
+        match check(unsafe { libc::connect(stream.as_raw_fd(), ptr::addr_of!(address).cast(), length) }) {
+            Err(error) if error.kind() == ErrorKind::Interrupted => {}
+            answer => return answer.map(|_| stream),
+        }
+    }
+}
+
+fn address(path: &Path) -> io::Result<libc::sockaddr_un> {
+    // SAFETY: a `sockaddr_un` has numbers alone, and all may be zero.
+    let mut address: libc::sockaddr_un = unsafe { mem::zeroed() };
+    address.sun_family = libc::AF_UNIX as libc::sa_family_t;
+    let bytes = path.as_os_str().as_bytes();
+    // A zero byte ends the path.
+    let most = address.sun_path.len() - 1;
+    if bytes.is_empty() || bytes.len() > most || bytes.contains(&0) {
+        let why = format!("the path of a socket has 1 to {most} bytes and no zero byte");
+        return Err(io::Error::new(ErrorKind::InvalidInput, why));
+    }
+    for (to, from) in address.sun_path.iter_mut().zip(bytes) {
+        *to = *from as libc::c_char;
+    }
+    Ok(address)
+}
+
+#[cfg(test)]
+mod tests {
+    use super::*;
+    use std::os::unix::net::UnixListener;
+
+    #[test]
+    fn connecting_to_a_server_that_accepts_nobody_ends() {
+        let path = std::env::temp_dir().join(format!("bestore-client-{}", std::process::id()));
+        let listener = UnixListener::bind(&path).unwrap();
+        // SAFETY: the call takes numbers alone. One connection may wait from now on.
+        check(unsafe { libc::listen(listener.as_raw_fd(), 0) }).unwrap();
+        let time = Some(Duration::from_millis(20));
+        let waiting = connect(&path, time).unwrap();
+        assert_eq!(connect(&path, time).unwrap_err().kind(), ErrorKind::WouldBlock);
+        drop((listener, waiting));
+        assert_eq!(connect(&path, time).unwrap_err().kind(), ErrorKind::ConnectionRefused);
+        std::fs::remove_file(&path).unwrap();
+        assert_eq!(connect(&path, time).unwrap_err().kind(), ErrorKind::NotFound);
+    }
+
+    #[test]
+    fn paths_that_are_too_long_or_empty_are_refused() {
+        for path in ["", &"a".repeat(108)] {
+            let error = connect(Path::new(path), None).unwrap_err();
+            assert_eq!(
+                error.to_string(),
+                "the path of a socket has 1 to 107 bytes and no zero byte"
+            );
+        }
+    }
+}

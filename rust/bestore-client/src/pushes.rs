@@ -1,0 +1,107 @@
+//! Pushed lines that nobody has asked for yet.
+
+use crate::wire::{Push, Refusal};
+use std::collections::{BTreeSet, VecDeque};
+
+/// Pushed lines with their lengths, up to a number of bytes.
+#[derive(Debug)]
+pub struct Pushes {
+    waiting: VecDeque<(usize, Push)>,
+    bytes: usize,
+    most: usize,
+    /// The watches that have lost lines.
+    lost: BTreeSet<u64>,
+}
+
+impl Pushes {
+    pub fn new(most: usize) -> Self {
+        Self {
+            waiting: VecDeque::new(),
+            bytes: 0,
+            most,
+            lost: BTreeSet::new(),
+        }
+    }
+
+    /// Adds a push, whose line had so many bytes. If there is no room, all lines of its watch are lost, also those that come later.
+    pub fn add(&mut self, length: usize, push: Push) {
+        if self.lost.contains(&push.watch) {
+            return;
+        }
+        if self.bytes + length <= self.most {
+            self.bytes += length;
+            self.waiting.push_back((length, push));
+            return;
+        }
+        self.forget(push.watch);
+        self.lost.insert(push.watch);
+        self.waiting.push_back((0, self.end_of(push)));
+    }
+
+    /// The oldest push.
+    pub fn take(&mut self) -> Option<Push> {
+        let (length, push) = self.waiting.pop_front()?;
+        self.bytes -= length;
+        Some(push)
+    }
+
+    /// Whether this push, which has just come, is of a watch that has lost lines.
+    pub fn is_lost(&self, push: &Push) -> bool {
+        self.lost.contains(&push.watch)
+    }
+
+    fn forget(&mut self, watch: u64) {
+        self.waiting.retain(|(_, push)| push.watch != watch);
+        self.bytes = self.waiting.iter().map(|(length, _)| length).sum();
+    }
+
+    /// The last push of a watch, which says that lines were lost.
+    fn end_of(&self, push: Push) -> Push {
+        let message = format!(
+            "more than {} bytes of pushes wait to be taken, and those of watch {} are lost; begin it anew",
+            self.most, push.watch
+        );
+        let refusal = Refusal {
+            name: "PushesLost".into(),
+            message,
+            ..Refusal::default()
+        };
+        Push {
+            watch: push.watch,
+            commit: push.commit,
+            commits: push.commits,
+            error: Some(refusal),
+            ..Push::default()
+        }
+    }
+}
+
+#[cfg(test)]
+mod tests {
+    use super::*;
+
+    fn push(watch: u64, commit: u64) -> Push {
+        Push {
+            watch,
+            commit,
+            ..Push::default()
+        }
+    }
+
+    #[test]
+    fn a_watch_without_room_loses_its_lines_and_no_other_does() {
+        let mut pushes = Pushes::new(100);
+        pushes.add(40, push(1, 1));
+        pushes.add(40, push(2, 1));
+        pushes.add(40, push(1, 2));
+        pushes.add(60, push(2, 2));
+        pushes.add(1, push(1, 3));
+        assert_eq!(pushes.take(), Some(push(2, 1)));
+        let end = pushes.take().unwrap();
+        assert_eq!((end.watch, end.commit), (1, 2));
+        assert_eq!(end.error.unwrap().name, "PushesLost");
+        assert_eq!(pushes.take(), Some(push(2, 2)));
+        assert_eq!((pushes.take(), pushes.bytes), (None, 0));
+        assert!(pushes.is_lost(&push(1, 4)) && !pushes.is_lost(&push(2, 4)));
+    }
+}

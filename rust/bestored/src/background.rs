@@ -1,0 +1,63 @@
+//! The server in the background: the program that was started ends once the server listens.
+
+use crate::os::{self, Process};
+use std::io::{self, Read, Write};
+use std::os::unix::net::UnixStream;
+use std::path::Path;
+use std::process::ExitCode;
+
+/// Which of the two processes this is.
+#[derive(Debug)]
+pub enum Side {
+    /// The one that was started. It ends with this status.
+    Starter(ExitCode),
+    /// The server.
+    Server(Starter),
+}
+
+/// The process that was started, as the server sees it. It waits to hear where the server listens.
+#[derive(Debug)]
+pub struct Starter(UnixStream);
+
+/// Makes a process for the server, in a session of its own. To be called while there is one thread.
+pub fn begin() -> io::Result<Side> {
+    let (starter, server) = UnixStream::pair()?;
+    match os::fork()? {
+        Some(process) => {
+            drop(server);
+            wait(starter, &process).map(Side::Starter)
+        }
+        None => {
+            drop(starter);
+            os::leave_terminal()?;
+            Ok(Side::Server(Starter(server)))
+        }
+    }
+}
+
+/// Waits until the server listens or has ended. It has said why it ended.
+fn wait(mut starter: UnixStream, process: &Process) -> io::Result<ExitCode> {
+    let mut said = String::new();
+    starter.read_to_string(&mut said)?;
+    if !said.is_empty() {
+        // Who has closed the output doesn't want to know.
+        let _ = writeln!(io::stdout(), "bestored: process {} listens at {said}", process.number());
+        return Ok(ExitCode::SUCCESS);
+    }
+    match process.wait()? {
+        Some(status) => Ok(ExitCode::from(status)),
+        None => Err(io::Error::new(
+            io::ErrorKind::Other,
+            "a signal ended the server before it listened",
+        )),
+    }
+}
+
+impl Starter {
+    /// Says where the server listens.
+    pub fn listens_at(mut self, path: &Path) -> io::Result<()> {
+        // Who has started the server may be gone, and the server stays.
+        let _ = write!(self.0, "{}", path.display());
+        os::leave_errors()
+    }
+}
