@@ -3,6 +3,7 @@
 use crate::common::files::{counts, name_of_bytes, Folder};
 use crate::common::refuser::Refuser;
 use crate::common::{Said, Server};
+use bestore_client::Client;
 use std::collections::BTreeSet;
 use std::fs::{self, File};
 use std::os::unix::fs::symlink;
@@ -275,6 +276,75 @@ fn files_that_come_and_go_meanwhile_do_no_harm() {
     });
     server.import(&folder);
     assert_eq!(server.paths("name==\"*\""), folder.paths());
+}
+
+/// Gives the path of a file a second node, as an import leaves it that a rename of another file onto this one has overtaken: one of
+/// the two nodes is that of a file which is gone. Returns the file's own node, and the other.
+fn double(server: &Server, folder: &Folder, name: &str, is_own_first: bool) -> [u64; 2] {
+    let first = node_of(server, folder, name);
+    let mut client = Client::connect(server.socket()).unwrap();
+    let attributes = client.attributes(first).unwrap();
+    let stat = attributes["FILE:stat"].as_str().unwrap();
+    let (device, rest) = stat.split_once(':').unwrap();
+    let (_, rest) = rest.split_once(':').unwrap();
+    let gone = format!("{device}:fffffffffffff:{rest}");
+    let made = client.change(|change| {
+        let second = change.new_node();
+        for (name, value) in &attributes {
+            change.batch().set(second, name, value.clone());
+        }
+        let other = if is_own_first { second } else { first };
+        change.batch().set(other, "FILE:stat", gone.as_str());
+        Ok(second)
+    });
+    let second = made.unwrap();
+    match is_own_first {
+        true => [first, second],
+        false => [second, first],
+    }
+}
+
+#[test]
+fn of_two_nodes_at_one_path_one_is_removed() {
+    let server = server!(Server::start());
+    let folder = small();
+    // Which of the two nodes a user has set something at, and which of them stays.
+    let cases = [
+        ([false, false], 0),
+        ([true, false], 0),
+        ([false, true], 1),
+        ([true, true], 0),
+    ];
+    let names: Vec<String> = (0..8).map(|number| format!("a/f{number}")).collect();
+    names.iter().for_each(|name| drop(folder.file(name, name)));
+    server.import(&folder);
+    let mut stay = Vec::new();
+    for (number, name) in names.iter().enumerate() {
+        let nodes = double(&server, &folder, name, number % 2 == 0);
+        let (are_set, stays) = cases[number / 2];
+        for node in nodes
+            .iter()
+            .zip(are_set)
+            .filter(|(_, is_set)| *is_set)
+            .map(|(node, _)| node)
+        {
+            server.done(&["addattr", "mark", "x", &node.to_string()]);
+        }
+        stay.push((nodes[stays], are_set != [false; 2]));
+    }
+    assert_eq!(server.done(&["query", "--count", "name==\"f?\""]), "16\n");
+
+    assert_eq!(server.import(&folder)[3], 8);
+    assert_eq!(server.paths("name==\"*\""), folder.paths());
+    for (name, (node, is_set)) in names.iter().zip(stay) {
+        assert_eq!(node_of(&server, &folder, name), node, "{name}");
+        assert_eq!(
+            server.be(&["catattr", "mark", &folder.word(name)]).status == 0,
+            is_set,
+            "{name}"
+        );
+    }
+    assert_eq!(server.import(&folder), [0; 4]);
 }
 
 #[test]

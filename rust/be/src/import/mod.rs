@@ -40,6 +40,9 @@ use walk::Walk;
 /// The most bytes of the path of an imported folder: it is a value.
 const ROOT: usize = 255;
 
+/// How often the folder is read at most until no file is missing. In a folder that never rests some may be missing each time.
+const SCANS: u32 = 4;
+
 /// An import of a folder.
 pub struct Import<'a> {
     folder: PathBuf,
@@ -115,11 +118,14 @@ impl<'a> Import<'a> {
 
     /// Reads the whole folder, and writes what differs from the store.
     fn scan(&mut self, mut watches: Option<&mut Watches>) -> Result<Summary, Failure> {
-        let summary = self.scan_once(watches.as_deref_mut())?;
-        match self.missing.is_empty() {
-            true => Ok(summary),
-            false => Ok(summary.and_then(self.scan_once(watches)?)),
+        let mut summary = self.scan_once(watches.as_deref_mut())?;
+        for _ in 1..SCANS {
+            if self.missing.is_empty() {
+                break;
+            }
+            summary = summary.and_then(self.scan_once(watches.as_deref_mut())?);
         }
+        Ok(summary)
     }
 
     /// Asks the store anew what it has of the folder, and scans that: after a refusal it may have less than is known here, or more.
