@@ -8,7 +8,7 @@ use std::collections::BTreeSet;
 use std::fs::{self, File};
 use std::os::unix::fs::symlink;
 use std::os::unix::net::UnixListener;
-use std::path::PathBuf;
+use std::path::{Path, PathBuf};
 use std::process::{Command, Stdio};
 use std::sync::atomic::{AtomicBool, Ordering};
 use std::thread;
@@ -585,6 +585,102 @@ fn mails_have_the_attributes_of_their_heads() {
     assert_eq!(server.import(&folder)[2], 1);
     assert_eq!(server.value("mark", &folder.path("cur/5:2,S")), "x");
     assert_eq!(server.value("MAIL:status", &folder.path("cur/5:2,S")), "Read");
+}
+
+/// Contents of files whose names fit several types, and the type that each has.
+const CONTENTS: [(&str, &[u8], &str); 28] = [
+    (
+        "vorbis.ogg",
+        b"OggS________________________\x01vorbis",
+        "audio/x-vorbis+ogg",
+    ),
+    (
+        "theora.ogg",
+        b"OggS________________________\x80theora",
+        "video/x-theora+ogg",
+    ),
+    ("flac.ogg", b"OggS________________________\x7fFLAC", "audio/x-flac+ogg"),
+    ("other.OGG", b"OggS________________________other", "audio/ogg"),
+    ("empty.ogg", b"", "audio/ogg"),
+    ("speex.oga", b"OggS________________________Speex  ", "audio/x-speex+ogg"),
+    (
+        "vorbis.oga",
+        b"OggS________________________\x01vorbis",
+        "audio/x-vorbis+ogg",
+    ),
+    ("opus.opus", b"OggS________________________OpusHead", "audio/x-opus+ogg"),
+    ("mpsub.sub", b"TITLE=a\nFORMAT=25\n", "text/x-mpsub"),
+    ("subviewer.sub", b"[INFORMATION]\n", "text/x-subviewer"),
+    ("microdvd.sub", b"{1}{2}a\n", "text/x-microdvd"),
+    (
+        "message.pgp",
+        b"-----BEGIN PGP MESSAGE-----\n",
+        "application/pgp-encrypted",
+    ),
+    (
+        "keys.pgp",
+        b"-----BEGIN PGP PUBLIC KEY BLOCK-----\n",
+        "application/pgp-keys",
+    ),
+    (
+        "signature.pgp",
+        b"-----BEGIN PGP SIGNATURE-----\n",
+        "application/pgp-signature",
+    ),
+    ("disk.vhd", b"conectix\0\0", "application/x-vhd-disk"),
+    ("fixed-disk.vhd", b"\xeb\x63\x90\0", "application/x-vhd-disk"),
+    ("source.vhd", b"entity a is\n", "text/x-vhdl"),
+    ("designer.ui", b"<ui version=\"4.0\">\n", "application/x-designer"),
+    (
+        "gtk.ui",
+        b"<?xml version=\"1.0\"?>\n<interface>\n",
+        "application/x-gtk-builder",
+    ),
+    ("linguist.ts", b"<!DOCTYPE TS><TS>\n", "text/vnd.trolltech.linguist"),
+    ("video.ts", &TRANSPORT, "video/mp2t"),
+    ("graph.dot", b"/* a */ digraph { a -> b }\n", "text/vnd.graphviz"),
+    (
+        "letter.dot",
+        b"\xd0\xcf\x11\xe0\xa1\xb1\x1a\xe1",
+        "application/msword-template",
+    ),
+    (
+        "list.m3u8",
+        b"#EXTM3U\n#EXT-X-TARGETDURATION:10\n",
+        "application/vnd.apple.mpegurl",
+    ),
+    ("music.m3u8", b"#EXTM3U\nsong.ogg\n", "audio/x-mpegurl"),
+    ("schema.json", b"{\"$schema\": \"a\"}", "application/schema+json"),
+    ("values.json", b"{\"a\": 1}", "application/json"),
+    ("run.service", b"[Unit]\n", "text/x-systemd-unit"),
+];
+
+/// Packets of 188 bytes that begin with a G.
+const TRANSPORT: [u8; 752] = {
+    let mut bytes = [0; 752];
+    let mut at = 0;
+    while at < bytes.len() {
+        bytes[at] = b'G';
+        at += 188;
+    }
+    bytes
+};
+
+#[test]
+fn the_content_decides_between_the_types_that_a_name_fits() {
+    if !Path::new("/usr/share/mime/magic").exists() {
+        println!("be, types by contents: skipped, there is no /usr/share/mime/magic");
+        return;
+    }
+    let server = server!(Server::start());
+    let folder = Folder::new();
+    for (name, content, _) in CONTENTS {
+        folder.file(name, content);
+    }
+    server.import(&folder);
+    for (name, _, mime) in CONTENTS {
+        assert_eq!(server.value("BEOS:TYPE", &folder.path(name)), mime, "{name}");
+    }
 }
 
 #[test]

@@ -6,6 +6,7 @@ mod encoded_words;
 mod extended;
 pub mod follow;
 mod known;
+mod magic;
 pub mod mail;
 mod matching;
 pub mod stat;
