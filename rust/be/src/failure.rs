@@ -50,6 +50,15 @@ pub struct QueryRefused {
 }
 
 impl Failure {
+    /// Whether the server is gone or has no place. A later connection may succeed.
+    pub fn is_of_connection(&self) -> bool {
+        match self {
+            Failure::NoServer(..) | Failure::Server(Error::Io(_) | Error::Closed) => true,
+            Failure::Server(error) => error.is("NoPass"),
+            _ => false,
+        }
+    }
+
     /// Prints why, if that was not done, and returns the exit status.
     pub fn report(&self) -> ExitCode {
         match self {

@@ -8,6 +8,7 @@ use serde::Deserialize;
 use std::borrow::Cow;
 use std::collections::{BTreeMap, VecDeque};
 use std::io::{ErrorKind, Read, Write};
+use std::os::unix::io::{AsRawFd, RawFd};
 use std::os::unix::net::UnixStream;
 use std::path::Path;
 use std::time::{Duration, Instant};
@@ -54,6 +55,13 @@ struct Line<'a> {
 
 fn bad(error: impl std::fmt::Display) -> Error {
     Error::BadLine(error.to_string())
+}
+
+/// The socket, to wait for it beside other files. It can be read once the server has sent something or closed the connection.
+impl AsRawFd for Client {
+    fn as_raw_fd(&self) -> RawFd {
+        self.stream.as_raw_fd()
+    }
 }
 
 /// Reads a line that is no reply to a request: a push, or why the server closes the connection.
