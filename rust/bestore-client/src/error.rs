@@ -1,6 +1,7 @@
 //! Why a call failed.
 
 use crate::wire::Refusal;
+use bestore::Kind;
 use std::{fmt, io};
 
 /// The result of a call of this crate.
@@ -18,6 +19,15 @@ pub enum Error {
     Closed,
     /// The server sent what is no line of the protocol.
     BadLine(String),
+    /// A change sets an attribute of another kind than the index of its name takes. Nothing was written.
+    KindMismatch {
+        /// The name of the attribute.
+        name: String,
+        /// The kind that the index takes.
+        index: Kind,
+        /// The kind of the value.
+        value: Kind,
+    },
 }
 
 impl Error {
@@ -50,6 +60,10 @@ impl fmt::Display for Error {
             Error::Io(error) => write!(f, "the connection to the server: {error}"),
             Error::Closed => f.write_str("the server closed the connection"),
             Error::BadLine(why) => write!(f, "the server sent what is no line of the protocol: {why}"),
+            Error::KindMismatch { name, index, value } => {
+                let (name, index, value) = (name.clone(), *index, *value);
+                bestore::Error::KindMismatch { name, index, value }.fmt(f)
+            }
         }
     }
 }
