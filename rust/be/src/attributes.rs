@@ -93,7 +93,7 @@ pub fn add(client: &mut Client, added: &Added, output: &mut Output) -> Result<()
     }
     let node = client.change(|change| {
         let node = change.new_node();
-        change.batch().set(node, name, value.clone());
+        change.any_kind().batch().set(node, name, value.clone());
         Ok(node)
     })?;
     output.line(node.to_string().as_bytes())

@@ -2,7 +2,8 @@
 
 use crate::import::follow;
 use crate::kind::shown_name;
-use crate::text::{escaped, excerpt};
+use crate::text::{escaped, pointed};
+use crate::typed_query::BadDate;
 use bestore_client::wire::Refusal;
 use bestore_client::{Error, SocketPath};
 use std::collections::BTreeMap;
@@ -20,6 +21,8 @@ pub enum Failure {
     Server(Error),
     /// A query was refused.
     Query(Box<QueryRefused>),
+    /// A date in a query is none.
+    Date(Box<BadDate>),
     /// The value isn't of this type.
     Value(&'static str),
     /// A file can't be read.
@@ -45,11 +48,22 @@ pub enum Failure {
 pub struct QueryRefused {
     pub text: String,
     pub refusal: Refusal,
+    /// The byte of the text at which it is wrong, if that is known.
+    pub offset: Option<usize>,
     /// The names of kinds by the names of the indices, if the query lacks one.
     pub indices: Option<BTreeMap<String, String>>,
 }
 
 impl Failure {
+    /// Whether the server is gone or has no place. A later connection may succeed.
+    pub fn is_of_connection(&self) -> bool {
+        match self {
+            Failure::NoServer(..) | Failure::Server(Error::Io(_) | Error::Closed) => true,
+            Failure::Server(error) => error.is("NoPass"),
+            _ => false,
+        }
+    }
+
     /// Prints why, if that was not done, and returns the exit status.
     pub fn report(&self) -> ExitCode {
         match self {
@@ -67,6 +81,12 @@ impl Failure {
 impl From<Error> for Failure {
     fn from(error: Error) -> Self {
         Failure::Server(error)
+    }
+}
+
+impl From<BadDate> for Failure {
+    fn from(bad: BadDate) -> Self {
+        Failure::Date(Box::new(bad))
     }
 }
 
@@ -89,6 +109,12 @@ impl fmt::Display for Failure {
             }
             Failure::Server(error) => f.write_str(&message(error)),
             Failure::Query(refused) => refused.fmt(f),
+            Failure::Date(bad) => write!(
+                f,
+                "{}{}",
+                escaped(&bad.why.to_string()),
+                pointed(&bad.typed, bad.offset)
+            ),
             Failure::Value(kind) => write!(f, "the value is no {kind}"),
             Failure::File(path, error) => write!(f, "{}: {error}", shown(path)),
             Failure::NotImported(path) => {
@@ -114,9 +140,8 @@ impl fmt::Display for Failure {
 impl fmt::Display for QueryRefused {
     fn fmt(&self, f: &mut fmt::Formatter<'_>) -> fmt::Result {
         f.write_str(&escaped(&self.refusal.message))?;
-        if let Some(offset) = self.refusal.number_of("offset") {
-            let (line, column) = excerpt(&self.text, usize::try_from(offset).unwrap_or(usize::MAX));
-            write!(f, "\n  {line}\n  {:column$}^", "")?;
+        if let Some(offset) = self.offset {
+            f.write_str(&pointed(&self.text, offset))?;
         }
         if let Some(missing) = self.refusal.details.get("missing").and_then(|name| name.as_str()) {
             write!(f, "\n  {} has no index", escaped(missing))?;

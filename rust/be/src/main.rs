@@ -3,16 +3,20 @@
 
 mod attributes;
 mod command_line;
+mod dates;
 mod failure;
+mod hints;
 mod import;
 mod indices;
 mod kind;
 mod output;
 mod paths;
 mod query;
+mod query_text;
 mod server;
 mod status;
 mod text;
+mod typed_query;
 
 use attributes::Added;
 use clap::error::ErrorKind;

@@ -1,12 +1,16 @@
 //! `query`: once, counted, or watched.
 
 use crate::command_line::Query as Line;
-use crate::failure::{Failure, QueryRefused};
+use crate::dates::Clock;
+use crate::failure::{complain, Failure, QueryRefused};
+use crate::hints::hints;
 use crate::output::Output;
 use crate::paths::paths_of;
 use crate::server::{self, pinned};
+use crate::text::{escaped, pointed};
+use crate::typed_query::TypedQuery;
 use bestore::Value;
-use bestore_client::wire::{self, Command, Hits, Json, Push};
+use bestore_client::wire::{self, kind_named, Command, Hits, Json, Push};
 use bestore_client::{Client, Error, Query};
 use serde::Serialize;
 use std::path::PathBuf;
@@ -22,19 +26,31 @@ pub fn run(client: &mut Client, line: &Line, output: &mut Output) -> Result<(), 
     if line.escape {
         output.escape();
     }
+    let query = TypedQuery::read(&line.text, &Clock::of_machine())?;
     let answer = match (line.watch, line.count) {
-        (true, _) => watch(client, line, output),
-        (false, true) => count(client, line, output),
-        (false, false) => find(client, line, output),
+        (true, _) => watch(client, &query, line, output),
+        (false, true) => count(client, &query, line, output),
+        (false, false) => find(client, &query, line, output),
     };
     answer.map_err(|failure| match failure {
-        Failure::Server(Error::Refused(refusal)) => refused(client, line, refusal),
+        Failure::Server(Error::Refused(refusal)) => refused(client, &query, refusal),
         other => other,
     })
 }
 
+/// Says which comparisons of a query that the server has accepted no node can meet.
+fn warn(client: &mut Client, query: &TypedQuery) -> Result<(), Failure> {
+    let indices = server::indices(client)?;
+    let kind = |(name, kind): (String, String)| kind_named(&kind).map(|kind| (name, kind));
+    for hint in hints(&query.sent, &indices.into_iter().filter_map(kind).collect()) {
+        let place = pointed(&query.typed, query.place_of(hint.offset));
+        complain(&format!("warning: {}{place}", escaped(&hint.message)));
+    }
+    Ok(())
+}
+
 /// Adds to an error of a query what helps to see why.
-fn refused(client: &mut Client, line: &Line, refusal: wire::Refusal) -> Failure {
+fn refused(client: &mut Client, query: &TypedQuery, refusal: wire::Refusal) -> Failure {
     let lacks_index = refusal.name == "NotCovered";
     if !lacks_index && !matches!(refusal.name.as_str(), "Syntax" | "BadPattern") {
         return Failure::Server(Error::Refused(refusal));
@@ -44,24 +60,31 @@ fn refused(client: &mut Client, line: &Line, refusal: wire::Refusal) -> Failure 
     } else {
         None
     };
-    let text = line.text.clone();
-    Failure::Query(Box::new(QueryRefused { text, refusal, indices }))
+    let offset = refusal.number_of("offset");
+    Failure::Query(Box::new(QueryRefused {
+        text: query.typed.clone(),
+        offset: offset.map(|offset| query.place_of(usize::try_from(offset).unwrap_or(usize::MAX))),
+        refusal,
+        indices,
+    }))
 }
 
-fn count(client: &mut Client, line: &Line, output: &mut Output) -> Result<(), Failure> {
+fn count(client: &mut Client, query: &TypedQuery, line: &Line, output: &mut Output) -> Result<(), Failure> {
     let hits: Hits = client.call(Command::Query(wire::Query {
-        query: line.text.as_str().into(),
+        query: query.sent.as_str().into(),
         count: true,
         ..wire::Query::default()
     }))?;
+    warn(client, query)?;
     match line.json {
         true => output.json(&hits),
         false => output.line(hits.count.to_string().as_bytes()),
     }
 }
 
-fn find(client: &mut Client, line: &Line, output: &mut Output) -> Result<(), Failure> {
-    let hits = pinned(client, |client| all_pages(client, line))?;
+fn find(client: &mut Client, query: &TypedQuery, line: &Line, output: &mut Output) -> Result<(), Failure> {
+    let hits = pinned(client, |client| all_pages(client, &query.sent, line))?;
+    warn(client, query)?;
     if line.json {
         return output.json(&hits);
     }
@@ -83,10 +106,10 @@ fn find(client: &mut Client, line: &Line, output: &mut Output) -> Result<(), Fai
 }
 
 /// All that the query finds, up to the limit, as one page. The client is pinned.
-fn all_pages(client: &mut Client, line: &Line) -> Result<Hits, Failure> {
+fn all_pages(client: &mut Client, text: &str, line: &Line) -> Result<Hits, Failure> {
     let columns: Vec<&str> = line.columns.iter().map(String::as_str).collect();
     let mut query = Query {
-        text: &line.text,
+        text,
         columns: &columns,
         limit: line.limit,
         from: 0,
@@ -148,8 +171,9 @@ struct Change<'a> {
 }
 
 /// Prints what the query finds, and then what comes and goes, until the server ends or the watch does.
-fn watch(client: &mut Client, line: &Line, output: &mut Output) -> Result<(), Failure> {
-    let begun = client.watch(Some(&line.text))?;
+fn watch(client: &mut Client, query: &TypedQuery, line: &Line, output: &mut Output) -> Result<(), Failure> {
+    let begun = client.watch(Some(&query.sent))?;
+    warn(client, query)?;
     let mut push = Push {
         watch: begun.watch,
         commit: begun.commit,

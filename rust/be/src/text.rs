@@ -70,8 +70,14 @@ pub fn width(text: &str) -> usize {
     text.chars().map(|character| character.width().unwrap_or(0)).sum()
 }
 
+/// Two lines below a message: the part of the text around the byte, and a caret under it.
+pub fn pointed(text: &str, offset: usize) -> String {
+    let (line, column) = excerpt(text, offset);
+    format!("\n  {line}\n  {:column$}^", "")
+}
+
 /// The part of the text around the byte, on one line, and the column of the byte in it.
-pub fn excerpt(text: &str, offset: usize) -> (String, usize) {
+fn excerpt(text: &str, offset: usize) -> (String, usize) {
     let pieces: Vec<(usize, String)> = text
         .char_indices()
         .map(|(at, character)| (at, visible(character)))

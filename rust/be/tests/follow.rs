@@ -7,7 +7,9 @@ use std::fs;
 use std::io::{BufRead, BufReader, Read};
 use std::os::unix::fs::PermissionsExt;
 use std::path::{Path, PathBuf};
-use std::process::{Child, ChildStdout, Command, Stdio};
+use std::process::{Child, ChildStderr, ChildStdout, Command, Stdio};
+use std::sync::atomic::{AtomicBool, Ordering};
+use std::sync::mpsc::{channel, Receiver};
 use std::thread;
 use std::time::{Duration, Instant};
 
@@ -18,6 +20,8 @@ const WITHIN: Duration = Duration::from_secs(20);
 struct Follower {
     child: Child,
     out: BufReader<ChildStdout>,
+    /// The lines that it says on standard error.
+    error: Receiver<String>,
 }
 
 impl Follower {
@@ -30,12 +34,18 @@ impl Follower {
     fn run(mut command: Command) -> Self {
         let mut child = command.stdout(Stdio::piped()).stderr(Stdio::piped()).spawn().unwrap();
         let mut out = BufReader::new(child.stdout.take().unwrap());
+        let error = lines_of(child.stderr.take().unwrap());
         let mut line = String::new();
         while !line.starts_with("{\"files\":") {
             line.clear();
             assert_ne!(out.read_line(&mut line).unwrap(), 0, "the import has ended");
         }
-        Self { child, out }
+        Self { child, out, error }
+    }
+
+    /// Reads what it says on standard error, up to a line that has these words.
+    fn wait_until_it_says(&self, words: &str) {
+        while !self.error.recv_timeout(WITHIN).expect(words).contains(words) {}
     }
 
     /// Ends the import, and returns what it has printed since the folder was read.
@@ -61,8 +71,7 @@ impl Follower {
             assert!(begun.elapsed() < WITHIN, "the import doesn't end");
             thread::sleep(Duration::from_millis(10));
         }
-        let mut error = String::new();
-        self.child.stderr.take().unwrap().read_to_string(&mut error).unwrap();
+        let error = self.error.iter().map(|line| line + "\n").collect();
         let status = self.child.wait().unwrap().code().unwrap_or(-1);
         Said {
             status,
@@ -77,6 +86,18 @@ impl Drop for Follower {
         let _ = self.child.kill();
         let _ = self.child.wait();
     }
+}
+
+/// The lines of a process, as they come.
+fn lines_of(error: ChildStderr) -> Receiver<String> {
+    let (sender, receiver) = channel();
+    thread::spawn(move || {
+        for line in BufReader::new(error).lines().map_while(Result::ok) {
+            // The test may not listen any more.
+            let _ = sender.send(line);
+        }
+    });
+    receiver
 }
 
 /// Waits until it is so, and prints how long that took.
@@ -227,7 +248,7 @@ fn events_that_were_lost_are_made_good() {
 }
 
 #[test]
-fn a_follower_ends_if_its_folder_or_server_is_gone() {
+fn a_follower_ends_if_its_folder_is_gone() {
     let mut server = server!(Server::start());
     let folder = Folder::new();
     let inner = Folder(folder.folder("inner"));
@@ -239,12 +260,89 @@ fn a_follower_ends_if_its_folder_or_server_is_gone() {
     assert!(said.error.contains("is gone, and nothing was removed"), "{said:?}");
     assert_eq!(server.done(&["query", "--count", "name==\"*\""]), "2\n");
 
-    let follower = Follower::start(&server, &folder);
+    // Also while it waits for its server.
+    folder.rename("other", "inner");
+    let follower = Follower::start(&server, &inner);
     server.end();
-    folder.file("y", "");
+    follower.wait_until_it_says("waiting for the server");
+    folder.rename("inner", "other");
     let said = follower.end();
     assert_eq!(said.status, 1);
-    assert!(said.error.contains("the server closed the connection"), "{said:?}");
+    assert!(said.error.contains("is gone, and nothing was removed"), "{said:?}");
+}
+
+#[test]
+fn a_follower_waits_for_its_server_and_catches_up() {
+    for options in [
+        &["--pages", "1024", "--keep", "store"][..],
+        &["--pages", "256", "--volumes", "3", "--keep", "store"],
+        &["--pages", "1024"],
+    ] {
+        let is_kept = options.contains(&"--keep");
+        let mut server = server!(Server::start_with(options));
+        let folder = Folder::new();
+        for name in ["changed", "removed", "renamed"] {
+            folder.file(name, "x");
+        }
+        folder.folder("a/b");
+        let follower = Follower::start(&server, &folder);
+        server.done(&["addattr", "mark", "x", &folder.word("renamed"), &folder.word("a/b")]);
+        server.end();
+        // It notices that though nothing has changed in the folder.
+        follower.wait_until_it_says("the server closed the connection; waiting for the server");
+        folder.file("changed", "more of it");
+        folder.file("a/new", "");
+        fs::remove_file(folder.path("removed")).unwrap();
+        folder.rename("renamed", "a/other");
+        folder.rename("a", "z");
+        server.start_again();
+        follower.wait_until_it_says("the server is there again");
+        soon("what has changed meanwhile", || {
+            same(&server, &folder) && server.paths("size==10").len() == 1
+        });
+        for name in ["z/other", "z/b"] {
+            let said = server.be(&["catattr", "-r", "mark", &folder.word(name)]);
+            assert_eq!(said.out == "x", is_kept, "{name}: {said:?}");
+        }
+        folder.file("z/b/later", "");
+        fs::remove_file(folder.path("changed")).unwrap();
+        soon("what changes later", || same(&server, &folder));
+    }
+}
+
+#[test]
+fn a_server_that_is_killed_again_and_again_is_caught_up_with() {
+    let mut server = server!(Server::start_with(&["--pages", "1024", "--keep", "store"]));
+    let folder = Folder::new();
+    folder.file("x", "");
+    let follower = Follower::start(&server, &folder);
+    let ended = AtomicBool::new(false);
+    thread::scope(|scope| {
+        scope.spawn(|| {
+            for number in (0..).take_while(|_| !ended.load(Ordering::Relaxed)) {
+                let inner = folder.folder(&format!("d{}", number % 7));
+                fs::write(inner.join("f"), format!("{number}")).unwrap();
+                folder.rename(&format!("d{}/f", number % 7), &format!("f{}", number % 30));
+                if number % 3 == 0 {
+                    fs::remove_dir_all(inner).unwrap();
+                }
+                thread::sleep(Duration::from_millis(1));
+            }
+        });
+        for round in 0..8 {
+            let entries = server.entries();
+            soon("a write", || server.entries() > entries);
+            thread::sleep(Duration::from_millis(7 * round));
+            server.end();
+            follower.wait_until_it_says("waiting for the server");
+            server.start_again();
+            follower.wait_until_it_says("the server is there again");
+        }
+        ended.store(true, Ordering::Relaxed);
+    });
+    soon("all changes", || same(&server, &folder));
+    let [new, _, _, removed] = server.import(&folder);
+    assert_eq!((new, removed), (0, 0));
 }
 
 #[test]

@@ -3,11 +3,12 @@
 use crate::common::files::{counts, name_of_bytes, Folder};
 use crate::common::refuser::Refuser;
 use crate::common::{Said, Server};
+use bestore_client::Client;
 use std::collections::BTreeSet;
 use std::fs::{self, File};
 use std::os::unix::fs::symlink;
 use std::os::unix::net::UnixListener;
-use std::path::PathBuf;
+use std::path::{Path, PathBuf};
 use std::process::{Command, Stdio};
 use std::sync::atomic::{AtomicBool, Ordering};
 use std::thread;
@@ -277,6 +278,75 @@ fn files_that_come_and_go_meanwhile_do_no_harm() {
     assert_eq!(server.paths("name==\"*\""), folder.paths());
 }
 
+/// Gives the path of a file a second node, as an import leaves it that a rename of another file onto this one has overtaken: one of
+/// the two nodes is that of a file which is gone. Returns the file's own node, and the other.
+fn double(server: &Server, folder: &Folder, name: &str, is_own_first: bool) -> [u64; 2] {
+    let first = node_of(server, folder, name);
+    let mut client = Client::connect(server.socket()).unwrap();
+    let attributes = client.attributes(first).unwrap();
+    let stat = attributes["FILE:stat"].as_str().unwrap();
+    let (device, rest) = stat.split_once(':').unwrap();
+    let (_, rest) = rest.split_once(':').unwrap();
+    let gone = format!("{device}:fffffffffffff:{rest}");
+    let made = client.change(|change| {
+        let second = change.new_node();
+        for (name, value) in &attributes {
+            change.batch().set(second, name, value.clone());
+        }
+        let other = if is_own_first { second } else { first };
+        change.batch().set(other, "FILE:stat", gone.as_str());
+        Ok(second)
+    });
+    let second = made.unwrap();
+    match is_own_first {
+        true => [first, second],
+        false => [second, first],
+    }
+}
+
+#[test]
+fn of_two_nodes_at_one_path_one_is_removed() {
+    let server = server!(Server::start());
+    let folder = small();
+    // Which of the two nodes a user has set something at, and which of them stays.
+    let cases = [
+        ([false, false], 0),
+        ([true, false], 0),
+        ([false, true], 1),
+        ([true, true], 0),
+    ];
+    let names: Vec<String> = (0..8).map(|number| format!("a/f{number}")).collect();
+    names.iter().for_each(|name| drop(folder.file(name, name)));
+    server.import(&folder);
+    let mut stay = Vec::new();
+    for (number, name) in names.iter().enumerate() {
+        let nodes = double(&server, &folder, name, number % 2 == 0);
+        let (are_set, stays) = cases[number / 2];
+        for node in nodes
+            .iter()
+            .zip(are_set)
+            .filter(|(_, is_set)| *is_set)
+            .map(|(node, _)| node)
+        {
+            server.done(&["addattr", "mark", "x", &node.to_string()]);
+        }
+        stay.push((nodes[stays], are_set != [false; 2]));
+    }
+    assert_eq!(server.done(&["query", "--count", "name==\"f?\""]), "16\n");
+
+    assert_eq!(server.import(&folder)[3], 8);
+    assert_eq!(server.paths("name==\"*\""), folder.paths());
+    for (name, (node, is_set)) in names.iter().zip(stay) {
+        assert_eq!(node_of(&server, &folder, name), node, "{name}");
+        assert_eq!(
+            server.be(&["catattr", "mark", &folder.word(name)]).status == 0,
+            is_set,
+            "{name}"
+        );
+    }
+    assert_eq!(server.import(&folder), [0; 4]);
+}
+
 #[test]
 fn an_import_that_was_killed_is_completed_by_the_next() {
     let server = server!(Server::start());
@@ -515,6 +585,102 @@ fn mails_have_the_attributes_of_their_heads() {
     assert_eq!(server.import(&folder)[2], 1);
     assert_eq!(server.value("mark", &folder.path("cur/5:2,S")), "x");
     assert_eq!(server.value("MAIL:status", &folder.path("cur/5:2,S")), "Read");
+}
+
+/// Contents of files whose names fit several types, and the type that each has.
+const CONTENTS: [(&str, &[u8], &str); 28] = [
+    (
+        "vorbis.ogg",
+        b"OggS________________________\x01vorbis",
+        "audio/x-vorbis+ogg",
+    ),
+    (
+        "theora.ogg",
+        b"OggS________________________\x80theora",
+        "video/x-theora+ogg",
+    ),
+    ("flac.ogg", b"OggS________________________\x7fFLAC", "audio/x-flac+ogg"),
+    ("other.OGG", b"OggS________________________other", "audio/ogg"),
+    ("empty.ogg", b"", "audio/ogg"),
+    ("speex.oga", b"OggS________________________Speex  ", "audio/x-speex+ogg"),
+    (
+        "vorbis.oga",
+        b"OggS________________________\x01vorbis",
+        "audio/x-vorbis+ogg",
+    ),
+    ("opus.opus", b"OggS________________________OpusHead", "audio/x-opus+ogg"),
+    ("mpsub.sub", b"TITLE=a\nFORMAT=25\n", "text/x-mpsub"),
+    ("subviewer.sub", b"[INFORMATION]\n", "text/x-subviewer"),
+    ("microdvd.sub", b"{1}{2}a\n", "text/x-microdvd"),
+    (
+        "message.pgp",
+        b"-----BEGIN PGP MESSAGE-----\n",
+        "application/pgp-encrypted",
+    ),
+    (
+        "keys.pgp",
+        b"-----BEGIN PGP PUBLIC KEY BLOCK-----\n",
+        "application/pgp-keys",
+    ),
+    (
+        "signature.pgp",
+        b"-----BEGIN PGP SIGNATURE-----\n",
+        "application/pgp-signature",
+    ),
+    ("disk.vhd", b"conectix\0\0", "application/x-vhd-disk"),
+    ("fixed-disk.vhd", b"\xeb\x63\x90\0", "application/x-vhd-disk"),
+    ("source.vhd", b"entity a is\n", "text/x-vhdl"),
+    ("designer.ui", b"<ui version=\"4.0\">\n", "application/x-designer"),
+    (
+        "gtk.ui",
+        b"<?xml version=\"1.0\"?>\n<interface>\n",
+        "application/x-gtk-builder",
+    ),
+    ("linguist.ts", b"<!DOCTYPE TS><TS>\n", "text/vnd.trolltech.linguist"),
+    ("video.ts", &TRANSPORT, "video/mp2t"),
+    ("graph.dot", b"/* a */ digraph { a -> b }\n", "text/vnd.graphviz"),
+    (
+        "letter.dot",
+        b"\xd0\xcf\x11\xe0\xa1\xb1\x1a\xe1",
+        "application/msword-template",
+    ),
+    (
+        "list.m3u8",
+        b"#EXTM3U\n#EXT-X-TARGETDURATION:10\n",
+        "application/vnd.apple.mpegurl",
+    ),
+    ("music.m3u8", b"#EXTM3U\nsong.ogg\n", "audio/x-mpegurl"),
+    ("schema.json", b"{\"$schema\": \"a\"}", "application/schema+json"),
+    ("values.json", b"{\"a\": 1}", "application/json"),
+    ("run.service", b"[Unit]\n", "text/x-systemd-unit"),
+];
+
+/// Packets of 188 bytes that begin with a G.
+const TRANSPORT: [u8; 752] = {
+    let mut bytes = [0; 752];
+    let mut at = 0;
+    while at < bytes.len() {
+        bytes[at] = b'G';
+        at += 188;
+    }
+    bytes
+};
+
+#[test]
+fn the_content_decides_between_the_types_that_a_name_fits() {
+    if !Path::new("/usr/share/mime/magic").exists() {
+        println!("be, types by contents: skipped, there is no /usr/share/mime/magic");
+        return;
+    }
+    let server = server!(Server::start());
+    let folder = Folder::new();
+    for (name, content, _) in CONTENTS {
+        folder.file(name, content);
+    }
+    server.import(&folder);
+    for (name, _, mime) in CONTENTS {
+        assert_eq!(server.value("BEOS:TYPE", &folder.path(name)), mime, "{name}");
+    }
 }
 
 #[test]

@@ -84,6 +84,99 @@ fn a_caret_shows_the_fault_of_a_query() {
     assert_eq!(lines[2].len(), lines[1].chars().count());
 }
 
+/// What the tool says about a query, in the time of Berlin.
+fn said(server: &Server, words: &[&str]) -> Said {
+    let mut command = server.command(&[&["query"], words].concat());
+    command.env("TZ", "CET-1CEST,M3.5.0,M10.5.0/3").output().unwrap().into()
+}
+
+#[test]
+fn a_comparison_that_is_never_true_is_a_warning() {
+    let server = server!(Server::with_three());
+    for (query, message, shown, caret) in [
+        (
+            "name==* && size>1.5",
+            "size>1.5 is never true: size is int64, and 1.5 isn't a whole number",
+            "name==* && size>1.5",
+            "           ^",
+        ),
+        (
+            "size>=2026-11-01",
+            "size>=2026-11-01 is never true: size is int64, and 2026-11-01 isn't a whole number; a date is typed %2026-11-01%",
+            "size>=2026-11-01",
+            "^",
+        ),
+        (
+            "size<%2024% && size==\u{1b}漢",
+            r"size==\x1b漢 is never true: size is int64, and \x1b漢 isn't a whole number",
+            r"size<%2024% && size==\x1b漢",
+            "               ^",
+        ),
+    ] {
+        let error = format!("be: warning: {message}\n  {shown}\n  {caret}\n");
+        let out = String::new();
+        assert_eq!(said(&server, &[query]), Said { status: 0, out, error });
+    }
+    let counted = said(&server, &["--count", "size==10 || size==x"]);
+    assert_eq!(
+        (counted.status, counted.out.as_str(), counted.error.lines().count()),
+        (0, "1\n", 3)
+    );
+    for query in ["size>1", "name>1.5 && other==1.5", "!(size==-1)"] {
+        assert_eq!(said(&server, &[query]).error, "", "{query}");
+    }
+    // A query that is refused has its error alone.
+    assert_eq!(said(&server, &["size==x ||"]).error.lines().count(), 3);
+    let mut command = server.command(&["query", "--watch", "size==x"]);
+    let mut child = command.stderr(Stdio::piped()).spawn().unwrap();
+    let mut line = String::new();
+    BufReader::new(child.stderr.take().unwrap())
+        .read_line(&mut line)
+        .unwrap();
+    assert!(line.starts_with("be: warning: size==x is never true"), "{line}");
+    child.kill().unwrap();
+    child.wait().unwrap();
+}
+
+#[test]
+fn dates_between_percent_signs_are_times() {
+    let server = server!(Server::with_three());
+    server.done(&["mkindex", "-t", "int64", "when"]);
+    // The last second of 2023 in Berlin, the first of 2024, and the first of 2025.
+    for (node, seconds) in [("1", "1704063599"), ("2", "1704063600"), ("3", "1735686000")] {
+        server.done(&["addattr", "-t", "int64", "when", seconds, node]);
+    }
+    for (query, found) in [
+        ("when>=%2024-01-01%", "2\n3\n"),
+        ("when==%2024%", "2\n"),
+        ("when!=%2024%", "1\n3\n"),
+        ("when<%1 Jan 2024% || name==c", "1\n3\n"),
+        ("when<=%yesterday% && when>%2024%", "3\n"),
+        ("!(when<%2024%)", "2\n3\n"),
+    ] {
+        let (out, error) = (found.to_string(), String::new());
+        assert_eq!(said(&server, &[query]), Said { status: 0, out, error }, "{query}");
+    }
+    let shown = said(&server, &["--watch", "when>%soon%"]);
+    let error = "be: “soon” isn't a date, such as 2024-01-31, 31 Jan 2024, yesterday, last week, 2 days ago\n  \
+                 when>%soon%\n       ^\n";
+    assert_eq!((shown.status, shown.error.as_str()), (1, error));
+    // An error of the query is shown in what was typed.
+    let error = said(&server, &["when==%2024% && name==[a"]).error;
+    assert!(
+        error.ends_with("\n  when==%2024% && name==[a\n                        ^\n"),
+        "{error}"
+    );
+    let error = said(&server, &["kind==%2024%"]).error;
+    assert!(
+        error.contains("\n  kind==%2024%\n  ^\n  kind has no index\n"),
+        "{error}"
+    );
+    // Between quotes a percent sign is itself.
+    server.done(&["addattr", "name", "%x%", "3"]);
+    assert_eq!(said(&server, &["name==\"%x%\""]).out, "3\n");
+}
+
 #[test]
 fn a_missing_index_is_named_with_those_that_there_are() {
     let server = server!(Server::with_three());

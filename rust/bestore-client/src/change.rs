@@ -1,8 +1,9 @@
 //! Changes: reading and writing as one.
 
-use crate::wire::Numbers;
-use crate::{Client, Result};
-use bestore::{Batch, Node};
+use crate::wire::{kind_named, Command, Indices, Nothing, Numbers};
+use crate::{Client, Error, Result};
+use bestore::{Batch, Kind, Node, Operation};
+use std::collections::BTreeMap;
 
 /// What the closure of [`Client::change`] reads by, and the operations that it collects.
 ///
@@ -16,6 +17,7 @@ pub struct Change<'a> {
     nexts: Vec<u64>,
     /// The volume that the batch has to be in, if it is known.
     volume: Option<u32>,
+    checks_kinds: bool,
 }
 
 impl Change<'_> {
@@ -27,6 +29,12 @@ impl Change<'_> {
     /// The operations. Add to them, and make nodes by [`new_node`](Self::new_node) alone.
     pub fn batch(&mut self) -> &mut Batch {
         &mut self.batch
+    }
+
+    /// Accepts values of any kind. Otherwise a value under an index of another kind is an error, since no query would find it.
+    pub fn any_kind(&mut self) -> &mut Self {
+        self.checks_kinds = false;
+        self
     }
 
     /// Makes nodes from now on in this volume, and no longer in the one with the most free pages. A batch has one volume, so this is
@@ -58,8 +66,11 @@ impl Client {
     /// If the server has several volumes, the operations are in one of them, and no other write came between there. What the closure
     /// reads of other volumes may have changed.
     ///
+    /// If an attribute is set, this asks the server which indices there are: one request more.
+    ///
     /// # Errors
-    /// Those of the closure; [`Error::Refused`](crate::Error::Refused).
+    /// Those of the closure; [`Error::KindMismatch`], if an index takes another kind than that of an attribute of its name, unless the
+    /// closure has called [`any_kind`](Change::any_kind); [`Error::Refused`].
     pub fn change<T>(&mut self, mut change: impl FnMut(&mut Change<'_>) -> Result<T>) -> Result<T> {
         let mut left = 1_000_u32;
         loop {
@@ -78,9 +89,19 @@ impl Client {
             next: snapshot.next,
             nexts: snapshot.nexts,
             volume: None,
+            checks_kinds: true,
         };
         let value = change(&mut collected);
-        let Change { batch, volume, .. } = collected;
+        let Change {
+            batch,
+            volume,
+            checks_kinds,
+            ..
+        } = collected;
+        let value = match value {
+            Ok(value) if checks_kinds => self.check_kinds(&batch).map(|()| value),
+            other => other,
+        };
         let expected = match snapshot.commits {
             one if one.is_empty() => Numbers::One(snapshot.commit),
             each => Numbers::Each(each),
@@ -91,6 +112,37 @@ impl Client {
         };
         self.unpin_quietly()?;
         value.and_then(|value| written.map(|()| value))
+    }
+
+    /// Fails if the batch sets an attribute of another kind than the index of its name takes then.
+    fn check_kinds(&mut self, batch: &Batch) -> Result<()> {
+        if !batch
+            .operations()
+            .any(|operation| matches!(operation, Operation::Set { .. }))
+        {
+            return Ok(());
+        }
+        let read: Indices = self.call(Command::Indices(Nothing {}))?;
+        let kind = |(name, kind): (String, String)| kind_named(&kind).map(|kind| (name, kind));
+        let mut indices: BTreeMap<String, Kind> = read.indices.into_iter().filter_map(kind).collect();
+        for operation in batch.operations() {
+            match operation {
+                Operation::MakeIndex { name, kind } => drop(indices.insert(name.into(), kind)),
+                Operation::RemoveIndex { name } => drop(indices.remove(name)),
+                Operation::Set { name, value, .. } => match indices.get(name) {
+                    Some(index) if *index != value.kind() => {
+                        return Err(Error::KindMismatch {
+                            name: name.into(),
+                            index: *index,
+                            value: value.kind(),
+                        })
+                    }
+                    _ => {}
+                },
+                _ => {}
+            }
+        }
+        Ok(())
     }
 
     /// Unpins. That the closure has done so, or that the server took the snapshot back, is no error.

@@ -10,6 +10,7 @@ use std::borrow::Cow;
 use std::collections::BTreeMap;
 use std::io::{self, ErrorKind, Read, Write};
 use std::net::Shutdown;
+use std::os::unix::io::{AsRawFd, RawFd};
 use std::os::unix::net::UnixStream;
 use std::path::Path;
 use std::time::{Duration, Instant};
@@ -86,6 +87,13 @@ fn query_of<'a>(command: &'a Command<'_>) -> Option<&'a str> {
 
 fn bad(error: impl std::fmt::Display) -> Error {
     Error::BadLine(error.to_string())
+}
+
+/// The socket, to wait for it beside other files. It can be read once the server has sent something or closed the connection.
+impl AsRawFd for Client {
+    fn as_raw_fd(&self) -> RawFd {
+        self.stream.as_raw_fd()
+    }
 }
 
 /// Reads a line that is no reply to a request: a push, or why the server closes the connection.

@@ -1,6 +1,7 @@
 //! Why a call failed.
 
 use crate::wire::Refusal;
+use bestore::Kind;
 use std::path::PathBuf;
 use std::time::Duration;
 use std::{fmt, io};
@@ -30,6 +31,15 @@ pub enum Error {
         server: u32,
         /// The user as whom this process acts.
         user: u32,
+    },
+    /// A change sets an attribute of another kind than the index of its name takes. Nothing was written.
+    KindMismatch {
+        /// The name of the attribute.
+        name: String,
+        /// The kind that the index takes.
+        index: Kind,
+        /// The kind of the value.
+        value: Kind,
     },
 }
 
@@ -73,6 +83,10 @@ impl fmt::Display for Error {
                  option can name the socket of a server that you trust",
                 socket.display()
             ),
+            Error::KindMismatch { name, index, value } => {
+                let (name, index, value) = (name.clone(), *index, *value);
+                bestore::Error::KindMismatch { name, index, value }.fmt(f)
+            }
         }
     }
 }

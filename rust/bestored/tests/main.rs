@@ -1,6 +1,7 @@
 //! The tests of the server. They are one program, so that it is linked once, and so that tests that wait run beside others.
 
 mod background;
+mod changes;
 mod common;
 mod crowd;
 mod full;

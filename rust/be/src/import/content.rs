@@ -121,16 +121,26 @@ impl Reader {
             return (mime.into(), Vec::new());
         }
         let side = path.parent().and_then(Side::of_folder);
-        let mime = match (side, self.types.of_name(name)) {
-            (Some(_), _) => mail::TYPE,
-            (None, Some(mime)) => mime,
-            (None, None) => begin_of(path, BEGIN).map_or(UNKNOWN, |begin| self.types.of_content(&begin)),
+        let mime = match side {
+            Some(_) => mail::TYPE,
+            None => self.mime_of_file(path, name),
         };
         if side.is_none() && mime != "message/rfc822" {
             return (mime.into(), Vec::new());
         }
         let begin = begin_of(path, mail::HEAD).unwrap_or_default();
         (mail::TYPE.into(), mail::attributes(&begin, side, name_in(path)))
+    }
+
+    /// The type that the name says. If it says none or several, the content decides.
+    fn mime_of_file(&self, path: &Path, name: &str) -> &str {
+        match self.types.of_name(name)[..] {
+            [mime] => mime,
+            ref mimes => match begin_of(path, BEGIN) {
+                Ok(begin) => self.types.of_content(mimes, &begin),
+                Err(_) => mimes.first().copied().unwrap_or(UNKNOWN),
+            },
+        }
     }
 
     /// Adds the extended attributes `user.*`.

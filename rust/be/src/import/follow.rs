@@ -1,17 +1,17 @@
-//! `--follow`: what inotify(7) reports of the folder is written.
+//! `--follow`: what inotify(7) reports of the folder is written. If the server ends, it is waited for.
 
 use super::known::Known;
 use super::summary::Summary;
 use super::walk::{is_of_a_store, Found, Walk, Walked};
 use super::Import;
-use crate::failure::Failure;
+use crate::failure::{complain, Failure};
 use crate::output::Output;
 use inotify::{Event, EventMask, Inotify, WatchDescriptor, WatchMask};
 use std::collections::{BTreeMap, HashMap};
 use std::ffi::OsStr;
 use std::fs;
 use std::io::{self, ErrorKind};
-use std::os::unix::io::AsRawFd;
+use std::os::unix::io::{AsRawFd, RawFd};
 use std::path::{Path, PathBuf};
 use std::thread;
 use std::time::{Duration, Instant};
@@ -27,6 +27,9 @@ const MOVE: Duration = Duration::from_millis(100);
 
 /// What the store has refused is written again after the first of these pauses, which doubles up to the second one.
 const PAUSES: (Duration, Duration) = (Duration::from_secs(1), Duration::from_secs(300));
+
+/// A server that is gone is looked for again after the first of these pauses, which doubles up to the second one.
+const AWAY: (Duration, Duration) = (Duration::from_millis(100), Duration::from_secs(5));
 
 /// The bytes of events that are read at a time.
 const EVENTS: usize = 1 << 16;
@@ -49,6 +52,8 @@ struct Dirty {
     gone: bool,
     /// Moves of which only the first half has come.
     moves: Vec<u32>,
+    /// The server has sent something that nobody asked for, or has closed the connection.
+    is_server_heard: bool,
 }
 
 /// When what the store has refused is written again.
@@ -142,11 +147,13 @@ impl Watches {
         }
     }
 
-    /// Waits for a change, but no longer than the time that is given, and gathers changes until there is a pause.
-    fn wait(&mut self, within: Option<Duration>) -> Result<Dirty, Failure> {
-        let mut dirty = Dirty::default();
+    /// Waits for a change, or for the server, but no longer than the time that is given. Gathers changes until there is a pause.
+    fn wait(&mut self, server: RawFd, within: Option<Duration>) -> Result<Dirty, Failure> {
+        let mut dirty = Dirty {
+            is_server_heard: self.wait_readable(server, within),
+            ..Dirty::default()
+        };
         let mut room = vec![0; EVENTS];
-        self.wait_readable(within);
         self.read(&mut room, &mut dirty)?;
         let begun = Instant::now();
         let mut last = begun;
@@ -162,16 +169,18 @@ impl Watches {
         }
     }
 
-    /// Waits until there are events, or for this time. A signal may end it earlier.
-    fn wait_readable(&self, within: Option<Duration>) {
-        let mut polled = libc::pollfd {
-            fd: self.inotify.as_raw_fd(),
+    /// Waits until there are events or the server is heard, or for this time, and returns whether it is the server. A signal may end it
+    /// earlier.
+    fn wait_readable(&self, server: RawFd, within: Option<Duration>) -> bool {
+        let mut polled = [self.inotify.as_raw_fd(), server].map(|fd| libc::pollfd {
+            fd,
             events: libc::POLLIN,
             revents: 0,
-        };
+        });
         let most = within.map_or(-1, |within| i32::try_from(within.as_millis()).unwrap_or(i32::MAX));
-        // SAFETY: poll reads and writes this one entry.
-        unsafe { libc::poll(&mut polled, 1, most) };
+        // SAFETY: poll reads and writes these two entries.
+        let count = unsafe { libc::poll(polled.as_mut_ptr(), 2, most) };
+        count > 0 && polled[1].revents != 0
     }
 
     /// Reads events. Returns whether there were some.
@@ -227,34 +236,90 @@ impl Dirty {
 }
 
 impl Import<'_> {
-    /// Follows the folder until it or the server is gone. `is_refused`: the store has refused something when the folder was read.
+    /// Follows the folder until it is gone. `is_refused`: the store has refused something when the folder was read.
     pub fn follow(&mut self, mut watches: Watches, is_refused: bool, output: &mut Output) -> Result<(), Failure> {
         let mut again = Again::new();
         again.scanned(is_refused);
         loop {
-            // What is missing is looked for once more before its node is removed.
-            let within = match self.missing.is_empty() {
-                true => again.left(),
-                false => Some(Duration::ZERO),
-            };
-            let dirty = watches.wait(within)?;
-            if dirty.gone || fs::symlink_metadata(&self.folder).is_err() {
-                return Err(Failure::Gone(self.folder.clone()));
-            }
-            let summary = if dirty.lost || again.is_due() {
-                let summary = self.scan_again(&mut watches)?;
-                again.scanned(summary.is_worth_a_retry());
-                summary
-            } else {
-                let summary = self.step(&mut watches, dirty)?;
-                again.stepped(summary.is_worth_a_retry());
-                summary
+            let summary = match self.turn(&mut watches, &mut again) {
+                Err(failure) if failure.is_of_connection() => self.catch_up(&failure, &mut watches, &mut again)?,
+                answer => answer?,
             };
             if self.line.verbose {
                 summary.print_fates(output)?;
                 output.flush()?;
             }
             summary.complain();
+        }
+    }
+
+    /// Waits for changes, and writes them.
+    fn turn(&mut self, watches: &mut Watches, again: &mut Again) -> Result<Summary, Failure> {
+        // What is missing is looked for once more before its node is removed.
+        let within = match self.missing.is_empty() {
+            true => again.left(),
+            false => Some(Duration::ZERO),
+        };
+        let dirty = watches.wait(self.client.as_raw_fd(), within)?;
+        self.look_for_folder(dirty.gone)?;
+        if dirty.is_server_heard {
+            self.client.hello()?;
+        }
+        if dirty.lost || again.is_due() {
+            let summary = self.scan_again(watches)?;
+            again.scanned(summary.is_worth_a_retry());
+            return Ok(summary);
+        }
+        let summary = self.step(watches, dirty)?;
+        again.stepped(summary.is_worth_a_retry());
+        Ok(summary)
+    }
+
+    /// Fails if the folder isn't where it was.
+    fn look_for_folder(&self, is_gone: bool) -> Result<(), Failure> {
+        match is_gone || fs::symlink_metadata(&self.folder).is_err() {
+            true => Err(Failure::Gone(self.folder.clone())),
+            false => Ok(()),
+        }
+    }
+
+    /// Waits for the server that is gone, and writes what has changed meanwhile.
+    fn catch_up(&mut self, failure: &Failure, watches: &mut Watches, again: &mut Again) -> Result<Summary, Failure> {
+        self.connect_again(failure)?;
+        let summary = self.scan_until_done(watches, Self::scan)?;
+        again.scanned(summary.is_worth_a_retry());
+        Ok(summary)
+    }
+
+    /// Scans, and if the server goes meanwhile, waits for it and begins anew.
+    pub fn scan_until_done(
+        &mut self,
+        watches: &mut Watches,
+        scan: fn(&mut Self, Option<&mut Watches>) -> Result<Summary, Failure>,
+    ) -> Result<Summary, Failure> {
+        loop {
+            match scan(self, Some(watches)) {
+                Err(failure) if failure.is_of_connection() => self.connect_again(&failure)?,
+                answer => return answer,
+            }
+        }
+    }
+
+    /// Waits until the server is there again, and reads what it has of the folder.
+    fn connect_again(&mut self, failure: &Failure) -> Result<(), Failure> {
+        complain(&format!("{failure}; waiting for the server"));
+        let (mut pause, longest) = AWAY;
+        loop {
+            thread::sleep(pause);
+            self.look_for_folder(false)?;
+            match Self::begin(self.connect, self.line, self.folder.clone()) {
+                Err(failure) if failure.is_of_connection() => pause = (2 * pause).min(longest),
+                again => {
+                    *self = again?;
+                    complain("the server is there again");
+                    return Ok(());
+                }
+            }
         }
     }
 

@@ -32,6 +32,9 @@ impl Known {
 pub struct Tree {
     /// By their paths: what is in a folder follows it.
     pub files: BTreeMap<PathBuf, Known>,
+    /// Further nodes at paths that `files` has already: a file was renamed onto another while an import read the folder, or two
+    /// imports ran at the same time.
+    pub doubles: Vec<(PathBuf, Known)>,
     /// Those whose folder has no node any more.
     pub lost: Vec<Known>,
 }
@@ -74,9 +77,10 @@ impl Tree {
         tree
     }
 
-    /// Adds a file. If two have one path, as after a write that another program has made, one of them is lost.
     fn add(&mut self, path: PathBuf, known: Known) {
-        self.lost.extend(self.files.insert(path, known));
+        if let Some(other) = self.files.insert(path.clone(), known) {
+            self.doubles.push((path, other));
+        }
     }
 
     /// Takes the file at this path, and what is below it, out of the tree.

@@ -23,7 +23,7 @@ pub struct Matching {
 /// The nodes that no file has yet.
 struct Left {
     nodes: HashMap<u64, (PathBuf, Known)>,
-    by_path: HashMap<PathBuf, u64>,
+    by_path: HashMap<PathBuf, Vec<u64>>,
     by_identity: HashMap<Identity, Vec<u64>>,
 }
 
@@ -35,7 +35,7 @@ impl Left {
             by_identity: HashMap::new(),
         };
         for (path, known) in known {
-            left.by_path.insert(path.clone(), known.node);
+            left.by_path.entry(path.clone()).or_default().push(known.node);
             if let Some(identity) = known.identity() {
                 left.by_identity.entry(identity).or_default().push(known.node);
             }
@@ -50,8 +50,25 @@ impl Left {
 
     /// The node at the path of this file, if no other file has it.
     fn at_path(&self, found: &Found) -> Option<u64> {
-        let node = self.by_path.get(&found.path)?;
-        self.nodes.contains_key(node).then_some(*node)
+        let nodes = self.by_path.get(&found.path)?;
+        nodes.iter().copied().find(|node| self.nodes.contains_key(node))
+    }
+
+    /// Sorts the nodes at the path of this file: the one that keeps the path comes first.
+    fn sort_at_path<E>(&mut self, found: &Found, has_more: &mut impl FnMut(u64) -> Result<bool, E>) -> Result<(), E> {
+        let several = match self.by_path.get(&found.path) {
+            Some(nodes) if nodes.len() > 1 => nodes,
+            _ => return Ok(()),
+        };
+        let mut ranked = Vec::new();
+        for node in several {
+            let is_another = self.identity(*node) != Some(found.stat.identity);
+            ranked.push((!has_more(*node)?, is_another, *node));
+        }
+        ranked.sort_unstable();
+        let sorted = ranked.into_iter().map(|(_, _, node)| node).collect();
+        self.by_path.insert(found.path.clone(), sorted);
+        Ok(())
     }
 
     /// A node of the same file, if no other file has it.
@@ -73,6 +90,9 @@ impl Left {
 /// 4. Others have none.
 ///
 /// If one file is moved onto another, 2 and 3 name two nodes. The first one counts, unless the second alone has what a user has set.
+///
+/// If several nodes have one path, one with attributes that a user has set comes before the others, then the node of the same file,
+/// then the oldest.
 pub fn matched<E>(
     found: Vec<Found>,
     known: Vec<(PathBuf, Known)>,
@@ -81,6 +101,7 @@ pub fn matched<E>(
     let mut left = Left::new(known);
     let mut files: Vec<Matched> = found.into_iter().map(|found| Matched { found, known: None }).collect();
     for file in &mut files {
+        left.sort_at_path(&file.found, &mut has_more)?;
         match left.at_path(&file.found) {
             Some(node) if left.identity(node) == Some(file.found.stat.identity) => file.known = left.take(node),
             _ => {}
@@ -209,6 +230,34 @@ mod tests {
         // The one that was there is elsewhere now.
         let found = [("/b", "A"), ("/c", "B")];
         assert_eq!(files.nodes(&found, &known, &[2]), (vec![Some(1), Some(2)], vec![]));
+    }
+
+    #[test]
+    fn of_two_nodes_at_one_path_one_stays() {
+        let files = Files::new("doubles");
+        for (first, second) in [("A", "old"), ("old", "A"), ("A", "A"), ("old", "older")] {
+            let known = [(1, "/a", first), (2, "/a", second)];
+            let own = if second == "A" && first != "A" { 2 } else { 1 };
+            for (more, stays) in [(&[][..], own), (&[1], 1), (&[2], 2), (&[1, 2], own)] {
+                let (nodes, gone) = (vec![Some(stays)], vec![3 - stays]);
+                assert_eq!(
+                    files.nodes(&[("/a", "A")], &known, more),
+                    (nodes, gone),
+                    "{known:?} {more:?}"
+                );
+                assert_eq!(
+                    files.nodes(&[], &known, more),
+                    (vec![], vec![1, 2]),
+                    "{known:?} {more:?}"
+                );
+            }
+        }
+        // The file of one of them is elsewhere.
+        let known = [(1, "/a", "A"), (2, "/a", "B")];
+        for more in [&[][..], &[1], &[2]] {
+            let found = [("/a", "A"), ("/b", "B")];
+            assert_eq!(files.nodes(&found, &known, more), (vec![Some(1), Some(2)], vec![]));
+        }
     }
 
     #[test]

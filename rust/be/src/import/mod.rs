@@ -6,6 +6,7 @@ mod encoded_words;
 mod extended;
 pub mod follow;
 mod known;
+mod magic;
 pub mod mail;
 mod matching;
 pub mod stat;
@@ -40,9 +41,16 @@ use walk::Walk;
 /// The most bytes of the path of an imported folder: it is a value.
 const ROOT: usize = 255;
 
+/// How often the folder is read at most until no file is missing. In a folder that never rests some may be missing each time.
+const SCANS: u32 = 4;
+
+/// Connects to the server.
+type Connect<'a> = &'a dyn Fn() -> Result<Client, Failure>;
+
 /// An import of a folder.
 pub struct Import<'a> {
     folder: PathBuf,
+    connect: Connect<'a>,
     /// If it is given, folders of this file system alone are read.
     device: Option<u64>,
     line: &'a Line,
@@ -56,14 +64,17 @@ pub struct Import<'a> {
     unremoved: Vec<(PathBuf, Known)>,
 }
 
-pub fn run(connect: &dyn Fn() -> Result<Client, Failure>, line: &Line, output: &mut Output) -> Result<(), Failure> {
+pub fn run(connect: Connect<'_>, line: &Line, output: &mut Output) -> Result<(), Failure> {
     let folder = folder_of(&line.folder)?;
     let mut watches = match line.follow {
         true => Some(Watches::new(&folder)?),
         false => None,
     };
     let mut import = Import::begin(connect, line, folder)?;
-    let summary = import.scan_first(watches.as_mut())?;
+    let summary = match &mut watches {
+        Some(watches) => import.scan_until_done(watches, Import::scan_first)?,
+        None => import.scan_first(None)?,
+    };
     summary.print(line, import.reader.types.source(), output)?;
     output.flush()?;
     match watches {
@@ -85,7 +96,7 @@ fn folder_of(folder: &Path) -> Result<PathBuf, Failure> {
 }
 
 impl<'a> Import<'a> {
-    fn begin(connect: &dyn Fn() -> Result<Client, Failure>, line: &'a Line, folder: PathBuf) -> Result<Self, Failure> {
+    fn begin(connect: Connect<'a>, line: &'a Line, folder: PathBuf) -> Result<Self, Failure> {
         let mut client = connect()?;
         let indices = make_indices(&mut client)?;
         Ok(Self {
@@ -99,6 +110,7 @@ impl<'a> Import<'a> {
             missing: Vec::new(),
             unremoved: Vec::new(),
             folder,
+            connect,
             line,
             client,
         })
@@ -115,11 +127,14 @@ impl<'a> Import<'a> {
 
     /// Reads the whole folder, and writes what differs from the store.
     fn scan(&mut self, mut watches: Option<&mut Watches>) -> Result<Summary, Failure> {
-        let summary = self.scan_once(watches.as_deref_mut())?;
-        match self.missing.is_empty() {
-            true => Ok(summary),
-            false => Ok(summary.and_then(self.scan_once(watches)?)),
+        let mut summary = self.scan_once(watches.as_deref_mut())?;
+        for _ in 1..SCANS {
+            if self.missing.is_empty() {
+                break;
+            }
+            summary = summary.and_then(self.scan_once(watches.as_deref_mut())?);
         }
+        Ok(summary)
     }
 
     /// Asks the store anew what it has of the folder, and scans that: after a refusal it may have less than is known here, or more.

@@ -1,8 +1,9 @@
-//! The MIME types of files, by their names and, if those say nothing, by how their contents begin.
+//! The MIME types of files, by their names and, if those say nothing or fit several types, by how their contents begin.
 //!
 //! The names are in `globs2` of the Shared MIME-info Database, as the package shared-mime-info has it. Without it the extensions
 //! are those of `/etc/mime.types` of the package media-types.
 
+use super::magic::Magic;
 use glob::{MatchOptions, Pattern};
 use std::collections::HashMap;
 use std::fs;
@@ -21,12 +22,19 @@ const ANY_CASE: MatchOptions = MatchOptions {
     require_literal_leading_dot: false,
 };
 
-/// A type that a glob stands for. Among the globs that match a name the greatest weight counts, and then the longest glob.
-#[derive(Clone, Debug, PartialEq, Eq, PartialOrd, Ord)]
+/// The types that a glob stands for, in the order in which they were listed. Among the globs that match a name the greatest weight
+/// counts, and then the longest glob.
+#[derive(Clone, Debug)]
 struct Rule {
     weight: u32,
     length: usize,
-    mime: String,
+    mimes: Vec<String>,
+}
+
+impl Rule {
+    fn rank(&self) -> (u32, usize) {
+        (self.weight, self.length)
+    }
 }
 
 /// The types by the names of files.
@@ -37,6 +45,7 @@ pub struct Types {
     endings: HashMap<String, Rule>,
     exact_endings: HashMap<String, Rule>,
     others: Vec<(Pattern, Rule)>,
+    magic: Magic,
     /// The files that they are from, in words.
     source: &'static str,
     /// Whether the database has what contents begin with.
@@ -52,6 +61,7 @@ impl Types {
                 has_contents: ["magic", "aliases", "subclasses"]
                     .iter()
                     .all(|name| Path::new(DATABASE).join(name).exists()),
+                magic: Magic::read(Path::new(DATABASE)),
                 ..Self::from_globs(&globs)
             };
         }
@@ -103,7 +113,7 @@ impl Types {
         let rule = Rule {
             weight,
             length: glob.len(),
-            mime: mime.into(),
+            mimes: vec![mime.into()],
         };
         let is_plain = |text: &str| !text.contains(|sign| "*?[".contains(sign));
         match glob.strip_prefix('*') {
@@ -116,26 +126,38 @@ impl Types {
         }
     }
 
-    /// The type that the name says, if it says one: as it is, otherwise in any case.
-    pub fn of_name(&self, name: &str) -> Option<&str> {
-        let best = self.best(name).or_else(|| self.best(&name.to_lowercase()));
-        best.map(|rule| rule.mime.as_str())
+    /// The types that the name says: as it is, otherwise in any case. They are several if several fit it equally well.
+    pub fn of_name(&self, name: &str) -> Vec<&str> {
+        let best = self.best(name);
+        if best.is_empty() {
+            return self.best(&name.to_lowercase());
+        }
+        best
     }
 
-    fn best<'a>(&'a self, name: &str) -> Option<&'a Rule> {
+    fn best(&self, name: &str) -> Vec<&str> {
         let others = self.others.iter();
         let others = others.filter_map(|(pattern, rule)| pattern.matches_with(name, ANY_CASE).then_some(rule));
-        self.names
-            .get(name)
-            .into_iter()
-            .chain(ending(&self.endings, name))
-            .chain(ending(&self.exact_endings, name))
-            .chain(others)
-            .max()
+        let mut best: Vec<&Rule> = Vec::new();
+        let names = self.names.get(name).into_iter();
+        let endings = endings(&self.endings, name).chain(endings(&self.exact_endings, name));
+        for rule in names.chain(endings).chain(others) {
+            let kept = best.first().map(|best| best.rank());
+            if kept < Some(rule.rank()) {
+                best.clear();
+            }
+            if kept <= Some(rule.rank()) {
+                best.push(rule);
+            }
+        }
+        best.iter().flat_map(|rule| &rule.mimes).map(String::as_str).collect()
     }
 
-    /// The type of a file that begins with these bytes.
-    pub fn of_content(&self, begin: &[u8]) -> &'static str {
+    /// The type of a file that begins with these bytes, and whose name says these types.
+    pub fn of_content<'a>(&self, mimes: &[&'a str], begin: &[u8]) -> &'a str {
+        if let Some(mime) = self.magic.choose(mimes, begin) {
+            return mime;
+        }
         match begin {
             [] => "application/x-zerosize",
             _ if self.has_contents => tree_magic_mini::from_u8(begin),
@@ -149,17 +171,23 @@ impl Types {
     }
 }
 
+/// Keeps the better one of two rules, or the types of both.
 fn better(rules: &mut HashMap<String, Rule>, key: String, rule: Rule) {
-    let kept = rules.entry(key).or_insert_with(|| rule.clone());
-    if rule > *kept {
-        *kept = rule;
+    match rules.get_mut(&key) {
+        Some(kept) if kept.rank() > rule.rank() => {}
+        Some(kept) if kept.rank() == rule.rank() => {
+            let new = rule.mimes.into_iter().filter(|mime| !kept.mimes.contains(mime));
+            let new: Vec<String> = new.collect();
+            kept.mimes.extend(new);
+        }
+        _ => drop(rules.insert(key, rule)),
     }
 }
 
-/// The best rule whose ending the name has.
-fn ending<'a>(rules: &'a HashMap<String, Rule>, name: &str) -> Option<&'a Rule> {
+/// The rules whose endings the name has.
+fn endings<'a: 'n, 'n>(rules: &'a HashMap<String, Rule>, name: &'n str) -> impl Iterator<Item = &'a Rule> + 'n {
     let places = name.char_indices().map(|(at, _)| at);
-    places.filter_map(|at| rules.get(&name[at..])).max()
+    places.filter_map(move |at| rules.get(&name[at..]))
 }
 
 #[cfg(test)]
@@ -168,41 +196,42 @@ mod tests {
 
     const GLOBS: &str = "# comment\n50:text/plain:*.txt\n50:application/gzip:*.gz\n50:application/x-compressed-tar:*.tar.gz\n\
                          50:text/x-c++src:*.C:cs\n50:text/x-c++src:*.C\n50:text/x-csrc:*.c:cs\n50:text/x-csrc:*.c\n50:text/x-makefile:makefile\n10:text/x-readme:readme*\n\
-                         60:image/gif:*.gif\n40:image/other:*.gif\nbroken\n";
+                         60:image/gif:*.gif\n40:image/other:*.gif\nbroken\n50:video/b:*.two\n50:audio/a:*.two\n50:video/b:*.two\n";
 
     #[test]
     fn the_weight_counts_and_then_the_length() {
         let types = Types::from_globs(GLOBS);
-        for (name, mime) in [
-            ("a.txt", Some("text/plain")),
-            ("A.TXT", Some("text/plain")),
-            ("a.tar.gz", Some("application/x-compressed-tar")),
-            ("a.c", Some("text/x-csrc")),
-            ("a.C", Some("text/x-c++src")),
-            ("Makefile", Some("text/x-makefile")),
-            ("README", Some("text/x-readme")),
-            ("README.txt", Some("text/plain")),
-            ("a.gif", Some("image/gif")),
-            ("é.txt", Some("text/plain")),
-            ("txt", None),
-            ("", None),
+        for (name, mimes) in [
+            ("a.txt", &["text/plain"][..]),
+            ("A.TXT", &["text/plain"]),
+            ("a.tar.gz", &["application/x-compressed-tar"]),
+            ("a.c", &["text/x-csrc"]),
+            ("a.C", &["text/x-c++src"]),
+            ("Makefile", &["text/x-makefile"]),
+            ("README", &["text/x-readme"]),
+            ("README.txt", &["text/plain"]),
+            ("a.gif", &["image/gif"]),
+            ("é.txt", &["text/plain"]),
+            ("a.TWO", &["video/b", "audio/a"]),
+            ("txt", &[]),
+            ("", &[]),
         ] {
-            assert_eq!(types.of_name(name), mime, "{name}");
+            assert_eq!(types.of_name(name), mimes, "{name}");
         }
     }
 
     #[test]
     fn extensions_are_read_too() {
         let types = Types::from_extensions("# comment\ntext/html\thtml htm\nx/none\n");
-        assert_eq!(types.of_name("a.htm"), Some("text/html"));
-        assert_eq!(types.of_name("a"), None);
+        assert_eq!(types.of_name("a.htm"), ["text/html"]);
+        assert!(types.of_name("a").is_empty());
     }
 
     #[test]
     fn a_text_is_known_by_its_content() {
         let types = Types::of_machine();
-        assert_eq!(types.of_content(b""), "application/x-zerosize");
-        assert_eq!(types.of_content("Zeile für Zeile\n".as_bytes()), "text/plain");
-        assert_ne!(types.of_content(&[0, 1, 2, 255]), "text/plain");
+        assert_eq!(types.of_content(&[], b""), "application/x-zerosize");
+        assert_eq!(types.of_content(&[], "Zeile für Zeile\n".as_bytes()), "text/plain");
+        assert_ne!(types.of_content(&[], &[0, 1, 2, 255]), "text/plain");
     }
 }

@@ -37,10 +37,12 @@ impl Import<'_> {
         let lost = lost.into_iter().map(|known| (PathBuf::new(), known));
         let missing = std::mem::take(&mut self.missing);
         let missed: HashSet<u64> = missing.iter().map(|(_, known)| known.node).collect();
-        let known = lost.chain(missing).chain(known).collect();
+        let doubles = std::mem::take(&mut self.tree.doubles);
+        let known = lost.chain(missing).chain(doubles).chain(known).collect();
         let client = &mut self.client;
-        let Matching { files, mut gone } = matched(found, known, |node| {
-            client.attributes(node).map(|attributes| has_more(&attributes))
+        let Matching { files, mut gone } = matched(found, known, |node| match client.attributes(node) {
+            Err(error) if error.is("NoNode") => Ok(false),
+            answer => answer.map(|attributes| has_more(&attributes)),
         })?;
         gone.retain(|(_, known)| !lost_nodes.contains(&known.node));
         let mut summary = Summary::default();
@@ -250,9 +252,7 @@ impl Import<'_> {
             edit.add_to(&mut batch);
             match self.write_batch(batch) {
                 // Another program has removed it. The next import makes it again, if the file is there.
-                Err(error) if error.is("NoNode") => {
-                    self.tree.files.remove(&edit.path);
-                }
+                Err(error) if error.is("NoNode") => self.forget(edit),
                 Err(error @ Error::Refused(_)) => {
                     summary.refuse(edit.path.clone(), &error);
                     refused.push(edit.path.clone());
@@ -261,6 +261,13 @@ impl Import<'_> {
             }
         }
         Ok(refused)
+    }
+
+    /// Takes a file whose node is gone out of the tree, unless it has another node there.
+    fn forget(&mut self, edits: &Edits) {
+        if self.node_at(&edits.path) == Some(edits.node) {
+            self.tree.files.remove(&edits.path);
+        }
     }
 
     /// Writes a batch of one volume, in parts if it has too many operations for one.

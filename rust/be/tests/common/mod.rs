@@ -33,6 +33,7 @@ pub const BE: &str = env!("CARGO_BIN_EXE_be");
 pub struct Server {
     child: Child,
     folder: PathBuf,
+    options: Vec<String>,
 }
 
 /// What a run of the tool has printed, and its exit status.
@@ -60,6 +61,13 @@ pub fn server_program() -> Option<PathBuf> {
     program.exists().then_some(program)
 }
 
+/// Starts a server in its folder, in which it may keep its store.
+fn spawn(program: &Path, folder: &Path, options: &[String]) -> Child {
+    let mut command = Command::new(program);
+    command.arg("--socket").arg(folder.join("socket"));
+    command.args(options).current_dir(folder).spawn().unwrap()
+}
+
 impl Server {
     /// Starts a server. `None`, and a line that says so, if it isn't built.
     pub fn start() -> Option<Self> {
@@ -80,15 +88,18 @@ impl Server {
         let number = STARTED.fetch_add(1, Ordering::Relaxed);
         let folder = env::temp_dir().join(format!("be-test-{}-{number}", std::process::id()));
         fs::DirBuilder::new().mode(0o700).create(&folder).unwrap();
-        let child = Command::new(program)
-            .arg("--socket")
-            .arg(folder.join("socket"))
-            .args(options)
-            .spawn()
-            .unwrap();
-        let server = Self { child, folder };
+        let options: Vec<String> = options.iter().map(|option| option.to_string()).collect();
+        let child = spawn(&program, &folder, &options);
+        let server = Self { child, folder, options };
         server.wait();
         Some(server)
+    }
+
+    /// Starts a server that has ended again.
+    pub fn start_again(&mut self) {
+        let program = server_program().expect("it has been there");
+        self.child = spawn(&program, &self.folder, &self.options);
+        self.wait();
     }
 
     fn wait(&self) {
