@@ -40,7 +40,7 @@ public:
         return next_++;
     }
 
-    // Takes integers of any kind from here on. At first one throws KindMismatch if the name has an index of another integer kind.
+    // Takes values of any kind from here on. At first a value of another kind than the index of its name throws KindMismatch.
     Change &any_kind() noexcept
     {
         checks_kinds_ = false;
@@ -73,10 +73,10 @@ private:
             kinds().insert_or_assign(std::string(edit.name), kind);
         else if (edit.kind == BES_REMOVE_INDEX)
             kinds().erase(std::string(edit.name));
-        if (edit.kind != BES_SET || !detail::is_integer_kind(kind))
+        if (edit.kind != BES_SET)
             return;
         const auto index = kinds().find(edit.name);
-        if (index != kinds().end() && detail::is_integer_kind(index->second) && index->second != kind)
+        if (index != kinds().end() && index->second != kind)
             throw KindMismatch(edit.name, index->second, kind);
     }
 

@@ -219,6 +219,14 @@ class Writes(Indexed):
         with store.pin() as version:
             self.assertEqual(version.query("size>=0"), sorted(made))
 
+    def test_wrong_kind(self):
+        store = self.indexed(2)
+        node = self.sized(store, 1, 5)
+        for value in "5", b"5", bestore.Int32(5):
+            self.assertRaises(bestore.WrongKind, store.change, lambda change: change.set(node, "size", value))
+        with store.pin() as version:
+            self.assertEqual(version.query("size==5"), [node])
+
     def test_status_and_reach(self):
         store = self.indexed(3)
         for _ in range(30):

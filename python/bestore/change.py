@@ -8,7 +8,7 @@ from .errors import BadCount, NoAttribute, NoNode, NotPinned, OtherVolume, Wrong
 from .nodes import volume_of
 from .operations import MOST_OPERATIONS, SET, Batch
 from .queries import Prepared
-from .values import KIND_OF, RANGES, Encoded, Kind, Typed, Value, encode_value, typed_value
+from .values import KIND_OF, Encoded, Kind, Typed, Value, encode_value, typed_value
 from .versions import Attributes, Query, Version
 
 if TYPE_CHECKING:
@@ -83,8 +83,8 @@ class Change(Version):
         self._removed.add(node)
 
     def set(self, node: int, name: str, value: Value, kind: Optional[int] = None) -> None:
-        """Sets an attribute, with the kind that `Batch.set` gives it. `WrongKind` if it is an integer of another
-        kind than the index of that name, unless the change was made with check_kinds=False."""
+        """Sets an attribute, with the kind that `Batch.set` gives it. `WrongKind` if the index of that name takes
+        values of another kind, unless the change was made with check_kinds=False."""
         code, number, taken = encode_value(value, kind)
         batch = self._collecting(node)
         self._check_kind(name, code)
@@ -92,7 +92,7 @@ class Change(Version):
         self._set.setdefault(node, {})[name] = code, number, taken
 
     def _check_kind(self, name: str, kind: Kind) -> None:
-        if not self._check_kinds or kind not in RANGES:
+        if not self._check_kinds:
             return
         index = KIND_OF.get(self._indexed().get(name, kind))
         if index is not None and index != kind:

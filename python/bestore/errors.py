@@ -81,7 +81,7 @@ class TooManyAttempts(Error):
 
 
 class WrongKind(Error, TypeError):
-    """A change sets an integer of one kind under a name whose index has another kind, so no query would find it."""
+    """A change sets a value of one kind under a name whose index takes another kind, so no query would find it."""
 
     def __init__(self, name: str, kind: str, index_kind: str) -> None:
         super().__init__(name, kind, index_kind)
@@ -93,7 +93,7 @@ class WrongKind(Error, TypeError):
         """The name of the index's kind."""
 
     def __str__(self) -> str:
-        return (f'the value of "{self.name}" is {self.kind}, and the index of that name is {self.index_kind}: '
+        return (f'the index "{self.name}" takes values of kind {self.index_kind}, and this one is {self.kind}: '
                 f"set it as {self.index_kind}, or no query finds it")
 
 
