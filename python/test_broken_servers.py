@@ -167,6 +167,19 @@ class Broken(unittest.TestCase):
             self.assertEqual([it["query"] for it in fake.asked if "query" in it], [
                 {"query": "k==1"}, {"query": "k==1", "from": 4}, {"query": "k==1", "from": 9}])
 
+    def test_columns(self):
+        """Rows may come in several replies, and each reply has rows of the nodes that are asked for."""
+        pinned = [line(2, {"commit": 0, "next": 1})]
+        with Fake(pinned, [line(3, {"commit": 0, "rows": [[1, "a"], [2, None]]})], [line(4, {"commit": 0, "rows": [[3, "c"]]})],
+                  [line(5, {})]) as fake, fake.connect() as store:
+            with store.pin() as version:
+                self.assertEqual(version.columns([7, 8, 9], ["k", "name"]), [[1, 2, 3], ["a", None, "c"]])
+            self.assertEqual([it["columns"]["nodes"] for it in fake.asked if "columns" in it], [[7, 8, 9], [9]])
+        for rows in [], [[1, 2]] * 3, [[1, 2], [1]], [[1], [1]], [[1, True]], 5, [5]:
+            with Fake(pinned, [line(3, {"commit": 0, "rows": rows})]) as fake, fake.connect() as store:
+                with self.subTest(rows=rows), store.pin() as version, self.assertRaises(bestore.ProtocolError):
+                    version.columns([1, 2], ["k", "name"])
+
     def test_pushes_between_replies(self):
         """Pushes come before a reply, after it in the same bytes, and in parts."""
         with Fake(

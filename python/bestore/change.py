@@ -2,7 +2,7 @@
 
 from __future__ import annotations
 
-from typing import TYPE_CHECKING, ClassVar, Dict, Iterator, List, MutableMapping, Optional, Set, Tuple
+from typing import TYPE_CHECKING, ClassVar, Dict, Iterable, Iterator, List, MutableMapping, Optional, Set, Tuple
 
 from .errors import BadCount, NoAttribute, NoNode, NotPinned, OtherVolume, WrongKind, encoded
 from .nodes import volume_of
@@ -132,6 +132,19 @@ class Change(Version):
         if node in self._made or node in self._removed:
             raise NoAttribute()
         return self._snapshot._read(node, name)
+
+    def column(self, nodes: Iterable[int], name: str) -> List[Optional[Value]]:
+        return self.columns(nodes, [name])[0]
+
+    def columns(self, nodes: Iterable[int], names: Iterable[str]) -> List[List[Optional[Value]]]:
+        read, wanted = list(nodes), list(names)
+        columns = self._snapshot.columns(read, wanted)
+        written = [(place, node) for place, node in enumerate(read) if node in self._set or node in self._removed]
+        for column, name in zip(columns, wanted):
+            for place, node in written:
+                if node in self._removed or name in self._set[node]:
+                    column[place] = self.get(node, name)
+        return columns
 
     def _listed(self, node: int) -> Dict[str, Typed]:
         if node in self._removed:

@@ -8,8 +8,7 @@ versions, changes, batches and prepared queries of `bestore.open` it does with t
 
 **What differs.** A call takes a round trip. The server tries again at `Busy` and at `Full`, so `tries` changes nothing. It
 takes back a snapshot that is kept too long, and reads of it then are `Expired`. `another` may be called in any thread.
-`column` and `columns` take a round trip for each attribute. `meet` is `Unavailable`. `flush` and `compact` are there, and
-`watch` waits for what others write.
+`meet` is `Unavailable`. `flush` and `compact` are there, and `watch` waits for what others write.
 
 **Errors** are those of the library. Those of the connection are a `ServerError`. Once a connection is broken all later calls
 on its pass are `Disconnected`; the program connects again. If the broken call was a write, `may_be_done` says whether it may
@@ -26,7 +25,7 @@ import os
 import time
 from contextlib import suppress
 from functools import partial
-from typing import Any, Callable, Dict, Iterator, List, NamedTuple, Optional, Sequence, Set, Tuple, TypeVar, Union
+from typing import Any, Callable, Dict, Iterable, Iterator, List, NamedTuple, Optional, Sequence, Set, Tuple, TypeVar, Union
 from weakref import WeakValueDictionary
 
 from ._connected_errors import (
@@ -35,7 +34,7 @@ from ._connected_errors import (
 from ._connection import Connection
 from ._journal import line_of
 from ._wire import (
-    JSON, PROTOCOL, operations_of, read_entry, read_kind, read_nodes, read_operation, read_value)
+    JSON, PROTOCOL, operations_of, read_entry, read_kind, read_nodes, read_operation, read_row, read_value)
 from .errors import (
     BadCount, Closed, Error, Forked, NameLength, NoAttribute, NoNode, NotCovered, NotPinned, NotReached, NoVolume, Pinned, TooLong,
     encoded, encoded_query)
@@ -45,7 +44,7 @@ from .nodes import within
 from .operations import MOST_OPERATIONS, NEW, Batch
 from .queries import Prepared, prepare_items
 from .store import TRIES, Entry, Held, Status, ThreadPass, Witness
-from .values import RANGES, Kind, Typed, plain
+from .values import RANGES, Kind, Typed, Value, plain
 from .versions import Query, Row, Version, not_covered
 
 __all__ = [
@@ -59,6 +58,8 @@ _Result = TypeVar("_Result")
 TIMEOUT = 60.0
 """How many seconds a reply may take, if nothing else is said."""
 _MOST_WAITED = 30.0  # seconds that the server waits by itself
+_MOST_NAMES = 64  # of a request for columns
+_MOST_NODES = 1 << 14  # of such a request, which then is no line that is too long
 
 
 class Server(NamedTuple):
@@ -199,10 +200,40 @@ class ConnectedVersion(Version):
                     raise NotPinned()
                 yield batch
 
+    def column(self, nodes: Iterable[int], name: str) -> List[Optional[Value]]:
+        return self.columns(nodes, [name])[0]
+
+    def columns(self, nodes: Iterable[int], names: Iterable[str]) -> List[List[Optional[Value]]]:
+        asked, wanted = [_asked_node(node) for node in nodes], [_asked_name(name) for name in names]
+        columns: List[List[Optional[Value]]] = [[] for _ in wanted]
+        for first in range(0, len(wanted), _MOST_NAMES):
+            part = slice(first, first + _MOST_NAMES)
+            self._fill(columns[part], asked, wanted[part])
+        return columns
+
+    def _fill(self, columns: List[List[Optional[Value]]], nodes: List[int], names: List[str]) -> None:
+        """Adds the values of all nodes to the columns of these names."""
+        done = 0
+        while done < len(nodes):
+            rows = self._first_rows(nodes[done:done + _MOST_NODES], names)
+            for column, values in zip(columns, zip(*rows)):
+                column += values
+            done += len(rows)
+
+    def _first_rows(self, nodes: List[int], names: List[str]) -> List[List[Optional[Value]]]:
+        """The values of the first of these nodes: of as many as come in one reply."""
+        def read(ok: JSON) -> List[List[Optional[Value]]]:
+            rows = [read_row(row) for row in ok["rows"]]
+            if not 1 <= len(rows) <= len(nodes) or any(len(row) != len(names) for row in rows):
+                raise ValueError("it has not the rows of these nodes")
+            return rows
+        try:
+            return self._ask("columns", {"nodes": nodes, "names": names}, read)
+        except LineTooLong:
+            raise NameLength() from None
+
     def _read(self, node: int, name: str) -> Typed:
-        if not isinstance(name, str):
-            raise TypeError(f"{name!r} is no name")
-        encoded(name)
+        _asked_name(name)
         try:
             value = self._ask("get", {"node": _node_number(node), "name": name}, _read_attribute)
         except LineTooLong:
@@ -226,6 +257,20 @@ def _node_number(node: int) -> int:
     return number
 
 
+def _asked_node(node: int) -> int:
+    """A node's number as a request has it: 0, which no node has, if 64 bits don't hold it."""
+    number = plain(node)
+    return number if number in RANGES[Kind.UINT64] else 0
+
+
+def _asked_name(name: str) -> str:
+    """A name as a request has it. `NotUTF8` if it has half of a surrogate pair."""
+    if not isinstance(name, str):
+        raise TypeError(f"{name!r} is no name")
+    encoded(name)
+    return name
+
+
 def _text_of(asked: Query) -> str:
     """The text that asks a query. Items are asked by their canonical text."""
     if isinstance(asked, str):
@@ -242,8 +287,7 @@ def _read_page(ok: JSON) -> Tuple[List[int], Optional[int]]:
 
 
 def _read_rows(ok: JSON) -> Tuple[List[Row], Optional[int]]:
-    rows = [[None if value is None else read_value(value).value for value in row] for row in ok["rows"]]
-    return list(zip(read_nodes(ok["nodes"]), rows)), ok.get("more")
+    return list(zip(read_nodes(ok["nodes"]), map(read_row, ok["rows"]))), ok.get("more")
 
 
 def _read_state(ok: JSON) -> Tuple[List[Batch], Optional[int]]:
