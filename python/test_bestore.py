@@ -114,6 +114,12 @@ class OutOfRange(unittest.TestCase):
         with bestore.open(64, 1, 100) as store:
             self.assertEqual(store.apply(bestore.Batch().new_node(), tries=2**32), (1, [1]))
 
+    def test_passes_if_nothing_is_said(self):
+        with bestore.open(64) as store:
+            others = [store.another() for _ in range(62)]
+            self.assertEqual(len({other.number for other in others}), 62)
+            self.assertRaises(bestore.NoPass, store.another)
+
 
 class Versions(unittest.TestCase):
     def test_pin_stays(self):

@@ -277,6 +277,9 @@ class LocalWrites(InProcess, Writes, unittest.TestCase):
         self.assertRaises(bestore.BadLimits, bestore.Shelf, [])
         store = self.shelf(2, passes=1)
         self.assertRaises(bestore.NoPass, store.another)
+        with bestore.open_shelf(2, 64) as shelf:
+            others = [shelf.another() for _ in range(62)]
+            self.assertRaises(bestore.NoPass, others[0].another)
         self.assertRaises(bestore.NoVolume, store.volume, 2)
         self.assertEqual(store.volume(1).new_node(), 1)
         with bestore.open() as alone:

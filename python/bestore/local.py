@@ -13,7 +13,7 @@ from .errors import BadLimits, ErrorNumber, NotCovered, NoVolume, OtherStore, Re
 from .handles import CURSOR, PASS, WITNESS, HandleOwner
 from .operations import Batch
 from .queries import Prepared, encode_items
-from .store import PAUSES, TRIES, Entry, Held, Pass, StandingBack, Status, Witness
+from .store import PASSES, PAUSES, TRIES, Entry, Held, Pass, StandingBack, Status, Witness
 from .values import RANGES, Kind, Typed, Value
 from .versions import Query, Version
 
@@ -299,10 +299,10 @@ class LocalPass(HandleOwner, Pass):
 _native.know(user=LocalPass)
 
 
-def open(pages: int = 4096, passes: int = 8, commits: int = 2**32 - 1) -> LocalPass:
+def open(pages: int = 4096, passes: int = PASSES, commits: int = 2**32 - 1) -> LocalPass:
     """A new store in memory, as its first pass: with so many pages of 4 KiB (8 to 16,384), which are taken at once,
-    so many passes (1 to 64), and room for so many writes (1 to 2^32 - 1) in its life. `BadLimits` if one of these is
-    out of its range, or `NoMemory`."""
+    so many passes (1 to 64; `store.PASSES` says what one costs), and room for so many writes (1 to 2^32 - 1) in its life.
+    `BadLimits` if one of these is out of its range, or `NoMemory`."""
     if not all(0 <= operator.index(limit) < 2**64 for limit in (pages, passes, commits)):
         raise BadLimits()
     user = LocalPass()

@@ -32,7 +32,7 @@ from .local import refreshed
 from .nodes import MOST_VOLUMES, NUMBERS, indices_in, node_in, number_of, of_volume, volume_of, within
 from .operations import MOST_OPERATIONS, Batch, MakeIndex, Operation
 from .queries import Prepared
-from .store import TRIES, Entry, Pass, Status, ThreadPass, Witness
+from .store import PASSES, TRIES, Entry, Pass, Status, ThreadPass, Witness
 from .values import Kind, Typed, Value
 from .versions import Query, Version
 
@@ -363,7 +363,7 @@ def taken(takes: Iterable[Callable[[], _Taken]]) -> List[_Taken]:
     return opened
 
 
-def open(volumes: int, pages: int = 4096, passes: int = 8, commits: int = 2**32 - 1) -> Shelf:
+def open(volumes: int, pages: int = 4096, passes: int = PASSES, commits: int = 2**32 - 1) -> Shelf:
     """A new store in memory that has so many volumes, 1 to 64. The limits are those of each, as of `bestore.open`. `bestore.open_shelf`
     is this function. `BadLimits` if one is out of its range, or `NoMemory`."""
     if not 1 <= volumes <= MOST_VOLUMES:
