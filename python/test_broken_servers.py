@@ -216,6 +216,19 @@ class Broken(unittest.TestCase):
                     self.assertRaises(bestore.NoWatch, watch.wait, 0)
 
 
+    def test_more_nodes_than_the_server_has_room_for(self):
+        """A page has 512 words, and a node takes one at least. So no server has more nodes than that."""
+        for pushed, error in [(push(2, list(range(8 * 512)), []), None), (push(2, list(range(8 * 512 + 1)), []), bestore.ProtocolError),
+                              (push(2, [], list(range(8 * 512 + 1))), bestore.ProtocolError)]:
+            with Fake([line(2, {"watch": 1, "commit": 1, "nodes": []}) + pushed]) as fake, fake.connect() as store:
+                watch = store.watch("k==1")
+                if error is None:
+                    self.assertEqual(watch.wait(PATIENCE), (list(range(8 * 512)), []))
+                    continue
+                with self.assertRaisesRegex(error, "the server pushed more nodes than its 8 pages have room for"):
+                    watch.wait(PATIENCE)
+                self.assertRaises(bestore.Disconnected, store.new_node)
+
     def reach(self, within, times, *answers):
         """What `reach` returns, how long the server was asked to wait, and what is raised. The clock shows these times."""
         clock = mock.Mock(monotonic=mock.Mock(side_effect=times))

@@ -142,11 +142,8 @@ class Connecting(WithServer):
             self.assertEqual(watch.wait(1e300), ([], []))
 
     def test_default_path(self):
-        with mock.patch.dict(os.environ, XDG_RUNTIME_DIR="/run/user/5"):
-            self.assertEqual(connected.default_path(), "/run/user/5/bestore/socket")
-        with mock.patch.dict(os.environ):
-            os.environ.pop("XDG_RUNTIME_DIR", None)
-            self.assertEqual(connected.default_path(), f"/tmp/bestore-{os.geteuid()}/socket")
+        with mock.patch.dict(os.environ, BESTORE_SOCKET=self.server.path), bestore.connect() as store:
+            self.assertEqual((store.path, store.server), (self.server.path, self.store.server))
 
     def test_closed(self):
         version, watch = self.store.pin(), self.store.watch()

@@ -28,8 +28,8 @@ The package has its shared object inside. In the repository it is the one in c/,
 
 from ._library import VERSION as __version__
 from ._connected_errors import (
-    BrokenConnection, Disconnected, Expired, LineTooLong, NoServer, NotAllowed, NotKept, NoWatch, ProtocolError, ServerError,
-    ServerRefusal, TimedOut, TooManyWatches, Unavailable,
+    BrokenConnection, Disconnected, Expired, LineTooLong, NoServer, NotAllowed, NotKept, NoWatch, OtherUser, ProtocolError,
+    ServerError, ServerRefusal, TimedOut, TooManyWatches, Unavailable,
 )
 from .change import Change, ChangedAttributes
 from .connected import connect
@@ -64,7 +64,7 @@ __all__ = [
     "MOST_OPERATIONS", "MakeIndex", "Name", "NameLength", "Nested", "NewNode", "NoAttribute", "NoIndex", "NoItem",
     "NoKind", "NoMemory", "NoNode", "NoOperation", "NoPass", "NoServer", "NoValue", "NoVolume", "NoWatch", "NotAllowed",
     "NotCovered", "NotIndexable", "NotKept", "NotPinned", "NotReached", "NotUTF8", "Opened", "Operation", "Operator", "OtherStore",
-    "OtherVolume",
+    "OtherUser", "OtherVolume",
     "PartialIndex", "Pass", "Pinned", "Prepared", "ProtocolError", "QueryError", "QueryNotUTF8", "QuerySyntax", "RAW",
     "Refusal", "RemoveIndex", "RemoveNode", "STRING", "ServerError", "ServerRefusal", "SetAttribute", "Shelf",
     "ShelfVersion", "Status", "TimedOut", "TooDeep", "TooLong", "TooMany", "TooManyAttempts", "TooManyAttributes",

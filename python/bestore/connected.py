@@ -29,10 +29,11 @@ from typing import Any, Callable, Dict, Iterable, Iterator, List, NamedTuple, Op
 from weakref import WeakValueDictionary
 
 from ._connected_errors import (
-    BrokenConnection, Disconnected, Expired, LineTooLong, NoServer, NotAllowed, NotKept, NoWatch, ProtocolError, ServerError,
-    ServerRefusal, TimedOut, TooManyWatches, Unavailable, error_of)
+    BrokenConnection, Disconnected, Expired, LineTooLong, NoServer, NotAllowed, NotKept, NoWatch, OtherUser, ProtocolError,
+    ServerError, ServerRefusal, TimedOut, TooManyWatches, Unavailable, error_of)
 from ._connection import Connection
 from ._journal import line_of
+from ._socket_path import SocketPath
 from ._wire import (
     JSON, PROTOCOL, operations_of, read_entry, read_kind, read_nodes, read_operation, read_row, read_value)
 from .errors import (
@@ -49,14 +50,15 @@ from .versions import Query, Row, Version, not_covered
 
 __all__ = [
     "BrokenConnection", "Changes", "ConnectedPass", "ConnectedVersion", "Disconnected", "Expired", "LineTooLong",
-    "NoServer", "NoWatch", "NotAllowed", "NotKept", "ProtocolError", "Server", "ServerError", "ServerRefusal",
-    "TimedOut", "TooManyWatches", "Unavailable", "Watch", "connect", "default_path",
+    "NoServer", "NoWatch", "NotAllowed", "NotKept", "OtherUser", "ProtocolError", "Server", "ServerError", "ServerRefusal",
+    "SocketPath", "TimedOut", "TooManyWatches", "Unavailable", "Watch", "connect",
 ]
 
 _Result = TypeVar("_Result")
 
 TIMEOUT = 60.0
-"""How many seconds a reply may take, if nothing else is said."""
+"""How many seconds connecting and each reply may take, if nothing else is said."""
+_WORDS = 512  # of a page
 _MOST_WAITED = 30.0  # seconds that the server waits by itself
 _MOST_NAMES = 64  # of a request for columns
 _MOST_NODES = 1 << 14  # of such a request, which then is no line that is too long
@@ -345,15 +347,16 @@ class ConnectedPass(LockOwner, ThreadPass):
     """A pass of a server's store: a connection. The calls of several threads on it wait for one another, so each thread has a
     pass of its own."""
 
-    def __init__(self, path: str, timeout: Optional[float], run: Optional[str] = None) -> None:
+    def __init__(self, path: SocketPath, timeout: Optional[float], run: Optional[str] = None) -> None:
         self._connection: Optional[Connection] = None
         super().__init__()
         self._committed = 0
         self._is_asking = self._has_pin = self._is_left = False
         self._watches: "WeakValueDictionary[int, Watch]" = WeakValueDictionary()
         self._ended: List[int] = []  # watches that went, and that the server still has
-        self.path = path
+        self.path = path.path
         """The server's socket."""
+        self._socket_path = path
         self._timeout = timeout
         self._connection = Connection(path, timeout, partial(_take_push, self._watches))
         try:
@@ -363,7 +366,7 @@ class ConnectedPass(LockOwner, ThreadPass):
             raise
         if run is not None and self.server.run != run:
             self._connection.close()
-            raise Disconnected(path, "the server was started anew")
+            raise Disconnected(self.path, "the server was started anew")
 
     def __repr__(self) -> str:
         return f"<pass {self._number} of the server at {self.path}>"
@@ -444,7 +447,7 @@ class ConnectedPass(LockOwner, ThreadPass):
         """A pass of the same store for another thread: a new connection. It may be called in any thread. `NoPass` if there
         are as many clients as the server takes; `NoServer`, or `Disconnected` if the server was started anew since."""
         self._check_process()
-        return ConnectedPass(self.path, self._timeout, self.server.run)
+        return ConnectedPass(self._socket_path, self._timeout, self.server.run)
 
     def close(self) -> None:
         """Closes the connection, if it is open, and so gives the pass back. The store stays with the server."""
@@ -660,12 +663,19 @@ class Watch:
         error = push.get("error")
         if error is not None:
             self._error, self._number = error_of(self._user.path, error, self.query), None
-        created, removed = set(read_nodes(push["created"])), set(read_nodes(push["removed"]))
+        came, went = set(read_nodes(push["created"])), set(read_nodes(push["removed"]))
+        created, removed = self._created - went | came - self._removed, self._removed - came | went - self._created
+        self._check_room(max(len(created), len(removed)))
         # All at once, as an interrupt may come between two statements.
         self._created, self._removed, self._last, self._is_new, self._is_partial = (
-            self._created - removed | created - self._removed, self._removed - created | removed - self._created,
-            int(push["commit"]), True, bool(push.get("more")))
+            created, removed, int(push["commit"]), True, bool(push.get("more")))
         return self._is_partial
+
+    def _check_room(self, nodes: int) -> None:
+        """A ValueError if the server has no room for so many nodes, of which each takes a word of a page at least."""
+        pages = self._user.server.pages * self._user.server.volumes
+        if nodes > pages * _WORDS:
+            raise ValueError(f"the server pushed more nodes than its {pages:,} pages have room for")
 
     def _returned(self) -> Changes:
         changes = Changes(sorted(self._created), sorted(self._removed))
@@ -729,21 +739,16 @@ class Watch:
                     user._end_watches()
 
 
-def default_path() -> str:
-    """The socket at which a server listens if nothing else is said."""
-    folder = os.environ.get("XDG_RUNTIME_DIR")
-    return f"/tmp/bestore-{os.geteuid()}/socket" if folder is None else os.path.join(folder, "bestore", "socket")
-
-
 def connect(path: Union[str, bytes, "os.PathLike[Any]", None] = None, timeout: Optional[float] = TIMEOUT) -> ConnectedPass:
-    """Connects to a server at its socket, or at the one where a server is if nothing is said. The pass is used as the one that
-    `open` returns; `help(bestore.connected)` says what differs.
+    """Connects to a server at this socket, or at the one that `SocketPath.find` finds. The pass is used as the one that `open`
+    returns; `help(bestore.connected)` says what differs.
 
-    `timeout` is how many seconds a reply may take; None is without an end. After that the call raises `TimedOut`, and the
-    connection is closed.
+    `timeout` is how many seconds connecting and each reply may take; None is without an end. After that the call raises
+    `TimedOut`, and the connection is closed.
 
-    Raises `NoServer`; `NoPass` if there are as many clients as the server takes; `NotAllowed` if the server is another user's;
-    `ProtocolError`, `TimedOut`; a ValueError if `timeout` isn't above 0."""
+    Raises `NoServer`; `OtherUser` if nobody has named the socket, and the server is neither the effective user's nor root's;
+    `NoPass` if there are as many clients as the server takes; `NotAllowed` if the server refuses this user; `ProtocolError`,
+    `TimedOut`; a ValueError if `timeout` isn't above 0."""
     if timeout is not None and not timeout > 0:
         raise ValueError(f"a timeout of {timeout} seconds")
-    return ConnectedPass(default_path() if path is None else os.fsdecode(path), timeout)
+    return ConnectedPass(SocketPath.find(path), timeout)
