@@ -57,7 +57,7 @@ def over_server(cls):
 
 
 for _module, _names in [
-    (test_bestore, "Values OutOfRange Versions Journals PreparedQueries Passes WrongUse Whole States WhatIsCarried Threads"),
+    (test_bestore, "Values OutOfRange Versions Journals PreparedQueries Passes WrongUse WhatIsMissing Whole States WhatIsCarried Threads"),
     (test_changes, "Changes Conditions Kinds Reindexing Writers AtFull"),
     (test_batches, "Operations Entries"),
     (test_language, "Patterns Covered Counts Hints NoTexts"),

@@ -219,6 +219,20 @@ class Writes(Indexed):
         with store.pin() as version:
             self.assertEqual(version.query("size>=0"), sorted(made))
 
+    def test_what_is_missing(self):
+        store = self.indexed(2)
+        node = self.sized(store, 1, 5)
+        with store.pin() as version:
+            with self.assertRaises(bestore.NoNode) as fault:
+                version.attributes(node + 1)
+            self.assertEqual(str(fault.exception), f"there is no node {node + 1}")
+            self.assertRaisesRegex(bestore.NoAttribute, f'node {node} has no attribute "b"', lambda: version[node]["b"])
+        for missing in node + 1, 5 * 10**14 + 7:
+            with self.assertRaises(bestore.NoNode) as fault:
+                store.set(missing, "size", 5)
+            self.assertEqual(fault.exception.node, missing)
+            self.assertIn(f"there is no node {missing}", str(fault.exception))
+
     def test_wrong_kind(self):
         store = self.indexed(2)
         node = self.sized(store, 1, 5)

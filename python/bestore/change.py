@@ -148,7 +148,7 @@ class Change(Version):
 
     def _listed(self, node: int) -> Dict[str, Typed]:
         if node in self._removed:
-            raise NoNode()
+            raise NoNode(node)
         listed = {} if node in self._made else self._snapshot._listed(node)
         for name, encoded in self._set.get(node, {}).items():
             listed.pop(name, None)
@@ -222,5 +222,5 @@ class ChangedAttributes(Attributes, MutableMapping[str, Value]):
 
     def __delitem__(self, name: str) -> None:
         """Removes an attribute. `NoAttribute`, which is a KeyError, if it isn't there."""
-        self._version._read(self.node, name)
+        self.__getitem__(name)
         self._version.unset(self.node, name)

@@ -41,11 +41,11 @@ from .errors import (
     encoded, encoded_query)
 from .handles import LockOwner
 from .local import refreshed
-from .nodes import within
+from .nodes import node_number, within
 from .operations import MOST_OPERATIONS, NEW, Batch
 from .queries import Prepared, prepare_items
 from .store import TRIES, Entry, Held, Status, ThreadPass, Witness
-from .values import RANGES, Kind, Typed, Value, plain
+from .values import RANGES, Kind, Typed, Value
 from .versions import Query, Row, Version, not_covered
 
 __all__ = [
@@ -245,7 +245,11 @@ class ConnectedVersion(Version):
         return value
 
     def _listed(self, node: int) -> Dict[str, Typed]:
-        return self._ask("attributes", {"node": _node_number(node)}, _read_attributes)
+        try:
+            return self._ask("attributes", {"node": _node_number(node)}, _read_attributes)
+        except NoNode as error:
+            error.nodes = (node,)
+            raise
 
     def _nodes_from(self, first: int, room: int) -> List[int]:
         return self._ask("nodes", {"from": first, "limit": room}, lambda ok: read_nodes(ok["nodes"]))
@@ -253,22 +257,22 @@ class ConnectedVersion(Version):
 
 def _node_number(node: int) -> int:
     """A node's number, which 64 bits hold."""
-    number = plain(node)
+    number = node_number(node)
     if number not in RANGES[Kind.UINT64]:
-        raise NoNode()
+        raise NoNode(number)
     return number
 
 
 def _asked_node(node: int) -> int:
     """A node's number as a request has it: 0, which no node has, if 64 bits don't hold it."""
-    number = plain(node)
+    number = node_number(node)
     return number if number in RANGES[Kind.UINT64] else 0
 
 
 def _asked_name(name: str) -> str:
     """A name as a request has it. `NotUTF8` if it has half of a surrogate pair."""
     if not isinstance(name, str):
-        raise TypeError(f"{name!r} is no name")
+        raise TypeError(f"{name!r} is no name: a name is a str")
     encoded(name)
     return name
 

@@ -29,7 +29,7 @@ from typing import Callable, Dict, Iterable, Iterator, List, Optional, Sequence,
 from . import local as _local
 from .errors import BadCount, BadLimits, IndexExists, NoIndex, NoNode, NotCovered, NoVolume, OtherStore, PartialIndex, Refusal
 from .local import refreshed
-from .nodes import MOST_VOLUMES, NUMBERS, indices_in, node_in, number_of, of_volume, volume_of, within
+from .nodes import MOST_VOLUMES, NUMBERS, indices_in, node_in, node_number, number_of, of_volume, volume_of, within
 from .operations import MOST_OPERATIONS, Batch, MakeIndex, Operation
 from .queries import Prepared
 from .store import PASSES, TRIES, Entry, Pass, Status, ThreadPass, Witness
@@ -96,7 +96,7 @@ class ShelfVersion(Version):
 
     def _of(self, node: int) -> Tuple[Version, int]:
         """The version that may have a node, and the node's number there. In no volume there is a node 0."""
-        volume, number = divmod(node, NUMBERS)
+        volume, number = divmod(node_number(node), NUMBERS)
         if 0 <= volume < len(self.volumes):
             return self.volumes[volume], number
         return self.volumes[0], 0
@@ -107,7 +107,11 @@ class ShelfVersion(Version):
 
     def _listed(self, node: int) -> Dict[str, Typed]:
         version, number = self._of(node)
-        return version._listed(number)
+        try:
+            return version._listed(number)
+        except NoNode as error:
+            error.nodes = (node,)
+            raise
 
     def get(self, node: int, name: str) -> Optional[Value]:
         version, number = self._of(node)

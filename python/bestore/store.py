@@ -12,9 +12,9 @@ from itertools import groupby
 from typing import Callable, Iterator, List, NamedTuple, Optional, Sequence, Tuple, TypeVar, Union
 
 from .change import Change
-from .errors import NotReached, Conflict, Nested, NoIndex, NoVolume, PartialIndex, TooManyAttempts
+from .errors import Conflict, Nested, NoAttribute, NoIndex, NoNode, NotReached, NoVolume, PartialIndex, TooManyAttempts
 from .handles import Owner
-from .nodes import volume_of
+from .nodes import name_missing, volume_of
 from .operations import MOST_OPERATIONS, Batch, Operation
 from .values import Kind, Value
 from .versions import Version
@@ -294,10 +294,14 @@ class Pass(Owner, ABC):
                  volume: Optional[int] = None) -> Tuple[int, List[int]]:
         if self._is_changing:
             raise Nested()
-        if volume is None:
-            written = self._write(batch, tries, expected)
-        else:
-            written = self._write_in(volume, batch, tries, expected)
+        try:
+            if volume is None:
+                written = self._write(batch, tries, expected)
+            else:
+                written = self._write_in(volume, batch, tries, expected)
+        except (NoNode, NoAttribute) as error:
+            name_missing(error, batch)
+            raise
         self._committed = written[0]
         return written
 

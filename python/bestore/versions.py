@@ -292,7 +292,11 @@ class Attributes(Mapping[str, Value]):
         self._version, self.node = version, node
 
     def __getitem__(self, name: str) -> Value:
-        return self._version._value(self.node, name)
+        try:
+            return self._version._value(self.node, name)
+        except (NoNode, NoAttribute) as error:
+            error._name(self.node, name)
+            raise
 
     def __iter__(self) -> Iterator[str]:
         return iter(self._version.attributes(self.node))
