@@ -199,7 +199,7 @@ class Broken(unittest.TestCase):
 
     def test_push_at_once(self):
         """A new watch takes what is pushed while its call gives up the pin of a version that went within it."""
-        read_first, pinned = connected.Watch._read_first, []
+        read_first, pinned = connected.ConnectedWatch._read_first, []
 
         def forget_and_read(watch, ok):
             pinned.clear()
@@ -208,7 +208,7 @@ class Broken(unittest.TestCase):
             with Fake([line(2, {"commit": 0, "next": 1})], [line(3, {"watch": 1, "commit": 1, "nodes": [1]})],
                       [last + line(4, {})]) as fake, fake.connect() as store:
                 pinned.append(store.pin())
-                with mock.patch.object(connected.Watch, "_read_first", forget_and_read):
+                with mock.patch.object(connected.ConnectedWatch, "_read_first", forget_and_read):
                     watch = store.watch("k==1")
                 self.assertEqual(("unpin" in fake.asked[-1], watch.commit), (True, 1))
                 self.assertEqual((watch.wait(0), watch.commit), (seen, 2))
@@ -263,7 +263,7 @@ class Interrupt:
     files = {_connection.__file__, connected.__file__}
     taking = {it.__code__ for it in (
         _connection.Connection.receive_pushes, _connection._can_receive, _connection.Connection._take_line,
-        _connection.Connection._receive, _connection.Connection._take_other, connected.Watch._take)}
+        _connection.Connection._receive, _connection.Connection._take_other, connected.ConnectedWatch._take)}
 
     def __init__(self, place):
         self.left = place  # how many places it passes by

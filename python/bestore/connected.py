@@ -47,9 +47,10 @@ from .queries import Prepared, prepare_items
 from .store import TRIES, Entry, Held, Status, ThreadPass, Witness
 from .values import RANGES, Kind, Typed, Value
 from .versions import Query, Row, Version, not_covered
+from .watches import Changes, Watch
 
 __all__ = [
-    "BrokenConnection", "Changes", "ConnectedPass", "ConnectedVersion", "Disconnected", "Expired", "LineTooLong",
+    "BrokenConnection", "Changes", "ConnectedPass", "ConnectedVersion", "ConnectedWatch", "Disconnected", "Expired", "LineTooLong",
     "NoServer", "NoWatch", "NotAllowed", "NotKept", "OtherUser", "ProtocolError", "Server", "ServerError", "ServerRefusal",
     "SocketPath", "TimedOut", "TooManyWatches", "Unavailable", "Watch", "connect",
 ]
@@ -339,7 +340,7 @@ def _read_journal(ok: JSON) -> Tuple[List[Entry], Optional[int]]:
     return [read_entry(entry) for entry in ok["entries"]], ok.get("more")
 
 
-def _take_push(watches: "WeakValueDictionary[int, Watch]", push: JSON) -> None:
+def _take_push(watches: "WeakValueDictionary[int, ConnectedWatch]", push: JSON) -> None:
     """Gives what was pushed to its watch, if that is there. The connection has no reference to the pass, so that a pass that
     nothing names goes at once."""
     watch = watches.get(push["watch"])
@@ -356,7 +357,7 @@ class ConnectedPass(LockOwner, ThreadPass):
         super().__init__()
         self._committed = 0
         self._is_asking = self._has_pin = self._is_left = False
-        self._watches: "WeakValueDictionary[int, Watch]" = WeakValueDictionary()
+        self._watches: "WeakValueDictionary[int, ConnectedWatch]" = WeakValueDictionary()
         self._ended: List[int] = []  # watches that went, and that the server still has
         self.path = path.path
         """The server's socket."""
@@ -556,9 +557,9 @@ class ConnectedPass(LockOwner, ThreadPass):
         are those of `flush`."""
         self._ask("compact", {}, lambda ok: None)
 
-    def watch(self, query: Optional[str] = None) -> Watch:
-        """Begins to watch what a query finds, or each commit if there is none. A `QueryError`; `TooManyWatches`."""
-        return Watch(self, query)
+    def watch(self, query: Optional[str] = None) -> ConnectedWatch:
+        """As in a store of this process. The server pushes the changes. A `QueryError`; `TooManyWatches`."""
+        return ConnectedWatch(self, query)
 
     def fileno(self) -> int:
         """The descriptor of the socket, for `select` and event loops: if it can be read, something was pushed for a watch.
@@ -586,39 +587,22 @@ class ConnectedPass(LockOwner, ThreadPass):
                 self._ask("unwatch", {"watch": self._ended.pop()}, lambda ok: None)
 
 
-class Changes(NamedTuple):
-    """What changed in what a query finds. It unpacks as what `Version.refresh` returns."""
-
-    created: List[int]
-    """The nodes that came, ascending."""
-    removed: List[int]
-    """The nodes that went, ascending."""
-
-
-class Watch:
-    """A live query whose changes the server pushes, by `ConnectedPass.watch`. At first all of its nodes come.
-
-        with store.watch("MAIL:status==New") as unread:
-            for came, went in unread:
-                print(came, went)
-
-    What the calls on it return, taken together, is what the query finds at `commit`. Changes of several commits come as one.
-    Any call on the pass receives what was pushed, and the watch keeps it until it is returned. A program that makes no call
-    for half a minute while more is pushed than the socket holds is disconnected by the server.
+class ConnectedWatch(Watch):
+    """A watch whose changes the server pushes. Any call on the pass receives what was pushed, and the watch keeps it until it is
+    returned. A program that makes no call for half a minute while more is pushed than the socket holds is disconnected by the
+    server.
 
     `Prepared` and `Version.refresh` do without pushes."""
 
     def __init__(self, user: ConnectedPass, query: Optional[str]) -> None:
-        self._user, self.query = user, query
-        """The text of the query, or None if each commit is watched."""
+        super().__init__(query)
+        self._user = user
         self._created: Set[int] = set()
         self._removed: Set[int] = set()
         self._is_partial = self._is_new = False  # whether a push of the same commit is missing, and something is to be returned
         self._last = 0  # the commit to which all that was received leads
         self._error: Optional[Error] = None  # what has ended the watch
         self._number: Optional[int] = None
-        self.commit = 0
-        """The commit number of the snapshot to which what was returned leads, and at first that of the first answer."""
         parameters = {} if query is None else {"query": query}
         if query is not None:
             encoded_query(query)
@@ -632,25 +616,9 @@ class Watch:
             except LineTooLong:
                 raise TooLong(query=query) from None
 
-    def __repr__(self) -> str:
-        return f"<watch of {self.query or 'each commit'} at commit {self.commit}>"
-
-    def __enter__(self) -> Watch:
-        return self
-
-    def __exit__(self, *_: object) -> None:
-        self.close()
-
     def __del__(self) -> None:
         if self._number is not None:
             self._user._ended.append(self._number)
-
-    def __iter__(self) -> Iterator[Changes]:
-        """The changes, each as soon as it comes, without an end."""
-        while True:
-            changes = self.wait()
-            assert changes is not None
-            yield changes
 
     def _read_first(self, ok: JSON) -> None:
         """Takes the first answer in. From then on pushes come, also before the call ends."""

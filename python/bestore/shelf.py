@@ -27,6 +27,7 @@ from types import TracebackType
 from typing import Callable, Dict, Iterable, Iterator, List, Optional, Sequence, Tuple, Type, TypeVar, Union
 
 from . import local as _local
+from .commits import Commits
 from .errors import BadCount, BadLimits, IndexExists, NoIndex, NoNode, NotCovered, NoVolume, OtherStore, PartialIndex, Refusal
 from .local import refreshed
 from .nodes import MOST_VOLUMES, NUMBERS, indices_in, node_in, node_number, number_of, of_volume, volume_of, within
@@ -215,6 +216,10 @@ class Shelf(ThreadPass):
     @property
     def volumes(self) -> int:
         return len(self._passes)
+
+    @property
+    def _commits(self) -> Tuple[Commits, ...]:
+        return tuple(commits for user in self._passes for commits in user._commits)
 
     def volume(self, volume: int) -> Pass:
         """The pass of a volume, which reads and writes nodes by their numbers there. `NoVolume` if it isn't there."""
