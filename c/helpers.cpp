@@ -287,6 +287,11 @@ static void questions()
     refused(BES_NOT_COVERED, at_byte(0), [&] { (void)pin.explain("none==1 && 'x'==2"); });
     refused(BES_SYNTAX, at_byte(5), [&] { pin.count("size<"); });
     CHECK(pin.uncovered("size<2 && x==1") == 10 && !pin.uncovered("size<2") && pin.pairs("size") == 5 && pin.pairs("name") == 0);
+    Prepared nowhere("(size<2) || none==1");
+    Live unseen("none==1");
+    refused(BES_NOT_COVERED, [&] { pin.count(nowhere); });
+    refused(BES_NOT_COVERED, [&] { unseen.refresh(pin); });
+    CHECK(pin.uncovered(nowhere.text()) == nowhere.text().find("\"none\""));
     const auto never = pin.never_true(odd);
     CHECK(never.size() == 2 && never[0].name == "size" && never[0].value == "1.5" && never[0].op == B_GT && never[0].offset == 0);
     CHECK(never[1].value == "2024-01-01" && never[1].op == B_NE && pin.never_true(small).empty());
