@@ -43,7 +43,9 @@ static void fill(bes_pass *pass)
 
 static void hold(bes_name *held, const char *name)
 {
-    CHECK(bes_check_name((const uint8_t *)name, strlen(name), held) == BES_OK);
+    bes_name again = {0, {0}};
+    CHECK(bes_check_name((const uint8_t *)name, strlen(name), &again) == BES_OK && bes_check_name_text(name, held) == BES_OK);
+    CHECK(held->length == again.length && memcmp(held->bytes, again.bytes, again.length) == 0);
 }
 
 /* A cell tells what bes_get reads; and bes_get_named reads the same. */
@@ -129,6 +131,7 @@ static void unchecked_names(bes_pass *pass)
     good.bytes[60] = 9; /* past the name */
     CHECK(bes_get_named(pass, 2, &good, &told, bytes, 64) == BES_OK && told.length == 10);
     CHECK(bes_check_name((const uint8_t *)"", 0, &good) == BES_NAME_LENGTH && bes_check_name((const uint8_t *)"\xff", 1, &good) == BES_NOT_UTF8);
+    CHECK(bes_check_name_text("", &good) == BES_NAME_LENGTH && bes_check_name_text("\xff", &good) == BES_NOT_UTF8);
     CHECK(bes_check_name((const uint8_t *)"a\0", 2, &good) == BES_HAS_NUL && good.length == 4 && good.bytes[60] == 9);
 }
 

@@ -95,12 +95,21 @@ static void kinds_are_checked()
     store.make_index("size", Kind::int64);
     store.make_index("text", Kind::string);
     store.new_node();
-    CHECK(mismatch(store, [](Change &change) { change.set(1, "size", 5); }) == "\"size\" has an index of int64, and the value is int32");
-    CHECK(mismatch(store, [](Change &change) { change.set(1, "size", 5ull); }) == "\"size\" has an index of int64, and the value is uint64");
-    CHECK(mismatch(store, [](Change &change) { change.make_index("n", Kind::uint32).set(1, "n", 5); }) ==
-          "\"n\" has an index of uint32, and the value is int32");
+    const auto refused_as = [&](std::string_view name, const char *index, const char *value, auto set) {
+        const auto expected = "the index \"" + std::string(name) + "\" takes values of kind " + index + ", and this one is " + value;
+        CHECK(mismatch(store, set) == expected);
+    };
+    refused_as("size", "int64", "int32", [](Change &change) { change.set(1, "size", 5); });
+    refused_as("size", "int64", "uint64", [](Change &change) { change.set(1, "size", 5ull); });
+    refused_as("size", "int64", "string", [](Change &change) { change.set(1, "size", "5"); });
+    refused_as("size", "int64", "raw", [](Change &change) { change.set(1, "size", Raw{5}); });
+    refused_as("size", "int64", "mime", [](Change &change) { change.set(1, "size", Mime{"a/b"}); });
+    refused_as("text", "string", "int32", [](Change &change) { change.set(1, "text", 5); });
+    refused_as("text", "string", "mime", [](Change &change) { change.set(1, "text", Mime{"a/b"}); });
+    refused_as("n", "uint32", "int32", [](Change &change) { change.make_index("n", Kind::uint32).set(1, "n", 5); });
     CHECK(mismatch(store, [](Change &change) { change.remove_index("size").set(1, "size", 5).make_index("size", Kind::int32); }).empty());
-    CHECK(mismatch(store, [](Change &change) { change.set(1, "size", "text").set(1, "text", 5).set(1, "other", 5); }).empty());
+    CHECK(mismatch(store, [](Change &change) { change.set(1, "text", "ann").set(1, "other", 5); }).empty());
+    CHECK(mismatch(store, [](Change &change) { change.any_kind().set(1, "size", "text").set(1, "text", 5); }).empty());
     CHECK(mismatch(store, [](Change &change) { change.any_kind().set(1, "size", 5ull); }).empty());
     CHECK(mismatch(store, [](Change &change) { change.set(1, "size", Kind::int32, 5ull); }).empty());
     CHECK(store.pin().query("size==5") == Nodes{1});
@@ -278,6 +287,11 @@ static void questions()
     refused(BES_NOT_COVERED, at_byte(0), [&] { (void)pin.explain("none==1 && 'x'==2"); });
     refused(BES_SYNTAX, at_byte(5), [&] { pin.count("size<"); });
     CHECK(pin.uncovered("size<2 && x==1") == 10 && !pin.uncovered("size<2") && pin.pairs("size") == 5 && pin.pairs("name") == 0);
+    Prepared nowhere("(size<2) || none==1");
+    Live unseen("none==1");
+    refused(BES_NOT_COVERED, [&] { pin.count(nowhere); });
+    refused(BES_NOT_COVERED, [&] { unseen.refresh(pin); });
+    CHECK(pin.uncovered(nowhere.text()) == nowhere.text().find("\"none\""));
     const auto never = pin.never_true(odd);
     CHECK(never.size() == 2 && never[0].name == "size" && never[0].value == "1.5" && never[0].op == B_GT && never[0].offset == 0);
     CHECK(never[1].value == "2024-01-01" && never[1].op == B_NE && pin.never_true(small).empty());

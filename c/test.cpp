@@ -232,6 +232,11 @@ static void pins()
     CHECK(store.meet() == 3);
     Pass again = store.another();
     CHECK(again.pin().number() == 3);
+    Store roomy;
+    std::vector<Pass> others;
+    while (others.size() < 62)
+        others.push_back(roomy.another());
+    refused(BES_NO_PASS, [&] { roomy.another(); });
 }
 
 // The last pass closes its store.

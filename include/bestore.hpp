@@ -40,7 +40,7 @@ public:
         return next_++;
     }
 
-    // Takes integers of any kind from here on. At first one throws KindMismatch if the name has an index of another integer kind.
+    // Takes values of any kind from here on. At first a value of another kind than the index of its name throws KindMismatch.
     Change &any_kind() noexcept
     {
         checks_kinds_ = false;
@@ -73,10 +73,10 @@ private:
             kinds().insert_or_assign(std::string(edit.name), kind);
         else if (edit.kind == BES_REMOVE_INDEX)
             kinds().erase(std::string(edit.name));
-        if (edit.kind != BES_SET || !detail::is_integer_kind(kind))
+        if (edit.kind != BES_SET)
             return;
         const auto index = kinds().find(edit.name);
-        if (index != kinds().end() && detail::is_integer_kind(index->second) && index->second != kind)
+        if (index != kinds().end() && index->second != kind)
             throw KindMismatch(edit.name, index->second, kind);
     }
 
@@ -396,7 +396,7 @@ inline std::atomic<std::uint64_t> stores{0};
 // How large a store may grow.
 struct Limits {
     std::uint64_t pages = 4096;         // of 4 KiB, taken at once: 8 to 16,384
-    std::uint64_t passes = 8;           // 1 to 64
+    std::uint64_t passes = 63;          // 1 to 64. One takes 97 bytes, and a write 13 instructions more, of some 20,000
     std::uint64_t commits = UINT32_MAX; // transactions: 1 to 2^32 - 1
 };
 

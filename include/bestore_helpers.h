@@ -716,6 +716,12 @@ static inline uint32_t bes_prepare_text(const char *text, bes_prepared *prepared
     return bes_prepare((const uint8_t *)text, strlen(text), prepared, place);
 }
 
+/* bes_check_name for a name that ends with a zero byte. */
+static inline uint32_t bes_check_name_text(const char *name, bes_name *checked)
+{
+    return bes_check_name((const uint8_t *)name, strlen(name), checked);
+}
+
 /* bes_get for a name that ends with a zero byte. */
 static inline uint32_t bes_read(bes_pass *pass, uint64_t node, const char *name, bes_attribute *attribute, uint8_t *bytes,
                                 size_t bytes_room)

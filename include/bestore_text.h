@@ -135,7 +135,7 @@ static inline const bes_operation *bes_index_of(const bes_index_list *list, cons
 
 /* Finds the first comparison whose name has no index in the pinned snapshot, for a message at BES_NOT_COVERED. It need not be the one
  * that needs an index: an || needs one on both sides, an && on one.
- * [out] at       the byte offset of the comparison, or the text's length if each has an index
+ * [out] at       the byte offset of the comparison, or the text's length if each has an index, and after an error
  * The errors and the cost are those of bes_indices. */
 static inline uint32_t bes_uncovered(bes_pass *pass, const char *text, size_t length, size_t *at)
 {
@@ -143,9 +143,9 @@ static inline uint32_t bes_uncovered(bes_pass *pass, const char *text, size_t le
     bes_comparison comparison;
     size_t next = 0;
     uint32_t error = bes_list_indices(pass, &list);
+    *at = length;
     if (error != BES_OK)
         return error;
-    *at = length;
     while (*at == length && bes_next_comparison(text, length, &next, &comparison))
         if (bes_index_of(&list, text, &comparison) == NULL)
             *at = comparison.at;

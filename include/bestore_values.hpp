@@ -137,12 +137,12 @@ inline const char *kind_name(Kind kind)
     return "?";
 }
 
-// A change sets an integer of one kind under a name that has an index of another. The index would never hold it.
+// A change sets a value of one kind under a name that has an index of another. The index would never hold it.
 class KindMismatch : public std::invalid_argument {
 public:
     KindMismatch(std::string_view name, Kind of_index, Kind of_value)
-        : std::invalid_argument('"' + std::string(name) + "\" has an index of " + kind_name(of_index) + ", and the value is " +
-                                kind_name(of_value)),
+        : std::invalid_argument("the index \"" + std::string(name) + "\" takes values of kind " + kind_name(of_index) +
+                                ", and this one is " + kind_name(of_value)),
           of_index_(of_index), of_value_(of_value)
     {
     }
@@ -212,11 +212,6 @@ inline std::uint32_t append(std::string &bytes, std::string_view text)
 }
 
 template <class T> inline constexpr bool is_integer = std::is_integral_v<T> && !std::is_same_v<T, bool> && !std::is_same_v<T, char>;
-
-inline constexpr bool is_integer_kind(Kind kind)
-{
-    return kind == Kind::int32 || kind == Kind::int64 || kind == Kind::uint32 || kind == Kind::uint64;
-}
 
 template <class T> constexpr Kind kind_of_integer()
 {

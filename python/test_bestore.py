@@ -2,6 +2,7 @@
 
 import gc
 import os
+import pickle
 import queue
 import subprocess
 import sys
@@ -113,6 +114,12 @@ class OutOfRange(unittest.TestCase):
                 bestore.open(*limits)
         with bestore.open(64, 1, 100) as store:
             self.assertEqual(store.apply(bestore.Batch().new_node(), tries=2**32), (1, [1]))
+
+    def test_passes_if_nothing_is_said(self):
+        with bestore.open(64) as store:
+            others = [store.another() for _ in range(62)]
+            self.assertEqual(len({other.number for other in others}), 62)
+            self.assertRaises(bestore.NoPass, store.another)
 
 
 class Versions(unittest.TestCase):
@@ -315,6 +322,73 @@ class WrongUse(unittest.TestCase):
         with self.assertRaises(bestore.Refusal) as fault:
             store.new_node()
         self.assertEqual(fault.exception.number, 64)
+
+
+class WhatIsMissing(unittest.TestCase):
+    """Errors name the node and the attribute that aren't there, and the kinds that there are."""
+
+    def refused(self, error, said, call):
+        with self.assertRaises(error) as fault:
+            call()
+        self.assertEqual(str(fault.exception), said)
+        return fault.exception
+
+    def test_reads(self):
+        with bestore.open(64, 1, 100) as store:
+            store.apply(bestore.Batch().new_node().set(1, "a", 5))
+            with store.pin() as version:
+                fault = self.refused(bestore.NoNode, "there is no node 9", lambda: version.attributes(9))
+                self.assertEqual(fault.node, 9)
+                self.refused(bestore.NoNode, f"there is no node {2**70}", lambda: version.attributes(2**70))
+                self.refused(bestore.NoNode, "there is no node 9", lambda: list(version[9]))
+                fault = self.refused(bestore.NoAttribute, 'node 1 has no attribute "size"', lambda: version[1]["size"])
+                self.assertEqual((fault.node, fault.name), (1, "size"))
+                self.refused(KeyError, 'node 9 has no attribute "size"', lambda: version[9]["size"])
+
+            def delete(change):
+                del change[1]["size"]
+            self.refused(bestore.NoAttribute, 'node 1 has no attribute "size"', lambda: store.change(delete))
+            self.refused(bestore.NoNode, "there is no node 9", lambda: store.change(lambda change: change.attributes(9)))
+
+    def test_writes(self):
+        with bestore.open(64, 1, 100) as store:
+            store.apply(bestore.Batch().new_node().set(1, "a", 5))
+            for write in (lambda: store.set(9, "a", 5), lambda: store.remove_node(9), lambda: store.unset(9, "a"),
+                          lambda: store.change(lambda change: change.set(9, "a", 5))):
+                self.assertEqual(self.refused(bestore.NoNode, "there is no node 9", write).node, 9)
+            fault = self.refused(bestore.NoAttribute, 'node 1 has no attribute "b"', lambda: store.unset(1, "b"))
+            self.assertEqual((fault.node, fault.name), (1, "b"))
+            batch = bestore.Batch().set(1, "a", 6).unset(1, "a").set(9, "b", 7).set(9, "c", 7)
+            fault = self.refused(bestore.NoNode, "one of the nodes 1, 9 isn't there", lambda: store.apply(batch))
+            self.assertEqual((fault.node, pickle.loads(pickle.dumps(fault)).nodes), (None, (1, 9)))
+            batch = bestore.Batch().new_node().unset(1, "a").unset(1, "b")
+            self.refused(bestore.NoAttribute, "no such attribute", lambda: store.apply(batch))
+
+    def test_values(self):
+        kinds = "STRING, INT32, INT64, MIME, RAW, UINT32 and UINT64"
+        with bestore.open(64, 1, 100) as store:
+            store.new_node()
+            for value, kind, said in [
+                (True, None, "True is no value of an attribute: write int(True), which is 1, or a text"),
+                (False, bestore.INT32, "False is no value of an attribute: write int(False), which is 0, or a text"),
+                (1.5, None, "1.5 is no value of an attribute: that is a str, bytes or an int"),
+                (None, bestore.STRING, "None is no value of an attribute: that is a str, bytes or an int"),
+                ("5", bestore.INT32, "'5' can't be of the kind INT32: a str is STRING or MIME"),
+                (b"5", bestore.STRING, "b'5' can't be of the kind STRING: bytes are RAW"),
+                (5, bestore.MIME, "5 can't be of the kind MIME: an int is INT64, INT32, UINT32 or UINT64"),
+            ]:
+                for write in (lambda: store.set(1, "a", value, kind), lambda: bestore.Batch().set(1, "a", value, kind),
+                              lambda: store.change(lambda change: change.set(1, "a", value, kind))):
+                    self.refused(TypeError, said, write)
+            said = f"no such kind: there are {kinds}"
+            self.refused(bestore.NoKind, said, lambda: store.set(1, "a", "5", 7))
+            self.refused(bestore.NoKind, f"{said} (operation 0, counted from 0)", lambda: store.make_index("a", 7))
+            self.refused(TypeError, "'1' is no node: a node is an int", lambda: store.set("1", "a", 5))
+            with store.pin() as version:
+                for read in (lambda: version.attributes("1"), lambda: version.get("1", "a"), lambda: version.column(["1"], "a"),
+                             lambda: version["1"]["a"]):
+                    self.refused(TypeError, "'1' is no node: a node is an int", read)
+                self.assertEqual(version.attributes(1), {})
 
 
 class Whole(unittest.TestCase):

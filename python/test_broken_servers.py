@@ -167,6 +167,19 @@ class Broken(unittest.TestCase):
             self.assertEqual([it["query"] for it in fake.asked if "query" in it], [
                 {"query": "k==1"}, {"query": "k==1", "from": 4}, {"query": "k==1", "from": 9}])
 
+    def test_columns(self):
+        """Rows may come in several replies, and each reply has rows of the nodes that are asked for."""
+        pinned = [line(2, {"commit": 0, "next": 1})]
+        with Fake(pinned, [line(3, {"commit": 0, "rows": [[1, "a"], [2, None]]})], [line(4, {"commit": 0, "rows": [[3, "c"]]})],
+                  [line(5, {})]) as fake, fake.connect() as store:
+            with store.pin() as version:
+                self.assertEqual(version.columns([7, 8, 9], ["k", "name"]), [[1, 2, 3], ["a", None, "c"]])
+            self.assertEqual([it["columns"]["nodes"] for it in fake.asked if "columns" in it], [[7, 8, 9], [9]])
+        for rows in [], [[1, 2]] * 3, [[1, 2], [1]], [[1], [1]], [[1, True]], 5, [5]:
+            with Fake(pinned, [line(3, {"commit": 0, "rows": rows})]) as fake, fake.connect() as store:
+                with self.subTest(rows=rows), store.pin() as version, self.assertRaises(bestore.ProtocolError):
+                    version.columns([1, 2], ["k", "name"])
+
     def test_pushes_between_replies(self):
         """Pushes come before a reply, after it in the same bytes, and in parts."""
         with Fake(
@@ -186,7 +199,7 @@ class Broken(unittest.TestCase):
 
     def test_push_at_once(self):
         """A new watch takes what is pushed while its call gives up the pin of a version that went within it."""
-        read_first, pinned = connected.Watch._read_first, []
+        read_first, pinned = connected.ConnectedWatch._read_first, []
 
         def forget_and_read(watch, ok):
             pinned.clear()
@@ -195,13 +208,26 @@ class Broken(unittest.TestCase):
             with Fake([line(2, {"commit": 0, "next": 1})], [line(3, {"watch": 1, "commit": 1, "nodes": [1]})],
                       [last + line(4, {})]) as fake, fake.connect() as store:
                 pinned.append(store.pin())
-                with mock.patch.object(connected.Watch, "_read_first", forget_and_read):
+                with mock.patch.object(connected.ConnectedWatch, "_read_first", forget_and_read):
                     watch = store.watch("k==1")
                 self.assertEqual(("unpin" in fake.asked[-1], watch.commit), (True, 1))
                 self.assertEqual((watch.wait(0), watch.commit), (seen, 2))
                 if "error" in json.loads(last):
                     self.assertRaises(bestore.NoWatch, watch.wait, 0)
 
+
+    def test_more_nodes_than_the_server_has_room_for(self):
+        """A page has 512 words, and a node takes one at least. So no server has more nodes than that."""
+        for pushed, error in [(push(2, list(range(8 * 512)), []), None), (push(2, list(range(8 * 512 + 1)), []), bestore.ProtocolError),
+                              (push(2, [], list(range(8 * 512 + 1))), bestore.ProtocolError)]:
+            with Fake([line(2, {"watch": 1, "commit": 1, "nodes": []}) + pushed]) as fake, fake.connect() as store:
+                watch = store.watch("k==1")
+                if error is None:
+                    self.assertEqual(watch.wait(PATIENCE), (list(range(8 * 512)), []))
+                    continue
+                with self.assertRaisesRegex(error, "the server pushed more nodes than its 8 pages have room for"):
+                    watch.wait(PATIENCE)
+                self.assertRaises(bestore.Disconnected, store.new_node)
 
     def reach(self, within, times, *answers):
         """What `reach` returns, how long the server was asked to wait, and what is raised. The clock shows these times."""
@@ -237,7 +263,7 @@ class Interrupt:
     files = {_connection.__file__, connected.__file__}
     taking = {it.__code__ for it in (
         _connection.Connection.receive_pushes, _connection._can_receive, _connection.Connection._take_line,
-        _connection.Connection._receive, _connection.Connection._take_other, connected.Watch._take)}
+        _connection.Connection._receive, _connection.Connection._take_other, connected.ConnectedWatch._take)}
 
     def __init__(self, place):
         self.left = place  # how many places it passes by

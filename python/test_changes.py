@@ -189,21 +189,26 @@ class Kinds(unittest.TestCase):
                 self.assertEqual(version.attributes(1, kinds=True)["INT32"], bestore.Typed(-(2**31), bestore.INT32))
 
     def test_wrong_kind(self):
-        """An int under an index of another integer kind is refused, and the message names both kinds."""
+        """A value under an index of another kind is refused, and the message names both kinds."""
         with bestore.open(64, 1, 100) as store:
             store.make_index("size", bestore.INT32)
             store.make_index("name", bestore.STRING)
             store.new_node()
-            for value, kind, index in [(5, "INT64", "INT32"), (bestore.UInt32(5), "UINT32", "INT32")]:
-                with self.assertRaises(bestore.WrongKind) as fault:
-                    store.change(lambda change: change.set(1, "size", value))
-                self.assertEqual((fault.exception.name, fault.exception.kind, fault.exception.index_kind), ("size", kind, index))
-                self.assertEqual(str(fault.exception), f'the value of "size" is {kind}, and the index of that name is {index}: '
+            for name, value, kind, index in [
+                ("size", (5,), "INT64", "INT32"), ("size", (bestore.UInt32(5),), "UINT32", "INT32"), ("size", ("5",), "STRING", "INT32"),
+                ("size", (b"5",), "RAW", "INT32"), ("size", ("5", bestore.MIME), "MIME", "INT32"), ("name", (5,), "INT64", "STRING"),
+                ("name", (b"ann",), "RAW", "STRING"), ("name", ("text/plain", bestore.MIME), "MIME", "STRING"),
+            ]:
+                with self.subTest(name=name, value=value), self.assertRaises(bestore.WrongKind) as fault:
+                    store.change(lambda change: change.set(1, name, *value))
+                self.assertEqual((fault.exception.name, fault.exception.kind, fault.exception.index_kind), (name, kind, index))
+                self.assertEqual(str(fault.exception), f'the index "{name}" takes values of kind {index}, and this one is {kind}: '
                                  f"set it as {index}, or no query finds it")
-            with self.assertRaises(bestore.WrongKind):
-                store.change(lambda change: change[1].update({"name": 5}))
-            store.change(lambda change: change.set(1, "size", "a text"))
-            store.change(lambda change: change.set(1, "size", 5), check_kinds=False)
+            for name, value in (("name", 5), ("size", "a text")):
+                with self.assertRaises(bestore.WrongKind):
+                    store.change(lambda change: change[1].update({name: value}))
+            store.change(lambda change: change.set(1, "size", "a text"), check_kinds=False)
+            store.change(lambda change: change.set(1, "other", b"any kind"))
             for value in ((bestore.Int32(7),), (8, bestore.INT32)):
                 store.change(lambda change: change.set(1, "size", *value))
                 with store.pin() as version:

@@ -3,6 +3,7 @@
 The tests of the store in this process are run on servers too, as far as they fit. Then come those of what a server has alone,
 and programs that are run both ways."""
 
+import contextlib
 import os
 import select
 import signal
@@ -21,7 +22,7 @@ import test_changes
 import test_fork
 import test_language
 import test_native
-from bestore import connected
+from bestore import _connection, connected
 from servers import BESTORED, PATIENCE, OverServer, Server
 
 HERE = os.path.dirname(os.path.abspath(__file__))
@@ -32,13 +33,12 @@ _open = bestore.open
 # Tests that don't fit, and why.
 UNFIT = {
     "test_limits": "the limits are the server's",
+    "test_passes_if_nothing_is_said": "the limits are the server's",
     "test_closed_is_given_again": "it meets a pass",
     "test_numbers": "it meets a pass",
     "test_finish": "the server closes its store",
     "test_witness": "it makes witnesses",
     "test_witness_is_of_one_store": "it makes witnesses",
-    "test_long": "each attribute is a round trip",
-    "test_many_names": "each attribute is a round trip",
     "test_gone_beside_a_call": "it makes calls of the library",
     "test_lock_of_a_thread_that_is_not_there": "it makes calls of the library",
     "test_store_of_the_child": "nobody would end the child's server",
@@ -57,7 +57,7 @@ def over_server(cls):
 
 
 for _module, _names in [
-    (test_bestore, "Values OutOfRange Versions Journals PreparedQueries Passes WrongUse Whole States WhatIsCarried Threads"),
+    (test_bestore, "Values OutOfRange Versions Journals PreparedQueries Passes WrongUse WhatIsMissing Whole States WhatIsCarried Threads"),
     (test_changes, "Changes Conditions Kinds Reindexing Writers AtFull"),
     (test_batches, "Operations Entries"),
     (test_language, "Patterns Covered Counts Hints NoTexts"),
@@ -142,11 +142,8 @@ class Connecting(WithServer):
             self.assertEqual(watch.wait(1e300), ([], []))
 
     def test_default_path(self):
-        with mock.patch.dict(os.environ, XDG_RUNTIME_DIR="/run/user/5"):
-            self.assertEqual(connected.default_path(), "/run/user/5/bestore/socket")
-        with mock.patch.dict(os.environ):
-            os.environ.pop("XDG_RUNTIME_DIR", None)
-            self.assertEqual(connected.default_path(), f"/tmp/bestore-{os.geteuid()}/socket")
+        with mock.patch.dict(os.environ, BESTORE_SOCKET=self.server.path), bestore.connect() as store:
+            self.assertEqual((store.path, store.server), (self.server.path, self.store.server))
 
     def test_closed(self):
         version, watch = self.store.pin(), self.store.watch()
@@ -214,6 +211,43 @@ class Reading(WithServer):
             return found, store.change(lambda change: (change.set(1, "b", 5), change.columns(nodes, names))[1])
         with _open(64, 1, 100) as store:
             self.assertEqual(columns(self.store), columns(store))
+
+    def test_columns_are_one_round_trip(self):
+        nodes, names = self.store.new_nodes(2000), [f"name {place}" for place in range(5)]
+        for first in range(0, 2000, 10):
+            batch = bestore.Batch()
+            for node in nodes[first:first + 10]:
+                for place, name in enumerate(names):
+                    batch.set(node, name, f"value {node}" if place % 2 else node)
+            self.store.apply(batch)
+        expected = [[f"value {node}" if place % 2 else node for node in nodes] for place in range(5)]
+        with self.store.pin() as version, self.asked() as asked:
+            self.assertEqual(version.columns(nodes, names), expected)
+            self.assertEqual(asked, ["columns"])
+            self.assertEqual((version.columns([], names), version.columns(nodes, [])), ([[]] * 5, []))
+            self.assertEqual(version.columns([-1, 2**64], names), [[None, None]] * 5)
+            self.assertEqual(version.column(nodes, names[1]), expected[1])
+            self.assertEqual(asked, ["columns"] * 3)
+        with self.asked() as asked:
+            self.store.change(lambda change: self.assertEqual(change.columns(nodes, names), expected))
+            self.assertEqual(asked, ["pin", "columns", "unpin"])
+
+    @contextlib.contextmanager
+    def asked(self):
+        """The commands of the requests that are sent meanwhile."""
+        commands, ask = [], _connection.Connection.ask
+
+        def listed(connection, command, *others, **named):
+            commands.append(command)
+            return ask(connection, command, *others, **named)
+        with mock.patch.object(_connection.Connection, "ask", listed):
+            yield commands
+
+    def test_columns_of_a_long_name(self):
+        with self.store.pin() as version:
+            for name in "x" * 64, "x" * (2 << 20):
+                self.assertRaises(bestore.NameLength, version.columns, [1], ["size", name])
+            self.assertEqual(version.columns([1], ["size"]), [[None]])
 
     def test_rows(self):
         """They are the same as in a store of this process, also if they come in several replies."""

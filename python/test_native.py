@@ -107,6 +107,14 @@ class Columns(unittest.TestCase):
                 return it.column([1, 2, 3, node, 9], "k")
             self.assertEqual(store.change(change), [1, None, 3, 5, None])
 
+            def remove(it):
+                it.remove(1)
+                it[3]["k"] = 7
+                return it.columns([1, 3, 3], ["k", "none"]), it.rows("k>=1", ["k"])
+            store.make_index("k", bestore.INT64)
+            store.set(3, "k", 3)
+            self.assertEqual(store.change(remove), ([[None, 7, 7], [None] * 3], [(3, [7])]))
+
 
 class Arguments(unittest.TestCase):
     def test_names(self):

@@ -326,6 +326,10 @@ class Kept(Files):
         with saved.open(self.path, 64, passes=2, every=float("inf")) as store, store.another() as other:
             with self.assertRaises(bestore.NoPass):
                 other.another()
+        for opened in saved.open(self.path, 64), saved.open_shelf(os.path.join(self.folder, "shelf"), 2, 64):
+            with opened as store:
+                others = [store.another() for _ in range(62)]
+                self.assertRaises(bestore.NoPass, others[0].another)
 
 
 class Timed(Files):

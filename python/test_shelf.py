@@ -219,6 +219,28 @@ class Writes(Indexed):
         with store.pin() as version:
             self.assertEqual(version.query("size>=0"), sorted(made))
 
+    def test_what_is_missing(self):
+        store = self.indexed(2)
+        node = self.sized(store, 1, 5)
+        with store.pin() as version:
+            with self.assertRaises(bestore.NoNode) as fault:
+                version.attributes(node + 1)
+            self.assertEqual(str(fault.exception), f"there is no node {node + 1}")
+            self.assertRaisesRegex(bestore.NoAttribute, f'node {node} has no attribute "b"', lambda: version[node]["b"])
+        for missing in node + 1, 5 * 10**14 + 7:
+            with self.assertRaises(bestore.NoNode) as fault:
+                store.set(missing, "size", 5)
+            self.assertEqual(fault.exception.node, missing)
+            self.assertIn(f"there is no node {missing}", str(fault.exception))
+
+    def test_wrong_kind(self):
+        store = self.indexed(2)
+        node = self.sized(store, 1, 5)
+        for value in "5", b"5", bestore.Int32(5):
+            self.assertRaises(bestore.WrongKind, store.change, lambda change: change.set(node, "size", value))
+        with store.pin() as version:
+            self.assertEqual(version.query("size==5"), [node])
+
     def test_status_and_reach(self):
         store = self.indexed(3)
         for _ in range(30):
@@ -269,6 +291,9 @@ class LocalWrites(InProcess, Writes, unittest.TestCase):
         self.assertRaises(bestore.BadLimits, bestore.Shelf, [])
         store = self.shelf(2, passes=1)
         self.assertRaises(bestore.NoPass, store.another)
+        with bestore.open_shelf(2, 64) as shelf:
+            others = [shelf.another() for _ in range(62)]
+            self.assertRaises(bestore.NoPass, others[0].another)
         self.assertRaises(bestore.NoVolume, store.volume, 2)
         self.assertEqual(store.volume(1).new_node(), 1)
         with bestore.open() as alone:

@@ -28,8 +28,8 @@ The package has its shared object inside. In the repository it is the one in c/,
 
 from ._library import VERSION as __version__
 from ._connected_errors import (
-    BrokenConnection, Disconnected, Expired, LineTooLong, NoServer, NotAllowed, NotKept, NoWatch, ProtocolError, ServerError,
-    ServerRefusal, TimedOut, TooManyWatches, Unavailable,
+    BrokenConnection, Disconnected, Expired, LineTooLong, NoServer, NotAllowed, NotKept, NoWatch, OtherUser, ProtocolError,
+    ServerError, ServerRefusal, TimedOut, TooManyWatches, Unavailable,
 )
 from .change import Change, ChangedAttributes
 from .connected import connect
@@ -52,23 +52,24 @@ from .shelf import open as open_shelf
 from .store import Entry, Held, Pass, Status, Witness
 from .values import Int32, Int64, Integer, Kind, Typed, UInt32, UInt64, Value
 from .versions import Attributes, Version
+from .watches import Changes, Watch
 
 STRING, INT32, INT64, MIME, RAW, UINT32, UINT64 = (
     Kind.STRING, Kind.INT32, Kind.INT64, Kind.MIME, Kind.RAW, Kind.UINT32, Kind.UINT64)
 
 __all__ = [
     "Attributes", "BadBytes", "BadCount", "BadItems", "BadLimits", "BadPart", "BadPattern", "Batch",
-    "BrokenConnection", "Busy", "Change", "ChangedAttributes", "Closed", "CommitsSpent", "Comparison", "Conflict",
+    "BrokenConnection", "Busy", "Change", "ChangedAttributes", "Changes", "Closed", "CommitsSpent", "Comparison", "Conflict",
     "DataLength", "Disconnected", "Entry", "Error", "ErrorNumber", "Expired", "Forked", "Full", "HasNul", "Held",
     "Hint", "INT32", "INT64", "InUse", "IndexExists", "Int32", "Int64", "Integer", "Item", "Kind", "LineTooLong", "MIME",
     "MOST_OPERATIONS", "MakeIndex", "Name", "NameLength", "Nested", "NewNode", "NoAttribute", "NoIndex", "NoItem",
     "NoKind", "NoMemory", "NoNode", "NoOperation", "NoPass", "NoServer", "NoValue", "NoVolume", "NoWatch", "NotAllowed",
     "NotCovered", "NotIndexable", "NotKept", "NotPinned", "NotReached", "NotUTF8", "Opened", "Operation", "Operator", "OtherStore",
-    "OtherVolume",
+    "OtherUser", "OtherVolume",
     "PartialIndex", "Pass", "Pinned", "Prepared", "ProtocolError", "QueryError", "QueryNotUTF8", "QuerySyntax", "RAW",
     "Refusal", "RemoveIndex", "RemoveNode", "STRING", "ServerError", "ServerRefusal", "SetAttribute", "Shelf",
     "ShelfVersion", "Status", "TimedOut", "TooDeep", "TooLong", "TooMany", "TooManyAttempts", "TooManyAttributes",
     "TooManyIndices", "TooManyWatches", "Typed", "UINT32", "UINT64", "UInt32", "UInt64", "Unavailable",
-    "UnsetAttribute", "Value", "Version", "Witness", "WrongKind", "any_case", "connect", "escape", "node_in", "number_of", "open",
+    "UnsetAttribute", "Value", "Version", "Watch", "Witness", "WrongKind", "any_case", "connect", "escape", "node_in", "number_of", "open",
     "open_shelf", "prepare", "prepare_items", "volume_of",
 ]

@@ -37,6 +37,22 @@ class NoServer(ServerError, ConnectionError):
         return f"no server: {self.reason}"
 
 
+class OtherUser(ServerError, PermissionError):
+    """The server at a default path runs neither as the effective user nor as root, and nothing was sent to it."""
+
+    def __init__(self, path: str, server_user: int, user: int) -> None:
+        super().__init__(path, server_user, user)
+        self.server_user = server_user
+        """The user as whom the server runs."""
+        self.user = user
+        """The effective user of this process."""
+
+    @property
+    def summary(self) -> str:
+        return (f"the server runs as user {self.server_user}, and has to run as user {self.user} or as root; BESTORE_SOCKET or a "
+                "parameter can name the socket of a server that you trust")
+
+
 class BrokenConnection(ServerError):
     """The connection failed, and is closed. Each later call on its pass is `Disconnected`."""
 
@@ -56,7 +72,7 @@ class Disconnected(BrokenConnection, ConnectionError):
 
 
 class TimedOut(BrokenConnection, TimeoutError):
-    """The server did not reply in time."""
+    """The server didn't accept the connection in time, or didn't reply in time."""
 
 
 class ProtocolError(BrokenConnection):

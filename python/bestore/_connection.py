@@ -5,18 +5,22 @@ from __future__ import annotations
 import os
 import select
 import socket
+import struct
 import time
 from contextlib import suppress
 from typing import Callable, NoReturn, Optional, Type, TypeVar
 from weakref import WeakSet
 
-from ._connected_errors import BrokenConnection, Disconnected, LineTooLong, NoServer, ProtocolError, TimedOut, error_of
+from ._connected_errors import (
+    BrokenConnection, Disconnected, LineTooLong, NoServer, OtherUser, ProtocolError, TimedOut, error_of)
+from ._socket_path import SocketPath
 from ._wire import JSON, MOST_BYTES, MOST_BYTES_OF_A_REPLY, decode_line, encode_request
 from .errors import Error
 
 _Result = TypeVar("_Result")
 
 _ROOM = 1 << 16  # how many bytes are received at a time
+_AGAIN = 0.01  # seconds from one try to connect to the next
 _LONGEST = 2_000_000.0  # seconds; the system's clocks end after some more, and a longer time is without an end
 _CLOSED = "the server closed the connection"
 _INTERRUPTED = "an earlier call was interrupted"
@@ -29,15 +33,48 @@ def _limited(timeout: Optional[float]) -> Optional[float]:
 
 
 def _socket_to(path: str, timeout: Optional[float]) -> socket.socket:
-    """A socket that is connected. Each of its calls waits up to so many seconds."""
+    """A socket that is connected. Connecting waits up to so many seconds, and later each of its calls."""
     connected = socket.socket(socket.AF_UNIX, socket.SOCK_STREAM)
     try:
         connected.settimeout(timeout)
-        connected.connect(path)
+        until = None if timeout is None else time.monotonic() + timeout
+        while not _connects(connected, path):
+            if until is not None and time.monotonic() > until:
+                raise TimedOut(path, f"the server accepted no connection within {timeout:g} seconds")
+            time.sleep(_AGAIN)
     except OSError as error:
         connected.close()
+        if isinstance(error, TimedOut):
+            raise
         raise NoServer(path, error.strerror or str(error)) from error
+    except BaseException:
+        connected.close()
+        raise
     return connected
+
+
+def _connects(connected: socket.socket, path: str) -> bool:
+    """Connects, unless as many connections as the system takes wait for the server."""
+    try:
+        connected.connect(path)
+    except BlockingIOError:
+        return False
+    return True
+
+
+def peer_user(connected: socket.socket) -> int:
+    """The user as whom the server has begun to listen."""
+    credentials = struct.Struct("iII")  # the process, the user and the group
+    user: int = credentials.unpack(connected.getsockopt(socket.SOL_SOCKET, socket.SO_PEERCRED, credentials.size))[1]
+    return user
+
+
+def _check_user(connected: socket.socket, path: str) -> None:
+    """`OtherUser` if the server is of another user than this process and not of root."""
+    server, user = peer_user(connected), os.geteuid()
+    if server not in (user, 0):
+        connected.close()
+        raise OtherUser(path, server, user)
 
 
 def _can_receive(connected: socket.socket, until: Optional[float]) -> bool:
@@ -53,9 +90,11 @@ class Connection:
     Once a call was interrupted, or a line can't be read, nobody knows which line comes next: the connection is closed. An
     interrupt while nothing comes leaves it open."""
 
-    def __init__(self, path: str, timeout: Optional[float], take_push: Callable[[JSON], None]) -> None:
-        self.path, self._timeout, self._take_push = path, _limited(timeout), take_push
-        self._socket: Optional[socket.socket] = _socket_to(path, self._timeout)
+    def __init__(self, path: SocketPath, timeout: Optional[float], take_push: Callable[[JSON], None]) -> None:
+        self.path, self._timeout, self._take_push = path.path, _limited(timeout), take_push
+        self._socket: Optional[socket.socket] = _socket_to(self.path, self._timeout)
+        if not path.is_named:
+            _check_user(self._socket, self.path)
         self._reason = "the connection is closed"  # why there is no socket
         self._last = 0  # the number of the last request
         self._received, self._searched = bytearray(), 0  # bytes that were received, and how many of them have no end of a line

@@ -4,14 +4,14 @@ from __future__ import annotations
 
 import base64
 import json
-from typing import Any, Dict, List
+from typing import Any, Dict, List, Optional
 
 from .errors import NoKind, NotUTF8, NoValue, decoded
 from .operations import (
     MAKE_INDEX, NEW, REMOVE, SET, UNSET, Batch, MakeIndex, NewNode, Operation, RemoveIndex, RemoveNode, SetAttribute,
     UnsetAttribute)
 from .store import Entry
-from .values import KIND_OF, RANGES, Kind, Typed, decode_value
+from .values import KIND_OF, RANGES, Kind, Typed, Value, decode_value
 
 PROTOCOL = 1
 """The version of the protocol."""
@@ -105,6 +105,11 @@ def read_value(value: object) -> Typed:
     if kind in RANGES:
         return Typed(int(inner), kind)
     return Typed(base64.b64decode(inner, validate=True) if kind == Kind.RAW else str(inner), kind)
+
+
+def read_row(row: List[object]) -> List[Optional[Value]]:
+    """The values of a node without their kinds, and None where there is none."""
+    return [value if value is None or isinstance(value, str) else read_value(value).value for value in row]
 
 
 def read_kind(name: str) -> Kind:

@@ -2,13 +2,13 @@
 
 from __future__ import annotations
 
-from typing import TYPE_CHECKING, ClassVar, Dict, Iterator, List, MutableMapping, Optional, Set, Tuple
+from typing import TYPE_CHECKING, ClassVar, Dict, Iterable, Iterator, List, MutableMapping, Optional, Set, Tuple
 
 from .errors import BadCount, NoAttribute, NoNode, NotPinned, OtherVolume, WrongKind, encoded
 from .nodes import volume_of
 from .operations import MOST_OPERATIONS, SET, Batch
 from .queries import Prepared
-from .values import KIND_OF, RANGES, Encoded, Kind, Typed, Value, encode_value, typed_value
+from .values import KIND_OF, Encoded, Kind, Typed, Value, encode_value, typed_value
 from .versions import Attributes, Query, Version
 
 if TYPE_CHECKING:
@@ -83,8 +83,8 @@ class Change(Version):
         self._removed.add(node)
 
     def set(self, node: int, name: str, value: Value, kind: Optional[int] = None) -> None:
-        """Sets an attribute, with the kind that `Batch.set` gives it. `WrongKind` if it is an integer of another
-        kind than the index of that name, unless the change was made with check_kinds=False."""
+        """Sets an attribute, with the kind that `Batch.set` gives it. `WrongKind` if the index of that name takes
+        values of another kind, unless the change was made with check_kinds=False."""
         code, number, taken = encode_value(value, kind)
         batch = self._collecting(node)
         self._check_kind(name, code)
@@ -92,7 +92,7 @@ class Change(Version):
         self._set.setdefault(node, {})[name] = code, number, taken
 
     def _check_kind(self, name: str, kind: Kind) -> None:
-        if not self._check_kinds or kind not in RANGES:
+        if not self._check_kinds:
             return
         index = KIND_OF.get(self._indexed().get(name, kind))
         if index is not None and index != kind:
@@ -133,9 +133,22 @@ class Change(Version):
             raise NoAttribute()
         return self._snapshot._read(node, name)
 
+    def column(self, nodes: Iterable[int], name: str) -> List[Optional[Value]]:
+        return self.columns(nodes, [name])[0]
+
+    def columns(self, nodes: Iterable[int], names: Iterable[str]) -> List[List[Optional[Value]]]:
+        read, wanted = list(nodes), list(names)
+        columns = self._snapshot.columns(read, wanted)
+        written = [(place, node) for place, node in enumerate(read) if node in self._set or node in self._removed]
+        for column, name in zip(columns, wanted):
+            for place, node in written:
+                if node in self._removed or name in self._set[node]:
+                    column[place] = self.get(node, name)
+        return columns
+
     def _listed(self, node: int) -> Dict[str, Typed]:
         if node in self._removed:
-            raise NoNode()
+            raise NoNode(node)
         listed = {} if node in self._made else self._snapshot._listed(node)
         for name, encoded in self._set.get(node, {}).items():
             listed.pop(name, None)
@@ -209,5 +222,5 @@ class ChangedAttributes(Attributes, MutableMapping[str, Value]):
 
     def __delitem__(self, name: str) -> None:
         """Removes an attribute. `NoAttribute`, which is a KeyError, if it isn't there."""
-        self._version._read(self.node, name)
+        self.__getitem__(name)
         self._version.unset(self.node, name)

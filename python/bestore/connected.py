@@ -8,8 +8,7 @@ versions, changes, batches and prepared queries of `bestore.open` it does with t
 
 **What differs.** A call takes a round trip. The server tries again at `Busy` and at `Full`, so `tries` changes nothing. It
 takes back a snapshot that is kept too long, and reads of it then are `Expired`. `another` may be called in any thread.
-`column` and `columns` take a round trip for each attribute. `meet` is `Unavailable`. `flush` and `compact` are there, and
-`watch` waits for what others write.
+`meet` is `Unavailable`. `flush` and `compact` are there, and `watch` waits for what others write.
 
 **Errors** are those of the library. Those of the connection are a `ServerError`. Once a connection is broken all later calls
 on its pass are `Disconnected`; the program connects again. If the broken call was a write, `may_be_done` says whether it may
@@ -26,39 +25,44 @@ import os
 import time
 from contextlib import suppress
 from functools import partial
-from typing import Any, Callable, Dict, Iterator, List, NamedTuple, Optional, Sequence, Set, Tuple, TypeVar, Union
+from typing import Any, Callable, Dict, Iterable, Iterator, List, NamedTuple, Optional, Sequence, Set, Tuple, TypeVar, Union
 from weakref import WeakValueDictionary
 
 from ._connected_errors import (
-    BrokenConnection, Disconnected, Expired, LineTooLong, NoServer, NotAllowed, NotKept, NoWatch, ProtocolError, ServerError,
-    ServerRefusal, TimedOut, TooManyWatches, Unavailable, error_of)
+    BrokenConnection, Disconnected, Expired, LineTooLong, NoServer, NotAllowed, NotKept, NoWatch, OtherUser, ProtocolError,
+    ServerError, ServerRefusal, TimedOut, TooManyWatches, Unavailable, error_of)
 from ._connection import Connection
 from ._journal import line_of
+from ._socket_path import SocketPath
 from ._wire import (
-    JSON, PROTOCOL, operations_of, read_entry, read_kind, read_nodes, read_operation, read_value)
+    JSON, PROTOCOL, operations_of, read_entry, read_kind, read_nodes, read_operation, read_row, read_value)
 from .errors import (
     BadCount, Closed, Error, Forked, NameLength, NoAttribute, NoNode, NotCovered, NotPinned, NotReached, NoVolume, Pinned, TooLong,
     encoded, encoded_query)
 from .handles import LockOwner
 from .local import refreshed
-from .nodes import within
+from .nodes import node_number, within
 from .operations import MOST_OPERATIONS, NEW, Batch
 from .queries import Prepared, prepare_items
 from .store import TRIES, Entry, Held, Status, ThreadPass, Witness
-from .values import RANGES, Kind, Typed, plain
+from .values import RANGES, Kind, Typed, Value
 from .versions import Query, Row, Version, not_covered
+from .watches import Changes, Watch
 
 __all__ = [
-    "BrokenConnection", "Changes", "ConnectedPass", "ConnectedVersion", "Disconnected", "Expired", "LineTooLong",
-    "NoServer", "NoWatch", "NotAllowed", "NotKept", "ProtocolError", "Server", "ServerError", "ServerRefusal",
-    "TimedOut", "TooManyWatches", "Unavailable", "Watch", "connect", "default_path",
+    "BrokenConnection", "Changes", "ConnectedPass", "ConnectedVersion", "ConnectedWatch", "Disconnected", "Expired", "LineTooLong",
+    "NoServer", "NoWatch", "NotAllowed", "NotKept", "OtherUser", "ProtocolError", "Server", "ServerError", "ServerRefusal",
+    "SocketPath", "TimedOut", "TooManyWatches", "Unavailable", "Watch", "connect",
 ]
 
 _Result = TypeVar("_Result")
 
 TIMEOUT = 60.0
-"""How many seconds a reply may take, if nothing else is said."""
+"""How many seconds connecting and each reply may take, if nothing else is said."""
+_WORDS = 512  # of a page
 _MOST_WAITED = 30.0  # seconds that the server waits by itself
+_MOST_NAMES = 64  # of a request for columns
+_MOST_NODES = 1 << 14  # of such a request, which then is no line that is too long
 
 
 class Server(NamedTuple):
@@ -199,10 +203,40 @@ class ConnectedVersion(Version):
                     raise NotPinned()
                 yield batch
 
+    def column(self, nodes: Iterable[int], name: str) -> List[Optional[Value]]:
+        return self.columns(nodes, [name])[0]
+
+    def columns(self, nodes: Iterable[int], names: Iterable[str]) -> List[List[Optional[Value]]]:
+        asked, wanted = [_asked_node(node) for node in nodes], [_asked_name(name) for name in names]
+        columns: List[List[Optional[Value]]] = [[] for _ in wanted]
+        for first in range(0, len(wanted), _MOST_NAMES):
+            part = slice(first, first + _MOST_NAMES)
+            self._fill(columns[part], asked, wanted[part])
+        return columns
+
+    def _fill(self, columns: List[List[Optional[Value]]], nodes: List[int], names: List[str]) -> None:
+        """Adds the values of all nodes to the columns of these names."""
+        done = 0
+        while done < len(nodes):
+            rows = self._first_rows(nodes[done:done + _MOST_NODES], names)
+            for column, values in zip(columns, zip(*rows)):
+                column += values
+            done += len(rows)
+
+    def _first_rows(self, nodes: List[int], names: List[str]) -> List[List[Optional[Value]]]:
+        """The values of the first of these nodes: of as many as come in one reply."""
+        def read(ok: JSON) -> List[List[Optional[Value]]]:
+            rows = [read_row(row) for row in ok["rows"]]
+            if not 1 <= len(rows) <= len(nodes) or any(len(row) != len(names) for row in rows):
+                raise ValueError("it has not the rows of these nodes")
+            return rows
+        try:
+            return self._ask("columns", {"nodes": nodes, "names": names}, read)
+        except LineTooLong:
+            raise NameLength() from None
+
     def _read(self, node: int, name: str) -> Typed:
-        if not isinstance(name, str):
-            raise TypeError(f"{name!r} is no name")
-        encoded(name)
+        _asked_name(name)
         try:
             value = self._ask("get", {"node": _node_number(node), "name": name}, _read_attribute)
         except LineTooLong:
@@ -212,7 +246,11 @@ class ConnectedVersion(Version):
         return value
 
     def _listed(self, node: int) -> Dict[str, Typed]:
-        return self._ask("attributes", {"node": _node_number(node)}, _read_attributes)
+        try:
+            return self._ask("attributes", {"node": _node_number(node)}, _read_attributes)
+        except NoNode as error:
+            error.nodes = (node,)
+            raise
 
     def _nodes_from(self, first: int, room: int) -> List[int]:
         return self._ask("nodes", {"from": first, "limit": room}, lambda ok: read_nodes(ok["nodes"]))
@@ -220,10 +258,24 @@ class ConnectedVersion(Version):
 
 def _node_number(node: int) -> int:
     """A node's number, which 64 bits hold."""
-    number = plain(node)
+    number = node_number(node)
     if number not in RANGES[Kind.UINT64]:
-        raise NoNode()
+        raise NoNode(number)
     return number
+
+
+def _asked_node(node: int) -> int:
+    """A node's number as a request has it: 0, which no node has, if 64 bits don't hold it."""
+    number = node_number(node)
+    return number if number in RANGES[Kind.UINT64] else 0
+
+
+def _asked_name(name: str) -> str:
+    """A name as a request has it. `NotUTF8` if it has half of a surrogate pair."""
+    if not isinstance(name, str):
+        raise TypeError(f"{name!r} is no name: a name is a str")
+    encoded(name)
+    return name
 
 
 def _text_of(asked: Query) -> str:
@@ -242,8 +294,7 @@ def _read_page(ok: JSON) -> Tuple[List[int], Optional[int]]:
 
 
 def _read_rows(ok: JSON) -> Tuple[List[Row], Optional[int]]:
-    rows = [[None if value is None else read_value(value).value for value in row] for row in ok["rows"]]
-    return list(zip(read_nodes(ok["nodes"]), rows)), ok.get("more")
+    return list(zip(read_nodes(ok["nodes"]), map(read_row, ok["rows"]))), ok.get("more")
 
 
 def _read_state(ok: JSON) -> Tuple[List[Batch], Optional[int]]:
@@ -289,7 +340,7 @@ def _read_journal(ok: JSON) -> Tuple[List[Entry], Optional[int]]:
     return [read_entry(entry) for entry in ok["entries"]], ok.get("more")
 
 
-def _take_push(watches: "WeakValueDictionary[int, Watch]", push: JSON) -> None:
+def _take_push(watches: "WeakValueDictionary[int, ConnectedWatch]", push: JSON) -> None:
     """Gives what was pushed to its watch, if that is there. The connection has no reference to the pass, so that a pass that
     nothing names goes at once."""
     watch = watches.get(push["watch"])
@@ -301,15 +352,16 @@ class ConnectedPass(LockOwner, ThreadPass):
     """A pass of a server's store: a connection. The calls of several threads on it wait for one another, so each thread has a
     pass of its own."""
 
-    def __init__(self, path: str, timeout: Optional[float], run: Optional[str] = None) -> None:
+    def __init__(self, path: SocketPath, timeout: Optional[float], run: Optional[str] = None) -> None:
         self._connection: Optional[Connection] = None
         super().__init__()
         self._committed = 0
         self._is_asking = self._has_pin = self._is_left = False
-        self._watches: "WeakValueDictionary[int, Watch]" = WeakValueDictionary()
+        self._watches: "WeakValueDictionary[int, ConnectedWatch]" = WeakValueDictionary()
         self._ended: List[int] = []  # watches that went, and that the server still has
-        self.path = path
+        self.path = path.path
         """The server's socket."""
+        self._socket_path = path
         self._timeout = timeout
         self._connection = Connection(path, timeout, partial(_take_push, self._watches))
         try:
@@ -319,7 +371,7 @@ class ConnectedPass(LockOwner, ThreadPass):
             raise
         if run is not None and self.server.run != run:
             self._connection.close()
-            raise Disconnected(path, "the server was started anew")
+            raise Disconnected(self.path, "the server was started anew")
 
     def __repr__(self) -> str:
         return f"<pass {self._number} of the server at {self.path}>"
@@ -400,7 +452,7 @@ class ConnectedPass(LockOwner, ThreadPass):
         """A pass of the same store for another thread: a new connection. It may be called in any thread. `NoPass` if there
         are as many clients as the server takes; `NoServer`, or `Disconnected` if the server was started anew since."""
         self._check_process()
-        return ConnectedPass(self.path, self._timeout, self.server.run)
+        return ConnectedPass(self._socket_path, self._timeout, self.server.run)
 
     def close(self) -> None:
         """Closes the connection, if it is open, and so gives the pass back. The store stays with the server."""
@@ -505,9 +557,9 @@ class ConnectedPass(LockOwner, ThreadPass):
         are those of `flush`."""
         self._ask("compact", {}, lambda ok: None)
 
-    def watch(self, query: Optional[str] = None) -> Watch:
-        """Begins to watch what a query finds, or each commit if there is none. A `QueryError`; `TooManyWatches`."""
-        return Watch(self, query)
+    def watch(self, query: Optional[str] = None) -> ConnectedWatch:
+        """As in a store of this process. The server pushes the changes. A `QueryError`; `TooManyWatches`."""
+        return ConnectedWatch(self, query)
 
     def fileno(self) -> int:
         """The descriptor of the socket, for `select` and event loops: if it can be read, something was pushed for a watch.
@@ -535,39 +587,22 @@ class ConnectedPass(LockOwner, ThreadPass):
                 self._ask("unwatch", {"watch": self._ended.pop()}, lambda ok: None)
 
 
-class Changes(NamedTuple):
-    """What changed in what a query finds. It unpacks as what `Version.refresh` returns."""
-
-    created: List[int]
-    """The nodes that came, ascending."""
-    removed: List[int]
-    """The nodes that went, ascending."""
-
-
-class Watch:
-    """A live query whose changes the server pushes, by `ConnectedPass.watch`. At first all of its nodes come.
-
-        with store.watch("MAIL:status==New") as unread:
-            for came, went in unread:
-                print(came, went)
-
-    What the calls on it return, taken together, is what the query finds at `commit`. Changes of several commits come as one.
-    Any call on the pass receives what was pushed, and the watch keeps it until it is returned. A program that makes no call
-    for half a minute while more is pushed than the socket holds is disconnected by the server.
+class ConnectedWatch(Watch):
+    """A watch whose changes the server pushes. Any call on the pass receives what was pushed, and the watch keeps it until it is
+    returned. A program that makes no call for half a minute while more is pushed than the socket holds is disconnected by the
+    server.
 
     `Prepared` and `Version.refresh` do without pushes."""
 
     def __init__(self, user: ConnectedPass, query: Optional[str]) -> None:
-        self._user, self.query = user, query
-        """The text of the query, or None if each commit is watched."""
+        super().__init__(query)
+        self._user = user
         self._created: Set[int] = set()
         self._removed: Set[int] = set()
         self._is_partial = self._is_new = False  # whether a push of the same commit is missing, and something is to be returned
         self._last = 0  # the commit to which all that was received leads
         self._error: Optional[Error] = None  # what has ended the watch
         self._number: Optional[int] = None
-        self.commit = 0
-        """The commit number of the snapshot to which what was returned leads, and at first that of the first answer."""
         parameters = {} if query is None else {"query": query}
         if query is not None:
             encoded_query(query)
@@ -581,25 +616,9 @@ class Watch:
             except LineTooLong:
                 raise TooLong(query=query) from None
 
-    def __repr__(self) -> str:
-        return f"<watch of {self.query or 'each commit'} at commit {self.commit}>"
-
-    def __enter__(self) -> Watch:
-        return self
-
-    def __exit__(self, *_: object) -> None:
-        self.close()
-
     def __del__(self) -> None:
         if self._number is not None:
             self._user._ended.append(self._number)
-
-    def __iter__(self) -> Iterator[Changes]:
-        """The changes, each as soon as it comes, without an end."""
-        while True:
-            changes = self.wait()
-            assert changes is not None
-            yield changes
 
     def _read_first(self, ok: JSON) -> None:
         """Takes the first answer in. From then on pushes come, also before the call ends."""
@@ -616,12 +635,19 @@ class Watch:
         error = push.get("error")
         if error is not None:
             self._error, self._number = error_of(self._user.path, error, self.query), None
-        created, removed = set(read_nodes(push["created"])), set(read_nodes(push["removed"]))
+        came, went = set(read_nodes(push["created"])), set(read_nodes(push["removed"]))
+        created, removed = self._created - went | came - self._removed, self._removed - came | went - self._created
+        self._check_room(max(len(created), len(removed)))
         # All at once, as an interrupt may come between two statements.
         self._created, self._removed, self._last, self._is_new, self._is_partial = (
-            self._created - removed | created - self._removed, self._removed - created | removed - self._created,
-            int(push["commit"]), True, bool(push.get("more")))
+            created, removed, int(push["commit"]), True, bool(push.get("more")))
         return self._is_partial
+
+    def _check_room(self, nodes: int) -> None:
+        """A ValueError if the server has no room for so many nodes, of which each takes a word of a page at least."""
+        pages = self._user.server.pages * self._user.server.volumes
+        if nodes > pages * _WORDS:
+            raise ValueError(f"the server pushed more nodes than its {pages:,} pages have room for")
 
     def _returned(self) -> Changes:
         changes = Changes(sorted(self._created), sorted(self._removed))
@@ -685,21 +711,16 @@ class Watch:
                     user._end_watches()
 
 
-def default_path() -> str:
-    """The socket at which a server listens if nothing else is said."""
-    folder = os.environ.get("XDG_RUNTIME_DIR")
-    return f"/tmp/bestore-{os.geteuid()}/socket" if folder is None else os.path.join(folder, "bestore", "socket")
-
-
 def connect(path: Union[str, bytes, "os.PathLike[Any]", None] = None, timeout: Optional[float] = TIMEOUT) -> ConnectedPass:
-    """Connects to a server at its socket, or at the one where a server is if nothing is said. The pass is used as the one that
-    `open` returns; `help(bestore.connected)` says what differs.
+    """Connects to a server at this socket, or at the one that `SocketPath.find` finds. The pass is used as the one that `open`
+    returns; `help(bestore.connected)` says what differs.
 
-    `timeout` is how many seconds a reply may take; None is without an end. After that the call raises `TimedOut`, and the
-    connection is closed.
+    `timeout` is how many seconds connecting and each reply may take; None is without an end. After that the call raises
+    `TimedOut`, and the connection is closed.
 
-    Raises `NoServer`; `NoPass` if there are as many clients as the server takes; `NotAllowed` if the server is another user's;
-    `ProtocolError`, `TimedOut`; a ValueError if `timeout` isn't above 0."""
+    Raises `NoServer`; `OtherUser` if nobody has named the socket, and the server is neither the effective user's nor root's;
+    `NoPass` if there are as many clients as the server takes; `NotAllowed` if the server refuses this user; `ProtocolError`,
+    `TimedOut`; a ValueError if `timeout` isn't above 0."""
     if timeout is not None and not timeout > 0:
         raise ValueError(f"a timeout of {timeout} seconds")
-    return ConnectedPass(default_path() if path is None else os.fsdecode(path), timeout)
+    return ConnectedPass(SocketPath.find(path), timeout)

@@ -81,7 +81,7 @@ class TooManyAttempts(Error):
 
 
 class WrongKind(Error, TypeError):
-    """A change sets an integer of one kind under a name whose index has another kind, so no query would find it."""
+    """A change sets a value of one kind under a name whose index takes another kind, so no query would find it."""
 
     def __init__(self, name: str, kind: str, index_kind: str) -> None:
         super().__init__(name, kind, index_kind)
@@ -93,7 +93,7 @@ class WrongKind(Error, TypeError):
         """The name of the index's kind."""
 
     def __str__(self) -> str:
-        return (f'the value of "{self.name}" is {self.kind}, and the index of that name is {self.index_kind}: '
+        return (f'the index "{self.name}" takes values of kind {self.index_kind}, and this one is {self.kind}: '
                 f"set it as {self.index_kind}, or no query finds it")
 
 
@@ -241,11 +241,16 @@ class _OfList(Refusal):
             setattr(self, listed, carried)
 
     @property
+    def _what(self) -> str:
+        """The summary without the place."""
+        return self.meaning
+
+    @property
     def summary(self) -> str:
         for listed, place in (("operation", self.operation), ("item", self.item)):
             if place is not None:
-                return f"{self.meaning} ({listed} {place}, counted from 0)"
-        return self.meaning
+                return f"{self._what} ({listed} {place}, counted from 0)"
+        return self._what
 
 
 def columns_of(text: str) -> int:
@@ -304,8 +309,45 @@ class Busy(Refusal, number=ErrorNumber.BUSY, meaning="another pass is writing"):
         self.pass_number = carried
 
 
-class NoNode(Refusal, KeyError, number=ErrorNumber.NO_NODE, meaning="no such node"): ...
-class NoAttribute(Refusal, KeyError, number=ErrorNumber.NO_ATTRIBUTE, meaning="no such attribute"): ...
+class NoNode(Refusal, KeyError, number=ErrorNumber.NO_NODE, meaning="no such node"):
+    nodes: Tuple[int, ...] = ()
+    """The node that isn't there. Of a write that names several it has all of them."""
+
+    def _carry(self, carried: Optional[int], listed: Optional[str]) -> None:
+        if carried is not None and listed is None:
+            self.nodes = (carried,)
+
+    def _name(self, node: int, name: str) -> None:
+        """Says what was looked for."""
+        self.nodes = (node,)
+
+    @property
+    def node(self) -> Optional[int]:
+        """The node that isn't there, if it is known."""
+        return self.nodes[0] if len(self.nodes) == 1 else None
+
+    @property
+    def summary(self) -> str:
+        if self.node is not None:
+            return f"there is no node {self.node}"
+        return f"one of the nodes {', '.join(map(str, self.nodes))} isn't there" if self.nodes else self.meaning
+
+
+class NoAttribute(Refusal, KeyError, number=ErrorNumber.NO_ATTRIBUTE, meaning="no such attribute"):
+    node: Optional[int] = None
+    """The node that lacks it, if that is known."""
+    name: Optional[str] = None
+    """The attribute's name."""
+
+    def _name(self, node: int, name: str) -> None:
+        """Says what was looked for."""
+        self.node, self.name = node, name
+
+    @property
+    def summary(self) -> str:
+        return self.meaning if self.name is None else f'node {self.node} has no attribute "{self.name}"'
+
+
 class TooManyAttributes(Refusal, number=ErrorNumber.TOO_MANY_ATTRS, meaning="too many attributes"): ...
 class IndexExists(Refusal, number=ErrorNumber.INDEX_EXISTS, meaning="the index exists"): ...
 class NoIndex(Refusal, number=ErrorNumber.NO_INDEX, meaning="no such index"): ...
@@ -356,7 +398,13 @@ class NoPass(Refusal, number=ErrorNumber.NO_PASS, meaning="each pass is in use")
 class BadCount(Refusal, ValueError, number=ErrorNumber.BAD_COUNT, meaning="a write has not 1 to 64 operations"): ...
 class NotUTF8(_OfList, ValueError, number=ErrorNumber.NOT_UTF8, meaning="the bytes are no UTF-8"): ...
 class NoOperation(_OfList, ValueError, number=ErrorNumber.NO_OPERATION, meaning="no such operation"): ...
-class NoKind(_OfList, ValueError, number=ErrorNumber.NO_KIND, meaning="no such kind"): ...
+
+class NoKind(_OfList, ValueError, number=ErrorNumber.NO_KIND, meaning="no such kind"):
+    @property
+    def _what(self) -> str:
+        return f"{self.meaning}: there are STRING, INT32, INT64, MIME, RAW, UINT32 and UINT64"
+
+
 class NoValue(_OfList, ValueError, number=ErrorNumber.NO_VALUE, meaning="the number doesn't fit the kind"): ...
 class BadPart(_OfList, ValueError, number=ErrorNumber.BAD_PART, meaning="a part isn't within the bytes"): ...
 class NoItem(_OfList, QueryError, ValueError, number=ErrorNumber.NO_ITEM, meaning="no such item"): ...

@@ -9,11 +9,12 @@ from typing import Any, Callable, Dict, Iterator, List, Optional, Set, Tuple, Ty
 
 from . import _native
 from ._library import Usage, calls, check
+from .commits import Commits
 from .errors import BadLimits, ErrorNumber, NotCovered, NoVolume, OtherStore, Refusal, encoded_query, refusal
 from .handles import CURSOR, PASS, WITNESS, HandleOwner
 from .operations import Batch
 from .queries import Prepared, encode_items
-from .store import PAUSES, TRIES, Entry, Held, Pass, StandingBack, Status, Witness
+from .store import PASSES, PAUSES, TRIES, Entry, Held, Pass, StandingBack, Status, Witness
 from .values import RANGES, Kind, Typed, Value
 from .versions import Query, Version
 
@@ -153,15 +154,15 @@ class LocalWitness(HandleOwner, Witness):
 class LocalPass(HandleOwner, Pass):
     """A pass of a store in this process."""
 
-    _store: object  # the same for all passes of one store
+    _store: Commits  # the same for all passes of one store
 
     def __init__(self) -> None:
         super().__init__(PASS)
 
     def _open_by(self, user: LocalPass) -> None:
         """Opens the handle as another pass of the store of `user`."""
-        check(user._call(calls.bes_another, self._pointer))
         self._store = user._store
+        check(user._call(calls.bes_another, self._pointer))
 
     def _tried(self, tries: int, call: Callable[..., int], *arguments: Any) -> int:
         """Makes a call, up to so many times while another pass is writing, and once at least."""
@@ -222,8 +223,17 @@ class LocalPass(HandleOwner, Pass):
         oldest = status.oldest
         return oldest is None or oldest.pass_number != self.number and (self._pinned is None or self._pinned > oldest.version)
 
+    @property
+    def _commits(self) -> Tuple[Commits, ...]:
+        return (self._store,)
+
+    def _wake(self) -> None:
+        self._store.wake()
+
     def set(self, node: int, name: str, value: Value, kind: Optional[int] = None) -> None:
-        if not self._set(node, name, value, kind):
+        if self._set(node, name, value, kind):
+            self._store.wake()
+        else:
             super().set(node, name, value, kind)
 
     @property
@@ -239,6 +249,7 @@ class LocalPass(HandleOwner, Pass):
 
     def close(self) -> None:
         self._give_up(calls.bes_close)
+        self._store.wake()  # who waits by this pass finds it closed
 
     def finish(self) -> str:
         return self._text(1, calls.bes_finish)
@@ -299,13 +310,13 @@ class LocalPass(HandleOwner, Pass):
 _native.know(user=LocalPass)
 
 
-def open(pages: int = 4096, passes: int = 8, commits: int = 2**32 - 1) -> LocalPass:
+def open(pages: int = 4096, passes: int = PASSES, commits: int = 2**32 - 1) -> LocalPass:
     """A new store in memory, as its first pass: with so many pages of 4 KiB (8 to 16,384), which are taken at once,
-    so many passes (1 to 64), and room for so many writes (1 to 2^32 - 1) in its life. `BadLimits` if one of these is
-    out of its range, or `NoMemory`."""
+    so many passes (1 to 64; `store.PASSES` says what one costs), and room for so many writes (1 to 2^32 - 1) in its life.
+    `BadLimits` if one of these is out of its range, or `NoMemory`."""
     if not all(0 <= operator.index(limit) < 2**64 for limit in (pages, passes, commits)):
         raise BadLimits()
     user = LocalPass()
+    user._store = Commits()
     check(calls.bes_open(pages, passes, commits, user._pointer))
-    user._store = object()
     return user

@@ -2,10 +2,11 @@
 
 from __future__ import annotations
 
-from typing import List, Optional, Tuple
+from typing import List, Optional, SupportsIndex, Tuple, Union
 
-from .errors import OtherVolume
+from .errors import NoAttribute, NoNode, OtherVolume, decoded
 from .operations import MAKE_INDEX, NEW, REMOVE, REMOVE_INDEX, SET, UNSET, Batch
+from .values import plain
 
 NUMBERS = 10**14
 """How many numbers a volume has. A power of ten, so that people can read the volume in a node's digits."""
@@ -51,6 +52,25 @@ def of_volume(batch: Batch, volume: int) -> Batch:
             node = node_in(volume, node)
         moved._add_encoded(kind, node, name, code, number, value)
     return moved
+
+
+def node_number(node: SupportsIndex) -> int:
+    """A node as a plain int. A TypeError if it is none."""
+    try:
+        return plain(node)
+    except TypeError:
+        raise TypeError(f"{node!r} is no node: a node is an int") from None
+
+
+def name_missing(error: Union[NoNode, NoAttribute], batch: Batch) -> None:
+    """Says which nodes a refused batch names, of which one isn't there; or which attribute it removes, if that is one."""
+    parts = batch._parts()
+    if isinstance(error, NoNode):
+        error.nodes = tuple(dict.fromkeys(node for kind, _, node, *_ in parts if kind in (REMOVE, SET, UNSET)))
+        return
+    removed = [(node, decoded(name)) for kind, _, node, _, name, _ in parts if kind == UNSET]
+    if len(removed) == 1:
+        error._name(*removed[0])
 
 
 def indices_in(batch: Batch) -> List[int]:

@@ -40,6 +40,7 @@ from ._saved_line import Line, Turn
 from ._saved_rows import Repeater
 from .errors import BadLimits, Error
 from .operations import Batch
+from .store import PASSES
 
 __all__ = [
     "Differs", "DiskFull", "Fewer", "Foreign", "Held", "Newer", "NoFile", "NotSaved", "Saved", "SavedError", "SavedPass",
@@ -304,7 +305,7 @@ class Saved(SavedPass):
             super().close()
 
 
-def open(path: Union[str, bytes, "os.PathLike[Any]"], pages: int = 4096, passes: int = 8, commits: int = 2**32 - 1,
+def open(path: Union[str, bytes, "os.PathLike[Any]"], pages: int = 4096, passes: int = PASSES, commits: int = 2**32 - 1,
          every: Optional[float] = None) -> Saved:
     """Opens the file, or makes it, and makes the store again. The limits are those of `bestore.open`, but for `passes`,
     of which there are up to 63. The journal begins with what the file has, so `commits` has to leave room for that.
@@ -390,7 +391,7 @@ def _file_of(folder: str, volume: int) -> str:
     return os.path.join(folder, f"{volume}{_ENDING}")
 
 
-def open_shelf(folder: Union[str, bytes, "os.PathLike[Any]"], volumes: Optional[int] = None, pages: int = 4096, passes: int = 8,
+def open_shelf(folder: Union[str, bytes, "os.PathLike[Any]"], volumes: Optional[int] = None, pages: int = 4096, passes: int = PASSES,
                commits: int = 2**32 - 1, every: Optional[float] = None) -> SavedShelf:
     """Opens the volumes that the folder has, each in a file of its own: `0.bestore`, `1.bestore` and so on. With a number of
     `volumes`, 1 to 64, it makes the folder, and those that are missing; one that is new gets the indices that the others have.

@@ -27,12 +27,13 @@ from types import TracebackType
 from typing import Callable, Dict, Iterable, Iterator, List, Optional, Sequence, Tuple, Type, TypeVar, Union
 
 from . import local as _local
+from .commits import Commits
 from .errors import BadCount, BadLimits, IndexExists, NoIndex, NoNode, NotCovered, NoVolume, OtherStore, PartialIndex, Refusal
 from .local import refreshed
-from .nodes import MOST_VOLUMES, NUMBERS, indices_in, node_in, number_of, of_volume, volume_of, within
+from .nodes import MOST_VOLUMES, NUMBERS, indices_in, node_in, node_number, number_of, of_volume, volume_of, within
 from .operations import MOST_OPERATIONS, Batch, MakeIndex, Operation
 from .queries import Prepared
-from .store import TRIES, Entry, Pass, Status, ThreadPass, Witness
+from .store import PASSES, TRIES, Entry, Pass, Status, ThreadPass, Witness
 from .values import Kind, Typed, Value
 from .versions import Query, Version
 
@@ -96,7 +97,7 @@ class ShelfVersion(Version):
 
     def _of(self, node: int) -> Tuple[Version, int]:
         """The version that may have a node, and the node's number there. In no volume there is a node 0."""
-        volume, number = divmod(node, NUMBERS)
+        volume, number = divmod(node_number(node), NUMBERS)
         if 0 <= volume < len(self.volumes):
             return self.volumes[volume], number
         return self.volumes[0], 0
@@ -107,7 +108,11 @@ class ShelfVersion(Version):
 
     def _listed(self, node: int) -> Dict[str, Typed]:
         version, number = self._of(node)
-        return version._listed(number)
+        try:
+            return version._listed(number)
+        except NoNode as error:
+            error.nodes = (node,)
+            raise
 
     def get(self, node: int, name: str) -> Optional[Value]:
         version, number = self._of(node)
@@ -211,6 +216,10 @@ class Shelf(ThreadPass):
     @property
     def volumes(self) -> int:
         return len(self._passes)
+
+    @property
+    def _commits(self) -> Tuple[Commits, ...]:
+        return tuple(commits for user in self._passes for commits in user._commits)
 
     def volume(self, volume: int) -> Pass:
         """The pass of a volume, which reads and writes nodes by their numbers there. `NoVolume` if it isn't there."""
@@ -363,7 +372,7 @@ def taken(takes: Iterable[Callable[[], _Taken]]) -> List[_Taken]:
     return opened
 
 
-def open(volumes: int, pages: int = 4096, passes: int = 8, commits: int = 2**32 - 1) -> Shelf:
+def open(volumes: int, pages: int = 4096, passes: int = PASSES, commits: int = 2**32 - 1) -> Shelf:
     """A new store in memory that has so many volumes, 1 to 64. The limits are those of each, as of `bestore.open`. `bestore.open_shelf`
     is this function. `BadLimits` if one is out of its range, or `NoMemory`."""
     if not 1 <= volumes <= MOST_VOLUMES:

@@ -12,15 +12,20 @@ from itertools import groupby
 from typing import Callable, Iterator, List, NamedTuple, Optional, Sequence, Tuple, TypeVar, Union
 
 from .change import Change
-from .errors import NotReached, Conflict, Nested, NoIndex, NoVolume, PartialIndex, TooManyAttempts
+from .commits import Commits, waiting
+from .errors import Conflict, Nested, NoAttribute, NoIndex, NoNode, NotReached, NoVolume, PartialIndex, TooManyAttempts
 from .handles import Owner
-from .nodes import volume_of
+from .nodes import name_missing, volume_of
 from .operations import MOST_OPERATIONS, Batch, Operation
 from .values import Kind, Value
 from .versions import Version
+from .watches import LocalWatch, Watch
 
 _Result = TypeVar("_Result")
 
+PASSES = 63
+"""How many passes a store may have, if nothing else is said. Each takes 97 bytes, and a write 13 instructions more: for 55 passes
+700 of some 20,000. A pin costs the same however many there are."""
 TRIES = 10_000
 """How often a call is tried at most while another pass is writing, if nothing else is said: for some seconds at
 least."""
@@ -194,13 +199,21 @@ class Pass(Owner, ABC):
         they have. Versions that the pass pins then have them. `NotReached` if they aren't there in time."""
         wanted = _numbers(numbers, self.volumes)
         until = time.monotonic() + within
-        while True:
-            found = tuple(status.entries for status in self.statuses())
-            if all(map(operator.le, wanted, found)):
-                return found
-            if time.monotonic() >= until:
-                raise NotReached(wanted, found)
-            time.sleep(0.002)
+        with waiting(self._commits, self.volumes) as waiter:
+            while True:
+                waiter.begin()
+                found = tuple(status.entries for status in self.statuses())
+                if all(map(operator.le, wanted, found)):
+                    return found
+                left = until - time.monotonic()
+                if left <= 0:
+                    raise NotReached(wanted, found)
+                waiter.wait(left)
+
+    def watch(self, query: Optional[str] = None) -> Watch:
+        """Begins to follow what a query finds, or each commit if there is none: `Watch.wait` waits for changes. In this process it
+        pins the pass for each look, and takes memory for the nodes of the query. A `QueryError`; `Pinned`."""
+        return LocalWatch(self, query)
 
     def change(self, function: Callable[[Change], _Result], attempts: int = ATTEMPTS, *, check_kinds: bool = True,
                tries: int = TRIES, volume: Optional[int] = None) -> _Result:
@@ -291,12 +304,25 @@ class Pass(Owner, ABC):
                  volume: Optional[int] = None) -> Tuple[int, List[int]]:
         if self._is_changing:
             raise Nested()
-        if volume is None:
-            written = self._write(batch, tries, expected)
-        else:
-            written = self._write_in(volume, batch, tries, expected)
+        try:
+            if volume is None:
+                written = self._write(batch, tries, expected)
+            else:
+                written = self._write_in(volume, batch, tries, expected)
+        except (NoNode, NoAttribute) as error:
+            name_missing(error, batch)
+            raise
         self._committed = written[0]
+        self._wake()
         return written
+
+    @property
+    def _commits(self) -> Tuple[Commits, ...]:
+        """Who waits for commits, of each volume whose passes wake them."""
+        return ()
+
+    def _wake(self) -> None:
+        """Wakes the threads that wait for what this pass has written."""
 
     def new_node(self) -> int:
         """Makes a node, and returns its number. Errors are those of `apply`, here and in the next calls."""

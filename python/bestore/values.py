@@ -4,6 +4,7 @@ from __future__ import annotations
 
 import enum
 import operator
+import reprlib
 from typing import ClassVar, NamedTuple, Optional, SupportsIndex, Tuple, Type, TypeVar, Union
 
 from . import _native
@@ -97,28 +98,40 @@ def encode_value(value: Value, kind: Optional[int] = None) -> Encoded:
     """A value as the library takes it. Without a kind a str is STRING, bytes are RAW, and an int is of the
     kind of its class, or INT64 if it is a plain one."""
     if isinstance(value, str):
-        return _fitting(kind, (Kind.STRING, Kind.MIME)), 0, encoded(value)
+        return _fitting(value, kind, "a str is", (Kind.STRING, Kind.MIME)), 0, encoded(value)
     if isinstance(value, (bytes, bytearray)):
-        return _fitting(kind, (Kind.RAW,)), 0, bytes(value)
+        return _fitting(value, kind, "bytes are", (Kind.RAW,)), 0, bytes(value)
     if kind is None and isinstance(value, Integer):
         kind = value.kind
-    code = _fitting(kind, (Kind.INT64, Kind.INT32, Kind.UINT32, Kind.UINT64))
-    number = plain(value)
+    number = _number(value)
+    code = _fitting(value, kind, "an int is", (Kind.INT64, Kind.INT32, Kind.UINT32, Kind.UINT64))
     if number not in RANGES[code]:
         raise NoValue()
     return code, number % 2**64, b""
 
 
-def _fitting(kind: Optional[int], kinds: Tuple[Kind, ...]) -> Kind:
+def _number(value: SupportsIndex) -> int:
+    """The number that a value is. A TypeError if it is none. A bool would be read back as 0 or 1, so it has to be said."""
+    if isinstance(value, bool):
+        raise TypeError(f"{value} is no value of an attribute: write int({value}), which is {int(value)}, or a text")
+    try:
+        return plain(value)
+    except TypeError:
+        raise TypeError(f"{reprlib.repr(value)} is no value of an attribute: that is a str, bytes or an int") from None
+
+
+def _fitting(value: Value, kind: Optional[int], called: str, kinds: Tuple[Kind, ...]) -> Kind:
     """The kind that is said, or the first of these, which a value may have."""
     if kind is None:
         return kinds[0]
     for fitting in kinds:
         if fitting == kind:
             return fitting
-    if kind in KIND_OF:
-        raise TypeError(f"a value of the kind {Kind(kind).name} can't be made from this type")
-    raise NoKind()
+    if kind not in KIND_OF:
+        raise NoKind()
+    *others, last = (it.name for it in kinds)
+    offered = f"{', '.join(others)} or {last}" if others else last
+    raise TypeError(f"{reprlib.repr(value)} can't be of the kind {KIND_OF[kind].name}: {called} {offered}")
 
 
 _TEXTS, _SIGNED = frozenset((Kind.STRING, Kind.MIME)), frozenset((Kind.INT32, Kind.INT64))

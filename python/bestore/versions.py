@@ -227,13 +227,13 @@ class Version(ABC):
 
     def column(self, nodes: Iterable[int], name: str) -> List[Optional[Value]]:
         """The attributes of this name of many nodes: a list with the value of each node, or None if it has none. Takes a
-        search in a tree for each node, and memory for the list. In a version of a server it takes a round trip for each
-        node."""
+        search in a tree for each node, and memory for the list."""
         return [self.get(node, name) for node in nodes]
 
     def columns(self, nodes: Iterable[int], names: Iterable[str]) -> List[List[Optional[Value]]]:
-        """The attributes of these names of many nodes: for each name a list, as `column` returns it. In a version of this
-        process it takes less time than a `column` for each name, since it reads node by node."""
+        """The attributes of these names of many nodes: for each name a list, as `column` returns it. It takes less time than a
+        `column` for each name, since it reads node by node. In a version of a server a round trip has room for some thousand
+        nodes with five attributes each."""
         read = list(nodes)
         return [self.column(read, name) for name in names]
 
@@ -292,7 +292,11 @@ class Attributes(Mapping[str, Value]):
         self._version, self.node = version, node
 
     def __getitem__(self, name: str) -> Value:
-        return self._version._value(self.node, name)
+        try:
+            return self._version._value(self.node, name)
+        except (NoNode, NoAttribute) as error:
+            error._name(self.node, name)
+            raise
 
     def __iter__(self) -> Iterator[str]:
         return iter(self._version.attributes(self.node))

@@ -9,7 +9,7 @@ import tempfile
 import time
 
 import bestore
-from bestore import connected
+from bestore.connected import SocketPath
 
 PATIENCE = 10.0
 """How many seconds a server may take to listen."""
@@ -19,18 +19,13 @@ class CannotStart(Exception):
     """There is no server, and none can be started."""
 
 
-def default_path() -> str:
-    """The socket that BESTORE_SOCKET names, otherwise the one at which a server listens if nothing else is said."""
-    return os.environ.get("BESTORE_SOCKET") or connected.default_path()
-
-
 def kept_path() -> str:
     """The file in which the units of systemd keep the store too."""
     folder = os.environ.get("XDG_DATA_HOME") or os.path.join(os.path.expanduser("~"), ".local", "share")
     return os.path.join(folder, "bestore", "store.bestore")
 
 
-def listens(path: str) -> bool:
+def listens(path: SocketPath) -> bool:
     """Whether a server listens at a socket. One that refuses this client does."""
     try:
         bestore.connect(path, PATIENCE).close()
@@ -44,14 +39,14 @@ def listens(path: str) -> bool:
 class OwnServer:
     """A server, up to `close`."""
 
-    def __init__(self, path: str) -> None:
+    def __init__(self, path: SocketPath) -> None:
         program = shutil.which("bestored")
         if program is None:
             raise CannotStart(f"no server listens at {path}, and the program bestored isn't installed")
         kept = kept_path()
         os.makedirs(os.path.dirname(kept), exist_ok=True)
         self._said = tempfile.TemporaryFile()
-        words = [program, "--socket", path, "--keep", kept, "--pages", "16384"]
+        words = [program, "--socket", path.path, "--keep", kept, "--pages", "16384"]
         self._process = subprocess.Popen(
             words, stdin=subprocess.DEVNULL, stdout=subprocess.DEVNULL, stderr=self._said, start_new_session=True)
         try:
@@ -60,7 +55,7 @@ class OwnServer:
             self.close()
             raise
 
-    def _await(self, path: str) -> None:
+    def _await(self, path: SocketPath) -> None:
         end = time.monotonic() + PATIENCE
         while not listens(path):
             if self._process.poll() is not None:

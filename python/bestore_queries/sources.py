@@ -7,7 +7,7 @@ from abc import ABC, abstractmethod
 from typing import Iterator, List, NamedTuple, Optional, Set, Tuple
 
 import bestore
-from bestore.connected import ConnectedPass, Watch
+from bestore.connected import ConnectedPass, SocketPath, Watch
 from bestore.shelf import MOST_VOLUMES
 
 from . import own_server
@@ -208,11 +208,10 @@ class ServerSource(Source):
 
     def __init__(self, path: Optional[str] = None) -> None:
         self._server: Optional[own_server.OwnServer] = None
-        if path is None:
-            path = own_server.default_path()
-            if not own_server.listens(path):
-                self._server = own_server.OwnServer(path)
-        self.path, self.title = path, "files" if self._server is None else "files of a server of its own"
+        self.path = SocketPath.find(path)
+        if path is None and not own_server.listens(self.path):
+            self._server = own_server.OwnServer(self.path)
+        self.title = "files" if self._server is None else "files of a server of its own"
 
     def open(self) -> Session:
         user = bestore.connect(self.path)

@@ -138,6 +138,7 @@ PyObject *refused(uint32_t answer);
 PyObject *refused_at(uint32_t answer, uint64_t carried, const char *listed);
 bool read_in_range(PyObject *object, uint64_t *number);
 bool read_number(PyObject *object, uint64_t *number);
+bool read_node_in_range(PyObject *object, uint64_t *node);
 bool read_node(PyObject *object, uint64_t *node);
 bool read_text(PyObject *object, const uint8_t **bytes, size_t *length);
 bool is_number_kind(uint32_t code);

@@ -32,7 +32,7 @@ static bool find(PyObject *self, PyObject *const *given, Py_ssize_t count, PyObj
     Handle *user;
     if (!read_arguments(&of_get, given, count, names, read))
         return false;
-    if (!read_in_range(read[0], &node)) {
+    if (!read_node_in_range(read[0], &node)) {
         found->answer = BES_NO_NODE;
         return !PyErr_Occurred();
     }
@@ -141,6 +141,8 @@ static PyObject *reader_attributes(PyObject *self, PyObject *const *given, Py_ss
     answer = library.attributes(
         &user->held.pass, node, &listed.counts, listed.operations, MOST_OPERATIONS, listed.bytes, BYTES_OF_A_BATCH);
     leave(user);
+    if (answer == BES_NO_NODE)
+        return refused_at(answer, node, NULL);
     return answer != BES_OK ? refused(answer) : dict_of(&listed, has_kinds ? made_typed : made_value);
 }
 

@@ -44,12 +44,24 @@ bool read_number(PyObject *object, uint64_t *number)
     return false;
 }
 
-bool read_node(PyObject *object, uint64_t *node)
+/* Reads a node that 64 bits hold. Without an exception it is out of their range. */
+bool read_node_in_range(PyObject *object, uint64_t *node)
 {
     if (read_in_range(object, node))
         return true;
+    if (PyErr_Occurred() && PyErr_ExceptionMatches(PyExc_TypeError)) {
+        PyErr_Clear();
+        PyErr_Format(PyExc_TypeError, "%R is no node: a node is an int", object);
+    }
+    return false;
+}
+
+bool read_node(PyObject *object, uint64_t *node)
+{
+    if (read_node_in_range(object, node))
+        return true;
     if (!PyErr_Occurred())
-        refused(BES_NO_NODE);
+        raise_refusal(Py_BuildValue("(IO)", BES_NO_NODE, object));
     return false;
 }
 

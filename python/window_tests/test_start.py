@@ -11,7 +11,7 @@ import unittest
 from typing import Tuple
 from unittest import mock
 
-from bestore_queries.own_server import CannotStart, default_path, kept_path
+from bestore_queries.own_server import CannotStart, kept_path
 from bestore_queries.sources import ServerSource, size_for
 
 from common import HAS_TK, OnDisplay, write
@@ -68,7 +68,7 @@ class OwnServer(unittest.TestCase):
             ServerSource()
 
     def test_paths(self) -> None:
-        self.assertEqual((default_path(), kept_path()), (f"{self.folder}/socket", f"{self.folder}/data/bestore/store.bestore"))
+        self.assertEqual(kept_path(), f"{self.folder}/data/bestore/store.bestore")
 
 
 class Sizes(unittest.TestCase):

@@ -262,6 +262,10 @@ impl<'a> Desk<'a> {
                 let value = snapshot.get(node, &name)?.map(wire::Json);
                 self.reply(id, &wire::Value { commit, commits, value })
             }
+            Command::Columns(wire::ColumnsOf { nodes, names }) => {
+                let rows = rows_of(snapshot, &nodes, &names, &mut Room::new(None))?;
+                self.reply(id, &wire::Rows { commit, commits, rows })
+            }
             Command::Attributes(wire::Node { node }) => {
                 let attributes = snapshot.attributes(node)?.into_iter();
                 let attributes = attributes.map(|(name, value)| (name, wire::Json(value))).collect();

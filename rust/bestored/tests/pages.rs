@@ -2,8 +2,9 @@
 
 use crate::common::{Folder, Server, PATIENCE};
 use bestore::{Batch, Kind};
-use bestore_client::wire::{Command, From, Journal, JournalFrom, Nodes, NodesFrom, State};
+use bestore_client::wire::{Columns, ColumnsOf, Command, From, Journal, JournalFrom, Nodes, NodesFrom, Rows, State};
 use bestore_client::{Client, Query};
+use std::borrow::Cow;
 
 /// More than the nodes of one line.
 const NODES: u64 = 60_000;
@@ -104,6 +105,21 @@ fn long_rows_come_in_pages() {
         }
     }
     assert_eq!(rows, 200);
+    assert!((3..10).contains(&pages), "{pages} pages");
+
+    let (mut nodes, mut pages) = ((1..=200).collect::<Vec<_>>(), 0);
+    while !nodes.is_empty() {
+        let names = Columns(names.iter().map(Cow::from).collect());
+        let page: Rows = client
+            .call(Command::Columns(ColumnsOf {
+                nodes: nodes.clone(),
+                names,
+            }))
+            .unwrap();
+        assert!(page.rows.iter().flatten().all(|value| value.is_some()));
+        nodes.drain(..page.rows.len());
+        pages += 1;
+    }
     assert!((3..10).contains(&pages), "{pages} pages");
 }
 

@@ -70,6 +70,18 @@ const READS: &[(&str, &str)] = &[
     (r#""get":{"node":2,"name":"size"}"#, r#""ok":{"commit":1,"value":2}"#),
     (r#""get":{"node":9,"name":"size"}"#, r#""ok":{"commit":1,"value":null}"#),
     (
+        r#""columns":{"nodes":[3,9,1,3,0],"names":["size","none","size"]}"#,
+        r#""ok":{"commit":1,"rows":[[3,null,3],[null,null,null],[1,null,1],[3,null,3],[null,null,null]]}"#,
+    ),
+    (
+        r#""columns":{"nodes":[],"names":["size"]}"#,
+        r#""ok":{"commit":1,"rows":[]}"#,
+    ),
+    (
+        r#""columns":{"nodes":[1,2],"names":[]}"#,
+        r#""ok":{"commit":1,"rows":[[],[]]}"#,
+    ),
+    (
         r#""attributes":{"node":2}"#,
         r#""ok":{"commit":1,"attributes":{"size":2}}"#,
     ),
@@ -159,6 +171,12 @@ const ERRORS: &[(&str, &str)] = &[
     (r#""explain":{"query":"size==[a"}"#, r#""BadPattern","number":13"#),
     (r#""watch":{"query":"name==a"}"#, r#""NotCovered","number":17"#),
     (r#""attributes":{"node":9}"#, r#""NoNode","number":2"#),
+    (
+        r#""columns":{"nodes":[1],"names":["size",""]}"#,
+        r#""NameLength","number":18"#,
+    ),
+    (r#""columns":{"nodes":[-1],"names":[]}"#, r#""BadRequest""#),
+    (r#""columns":{"nodes":[1]}"#, r#""BadRequest""#),
     (r#""unwatch":{"watch":1}"#, r#""NoWatch""#),
     (r#""flush":{}"#, r#""NotKept""#),
     (r#""state":{}"#, r#""NotPinned","number":66"#),

@@ -8,11 +8,11 @@ mod value;
 pub use operation::{Operations, ShownOperations};
 pub use reply::{
     Attributes, Commit, Explained, HeldBy, Hello, Hits, Indices, Journal, JournalEntry, Limits, LogStatus, Next, Nodes,
-    Push, Refusal, State, Status, Value, VolumeStatus, Watched, Written,
+    Push, Refusal, Rows, State, Status, Value, VolumeStatus, Watched, Written,
 };
 pub use request::{
-    id_of, Columns, Command, From, Get, Greeting, JournalFrom, Node, NodesFrom, Nothing, Numbers, OfLog, Query,
-    QueryText, Reach, Request, Watch, Watching, Write,
+    id_of, Columns, ColumnsOf, Command, From, Get, Greeting, JournalFrom, Node, NodesFrom, Nothing, Numbers, OfLog,
+    Query, QueryText, Reach, Request, Watch, Watching, Write,
 };
 pub use value::{kind_name, kind_named, Json};
 

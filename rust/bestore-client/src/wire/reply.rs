@@ -131,6 +131,17 @@ replies! {
         pub value: Option<Json>,
     }
 
+    /// Of `columns`.
+    Rows {
+        /// The snapshot.
+        pub commit: u64,
+        /// The snapshot of each volume, if there are several.
+        #[serde(default, skip_serializing_if = "Vec::is_empty")]
+        pub commits: Vec<u64>,
+        /// The values of each node in the order of the names. If a line has no room for all, those of the first nodes.
+        pub rows: Vec<Vec<Option<Json>>>,
+    }
+
     /// Of `attributes`.
     Attributes {
         /// The snapshot.

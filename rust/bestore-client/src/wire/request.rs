@@ -216,6 +216,15 @@ parameters_with_texts! {
         #[serde(borrow)]
         pub name: Cow<'a, str>,
     }
+
+    /// Of `columns`.
+    ColumnsOf {
+        /// The nodes.
+        pub nodes: Vec<u64>,
+        /// The names of the attributes.
+        #[serde(borrow)]
+        pub names: Columns<'a>,
+    }
 }
 
 /// Names of attributes, up to 64.
@@ -317,6 +326,8 @@ commands! {
     Query(Query<'a>) = "query";
     /// Reads an attribute.
     Get(Get<'a>) = "get";
+    /// Reads some attributes of many nodes.
+    Columns(ColumnsOf<'a>) = "columns";
     /// Reads all attributes of a node.
     Attributes(Node) = "attributes";
     /// Lists the indices.
@@ -453,6 +464,7 @@ mod tests {
             r#"{"id":4,"batch":{"operations":[["new"]],"expected":[3,0],"volume":1}}"#,
             r#"{"id":5,"reach":{"commit":[3,0],"within":5}}"#,
             r#"{"id":3,"get":{"node":1,"name":"a\"b"}}"#,
+            r#"{"id":3,"columns":{"nodes":[2,1],"names":["a","b"]}}"#,
         ] {
             let request: Request<'_> = serde_json::from_str(line).unwrap();
             assert_eq!(serde_json::to_string(&request).unwrap(), line);

@@ -1,0 +1,29 @@
+/* Two threads write to a store, each by its own pass, and both to a variable that nothing guards. That is a race, which
+ * ThreadSanitizer has to find while it passes over the library: test.sh looks for it. */
+#include "tests.h"
+#include <pthread.h>
+
+static uint64_t made;
+
+static void *maker(void *with)
+{
+    bes_pass *pass = with;
+    uint64_t node = 0;
+    for (int i = 0; i < 50; i++) {
+        CHECK(bes_new_node(pass, &node) == BES_OK && bes_set_text(pass, node, "maker", "ann") == BES_OK);
+        made++;
+    }
+    return NULL;
+}
+
+int main(void)
+{
+    bes_pass first = BES_PASS_INIT, second = BES_PASS_INIT;
+    pthread_t thread;
+    CHECK(bes_open(256, 2, 1000, &first) == BES_OK && bes_another(&first, &second) == BES_OK);
+    CHECK(pthread_create(&thread, NULL, maker, &second) == 0);
+    maker(&first);
+    CHECK(pthread_join(thread, NULL) == 0);
+    CHECK(bes_close(&first) == BES_OK && bes_close(&second) == BES_OK);
+    return 0;
+}

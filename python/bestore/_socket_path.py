@@ -1,0 +1,38 @@
+"""Where the socket of a server is. The server and all of its clients go by one rule, which docs/SERVER.md has."""
+
+from __future__ import annotations
+
+import os
+from dataclasses import dataclass
+from typing import Any, Optional, Union
+
+
+@dataclass(frozen=True)
+class SocketPath:
+    """The path of a server's socket, which is used as any other path."""
+
+    path: str
+    is_named: bool
+    """Whether somebody has named it. Otherwise servers listen there by default, and anybody may have made the folder."""
+
+    @classmethod
+    def find(cls, named: Union[str, bytes, "os.PathLike[Any]", None] = None) -> SocketPath:
+        """The path that a parameter or an option names, otherwise the first of these: the path in BESTORE_SOCKET, unless that is
+        empty; bestore/socket in the folder of XDG_RUNTIME_DIR, unless that is empty or relative; /tmp/bestore-UID/socket, with the
+        number of the effective user."""
+        if isinstance(named, SocketPath):
+            return named
+        if named is not None:
+            return cls(os.fsdecode(named), True)
+        variable = os.environ.get("BESTORE_SOCKET")
+        if variable:
+            return cls(variable, True)
+        runtime = os.environ.get("XDG_RUNTIME_DIR", "")
+        folder = os.path.join(runtime, "bestore") if os.path.isabs(runtime) else f"/tmp/bestore-{os.geteuid()}"
+        return cls(os.path.join(folder, "socket"), False)
+
+    def __fspath__(self) -> str:
+        return self.path
+
+    def __str__(self) -> str:
+        return self.path

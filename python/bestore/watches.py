@@ -1,0 +1,116 @@
+"""Watches: queries whose changes a program waits for."""
+
+from __future__ import annotations
+
+import time
+from abc import ABC, abstractmethod
+from typing import TYPE_CHECKING, Iterator, List, NamedTuple, Optional
+
+from .commits import waiting
+from .errors import Closed
+from .queries import prepare
+
+if TYPE_CHECKING:
+    from .store import Pass
+
+
+class Changes(NamedTuple):
+    """What changed in what a query finds. It unpacks as what `Version.refresh` returns."""
+
+    created: List[int]
+    """The nodes that came, ascending."""
+    removed: List[int]
+    """The nodes that went, ascending."""
+
+
+class Watch(ABC):
+    """A live query, by `Pass.watch`, which waits for changes. At first all of its nodes come.
+
+        with store.watch("MAIL:status==New") as unread:
+            for came, went in unread:
+                print(came, went)
+
+    What the calls on it return, taken together, is what the query finds at `commit`. Changes of several commits come as one.
+    Without a query each commit is awaited, and nodes are never returned."""
+
+    def __init__(self, query: Optional[str]) -> None:
+        self.query = query
+        """The text of the query, or None if each commit is watched."""
+        self.commit = 0
+        """The commit number of the snapshot to which what was returned leads, and at first that of the first answer."""
+
+    def __repr__(self) -> str:
+        return f"<watch of {self.query or 'each commit'} at commit {self.commit}>"
+
+    def __enter__(self) -> Watch:
+        return self
+
+    def __exit__(self, *_: object) -> None:
+        self.close()
+
+    def __iter__(self) -> Iterator[Changes]:
+        """The changes, each as soon as it comes, without an end."""
+        while True:
+            changes = self.wait()
+            assert changes is not None
+            yield changes
+
+    @abstractmethod
+    def refresh(self) -> Changes:
+        """What changed since a call on this watch returned something last, up to what reads of the pass see now."""
+
+    @abstractmethod
+    def wait(self, timeout: Optional[float] = None) -> Optional[Changes]:
+        """The changes that were not returned yet. If there are none, waits for some up to so many seconds, or without an end, and
+        returns None if none came."""
+
+    @abstractmethod
+    def close(self) -> None:
+        """Ends the watch, if it is there."""
+
+
+class LocalWatch(Watch):
+    """A watch of a store in this process. A pass that writes wakes who waits, so nobody looks again and again. Each look pins the
+    pass: `Pinned` if that is pinned."""
+
+    def __init__(self, user: Pass, query: Optional[str]) -> None:
+        super().__init__(query)
+        self._user, self._is_open = user, True
+        with user.pin() as version:
+            if query is not None:
+                version.explain(query)  # which raises what is wrong with it
+            self.commit = version.number
+            self._seen = None if query is not None else version.numbers
+        self._live = None if query is None else prepare(query)
+
+    def _look(self) -> Optional[Changes]:
+        """What changed since the last look, or None if nothing was committed since."""
+        if not self._is_open:
+            raise Closed()
+        with self._user.pin() as version:
+            if version.numbers == self._seen:
+                return None
+            changes = Changes([], []) if self._live is None else Changes(*version.refresh(self._live))
+            self._seen, self.commit = version.numbers, version.number
+        return changes
+
+    def refresh(self) -> Changes:
+        return self._look() or Changes([], [])
+
+    def wait(self, timeout: Optional[float] = None) -> Optional[Changes]:
+        until = None if timeout is None else time.monotonic() + timeout
+        with waiting(self._user._commits, self._user.volumes) as waiter:
+            while True:
+                waiter.begin()
+                changes = self._look()
+                if changes is not None and (self._live is None or any(changes)):
+                    return changes
+                left = None if until is None else until - time.monotonic()
+                if left is not None and left <= 0:
+                    return None
+                waiter.wait(left)
+
+    def close(self) -> None:
+        self._is_open = False
+        if self._live is not None:
+            self._live.close()
