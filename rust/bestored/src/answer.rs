@@ -179,10 +179,18 @@ impl<'a> Desk<'a> {
 
     /// Answers a command other than `pin` and `unpin`.
     pub fn answer(&mut self, id: u64, command: Command<'_>, view: &mut View<'_, '_>) -> io::Result<()> {
-        if let (false, Err(failure)) = (matches!(command, Command::Status(_)), self.shared.kept.check()) {
-            self.refuse(Some(id), failure);
-            return Ok(());
+        let is_of_server = matches!(command, Command::Status(_));
+        match self.shared.kept.check() {
+            Err(failure) if !is_of_server => self.refuse(Some(id), failure),
+            _ => self.carry_out(id, command, view)?,
         }
+        match self.out.len() {
+            0..=COLLECTED => Ok(()),
+            _ => self.send(view.since()),
+        }
+    }
+
+    fn carry_out(&mut self, id: u64, command: Command<'_>, view: &mut View<'_, '_>) -> io::Result<()> {
         let answered = match command {
             Command::Batch(write) => self.write(id, &write, view),
             Command::Watch(watch) => match self.watch(watch, view) {
@@ -204,7 +212,7 @@ impl<'a> Desk<'a> {
                 let reached = reach::reach(view, &self.shared.pressure, &reach);
                 reached.map(|reached| self.reply(id, &reached))
             }
-            Command::Flush(_) => self.flush(id),
+            Command::Flush(_) => self.shared.kept.flush().map(|()| self.reply(id, &wire::Nothing {})),
             Command::Log(wanted) => {
                 // Earlier replies don't wait for an entry.
                 self.send(view.since())?;
@@ -218,10 +226,7 @@ impl<'a> Desk<'a> {
         if let Err(failure) = answered {
             self.refuse(Some(id), failure);
         }
-        match self.out.len() {
-            0..=COLLECTED => Ok(()),
-            _ => self.send(view.since()),
-        }
+        Ok(())
     }
 
     fn write(&mut self, id: u64, write: &wire::Write, view: &mut View<'_, '_>) -> Result<(), Failure> {
@@ -243,14 +248,6 @@ impl<'a> Desk<'a> {
         written.entry = self.shared.kept.entry(written.commit);
         self.reply(id, &written);
         Ok(())
-    }
-
-    fn flush(&mut self, id: u64) -> Result<(), Failure> {
-        let flushed = self.shared.kept.flush();
-        if flushed.is_err() {
-            self.shared.kept.end_if_failed();
-        }
-        flushed.map(|()| self.reply(id, &wire::Nothing {}))
     }
 
     /// Answers a command that reads in one snapshot.

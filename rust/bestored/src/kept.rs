@@ -50,6 +50,20 @@ impl InFiles {
     fn failure(&self) -> Option<Arc<saved::Error>> {
         self.saved.volumes().iter().find_map(Saved::failure)
     }
+
+    fn end_if_failed(&self) {
+        if self.failure().is_some() && !self.is_over.swap(true, Ordering::Relaxed) {
+            os::end_program();
+        }
+    }
+
+    /// Returns the outcome of a call of the files, after which the server ends if a commit has failed.
+    fn checked(&self, outcome: saved::Result<()>) -> Result<(), Failure> {
+        if outcome.is_err() {
+            self.end_if_failed();
+        }
+        Ok(outcome?)
+    }
 }
 
 /// Starts what the store does by itself.
@@ -150,9 +164,7 @@ impl Kept {
     /// Ends the server if a commit has failed: memory then has what the file lacks.
     pub fn end_if_failed(&self) {
         if let Kept::File(files) = self {
-            if files.failure().is_some() && !files.is_over.swap(true, Ordering::Relaxed) {
-                os::end_program();
-            }
+            files.end_if_failed();
         }
     }
 
@@ -168,7 +180,7 @@ impl Kept {
     pub fn flush(&self) -> Result<(), Failure> {
         match self {
             Kept::Memory(_) => Err(not_kept()),
-            Kept::File(files) => Ok(files.saved.flush()?),
+            Kept::File(files) => files.checked(files.saved.flush()),
             #[cfg(feature = "log")]
             Kept::Log(log) => Ok(log.flush()?),
         }
@@ -177,7 +189,7 @@ impl Kept {
     pub fn compact(&self) -> Result<(), Failure> {
         match self {
             Kept::Memory(_) => Err(not_kept()),
-            Kept::File(files) => Ok(files.saved.compact()?),
+            Kept::File(files) => files.checked(files.saved.compact()),
             #[cfg(feature = "log")]
             Kept::Log(log) => Ok(log.compact()?),
         }

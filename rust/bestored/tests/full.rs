@@ -2,7 +2,7 @@
 
 use crate::common::disk::Disk;
 use crate::common::writers::{check_history, Writers};
-use crate::common::{command, Folder, Server};
+use crate::common::{command, wait_until, Folder, Server};
 use bestore::Batch;
 use bestore_client::wire::{Command, Nothing};
 use bestore_client::{Client, Error};
@@ -228,6 +228,28 @@ fn a_server_waits_for_room_on_its_disk() {
     server.kill();
     let server = start(&disk, &folder, &[]).unwrap();
     assert_eq!(count_of(&mut server.client()), Some(4));
+}
+
+#[test]
+fn status_says_that_a_commit_has_failed_that_nobody_waited_for() {
+    let disk = match disk_of("a disk without room for what is written later") {
+        Some(disk) => disk,
+        None => return,
+    };
+    let folder = Folder::new();
+    let server = start(&disk, &folder, &["--spare", "0", "--every", "5"]).unwrap();
+    let mut client = server.client();
+    client.apply(Batch::new().new_node().set(1, "count", 1_u64)).unwrap();
+    client.call::<Nothing>(Command::Flush(Nothing {})).unwrap();
+    disk.resize(disk.used());
+    wait_until("a commit fails", || {
+        let written = set_count(&mut client, 2);
+        let trouble = server.client().status().ok().and_then(|status| status.trouble);
+        trouble.map_or(written.is_err(), |trouble| trouble.contains("the disk is full"))
+    });
+    // The next write finds it too, and the server ends.
+    set_count(&mut client, 3).unwrap_err();
+    assert!(!server.wait_end().success());
 }
 
 #[test]

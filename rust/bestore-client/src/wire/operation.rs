@@ -92,6 +92,20 @@ struct OneOperation<'a> {
     is_made: bool,
 }
 
+impl OneOperation<'_> {
+    fn make_node<E: de::Error>(self, made: Option<u64>) -> Result<(), E> {
+        self.batch.new_node();
+        match made {
+            Some(_) if !self.is_made => Err(E::custom("the server numbers new nodes; [\"new\"] makes one")),
+            Some(node) => {
+                set_last_node(self.batch, node);
+                Ok(())
+            }
+            None => Ok(()),
+        }
+    }
+}
+
 impl<'de> DeserializeSeed<'de> for OneOperation<'_> {
     type Value = ();
 
@@ -111,13 +125,8 @@ impl<'de> Visitor<'de> for OneOperation<'_> {
         let what: Text<'_> = next(&mut parts, "an operation")?;
         match &*what.0 {
             "new" => {
-                let made: Option<u64> = parts.next_element()?;
-                self.batch.new_node();
-                match made {
-                    Some(node) if self.is_made => set_last_node(self.batch, node),
-                    Some(_) => return Err(de::Error::custom("the server numbers new nodes; [\"new\"] makes one")),
-                    None => {}
-                }
+                let made = parts.next_element()?;
+                self.make_node(made)?;
             }
             "remove" => {
                 self.batch.remove_node(next(&mut parts, "a node")?);
