@@ -35,7 +35,7 @@ pub fn begin() -> io::Result<Side> {
     }
 }
 
-/// Waits until the server listens or has ended. It has said why it ended.
+/// Waits until the server listens or has ended.
 fn wait(mut starter: UnixStream, process: &Process) -> io::Result<ExitCode> {
     let mut said = String::new();
     starter.read_to_string(&mut said)?;
@@ -45,8 +45,9 @@ fn wait(mut starter: UnixStream, process: &Process) -> io::Result<ExitCode> {
         return Ok(ExitCode::SUCCESS);
     }
     match process.wait()? {
-        Some(status) => Ok(ExitCode::from(status)),
-        None => Err(io::Error::new(
+        // It has said why.
+        Some(status) if status != 0 => Ok(ExitCode::from(status)),
+        _ => Err(io::Error::new(
             io::ErrorKind::Other,
             "a signal ended the server before it listened",
         )),

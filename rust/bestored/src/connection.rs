@@ -49,15 +49,15 @@ impl<'a> Connection<'a> {
     }
 
     /// Answers the client's requests until it closes the connection.
-    pub fn run(&mut self, mut pass: ShelfPass) -> io::Result<()> {
+    pub fn run(&mut self, pass: &mut ShelfPass) -> io::Result<()> {
         let mut is_expired = false;
         loop {
             let turn = match is_expired {
-                false => self.serve(&mut View::Current(&mut pass))?,
-                true => self.serve(&mut View::Expired(&pass))?,
+                false => self.serve(&mut View::Current(pass))?,
+                true => self.serve(&mut View::Expired(pass))?,
             };
             let turn = match turn {
-                Turn::Pin { id } => match self.keep(id, &mut pass)? {
+                Turn::Pin { id } => match self.keep(id, pass)? {
                     Some(turn) => turn,
                     None => continue,
                 },

@@ -15,7 +15,6 @@ mod options;
 mod os;
 mod outbox;
 mod page;
-mod places;
 mod pressure;
 mod reach;
 mod server;
@@ -26,12 +25,12 @@ mod watcher;
 use background::{Side, Starter};
 use kept::Kept;
 use options::Options;
-use places::Places;
 use pressure::Pressure;
 use server::Shared;
 use socket::Place;
 use std::error::Error;
 use std::process::ExitCode;
+use std::sync::Mutex;
 
 fn main() -> ExitCode {
     start(Options::read()).unwrap_or_else(|error| {
@@ -71,14 +70,14 @@ fn serve(options: Options, place: Place, starter: Option<Starter>) -> Result<(),
         Some(kept) => kept,
         None => return Ok(()),
     };
-    let own = kept.pass()?;
+    let (own, mut visits) = (kept.pass()?, kept.pass()?);
+    visits.set_retry(pressure::retry());
     let shared = Shared {
         kept,
         watcher: Default::default(),
         pressure: Pressure::new(options.hold),
         clients: Default::default(),
-        places: Places::new(options.passes),
-        visits: Places::new(1),
+        visits: Mutex::new(visits),
         run,
         options,
     };

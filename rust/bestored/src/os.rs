@@ -91,7 +91,7 @@ pub fn free_space(path: &CStr) -> io::Result<Option<u64>> {
         check(libc::statvfs(path.as_ptr(), found.as_mut_ptr()))?;
         found.assume_init()
     };
-    let blocks = match user() {
+    let blocks = match bestore_client::socket::user() {
         0 => found.f_bfree,
         _ => found.f_bavail,
     };

@@ -6,7 +6,6 @@ use crate::failure::Failure;
 use crate::kept::{self, Kept};
 use crate::options::Options;
 use crate::os;
-use crate::places::Places;
 use crate::pressure::{self, Pressure};
 use crate::socket::{Place, Socket};
 use crate::watcher::Watcher;
@@ -20,18 +19,21 @@ use std::net::Shutdown;
 use std::os::unix::io::AsRawFd;
 use std::os::unix::net::{UnixListener, UnixStream};
 use std::path::PathBuf;
-use std::sync::{Arc, Condvar, Mutex, MutexGuard, PoisonError};
+use std::sync::{Arc, Condvar, Mutex, MutexGuard, PoisonError, TryLockError};
 use std::thread;
 use std::time::{Duration, Instant, SystemTime};
 
 /// How many connections there may be beyond those that have a pass: they wait a moment for one.
 const WAITING: usize = 16;
 
-/// How long a connection waits for a place, since a client that has just gone may leave one.
-const FOR_PLACE: Duration = Duration::from_millis(200);
+/// How long a connection waits for a pass, since a client that has just gone may leave one.
+const FOR_PASS: Duration = Duration::from_millis(200);
 
-/// How long a connection waits for the place of visitors, who come when all others are taken.
+/// How long a connection waits for the pass of visitors, who come when all others are taken.
 const FOR_VISIT: Duration = Duration::from_secs(10);
+
+/// How often a pass that isn't free is tried again.
+const AGAIN: Duration = Duration::from_millis(5);
 
 /// The most bytes of a first request by which a client asks for that place.
 const GREETING: usize = 256;
@@ -47,10 +49,8 @@ pub struct Shared {
     pub watcher: Watcher,
     pub pressure: Pressure,
     pub clients: Clients,
-    /// The places of clients.
-    pub places: Places,
-    /// The place of clients that find none: each has it for a moment.
-    pub visits: Places,
+    /// The pass of clients that find none: each has it for a moment.
+    pub visits: Mutex<ShelfPass>,
     /// Another text for each run.
     pub run: String,
 }
@@ -206,21 +206,20 @@ impl Drop for Leaving<'_> {
 }
 
 fn serve(shared: &Shared, stream: Arc<UnixStream>) {
-    let place = shared.places.take(FOR_PLACE);
-    let visit = match place {
-        Some(_) => None,
-        None if !is_visit(&stream) => None,
-        None => shared.visits.take(FOR_VISIT),
-    };
-    if place.is_none() && visit.is_none() {
-        return refuse(&stream, &no_pass(shared));
+    match take_pass(shared) {
+        Ok(mut pass) => talk(shared, stream, &mut pass, false),
+        Err(Error::NoPass) if is_visit(&stream) => match take_visit(shared) {
+            Some(mut pass) => talk(shared, stream, &mut pass, true),
+            None => refuse(&stream, &no_pass(shared)),
+        },
+        Err(Error::NoPass) => refuse(&stream, &no_pass(shared)),
+        Err(error) => refuse(&stream, &error.into()),
     }
-    let pass = match take_pass(shared) {
-        Ok(pass) => pass,
-        Err(error) => return refuse(&stream, &error.into()),
-    };
+}
+
+fn talk(shared: &Shared, stream: Arc<UnixStream>, pass: &mut ShelfPass, is_visit: bool) {
     // An error of the connection is its end, and nobody is left to report it to.
-    let _ = Connection::new(shared, stream, visit.is_some()).run(pass);
+    let _ = Connection::new(shared, stream, is_visit).run(pass);
 }
 
 /// Whether the first request that the client has sent says that it asks a few things and goes.
@@ -236,12 +235,33 @@ fn is_visit(stream: &UnixStream) -> bool {
 }
 
 fn take_pass(shared: &Shared) -> bestore::Result<ShelfPass> {
-    let mut pass = shared.kept.pass().map_err(Error::without_volume)?;
-    pass.set_retry(pressure::retry());
-    Ok(pass)
+    let until = Instant::now() + FOR_PASS;
+    loop {
+        match shared.kept.pass().map_err(Error::without_volume) {
+            Err(Error::NoPass) if Instant::now() < until => thread::sleep(AGAIN),
+            answer => {
+                let mut pass = answer?;
+                pass.set_retry(pressure::retry());
+                return Ok(pass);
+            }
+        }
+    }
 }
 
-/// All places are taken.
+/// Takes the pass of visitors, once nobody else has it.
+fn take_visit(shared: &Shared) -> Option<MutexGuard<'_, ShelfPass>> {
+    let until = Instant::now() + FOR_VISIT;
+    loop {
+        match shared.visits.try_lock() {
+            Ok(pass) => return Some(pass),
+            Err(TryLockError::Poisoned(poisoned)) => return Some(poisoned.into_inner()),
+            Err(TryLockError::WouldBlock) if Instant::now() < until => thread::sleep(AGAIN),
+            Err(TryLockError::WouldBlock) => return None,
+        }
+    }
+}
+
+/// All passes of clients are taken.
 pub fn no_pass(shared: &Shared) -> Failure {
     let clients = shared.options.passes;
     let message = format!("{clients} clients are connected");
