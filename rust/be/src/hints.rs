@@ -16,6 +16,15 @@ pub struct Hint {
     pub offset: usize,
 }
 
+/// The kinds of integers.
+const INTEGERS: [Kind; 4] = [Kind::Int32, Kind::Int64, Kind::Uint32, Kind::Uint64];
+
+/// Whether there may be hints, whatever the indices are.
+pub fn may_be(text: &str) -> bool {
+    let may_be = |comparison: &Comparison<'_>| INTEGERS.into_iter().any(|kind| hint(text, comparison, kind).is_some());
+    comparisons(text).iter().any(may_be)
+}
+
 /// The comparisons of a query that no node meets. The indices have these kinds.
 pub fn hints(text: &str, indices: &BTreeMap<String, Kind>) -> Vec<Hint> {
     let hint = |comparison: &Comparison<'_>| {
@@ -142,7 +151,9 @@ mod tests {
             ("größe==x || size==\"\"", &[14]),
         ] {
             assert_eq!(offsets(text), found, "{text}");
+            assert!(may_be(text) || found.is_empty(), "{text}");
         }
+        assert!(may_be("a==b") && !may_be("a==1 && b<2 && c>=3"));
     }
 
     #[test]

@@ -3,7 +3,7 @@
 use crate::command_line::Query as Line;
 use crate::dates::Clock;
 use crate::failure::{complain, Failure, QueryRefused};
-use crate::hints::hints;
+use crate::hints;
 use crate::output::Output;
 use crate::paths::paths_of;
 use crate::server::{self, pinned};
@@ -40,9 +40,12 @@ pub fn run(client: &mut Client, line: &Line, output: &mut Output) -> Result<(), 
 
 /// Says which comparisons of a query that the server has accepted no node can meet.
 fn warn(client: &mut Client, query: &TypedQuery) -> Result<(), Failure> {
+    if !hints::may_be(&query.sent) {
+        return Ok(());
+    }
     let indices = server::indices(client)?;
     let kind = |(name, kind): (String, String)| kind_named(&kind).map(|kind| (name, kind));
-    for hint in hints(&query.sent, &indices.into_iter().filter_map(kind).collect()) {
+    for hint in hints::hints(&query.sent, &indices.into_iter().filter_map(kind).collect()) {
         let place = pointed(&query.typed, query.place_of(hint.offset));
         complain(&format!("warning: {}{place}", escaped(&hint.message)));
     }

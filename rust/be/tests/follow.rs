@@ -111,7 +111,7 @@ fn soon(what: &str, is_so: impl Fn() -> bool) {
 }
 
 fn same(server: &Server, folder: &Folder) -> bool {
-    server.paths("name==\"*\"") == folder.paths()
+    server.listed("name==\"*\"") == folder.paths().into_iter().collect::<Vec<_>>()
 }
 
 #[test]

@@ -1,6 +1,7 @@
 //! The files of a folder and of those inside it.
 
 use super::stat::{Form, Stat};
+use std::collections::HashSet;
 use std::fs::{self, DirEntry, ReadDir};
 use std::io::{self, ErrorKind};
 use std::os::unix::ffi::OsStrExt;
@@ -65,6 +66,7 @@ impl Walk<'_> {
             }
             next += 1;
         }
+        walked.keep_last();
         walked
     }
 
@@ -86,6 +88,15 @@ fn is_elsewhere(folder: &Path, device: u64) -> bool {
 }
 
 impl Walked {
+    /// Keeps, of files that were found several times, what was found last. A large folder may list a name again that was removed and
+    /// made anew while it was read.
+    fn keep_last(&mut self) {
+        let mut seen = HashSet::new();
+        self.found.reverse();
+        self.found.retain(|found| seen.insert(found.path.clone()));
+        self.found.reverse();
+    }
+
     fn read(&mut self, folder: &Path, entries: ReadDir) {
         for entry in entries {
             match entry {
@@ -117,5 +128,33 @@ impl Walked {
                 error,
             });
         }
+    }
+}
+
+#[cfg(test)]
+mod tests {
+    use super::*;
+
+    #[test]
+    fn a_file_that_is_found_twice_counts_as_it_was_last() {
+        let found = |path: &str, size: i64| {
+            let mut stat = Stat::from(&fs::symlink_metadata("/").unwrap());
+            stat.size = size;
+            Found {
+                path: path.into(),
+                stat,
+            }
+        };
+        let mut walked = Walked {
+            found: vec![found("/a", 1), found("/b", 2), found("/a", 3), found("/c", 4)],
+            ..Walked::default()
+        };
+        walked.keep_last();
+        let kept: Vec<_> = walked
+            .found
+            .iter()
+            .map(|it| (it.path.to_str().unwrap(), it.stat.size))
+            .collect();
+        assert_eq!(kept, [("/b", 2), ("/a", 3), ("/c", 4)]);
     }
 }

@@ -82,6 +82,15 @@ impl Server {
 
     /// The paths of the files that a query finds.
     pub fn paths(&self, query: &str) -> BTreeSet<PathBuf> {
+        let paths = self.listed(query);
+        let count = paths.len();
+        let set: BTreeSet<PathBuf> = paths.into_iter().collect();
+        assert_eq!(set.len(), count, "a path comes twice");
+        set
+    }
+
+    /// The paths of the nodes that a query finds, sorted. While an import writes, two nodes may have one path for a moment.
+    pub fn listed(&self, query: &str) -> Vec<PathBuf> {
         let output = self.command(&["query", "-0", "--path", query]).output().unwrap();
         assert!(output.status.success(), "{output:?}");
         let mut paths: Vec<PathBuf> = output
@@ -90,10 +99,8 @@ impl Server {
             .map(|path| std::ffi::OsString::from_vec(path.to_vec()).into())
             .collect();
         assert_eq!(paths.pop(), Some(PathBuf::new()));
-        let count = paths.len();
-        let set: BTreeSet<PathBuf> = paths.into_iter().collect();
-        assert_eq!(set.len(), count, "a path comes twice");
-        set
+        paths.sort_unstable();
+        paths
     }
 
     /// The text of an attribute of a file, as `catattr --raw` prints it.
