@@ -799,7 +799,7 @@ static void spent(void)
     CHECK(strcmp(bes_strerror(BES_COMMITS_SPENT), "the journal is at its limit") == 0);
     CHECK(strcmp(bes_strerror(BES_BAD_PART), "a part isn't within the bytes") == 0);
     CHECK(strcmp(bes_strerror(63), "unknown error") == 0);
-    CHECK(bes_version() == BES_VERSION_NUMBER && strcmp(BES_VERSION, "0.2.0") == 0);
+    CHECK(bes_version() == BES_VERSION_NUMBER && strcmp(BES_VERSION, "0.3.0") == 0);
 }
 
 /* No pass is lost that is closed, or met: 64 are taken, closed and taken again, by the first handle and by another one. */

@@ -166,6 +166,7 @@ CALL(bes_journal_from, bes_pass *, uint64_t, uint64_t *, bes_counts *, bes_opera
 CALL(bes_prepared_text, bes_prepared *, uint8_t *, size_t, uint64_t *)
 CALL(bes_move_prepared, bes_prepared *, bes_prepared *)
 CALL(bes_move_place, bes_place *, bes_place *)
+/* Version 0.3.0. */
 CALL(bes_check_name, const uint8_t *, size_t, bes_name *)
 CALL(bes_get_named, bes_pass *, uint64_t, const bes_name *, bes_attribute *, uint8_t *, size_t)
 CALL(bes_columns, bes_pass *, const uint64_t *, size_t, const bes_name *, size_t, bes_cell *, size_t, uint8_t *, size_t,
