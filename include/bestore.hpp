@@ -396,7 +396,7 @@ inline std::atomic<std::uint64_t> stores{0};
 // How large a store may grow.
 struct Limits {
     std::uint64_t pages = 4096;         // of 4 KiB, taken at once: 8 to 16,384
-    std::uint64_t passes = 63;          // 1 to 64. One takes 97 bytes, and a write 13 instructions more, of some 20,000
+    std::uint64_t passes = 63;          // 1 to 64. One takes about 90 bytes, and a write 13 instructions more, of 12,000 or so
     std::uint64_t commits = UINT32_MAX; // transactions: 1 to 2^32 - 1
 };
 

@@ -24,7 +24,7 @@ from .watches import LocalWatch, Watch
 _Result = TypeVar("_Result")
 
 PASSES = 63
-"""How many passes a store may have, if nothing else is said. Each takes 97 bytes, and a write 13 instructions more: for 55 passes
+"""How many passes a store may have, if nothing else is said. Each takes about 90 bytes, and a write 13 instructions more: for 55 passes
 700 of some 20,000. A pin costs the same however many there are."""
 TRIES = 10_000
 """How often a call is tried at most while another pass is writing, if nothing else is said: for some seconds at
