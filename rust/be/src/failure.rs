@@ -58,7 +58,7 @@ impl Failure {
     /// Whether the server is gone or has no place. A later connection may succeed.
     pub fn is_of_connection(&self) -> bool {
         match self {
-            Failure::NoServer(..) | Failure::Server(Error::Io(_) | Error::Closed) => true,
+            Failure::NoServer(..) | Failure::Server(Error::Io(_) | Error::Closed | Error::TimedOut(_)) => true,
             Failure::Server(error) => error.is("NoPass"),
             _ => false,
         }
