@@ -4,24 +4,37 @@ use crate::common::{Said, Server, BE};
 use std::fs::OpenOptions;
 use std::io::{Read, Write};
 use std::net::Shutdown;
-use std::os::unix::net::UnixListener;
+use std::os::unix::net::{UnixListener, UnixStream};
 use std::process::Command;
+use std::sync::atomic::{AtomicBool, Ordering};
+use std::sync::Arc;
 use std::thread;
 
-/// What the tool says to a server that sends these bytes and closes the connection.
+/// Sends these bytes to a client, and waits until it has gone.
+fn answer(mut stream: UnixStream, bytes: &[u8]) {
+    // The tool may have gone before all is sent.
+    let _ = stream.read(&mut [0; 4_096]);
+    let _ = stream.write_all(bytes);
+    let _ = stream.shutdown(Shutdown::Write);
+    let _ = stream.read_to_end(&mut Vec::new());
+}
+
+/// What the tool says to a server that sends these bytes to each client and closes the connection.
 fn told(number: usize, bytes: Vec<u8>, words: &[&str]) -> Said {
     let path = std::env::temp_dir().join(format!("be-broken-{}-{number}", std::process::id()));
     let listener = UnixListener::bind(&path).unwrap();
+    let is_over = Arc::new(AtomicBool::new(false));
+    let ends = is_over.clone();
     let server = thread::spawn(move || {
-        let (mut stream, _) = listener.accept().unwrap();
-        // The tool may have gone before all is sent.
-        let _ = stream.read(&mut [0; 4_096]);
-        let _ = stream.write_all(&bytes);
-        let _ = stream.shutdown(Shutdown::Write);
-        let _ = stream.read_to_end(&mut Vec::new());
+        let clients = listener.incoming().map(Result::unwrap);
+        clients
+            .take_while(|_| !ends.load(Ordering::SeqCst))
+            .for_each(|stream| answer(stream, &bytes));
     });
     let mut command = Command::new(BE);
     let said = command.arg("--socket").arg(&path).args(words).output().unwrap().into();
+    is_over.store(true, Ordering::SeqCst);
+    UnixStream::connect(&path).unwrap();
     server.join().unwrap();
     std::fs::remove_file(path).unwrap();
     said
