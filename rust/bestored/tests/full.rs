@@ -242,10 +242,11 @@ fn status_says_that_a_commit_has_failed_that_nobody_waited_for() {
     client.apply(Batch::new().new_node().set(1, "count", 1_u64)).unwrap();
     client.call::<Nothing>(Command::Flush(Nothing {})).unwrap();
     disk.resize(disk.used());
-    wait_until("a commit fails", || {
-        let written = set_count(&mut client, 2);
-        let trouble = server.client().status().ok().and_then(|status| status.trouble);
-        trouble.map_or(written.is_err(), |trouble| trouble.contains("the disk is full"))
+    // The commit of this write needs room in the file with -wal, and there is none.
+    set_count(&mut client, 2).unwrap();
+    wait_until("status has the failed commit", || {
+        let trouble = server.client().status().unwrap().trouble;
+        trouble.map_or(false, |trouble| trouble.contains("the disk is full"))
     });
     // The next write finds it too, and the server ends.
     set_count(&mut client, 3).unwrap_err();
