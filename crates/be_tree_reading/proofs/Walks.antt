@@ -306,8 +306,7 @@ pub last_of_run : (standing : ℕ → Standing) (words : ℕ → ℕ → ℕ) (p
     → ((d : Pair) → get_or zs (count - 1) d ≡ item_at (words page) at) → IsLastOf standing words (Some (page, at)) (passed ++ take count zs)
 last_of_run standing words page at count passed zs readable some le is =
     let item = item_at (words page) at in
-    let e : count ≡ count - 1 + 1 = omega (arith, some) in
-    (
+    let e : count ≡ count - 1 + 1 = omega (arith, some) in (
       readable,
       (
         passed ++ take (count - 1) zs,
@@ -316,3 +315,7 @@ last_of_run standing words page at count passed zs readable some le is =
             ∙ sym (append_assoc passed (take (count - 1) zs) (item ∷ [])),
       ),
     )
+
+pub take_nothing : (n : ℕ) → take {A = Pair} n [] ≡ []
+take_nothing zero = refl
+take_nothing (suc n) = refl

@@ -80,8 +80,7 @@ module _ (standing : ℕ → Standing) (words : ℕ → ℕ → ℕ) (path : Lis
 
   pub path_last : IsPath standing words (path ++ place ∷ []) → IsPlace standing words place × (place.level + length path ≤ 13)
   path_last is =
-      let lt : length path < length (path ++ place ∷ []) = omega (arith, length-append path (place ∷ [])) in
-      (
+      let lt : length path < length (path ++ place ∷ []) = omega (arith, length-append path (place ∷ [])) in (
         subst (IsPlace standing words) (last_place place) (is.places (length path) place lt),
         subst (λ (p : Place). p.level + length path ≤ 13) (last_place place) (is.short (length path) place lt),
       )

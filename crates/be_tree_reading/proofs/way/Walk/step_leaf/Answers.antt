@@ -40,7 +40,7 @@ pub returns-in_err-page-2-clause-none : goal.returns-in_err-page-2-clause-none
 returns-in_err-page-2-clause-none g c =
     let words = g.L.Look.words c.args.look.now in
     let walk = c.args.self.now in
-    rw c.from_residual-2.ensures (turned_up walk.back (remaining words walk.rising) (coming words walk.falling) c.if-self.false ∙ c.in_err-page-2.ensures.none)
+    rw c.from_residual-in_err-page-2.ensures (turned_up walk.back (remaining words walk.rising) (coming words walk.falling) c.if-self.false ∙ c.in_err-page-2.ensures.none)
 
 pub returns-clause-turned : goal.returns-clause-turned
 returns-clause-turned g c = sym c.if-self.false
