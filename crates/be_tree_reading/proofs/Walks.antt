@@ -1,5 +1,5 @@
 -- What a walk passes of the pairs that it has ahead.
-use Rattle.std.proofs.Common.{◌≡◌, ℕ, zero, suc, ◌+◌, ◌-◌, ◌<◌, ◌≤◌, ◌⊎◌, List, [], ◌∷◌, ◌++◌, length, get_or, take, drop, reverse, map, ap, sym, subst, ◌∙◌, refl, inl, inr, arith, Bool, true, false, not, cond, Some, None, append_assoc}
+use Rattle.std.proofs.Common.{◌≡◌, ℕ, zero, suc, ◌+◌, ◌-◌, ◌<◌, ◌≤◌, ◌⊎◌, List, [], ◌∷◌, ◌++◌, length, get_or, take, drop, reverse, ap, sym, subst, ◌∙◌, refl, inl, inr, arith, Bool, true, false, not, cond, Some, None, append_assoc}
 use mathlib.Core.List.{reverse-cons}
 use Rattle.std.specs.List.{filter, AllByRecursion}
 use Rattle.std.specs.declared.cmp.Ordering.{Ordering}

@@ -1,14 +1,13 @@
 -- A walk over a range of keys, in either direction.
-use Rattle.std.specs.Prelude.{◌≡◌, ◌-◌, ◌≤◌, ◌+◌, ℕ, List, [], ◌∷◌, ◌++◌, Option, None, Some, Bool, true}
-use Rattle.std.specs.Prelude.{false, map, take, drop, reverse, option_copied}
+use Rattle.std.specs.Prelude.{◌≡◌, ℕ, List, [], ◌∷◌, ◌++◌, Option, None, Some, Bool, true}
+use Rattle.std.specs.Prelude.{false, map, reverse, option_copied}
 use Rattle.std.specs.List.{filter}
 use Rattle.std.specs.Ordering.{is_le, is_lt}
 use Rattle.be_pages.specs.declared.room.Standing.{Standing}
 use Rattle.be_tree_reading.specs.Pair.{Pair}
 use Rattle.be_tree_reading.specs.Key.{key_cmp}
-use Rattle.be_tree_reading.specs.Page.{IsReadableAt, item_at, item_place, items_of}
-use Rattle.be_tree_reading.specs.Range.{is_from, number_of, pairs_from}
-use Rattle.be_tree_reading.specs.Tree.{IsTreeAt}
+use Rattle.be_tree_reading.specs.Page.{IsReadableAt, item_at}
+use Rattle.be_tree_reading.specs.Range.{number_of, pairs_from}
 use Rattle.be_tree_reading.specs.declared.way.Way.{Way}
 
 -- the key is at or before the bound, if there is one; with `before`, strictly before it

@@ -1,5 +1,5 @@
 -- The path of a cursor that goes back.
-use Rattle.std.proofs.Common.{◌≡◌, ℕ, zero, suc, ◌+◌, ◌-◌, ◌<◌, ◌≤◌, List, [], ◌∷◌, ◌++◌, length, get_or, take, drop, ap, sym, subst, ◌∙◌, refl, arith, Bool, Some, append_assoc}
+use Rattle.std.proofs.Common.{◌≡◌, ℕ, zero, suc, ◌+◌, ◌-◌, ◌<◌, ◌≤◌, List, [], ◌∷◌, ◌++◌, length, get_or, take, ap, sym, subst, ◌∙◌, refl, arith, Bool, Some, append_assoc}
 use Rattle.std.proofs.lemmas.List.{append-nil, get_or-append-add, length-append, take_all, take_more}
 use Rattle.be_pages.specs.declared.room.Standing.{Standing}
 use Rattle.be_tree_reading.specs.declared.cursor.Place.{Place}

@@ -1,5 +1,4 @@
-use Rattle.std.proofs.Common.{ℕ, arith}
-use Rattle.be_tree_reading.specs.Page.{items_of}
+use Rattle.std.proofs.Common.{arith}
 use Rattle.be_tree_reading.proofs.Items.{items_count}
 use Rattle.be_tree_reading.proofs.Putting.Puts.{tree_weaker}
 use Rattle.be_tree_reading.proofs.Reading.Backward.{before_end}

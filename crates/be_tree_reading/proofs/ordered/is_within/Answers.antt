@@ -1,4 +1,4 @@
-use Rattle.std.proofs.Common.{ℕ, Bool, not, ap, sym, subst, ◌∙◌}
+use Rattle.std.proofs.Common.{Bool, not, ap, sym, subst, ◌∙◌}
 use Rattle.std.specs.Option.{option_copied}
 use Rattle.be_tree_reading.specs.Page.{item_at}
 use Rattle.be_tree_reading.specs.Walk.{end_key, is_before_end}

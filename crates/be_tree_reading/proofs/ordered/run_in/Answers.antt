@@ -1,4 +1,4 @@
-use Rattle.std.proofs.Common.{◌≡◌, ◌∙◌, ◌⊎◌, ℕ, ◌-◌, ◌<◌, ◌≤◌, false, true, length, get_or, inl, inr, ap, sym, subst, arith}
+use Rattle.std.proofs.Common.{◌≡◌, ◌∙◌, ◌⊎◌, ℕ, ◌-◌, ◌<◌, ◌≤◌, false, true, length, get_or, inl, inr, ap, subst, arith}
 use Rattle.be_tree_reading.specs.Pair.{Pair}
 use Rattle.be_tree_reading.specs.Walk.{is_on_way, items_ahead}
 use Rattle.be_tree_reading.proofs.Walks.{leaf_read, run_ends, run_goes_on}

@@ -1,4 +1,4 @@
-use Rattle.std.proofs.Common.{◌≡◌, ℕ, suc, ◌+◌, ◌-◌, ◌≤◌, List, [], ◌∷◌, ◌++◌, length, ap, sym, subst, ◌∙◌, arith}
+use Rattle.std.proofs.Common.{◌≡◌, ℕ, suc, ◌-◌, List, [], ◌++◌, length, ap, sym, subst, ◌∙◌, arith}
 use Rattle.be_pages.specs.declared.room.Standing.{Standing}
 use Rattle.be_tree_reading.specs.declared.cursor.Place.{Place}
 use Rattle.be_tree_reading.specs.Back.{pairs_before, pairs_up_to}

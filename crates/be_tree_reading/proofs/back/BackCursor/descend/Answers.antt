@@ -1,4 +1,4 @@
-use Rattle.std.proofs.Common.{◌≡◌, ℕ, suc, List, [], ◌∷◌, ◌++◌, ◌+◌, ◌-◌, ◌*◌, ◌/◌, ◌<◌, ◌≤◌, length, take, drop, not, ap, sym, subst, ◌∙◌, arith, append_assoc, Some}
+use Rattle.std.proofs.Common.{◌≡◌, ℕ, suc, List, [], ◌∷◌, ◌++◌, ◌+◌, ◌-◌, ◌*◌, ◌/◌, ◌<◌, ◌≤◌, length, drop, not, ap, sym, subst, ◌∙◌, arith, append_assoc, Some}
 use Rattle.std.proofs.lemmas.List.{length-append}
 use Rattle.be_pages.specs.declared.room.Standing.{Standing}
 use Rattle.be_tree_reading.specs.declared.cursor.Place.{Place}

@@ -1,4 +1,4 @@
-use Rattle.std.proofs.Common.{ℕ, ◌+◌, ◌-◌, ◌<◌, Bool, ap, sym, subst, arith}
+use Rattle.std.proofs.Common.{◌+◌, ◌-◌, ◌<◌, Bool, ap, sym, subst, arith}
 use Rattle.be_tree_reading.specs.Page.{item_place}
 use Rattle.be_tree_reading.specs.Walk.{number_from}
 use Rattle.be_tree_reading.proofs.way.Leaf.place.Goals as goal

@@ -1,4 +1,4 @@
-use Rattle.std.proofs.Common.{ℕ, Bool, List, reverse, ap, sym, ◌∙◌}
+use Rattle.std.proofs.Common.{Bool, List, reverse, ap, sym, ◌∙◌}
 use Rattle.std.specs.Option.{option_copied}
 use Rattle.be_tree_reading.specs.Back.{coming}
 use Rattle.be_tree_reading.specs.Cursor.{remaining}

@@ -1,10 +1,9 @@
-use Rattle.std.proofs.Common.{◌≡◌, ◌∙◌, ℕ, List, [], ◌++◌, length, reverse, take, drop, ap, sym, arith}
-use Rattle.std.proofs.lemmas.List.{length-drop, length-reverse, length-take-le, reverse-append}
+use Rattle.std.proofs.Common.{◌∙◌, List, ◌++◌, reverse, take, drop, ap, sym, arith}
+use Rattle.std.proofs.lemmas.List.{reverse-append}
 use Rattle.be_tree_reading.specs.Back.{coming}
 use Rattle.be_tree_reading.specs.Cursor.{remaining}
 use Rattle.be_tree_reading.specs.Page.{items_of}
 use Rattle.be_tree_reading.specs.Pair.{Pair}
-use Rattle.be_tree_reading.proofs.Items.{items_count}
 use Rattle.be_tree_reading.proofs.Walks.{count_down, count_up, reverse_nil, turned_down, turned_up}
 use Rattle.be_tree_reading.proofs.way.Walk.step_leaf.Goals as goal
 
