@@ -13,6 +13,7 @@
 //! (`specs/Way.antt`, `specs/Walk.antt`). be_tree changes trees.
 #![tactic(auto)]
 
+mod about;
 mod back;
 mod cursor;
 mod lookup;
@@ -23,6 +24,7 @@ mod payload;
 mod walk;
 mod way;
 
+pub use about::about_within;
 pub use back::BackCursor;
 pub use cursor::Cursor;
 pub use lookup::{branch_in, find, find_into, find_place, has_key, is_key_at, item_number, search};
