@@ -1,6 +1,6 @@
 -- What a walk has ahead.
-use Rattle.std.specs.Prelude.{◌≡◌, ◌+◌, ◌-◌, ◌<◌, ◌≤◌, ℕ, List, [], ◌∷◌, Option, Some, Bool, true, false}
-use Rattle.std.specs.Prelude.{drop, reverse, take, option_copied}
+use Rattle.std.specs.Prelude.{◌≡◌, ◌+◌, ◌-◌, ◌<◌, ◌≤◌, ℕ, List, [], ◌∷◌, Option, Some, Bool, true}
+use Rattle.std.specs.Prelude.{false, drop, reverse, take, option_copied}
 use Rattle.std.specs.List.{filter}
 use Rattle.be_pages.specs.declared.room.Standing.{Standing}
 use Rattle.be_tree_reading.specs.Back.{IsBackCursor, coming}

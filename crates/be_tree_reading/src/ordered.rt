@@ -43,7 +43,8 @@ pub fn numbers_in_order<L: Look>(
     requires tree { IsTree (L.standing look.old) (L.words look.old) root }
     requires long { AreLong (pairs (L.words look.old) root) }
     ensures first { HasFirst found.old.items
-        (numbers_in (take most (walk_of way.entry (pairs (L.words look.old) root)))) found.new.items }
+        (numbers_in (take most (walk_of way.entry (pairs (L.words look.old) root))))
+        found.new.items }
     ensures found { OnOk result (found.new.items ≡ found.old.items
         ++ numbers_in (take most (walk_of way.entry (pairs (L.words look.old) root)))) }
     ensures last { IfOk result (λ last. IsLastOf (L.standing look.old) (L.words look.old) last
@@ -68,7 +69,8 @@ fn push_ahead<L: Look>(
     requires long { AreLong (ahead (L.words look.old) walk.old) }
     requires ends { StaysFalse (is_on_way way) (ahead (L.words look.old) walk.old) }
     ensures first { HasFirst found.old.items
-        (numbers_in (take most (on_way way.entry (ahead (L.words look.old) walk.old)))) found.new.items }
+        (numbers_in (take most (on_way way.entry (ahead (L.words look.old) walk.old))))
+        found.new.items }
     ensures found { OnOk result (found.new.items ≡ found.old.items
         ++ numbers_in (take most (on_way way.entry (ahead (L.words look.old) walk.old)))) }
     ensures last { IfOk result (λ last. IsLastOf (L.standing look.old) (L.words look.old) last
@@ -149,9 +151,10 @@ fn count_within<L: Look>(look: &mut L, leaf: Leaf, way: Way<'_>, first: u64, mos
     0
 }
 
-/// Whether the key of the item at a place isn't past the end of a way.
+/// Whether the key of the item at a place isn't past the end of a way, whose first word is at hand
+/// (`first_of_end`).
 #[inline(always)]
-fn is_within<L: Look>(look: &mut L, page: u64, at: usize, way: Way<'_>, first: u64) -> bool
+pub fn is_within<L: Look>(look: &mut L, page: u64, at: usize, way: Way<'_>, first: u64) -> bool
     requires readable { IsTrue (is_readable (L.standing look.old page)) }
     requires in_page { at + 42 ≤ 512 }
     requires item { IsItem (L.words look.old page) at }
@@ -167,7 +170,7 @@ fn is_within<L: Look>(look: &mut L, page: u64, at: usize, way: Way<'_>, first: u
 }
 
 /// The first word of the key where a way ends, or 0 if there is none.
-fn first_of_end(way: Way<'_>) -> u64
+pub fn first_of_end(way: Way<'_>) -> u64
     ensures { IsFirstOf (end_of_way way.entry) result }
 {
     if way.back {

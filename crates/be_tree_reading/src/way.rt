@@ -49,7 +49,8 @@ impl Walk {
         requires tree { IsTree (L.standing look.old) (L.words look.old) root }
         ensures walk { IsWalk (L.standing look.old) (L.words look.old) result }
         ensures back { result.back ≡ way.entry.back }
-        ensures ahead { ahead (L.words look.old) result ≡ begun way.entry (pairs (L.words look.old) root) }
+        ensures ahead { ahead (L.words look.old) result
+            ≡ begun way.entry (pairs (L.words look.old) root) }
         ensures unchanged { IsUnchanged L.kept L.standing L.words look.old look.new }
     {
         let mut walk = Walk {
