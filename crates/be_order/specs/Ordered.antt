@@ -3,8 +3,8 @@
 -- An index has a pair of a value and a node for each node that it holds. In its order pairs rise by
 -- value, and those of one value by node. The bytes of their keys are in that order (`key_order` of
 -- be_value), so keys stand for pairs here.
-use Rattle.std.specs.Prelude.{◌≡◌, ℕ, ◌<◌, ◌^◌, Bool, true, List, [], ◌∷◌, ◌++◌, Some, flat_map, filter}
-use Rattle.std.specs.Prelude.{map as each, length, nat_lt, take, if◌then◌else◌}
+use Rattle.std.specs.Prelude.{◌≡◌, ℕ, ◌<◌, ◌^◌, Bool, true, List, [], ◌∷◌, ◌++◌, Some}
+use Rattle.std.specs.Prelude.{flat_map, filter, map as each, length, nat_lt, take, if◌then◌else◌}
 use Rattle.std.specs.FinMap as map
 use Rattle.std.specs.Option.{option_map, option_map_or}
 use Rattle.std.specs.Ordering.{is_lt}

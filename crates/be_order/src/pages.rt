@@ -1,8 +1,8 @@
 //! Answers in the order of an index, a page at a time.
 //!
-//! A page is what comes after a cursor, up to so many nodes. The cursor is the key that the last page
-//! ended with. It is a place and no count, so a page that is asked of a later snapshot goes on from
-//! there, whatever was written in between.
+//! A page is what comes after a cursor, up to so many nodes. The cursor is the key that the last
+//! page ended with. It is a place and no count, so a page that is asked of a later snapshot goes on
+//! from there, whatever was written in between.
 ghost use Rattle.std.specs.Prelude.{◌≡◌, OnErr, IfOk};
 ghost use Rattle.be_value.specs.Refusal.{Answers};
 ghost use Rattle.be_volume.specs.Reading.{index_kind};
@@ -26,7 +26,7 @@ pub struct Order<'a> {
 }
 
 /// Puts those of the nodes that have a pair in the index into its order, from the cursor on, and
-/// keeps the first of them. Whether there are more; the cursor is then at the last.
+/// keeps the first of them. Returns whether there are more. The cursor is then at the last.
 fn keep_page<S: Source>(
     alloc: Global,
     source: &mut S,
@@ -57,12 +57,14 @@ fn keep_page<S: Source>(
     Ok(more)
 }
 
-/// Puts a page of the answer into a list, in place of what it had: of the nodes of which the query is
-/// true and that have a pair in the index of the order, the first `most` after the cursor. Whether
-/// others come after them. The cursor is then the key of the last one; if the page is empty, and
-/// after an error, it is as it was. The first page has no cursor. Without an index of that name the
-/// call is refused by `NoSuchIndex`, and a query that rests on no index by `NotCovered`. After an
-/// error the source is still that of the volume, and the list has any numbers.
+/// Puts a page of the answer into a list, in place of what it had: of the nodes of which the query
+/// is true and that have a pair in the index of the order, the first `most` after the cursor.
+/// Returns whether others come after them. The cursor is then the key of the last one; if the page
+/// is empty, and after an error, it is as it was. The first page has no cursor.
+///
+/// Without an index of that name the call is refused by `NoSuchIndex`, and a query that rests on no
+/// index by `NotCovered`. After an error the source is still that of the volume, and the list has
+/// any numbers.
 ///
 /// It answers the whole query (`answer_into`), and then asks for the value of each node, and whether
 /// the index has it. It takes memory for the keys of those that come after the cursor.
