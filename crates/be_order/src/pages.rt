@@ -66,8 +66,8 @@ fn keep_page<S: Source>(
 /// index by `NotCovered`. After an error the source is still that of the volume, and the list has
 /// any numbers.
 ///
-/// It answers the whole query (`answer_into`), and then asks for the value of each node, and whether
-/// the index has it. It takes memory for the keys of those that come after the cursor.
+/// It answers the whole query (`answer_into`), and then asks for the value of each node and whether
+/// the index has it. It takes memory for the keys that come after the cursor.
 pub fn ordered_into<S: Source>(
     alloc: Global,
     query: &Query,
