@@ -120,6 +120,12 @@ module _ (descending : Bool) where
         ∙ ap (λ (o : Option ℕ). cond (in_reach q) o None) (sym (fin.get-from_entries (key_total descending) es q) ∙ fin.get-entries ranked q)
         ∙ sym (find-where_key (key_cmp descending) in_reach q (alike q) (fin.entries ranked))
 
+    -- what is found of an answer in order after the cursor
+    pub found_after : (q : List ℕ) → find (key_cmp descending) q (after descending cursor (fin.entries (fin.from_entries {R = key_cmp descending} es))) ≡
+        cond (in_reach q) (find (key_cmp descending) q es) None
+    found_after q = find-where_key (key_cmp descending) in_reach q (alike q) (fin.entries ranked)
+        ∙ ap (λ (o : Option ℕ). cond (in_reach q) o None) (sym (fin.get-entries ranked q) ∙ fin.get-from_entries (key_total descending) es q)
+
     module _ (ks : List (List ℕ)) (members : (k : List ℕ) → is_key_in k ks ≡ is_key_in k (keys_of left)) where
       found_in : (q : List ℕ) (found : Option ℕ) → find (key_cmp descending) q left ≡ found → cond (is_key_in q ks) (Some (node_for left q)) None ≡ find (key_cmp descending) q left
       found_in q None e = ap (λ b. cond b (Some (node_for left q)) None) (members q ∙ sym (is_some-find (key_cmp descending) q left) ∙ ap is_some e) ∙ sym e

@@ -9,6 +9,10 @@
 mod firsts;
 mod keys;
 mod pages;
+mod prepared;
+mod sources;
 
 pub use firsts::{any_into, first_by_number};
 pub use pages::{Order, ordered_into};
+pub use prepared::ordered_prepared_into;
+pub use sources::{OrderedKeys, OrderedSource};
