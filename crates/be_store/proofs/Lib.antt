@@ -9,6 +9,8 @@ pub mod Retries
 pub mod Conditions
 pub mod Fronts
 pub mod Calls
+pub mod OneHistory
+pub mod Views
 pub mod Told
 pub mod Statuses
 pub mod Remade
