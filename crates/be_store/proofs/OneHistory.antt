@@ -1,11 +1,11 @@
 -- What the journal says in the end of each step of the small machine.
-use Rattle.std.proofs.Common.{◌≡◌, ◌≤◌, ◌-◌, ℕ, List, [], ◌∷◌, ◌++◌, length, take, Option, Some, None, sym, ap, ◌∙◌, subst, arith, length-append}
+use Rattle.std.proofs.Common.{◌≡◌, ◌≤◌, ◌-◌, ℕ, inl, inr, List, [], ◌∷◌, ◌++◌, length, take, Option, Some, None, sym, ap, ◌∙◌, subst, arith, length-append}
 use Rattle.std.specs.Prelude.{All, map, slice_get}
 use Rattle.std.proofs.lemmas.List.{append_assoc, append-nil, take-append-le, take_all}
-use Rattle.std.proofs.lemmas.List.Elements.{All-cons, All-nil, All-head, All-tail}
+use Rattle.std.proofs.lemmas.List.Elements.{All-cons, All-nil, All-head, All-tail, All-weaker}
 use Rattle.be_table.specs.History.{StartsWith}
-use Rattle.be_store.specs.Machine.{Object, View, Step, Apply, Learn, Pin, Unpin, Read, Leads, Run, Closes, first_view, state_of, entries_by}
-use Rattle.be_store.specs.OneHistory.{PassRun, IsKept, AreKept, IsOneHistory, written, written_by}
+use Rattle.be_store.specs.Machine.{Object, View, Step, Apply, Learn, Pin, Unpin, Read, Leads, Run, Closes, HasNumber, first_view, state_of, entries_by}
+use Rattle.be_store.specs.OneHistory.{PassRun, IsKept, AreKept, HasRun, IsOneHistory, written, written_by}
 use Rattle.be_store.proofs.Calls.{starts_refl, starts_trans, stands_at_seam}
 
 abbrev number_or : ℕ → Option ℕ → ℕ
@@ -36,12 +36,17 @@ module _ (o : Object) where
       let long = ap length more.1 in let parts = length-append a.seen more.0 in
       let at = h n (sym same ∙ e) in omega (arith, long, parts, at)
 
+  pinned_in_time : (c : View o) (n : ℕ) → c.pin ≡ Some n → n ≡ length c.seen → IsInTime c
+  pinned_in_time c n is long m e = let same : n ≡ m = ap (number_or n) (sym is ∙ e) in omega (arith, long, same)
+
+  unpinned_in_time : (c : View o) → c.pin ≡ None → IsInTime c
+  unpinned_in_time c is m e = absurd (let none : None ≡ Some m = sym is ∙ e in cc)
+
   step_in_time : (a : View o) (s : Step o) (c : View o) → Leads o a s c → IsInTime a → IsInTime c
   step_in_time a (Apply e n) c l h = same_pin a c (step_seen a (Apply e n) c l) (ap (λ (v : View o). v.pin) l.3) h
   step_in_time a Learn c l h = same_pin a c (step_seen a Learn c l) (ap (λ (v : View o). v.pin) l.1) h
-  step_in_time a (Pin n) c l h m e =
-      let same : n ≡ m = ap (number_or n) (sym (ap (λ (v : View o). v.pin) l.1) ∙ e) in omega (arith, l.2, same)
-  step_in_time a Unpin c l h m e = absurd (let none : None ≡ Some m = sym (ap (λ (v : View o). v.pin) l) ∙ e in cc)
+  step_in_time a (Pin n) c l h = pinned_in_time c n (ap (λ (v : View o). v.pin) l.1) l.2
+  step_in_time a Unpin c l h = unpinned_in_time c (ap (λ (v : View o). v.pin) l)
   step_in_time a (Read s) c l h = subst IsInTime (sym l.3) h
 
   step_kept : (journal : List o.Entry) (a : View o) (s : Step o) (c : View o) → Leads o a s c → StartsWith journal c.seen → IsInTime a → IsKept o journal a s
@@ -121,5 +126,14 @@ module _ (o : Object) where
       let one = run_kept journal (first_view o r.number) r.steps r.last r.run (All-head (SeenOf journal) r.last later seen) (first_in_time r.number) in
       All-cons (KeepsSteps journal) r runs one (all_kept journal runs (All-tail (SeenOf journal) r.last later seen))
 
+  all_passes : (runs : List (PassRun o)) (k : ℕ) → HasNumber o (map (λ (r : PassRun o). r.last) runs) k → HasRun o runs k
+  all_passes [] k has = has
+  all_passes (r ∷ runs) k (inl is) = inl (sym (run_number (first_view o r.number) r.steps r.last r.run) ∙ is)
+  all_passes (r ∷ runs) k (inr has) = inr (all_passes runs k has)
+
+  all_authors : (runs : List (PassRun o)) (journal : List o.Entry) → All (λ (e : o.Entry). HasNumber o (map (λ (r : PassRun o). r.last) runs) (o.by e)) journal → All (λ (e : o.Entry). HasRun o runs (o.by e)) journal
+  all_authors runs journal authors =
+      All-weaker (λ (e : o.Entry). HasNumber o (map (λ (r : PassRun o). r.last) runs) (o.by e)) (λ (e : o.Entry). HasRun o runs (o.by e)) (λ e. all_passes runs (o.by e)) journal authors
+
   pub one_history : (journal : List o.Entry) (runs : List (PassRun o)) → Closes o journal (map (λ (r : PassRun o). r.last) runs) → IsOneHistory o journal runs
-  one_history journal runs h = record { legal = h.legal; writes = all_written journal runs h.mine; kept = all_kept journal runs h.seen }
+  one_history journal runs h = record { legal = h.legal; authors = all_authors runs journal h.authors; writes = all_written journal runs h.mine; kept = all_kept journal runs h.seen }

@@ -1,26 +1,29 @@
 -- Each call of a pass is a step of the small machine.
-use Rattle.std.proofs.Common.{◌≡◌, ℕ, inl, inr, List, [], ◌∷◌, ◌++◌, length, take, Option, Some, None, refl, sym, ap, ◌∙◌, subst}
+use Rattle.std.proofs.Common.{◌≡◌, ◌<◌, ◌+◌, ℕ, inl, inr, List, [], ◌∷◌, ◌++◌, length, take, Option, Some, None, refl, sym, ap, ◌∙◌, subst}
 use Rattle.std.specs.Prelude.{All, map}
 use Rattle.std.specs.Option.{option_map_or}
 use Rattle.std.proofs.lemmas.List.{append-nil, length-map}
 use Rattle.std.proofs.lemmas.List.Elements.{All-cons, All-nil, All-head, All-tail}
 use Rattle.be_journal.specs.declared.entries.Entry.{Entry}
-use Rattle.be_journal.specs.Journal.{Agrees, IsLegal, by_pass, replay}
+use Rattle.be_journal.specs.Journal.{Agrees, by_pass, replay}
 use Rattle.be_table.specs.declared.pass.Commit.{Commit}
 use Rattle.be_table.specs.declared.pass.Knowledge.{Knowledge}
-use Rattle.be_table.specs.History.{StartsWith}
-use Rattle.be_table.specs.Rule.{entries, newcomer}
+use Rattle.be_table.specs.History.{AreOfPasses, StartsWith}
+use Rattle.be_table.specs.Rule.{entries, newcomer, one_step_on}
 use Rattle.be_table.specs.Seats.{pinned_number}
-use Rattle.be_table.specs.Steps.{KeepsSeen, entry_by, met}
+use Rattle.be_table.specs.Steps.{Has, KeepsSeen, entry_by, met}
 use Rattle.be_volume.specs.Volume.{empty}
 use Rattle.be_volume.specs.declared.ops.Done.{Done}
 use Rattle.be_volume.specs.declared.ops.Op.{Op}
 use Rattle.be_store.specs.Calls.{Call, Calls}
+use Rattle.be_store.specs.Conditional.{AcceptsAt, IsUnapplied}
+use Rattle.be_store.specs.declared.conditional.ApplyIfError.{ApplyIfError}
+use Rattle.be_store.specs.declared.conditional.ApplyIfError.TheVariants.{Conflict, Refused}
 use Rattle.be_store.specs.History.{Accepts, Learns, Pins, Unpins}
-use Rattle.be_store.specs.Machine.{View, Step, Apply, Learn, Pin, Unpin, Read, Run, Closes}
+use Rattle.be_store.specs.Machine.{View, Step, Apply, Learn, Pin, Unpin, Read, Run, Closes, HasNumber}
 use Rattle.be_store.specs.OneHistory.{PassRun, IsOneHistory}
 use Rattle.be_store.specs.Passes.{HasRead, IsPinnedTo, volume_pinned}
-use Rattle.be_store.specs.Views.{HasBegunNew, IsStep, view_of, volume}
+use Rattle.be_store.specs.Views.{HasBegunNew, IsClosed, IsStep, view_of, volume}
 use Rattle.be_store.proofs.Applied.{entries_append}
 use Rattle.be_store.proofs.OneHistory.{one_history}
 
@@ -64,13 +67,25 @@ meeting_step a c log more h =
     let seen : entries log ≡ entries a.seen ++ entries more.0 = ap entries more.1 ∙ entries_append a.seen more.0 in
     (entries more.0, ap view_of h ∙ (λ j. record { number = a.number; seen = seen j; mine = a.mine; pin = pinned_number a.phase }))
 
--- a call that changes nothing but the count of steps
-pub still_step : (a c : Knowledge) → HasRead a c → IsStep a Learn c
-still_step a c h =
-    ([], ap view_of h ∙ (λ j. record { number = a.number; seen = sym (append-nil (entries a.seen)) j; mine = a.mine; pin = pinned_number a.phase }))
+-- a call that leaves the view as it was
+still_step : (a c : Knowledge) → view_of c ≡ view_of a → IsStep a Learn c
+still_step a c same =
+    ([], same ∙ (λ j. record { number = a.number; seen = sym (append-nil (entries a.seen)) j; mine = a.mine; pin = pinned_number a.phase }))
+
+pub witness_step : (a c : Knowledge) → c ≡ one_step_on a → IsStep a Learn c
+witness_step a c h = still_step a c (ap view_of h)
+
+pub write_if_step : (a c : Knowledge) (number : ℕ) (ops : List Op) (n : ℕ) (dones : List Done) → AcceptsAt a c number ops n dones
+    → IsStep a (Apply (entry_by a ops dones) (number + 1)) c × (IsPinnedTo a number → Agrees (volume_pinned a) (entry_by a ops dones))
+write_if_step a c number ops n dones h =
+    (subst (λ m. IsStep a (Apply (entry_by a ops dones) m) c) h.next (write_step a c ops n dones h.accepts), h.read)
+
+pub refused_if_step : (a c : Knowledge) (number : ℕ) (ops : List Op) (e : ApplyIfError) → IsUnapplied a c number ops e → IsStep a Learn c
+refused_if_step a c number ops (Conflict found) h = learn_step a c h.learns
+refused_if_step a c number ops (Refused e) h = learn_step a c h.0
 
 read_or_still : (a c : Knowledge) (pin : Option ℕ) → pinned_number a.phase ≡ pin → HasRead a c → (s : Step volume) × IsStep a s c
-read_or_still a c None is h = (Learn, still_step a c h)
+read_or_still a c None is h = (Learn, still_step a c (ap view_of h))
 read_or_still a c (Some n) is h = (Read (volume_pinned a), read_step a c n is h)
 
 pub call_step : (a c : Knowledge) → Call a c → (s : Step volume) × IsStep a s c
@@ -104,11 +119,24 @@ all_own : (log : List Entry) (passes : List Knowledge) → KeepsSeen log passes 
 all_own log [] kept = All-nil (OwnIn log)
 all_own log (a ∷ passes) kept = All-cons (OwnIn log) (view_of a) (map view_of passes) kept.1 (all_own log passes kept.2)
 
-pub closing : (log : List Entry) (passes : List Knowledge) → IsLegal log → KeepsSeen log passes → Closes volume log (map view_of passes)
-closing log passes legal kept = record { legal = legal; seen = all_seen log passes kept; mine = all_own log passes kept }
+has_number : (passes : List Knowledge) (k : ℕ) → Has passes k → HasNumber volume (map view_of passes) k
+has_number [] k has = has
+has_number (a ∷ passes) k (inl is) = inl is
+has_number (a ∷ passes) k (inr has) = inr (has_number passes k has)
 
-pub given_runs : (log : List Entry) (passes : List Knowledge) (runs : List (PassRun volume)) → IsLegal log → KeepsSeen log passes → map (λ (r : PassRun volume). r.last) runs ≡ map view_of passes → IsOneHistory volume log runs
-given_runs log passes runs legal kept same = one_history volume log runs (subst (Closes volume log) (sym same) (closing log passes legal kept))
+abbrev ByOneOf : List Knowledge → Entry → Type 0
+ByOneOf passes e = HasNumber volume (map view_of passes) e.by
+
+all_by : (count : ℕ) (log : List Entry) (passes : List Knowledge) → AreOfPasses count log → ((k : ℕ) → k < count → Has passes k) → All (ByOneOf passes) log
+unfolding AreOfPasses
+all_by count [] passes by all = All-nil (ByOneOf passes)
+all_by count (e ∷ log) passes by all = All-cons (ByOneOf passes) e log (has_number passes e.by (all e.by by.0)) (all_by count log passes by.1 all)
+
+pub closing : (count : ℕ) (log : List Entry) (passes : List Knowledge) → IsClosed count log passes → Closes volume log (map view_of passes)
+closing count log passes h = let kept = h.keeps in record { legal = h.legal; authors = all_by count log passes h.by h.all; seen = all_seen log passes kept; mine = all_own log passes kept }
+
+pub given_runs : (count : ℕ) (log : List Entry) (passes : List Knowledge) (runs : List (PassRun volume)) → IsClosed count log passes → map (λ (r : PassRun volume). r.last) runs ≡ map view_of passes → IsOneHistory volume log runs
+given_runs count log passes runs h same = one_history volume log runs (subst (Closes volume log) (sym same) (closing count log passes h))
 
 runs_of : (passes : List Knowledge) → All HasBegunNew passes → (runs : List (PassRun volume)) × (map (λ (r : PassRun volume). r.last) runs ≡ map view_of passes)
 runs_of [] begun = ([], refl)
@@ -118,6 +146,6 @@ runs_of (z ∷ passes) begun =
     let more = runs_of passes (All-tail HasBegunNew z passes begun) in
     (record { number = b.2; steps = r.0; last = view_of z; run = r.1 } ∷ more.0, ap (λ l. view_of z ∷ l) more.1)
 
-pub some_runs : (log : List Entry) (passes : List Knowledge) → IsLegal log → KeepsSeen log passes → All HasBegunNew passes
+pub some_runs : (count : ℕ) (log : List Entry) (passes : List Knowledge) → IsClosed count log passes → All HasBegunNew passes
     → (runs : List (PassRun volume)) × (map (λ (r : PassRun volume). r.last) runs ≡ map view_of passes) × IsOneHistory volume log runs
-some_runs log passes legal kept begun = let r = runs_of passes begun in (r.0, r.1, given_runs log passes r.0 legal kept r.1)
+some_runs count log passes h begun = let r = runs_of passes begun in (r.0, r.1, given_runs count log passes r.0 h r.1)

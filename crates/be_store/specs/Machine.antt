@@ -1,6 +1,6 @@
 -- A small machine: passes write to one journal of a sequential object, and read prefixes of it.
 -- Each call of a store is one of its steps.
-use Rattle.std.specs.Prelude.{◌≡◌, ◌<◌, ℕ, List, [], ◌∷◌, ◌++◌, All, length, take, get_or, fold}
+use Rattle.std.specs.Prelude.{◌≡◌, ◌<◌, ◌⊎◌, ℕ, List, [], ◌∷◌, ◌++◌, All, length, take, get_or, fold}
 use Rattle.std.specs.Prelude.{filter, nat_eq, Option, Some, None}
 use Rattle.be_table.specs.History.{StartsWith}
 
@@ -69,9 +69,16 @@ abbrev pub Run : (o : Object) → View o → List (Step o × View o) → View o 
 Run o a [] z = a ≡ z
 Run o a (x ∷ rest) z = Leads o a x.0 x.1 × Run o x.1 rest z
 
--- The last step: passes with these views close the store, and get this journal. It is legal, begins
--- with what each has seen, and has of each just its own entries.
+-- one of these views is that of the pass k
+abbrev pub HasNumber : (o : Object) → List (View o) → ℕ → Type 0
+HasNumber o [] k = ⊥
+HasNumber o (z ∷ views) k = (z.number ≡ k) ⊎ HasNumber o views k
+
+-- The last step: passes with these views close the store, and get this journal. It is legal, each
+-- entry is by one of these passes, it begins with what each has seen, and has just its own entries
+-- of each.
 pub record Closes (o : Object) (journal : List o.Entry) (views : List (View o)) : Type 0 where
   pub legal : IsLegalFor o journal
+  pub authors : All (λ (e : o.Entry). HasNumber o views (o.by e)) journal
   pub seen : All (λ (z : View o). StartsWith journal z.seen) views
   pub mine : All (λ (z : View o). entries_by o z.number journal ≡ z.mine) views

@@ -1,5 +1,5 @@
--- The promise of the whole: one journal explains all that the passes of a store were told.
-use Rattle.std.specs.Prelude.{◌≡◌, ◌≤◌, ◌-◌, ℕ, List, [], ◌∷◌, ◌++◌, All, length, map, take, Some}
+-- The promise of the whole: one journal explains all that the calls of a store returned.
+use Rattle.std.specs.Prelude.{◌≡◌, ◌≤◌, ◌-◌, ◌⊎◌, ℕ, List, [], ◌∷◌, ◌++◌, All, length, map, take, Some}
 use Rattle.std.specs.Prelude.{slice_get}
 use Rattle.be_table.specs.History.{StartsWith}
 use Rattle.be_store.specs.Machine.{Object, View, Step, Apply, Learn, Pin, Unpin, Read, Run, Closes}
@@ -39,10 +39,16 @@ abbrev pub written : (o : Object) → List (Step o × View o) → List o.Entry
 written o [] = []
 written o (x ∷ rest) = written_by o x.0 ++ written o rest
 
+-- one of these runs is that of the pass k
+abbrev pub HasRun : (o : Object) → List (PassRun o) → ℕ → Type 0
+HasRun o [] k = ⊥
+HasRun o (r ∷ runs) k = (r.number ≡ k) ⊎ HasRun o runs k
+
 -- The journal is a legal history of the object. It has the writes of each pass once, in the order of
--- its calls, and what each step was told is what the journal says.
+-- its calls, and nothing else. It says of each step what that step returned.
 pub record IsOneHistory (o : Object) (journal : List o.Entry) (runs : List (PassRun o)) : Type 0
   where
     pub legal : IsLegalFor o journal
+    pub authors : All (λ (e : o.Entry). HasRun o runs (o.by e)) journal
     pub writes : All (λ (r : PassRun o). entries_by o r.number journal ≡ written o r.steps) runs
     pub kept : All (λ (r : PassRun o). AreKept o journal (first_view o r.number) r.steps) runs
