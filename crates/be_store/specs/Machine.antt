@@ -1,7 +1,7 @@
 -- A small machine: passes write to one journal of a sequential object, and read prefixes of it.
 -- Each call of a store is one of its steps.
-use Rattle.std.specs.Prelude.{◌≡◌, ◌<◌, ◌⊎◌, ℕ, List, [], ◌∷◌, ◌++◌, All, length, take, get_or, fold}
-use Rattle.std.specs.Prelude.{filter, nat_eq, Option, Some, None}
+use Rattle.std.specs.Prelude.{◌≡◌, ◌<◌, ◌⊎◌, ℕ, List, [], ◌∷◌, ◌++◌, All, length, take, get_or}
+use Rattle.std.specs.Prelude.{fold, filter, nat_eq, Option, Some, None}
 use Rattle.be_table.specs.History.{StartsWith}
 
 -- A sequential object, and the entries of its journal. An entry is a write with its outcomes, by

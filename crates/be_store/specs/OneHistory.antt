@@ -1,8 +1,8 @@
 -- The promise of the whole: one journal explains all that the calls of a store returned.
-use Rattle.std.specs.Prelude.{◌≡◌, ◌≤◌, ◌-◌, ◌⊎◌, ℕ, List, [], ◌∷◌, ◌++◌, All, length, map, take, Some}
+use Rattle.std.specs.Prelude.{◌≡◌, ◌≤◌, ◌-◌, ◌⊎◌, ℕ, List, [], ◌∷◌, ◌++◌, All, length, take, Some}
 use Rattle.std.specs.Prelude.{slice_get}
 use Rattle.be_table.specs.History.{StartsWith}
-use Rattle.be_store.specs.Machine.{Object, View, Step, Apply, Learn, Pin, Unpin, Read, Run, Closes}
+use Rattle.be_store.specs.Machine.{Object, View, Step, Apply, Learn, Pin, Unpin, Read, Run}
 use Rattle.be_store.specs.Machine.{IsLegalFor, entries_by, first_view, state_of}
 
 -- all that one pass did, from the view that it had at first
@@ -44,8 +44,8 @@ abbrev pub HasRun : (o : Object) → List (PassRun o) → ℕ → Type 0
 HasRun o [] k = ⊥
 HasRun o (r ∷ runs) k = (r.number ≡ k) ⊎ HasRun o runs k
 
--- The journal is a legal history of the object. It has the writes of each pass once, in the order of
--- its calls, and nothing else. It says of each step what that step returned.
+-- The journal is a legal history of the object. It has the writes of each pass once, in the order
+-- of its calls, and nothing else. It says of each step what that step returned.
 pub record IsOneHistory (o : Object) (journal : List o.Entry) (runs : List (PassRun o)) : Type 0
   where
     pub legal : IsLegalFor o journal
