@@ -9,6 +9,7 @@ pub mod Retries
 pub mod Conditions
 pub mod Fronts
 pub mod Calls
+pub mod Legality
 pub mod OneHistory
 pub mod Views
 pub mod Told

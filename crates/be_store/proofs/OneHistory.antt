@@ -6,6 +6,7 @@ use Rattle.std.proofs.lemmas.List.Elements.{All-cons, All-nil, All-head, All-tai
 use Rattle.be_table.specs.History.{StartsWith}
 use Rattle.be_store.specs.Machine.{Object, View, Step, Apply, Learn, Pin, Unpin, Read, Leads, Run, Closes, HasNumber, first_view, state_of, entries_by}
 use Rattle.be_store.specs.OneHistory.{PassRun, IsKept, AreKept, HasRun, IsOneHistory, written, written_by}
+use Rattle.be_store.proofs.Legality.{journal_legal, run_number}
 use Rattle.be_store.proofs.Calls.{starts_refl, starts_trans, stands_at_seam}
 
 abbrev number_or : ℕ → Option ℕ → ℕ
@@ -74,17 +75,6 @@ module _ (o : Object) where
       let begun = starts_trans x.1.seen z.seen journal more (run_seen x.1 rest z h.1) in
       (step_kept journal a x.0 x.1 h.0 begun t, run_kept journal x.1 rest z h.1 more (step_in_time a x.0 x.1 h.0 t))
 
-  step_number : (a : View o) (s : Step o) (c : View o) → Leads o a s c → c.number ≡ a.number
-  step_number a (Apply e n) c l = ap (λ (v : View o). v.number) l.3
-  step_number a Learn c l = ap (λ (v : View o). v.number) l.1
-  step_number a (Pin n) c l = ap (λ (v : View o). v.number) l.1
-  step_number a Unpin c l = ap (λ (v : View o). v.number) l
-  step_number a (Read s) c l = ap (λ (v : View o). v.number) l.3
-
-  run_number : (a : View o) (steps : List (Step o × View o)) (z : View o) → Run o a steps z → z.number ≡ a.number
-  run_number a [] z h = ap (λ (v : View o). v.number) (sym h)
-  run_number a (x ∷ rest) z h = run_number x.1 rest z h.1 ∙ step_number a x.0 x.1 h.0
-
   step_mine : (a : View o) (s : Step o) (c : View o) → Leads o a s c → c.mine ≡ a.mine ++ written_by o s
   step_mine a (Apply e n) c l = ap (λ (v : View o). v.mine) l.3
   step_mine a Learn c l = ap (λ (v : View o). v.mine) l.1 ∙ sym (append-nil a.mine)
@@ -115,7 +105,7 @@ module _ (o : Object) where
   all_written journal (r ∷ runs) own =
       let later = map (λ (s : PassRun o). s.last) runs in
       let one : HasWritten journal r =
-      ap (λ k. entries_by o k journal) (sym (run_number (first_view o r.number) r.steps r.last r.run))
+      ap (λ k. entries_by o k journal) (sym (run_number o (first_view o r.number) r.steps r.last r.run))
       ∙ (All-head (OwnOf journal) r.last later own ∙ run_mine (first_view o r.number) r.steps r.last r.run) in
       All-cons (HasWritten journal) r runs one (all_written journal runs (All-tail (OwnOf journal) r.last later own))
 
@@ -128,7 +118,7 @@ module _ (o : Object) where
 
   all_passes : (runs : List (PassRun o)) (k : ℕ) → HasNumber o (map (λ (r : PassRun o). r.last) runs) k → HasRun o runs k
   all_passes [] k has = has
-  all_passes (r ∷ runs) k (inl is) = inl (sym (run_number (first_view o r.number) r.steps r.last r.run) ∙ is)
+  all_passes (r ∷ runs) k (inl is) = inl (sym (run_number o (first_view o r.number) r.steps r.last r.run) ∙ is)
   all_passes (r ∷ runs) k (inr has) = inr (all_passes runs k has)
 
   all_authors : (runs : List (PassRun o)) (journal : List o.Entry) → All (λ (e : o.Entry). HasNumber o (map (λ (r : PassRun o). r.last) runs) (o.by e)) journal → All (λ (e : o.Entry). HasRun o runs (o.by e)) journal
@@ -136,4 +126,10 @@ module _ (o : Object) where
       All-weaker (λ (e : o.Entry). HasNumber o (map (λ (r : PassRun o). r.last) runs) (o.by e)) (λ (e : o.Entry). HasRun o runs (o.by e)) (λ e. all_passes runs (o.by e)) journal authors
 
   pub one_history : (journal : List o.Entry) (runs : List (PassRun o)) → Closes o journal (map (λ (r : PassRun o). r.last) runs) → IsOneHistory o journal runs
-  one_history journal runs h = record { legal = h.legal; authors = all_authors runs journal h.authors; writes = all_written journal runs h.mine; kept = all_kept journal runs h.seen }
+  one_history journal runs h =
+      let authors = all_authors runs journal h.authors in record {
+        legal = journal_legal o journal runs h.seen h.mine authors;
+        authors = authors;
+        writes = all_written journal runs h.mine;
+        kept = all_kept journal runs h.seen;
+      }

@@ -133,7 +133,7 @@ all_by count [] passes by all = All-nil (ByOneOf passes)
 all_by count (e ∷ log) passes by all = All-cons (ByOneOf passes) e log (has_number passes e.by (all e.by by.0)) (all_by count log passes by.1 all)
 
 pub closing : (count : ℕ) (log : List Entry) (passes : List Knowledge) → IsClosed count log passes → Closes volume log (map view_of passes)
-closing count log passes h = let kept = h.keeps in record { legal = h.legal; authors = all_by count log passes h.by h.all; seen = all_seen log passes kept; mine = all_own log passes kept }
+closing count log passes h = let kept = h.keeps in record { authors = all_by count log passes h.by h.all; seen = all_seen log passes kept; mine = all_own log passes kept }
 
 pub given_runs : (count : ℕ) (log : List Entry) (passes : List Knowledge) (runs : List (PassRun volume)) → IsClosed count log passes → map (λ (r : PassRun volume). r.last) runs ≡ map view_of passes → IsOneHistory volume log runs
 given_runs count log passes runs h same = one_history volume log runs (subst (Closes volume log) (sym same) (closing count log passes h))

@@ -74,11 +74,9 @@ abbrev pub HasNumber : (o : Object) → List (View o) → ℕ → Type 0
 HasNumber o [] k = ⊥
 HasNumber o (z ∷ views) k = (z.number ≡ k) ⊎ HasNumber o views k
 
--- The last step: passes with these views close the store, and get this journal. It is legal, each
--- entry is by one of these passes, it begins with what each has seen, and has just its own entries
--- of each.
+-- The last step: passes with these views close the store, and get this journal. Each entry is by
+-- one of these passes; it begins with what each has seen, and has just its own entries of each.
 pub record Closes (o : Object) (journal : List o.Entry) (views : List (View o)) : Type 0 where
-  pub legal : IsLegalFor o journal
   pub authors : All (λ (e : o.Entry). HasNumber o views (o.by e)) journal
   pub seen : All (λ (z : View o). StartsWith journal z.seen) views
   pub mine : All (λ (z : View o). entries_by o z.number journal ≡ z.mine) views

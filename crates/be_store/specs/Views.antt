@@ -1,7 +1,7 @@
 -- The volume as the object of the small machine, and what a pass knows as one of its views.
 use Rattle.std.specs.Prelude.{ℕ, ◌<◌, List}
 use Rattle.be_journal.specs.declared.entries.Entry.{Entry}
-use Rattle.be_journal.specs.Journal.{Agrees, IsLegal}
+use Rattle.be_journal.specs.Journal.{Agrees}
 use Rattle.be_table.specs.declared.pass.Knowledge.{Knowledge}
 use Rattle.be_table.specs.declared.limits.Limits.{Limits}
 use Rattle.be_table.specs.History.{AreOfPasses}
@@ -45,6 +45,5 @@ HasBegunNew z = (limits : Limits) × (steps : ℕ) × (k : ℕ) × (cs : List Kn
 -- What `close` ensures of the passes of a store of so many, and of its journal.
 pub record IsClosed (count : ℕ) (log : List Entry) (passes : List Knowledge) : Type 0 where
   pub all : (k : ℕ) → k < count → Has passes k
-  pub legal : IsLegal log
   pub by : AreOfPasses count log
   pub keeps : KeepsSeen log passes
