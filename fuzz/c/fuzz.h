@@ -1,6 +1,6 @@
 /* What the fuzz targets in C share: how an input is taken apart, and how a run ends that shows a fault.
  *
- * The library carries no marks of the coverage, so a target tells libFuzzer by `saw` what has come of a call. An input that shows
+ * The library carries no marks of the coverage, so a target shows libFuzzer by `saw` what came of a call. An input that shows
  * something new is kept, as one that takes a new branch in the helpers is. */
 #ifndef FUZZ_H
 #define FUZZ_H

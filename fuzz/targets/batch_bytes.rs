@@ -38,6 +38,8 @@ fn applies(batch: &Batch) {
         }
         Err(_) => Vec::new(),
     };
-    let journal = pass.journal_from(0).map(|entry| entry.expect("the journal is read").batch);
+    let journal = pass
+        .journal_from(0)
+        .map(|entry| entry.expect("the journal is read").batch);
     assert_eq!(journal.collect::<Vec<_>>(), entries);
 }

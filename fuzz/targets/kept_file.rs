@@ -75,7 +75,10 @@ fn goes_on(saved: Saved, path: &Path) {
 fn shown(saved: &Saved) -> Vec<Batch> {
     let mut pass = saved.pass().expect("there is a pass");
     let snapshot = pass.pin().expect("the pass is pinned");
-    snapshot.state().map(|batch| batch.expect("the state is read")).collect()
+    snapshot
+        .state()
+        .map(|batch| batch.expect("the state is read"))
+        .collect()
 }
 
 thread_local! {
@@ -92,7 +95,11 @@ impl Folder {
             *count.borrow()
         });
         let memory = Path::new("/dev/shm");
-        let parent = if memory.is_dir() { memory.to_path_buf() } else { std::env::temp_dir() };
+        let parent = if memory.is_dir() {
+            memory.to_path_buf()
+        } else {
+            std::env::temp_dir()
+        };
         let path = parent.join(format!("bestore-fuzz-{}-{number}", std::process::id()));
         std::fs::create_dir(&path).expect("there is room for a folder");
         Self(path)

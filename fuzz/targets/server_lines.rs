@@ -29,7 +29,10 @@ bestore_fuzz::target!(|input| {
 /// Whether the reply comes when the time is over, which no input is worth.
 fn waits(line: &[u8]) -> bool {
     let request = serde_json::from_slice::<Request<'_>>(line);
-    matches!(request.map(|request| request.command), Ok(Command::Reach(_) | Command::Log(_)))
+    matches!(
+        request.map(|request| request.command),
+        Ok(Command::Reach(_) | Command::Log(_))
+    )
 }
 
 /// The reply to a line is an object with the line's id, and an answer or a refusal.

@@ -48,7 +48,7 @@ fn goes_there_and_back<T: DeserializeOwned + Serialize + PartialEq + Debug>(line
     assert_eq!(line, written);
 }
 
-/// A refusal is shown whatever it says, with the caret within the query or behind it.
+/// A refusal is shown whatever it says, also if the caret's place is beyond the query's end.
 fn refuses(line: &[u8]) {
     goes_there_and_back::<wire::Refusal>(line);
     if let Ok(mut refusal) = serde_json::from_slice::<wire::Refusal>(line) {
@@ -62,6 +62,11 @@ fn has_length(line: &[u8]) {
     goes_there_and_back::<Json>(line);
     if let Ok(value) = serde_json::from_slice::<Json>(line) {
         let written = serde_json::to_string(&value).expect("a value that was read can be written");
-        assert!(value.length() >= written.len(), "{written} has {}, and {} were counted", written.len(), value.length());
+        assert!(
+            value.length() >= written.len(),
+            "{written} has {}, and {} were counted",
+            written.len(),
+            value.length()
+        );
     }
 }

@@ -9,7 +9,11 @@ bestore_fuzz::target!(|input| {
         assert!(id_of(input).map_or(true, |id| id <= EXACT));
         return;
     };
-    assert_eq!(id_of(input), Some(request.id), "the id of a request isn't found without the rest");
+    assert_eq!(
+        id_of(input),
+        Some(request.id),
+        "the id of a request isn't found without the rest"
+    );
     let line = serde_json::to_string(&request).expect("a request that was read can be written");
     assert!(!line.contains('\n'), "{line}");
     let again: Request<'_> = serde_json::from_str(&line).expect("a request that was written can be read");

@@ -1,4 +1,6 @@
 //! bestored: one store of attributes for the programs of a user. `docs/SERVER.md` describes it and its protocol.
+//!
+//! This is the program as a library, so that a fuzz target can link it. It promises no programs anything.
 #![warn(missing_debug_implementations, rust_2018_idioms)]
 #![deny(unsafe_code)]
 
@@ -7,6 +9,7 @@ mod background;
 mod connection;
 mod disk;
 mod failure;
+pub mod in_process;
 mod kept;
 mod lines;
 #[cfg(feature = "log")]
@@ -32,7 +35,8 @@ use std::error::Error;
 use std::process::ExitCode;
 use std::sync::Mutex;
 
-fn main() -> ExitCode {
+/// Runs the program, by its command line.
+pub fn main() -> ExitCode {
     start(Options::read()).unwrap_or_else(|error| {
         eprintln!("bestored: {error}");
         ExitCode::FAILURE
@@ -70,9 +74,16 @@ fn serve(options: Options, place: Place, starter: Option<Starter>) -> Result<(),
         Some(kept) => kept,
         None => return Ok(()),
     };
-    let (own, mut visits) = (kept.pass()?, kept.pass()?);
+    let own = kept.pass()?;
+    let shared = share(kept, run, options)?;
+    server::run(place, starter, &signals, shared, own)
+}
+
+/// What the connections of a server with this store share.
+fn share(kept: Kept, run: String, options: Options) -> bestore::Result<Shared> {
+    let mut visits = kept.pass()?;
     visits.set_retry(pressure::retry());
-    let shared = Shared {
+    Ok(Shared {
         kept,
         watcher: Default::default(),
         pressure: Pressure::new(options.hold),
@@ -80,6 +91,5 @@ fn serve(options: Options, place: Place, starter: Option<Starter>) -> Result<(),
         visits: Mutex::new(visits),
         run,
         options,
-    };
-    server::run(place, starter, &signals, shared, own)
+    })
 }

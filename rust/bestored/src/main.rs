@@ -1,0 +1,7 @@
+//! The program bestored.
+
+use std::process::ExitCode;
+
+fn main() -> ExitCode {
+    bestored::main()
+}
