@@ -123,8 +123,8 @@ mod tests {
 
     #[test]
     fn each_line_has_a_reply() {
-        let replies = replies_to(b"{\"id\":1,\"next\":{}}\nnonsense\n{\"id\":2,\"indices\":{}}\n{\"id\":3", 2).unwrap();
-        let replies = String::from_utf8(replies).unwrap();
+        let lines = b"{\"id\":1,\"next\":{}}\nnonsense\n{\"id\":2,\"indices\":{}}\n{\"id\":3";
+        let replies = String::from_utf8(replies_to(lines, 2).unwrap()).unwrap();
         let begins: Vec<&str> = replies.lines().filter_map(|line| line.split(',').next()).collect();
         assert_eq!(begins, ["{\"id\":1", "{\"id\":null", "{\"id\":2"]);
     }
