@@ -218,7 +218,13 @@ fn follows_writes(alloc: Global, nodes: u32) -> Result<bool, Refusal>
     let mut live = Live::new(alloc, parse(alloc, TEXT)?);
     let query = parse(alloc, TEXT)?;
     agrees_always(
-        &store, alloc, &mut writer, &mut reader, nodes, &query, &mut live,
+        &store,
+        alloc,
+        &mut writer,
+        &mut reader,
+        nodes,
+        &query,
+        &mut live,
     )
 }
 
