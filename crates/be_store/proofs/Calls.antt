@@ -28,7 +28,7 @@ use Rattle.be_store.specs.Passes.{volume_pinned}
 use Rattle.be_store.proofs.Applied.{entries_append}
 use Rattle.be_store.proofs.Passes.{pinned_phase}
 
-starts_refl : {A : Type 0} (xs : List A) → StartsWith xs xs
+pub starts_refl : {A : Type 0} (xs : List A) → StartsWith xs xs
 starts_refl xs = ([], sym (append-nil xs))
 
 pub starts_trans : {A : Type 0} (xs ys zs : List A) → StartsWith zs ys → StartsWith ys xs → StartsWith zs xs
@@ -56,7 +56,7 @@ entries_start log seen h = (entries h.0, ap entries h.1 ∙ entries_append seen 
 reaches : (log : List Entry) (a : Knowledge) (cs : List Knowledge) (z : Knowledge) → StartsWith log (entries z.seen) → Calls a cs z → StartsWith log (entries a.seen)
 reaches log a cs z more h = starts_trans (entries a.seen) (entries z.seen) log more (entries_start z.seen a.seen (calls_seen a cs z h))
 
-stands_at_seam : {A : Type 0} (log xs : List A) (y : A) (rest : List A) → log ≡ xs ++ y ∷ rest → slice_get log (length xs) ≡ Some y
+pub stands_at_seam : {A : Type 0} (log xs : List A) (y : A) (rest : List A) → log ≡ xs ++ y ∷ rest → slice_get log (length xs) ≡ Some y
 stands_at_seam log xs y rest is =
     let l = length-append xs (y ∷ rest) in
     ap (λ k. slice_get k (length xs)) is

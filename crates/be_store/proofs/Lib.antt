@@ -9,6 +9,9 @@ pub mod Retries
 pub mod Conditions
 pub mod Fronts
 pub mod Calls
+pub mod Legality
+pub mod OneHistory
+pub mod Views
 pub mod Told
 pub mod Statuses
 pub mod Remade

@@ -8,6 +8,9 @@ pub mod Marks
 pub mod Named
 pub mod Alone
 pub mod Calls
+pub mod Machine
+pub mod OneHistory
+pub mod Views
 pub mod Told
 pub mod Statuses
 pub use Rattle.be_table.specs.Seats

@@ -33,6 +33,7 @@ mod conditional;
 mod entries;
 pub mod laws;
 mod live;
+pub mod machine_laws;
 mod marks;
 mod named;
 mod pinned;

@@ -1,0 +1,54 @@
+-- The promise of the whole: one journal explains all that the calls of a store returned.
+use Rattle.std.specs.Prelude.{◌≡◌, ◌≤◌, ◌-◌, ◌⊎◌, ℕ, List, [], ◌∷◌, ◌++◌, All, length, take, Some}
+use Rattle.std.specs.Prelude.{slice_get}
+use Rattle.be_table.specs.History.{StartsWith}
+use Rattle.be_store.specs.Machine.{Object, View, Step, Apply, Learn, Pin, Unpin, Read, Run}
+use Rattle.be_store.specs.Machine.{IsLegalFor, entries_by, first_view, state_of}
+
+-- all that one pass did, from the view that it had at first
+pub record PassRun (o : Object) : Type 0 where
+  pub number : ℕ
+  pub steps : List (Step o × View o)
+  pub last : View o
+  pub run : Run o (first_view o number) steps last
+
+-- What the journal says of a step that was made from the view a. A write is the entry at the number
+-- that it returned. A pin names a prefix that begins with all that its pass had seen. What was read
+-- is the state after the prefix that the pin names.
+abbrev pub IsKept : (o : Object) → List o.Entry → View o → Step o → Type 0
+IsKept o journal a (Apply e n) = slice_get journal (n - 1) ≡ Some e
+IsKept o journal a Learn = Unit {0}
+IsKept o journal a (Pin n) = (n ≤ length journal) × StartsWith (take n journal) a.seen
+IsKept o journal a Unpin = Unit {0}
+IsKept o journal a (Read s) = (n : ℕ) × (a.pin ≡ Some n) × (s ≡ state_of o (take n journal))
+
+-- the same of each step of a run from the view a on
+abbrev pub AreKept : (o : Object) → List o.Entry → View o → List (Step o × View o) → Type 0
+AreKept o journal a [] = Unit {0}
+AreKept o journal a (x ∷ rest) = IsKept o journal a x.0 × AreKept o journal x.1 rest
+
+-- the entries that a run has written, in its order
+abbrev pub written_by : (o : Object) → Step o → List o.Entry
+written_by o (Apply e n) = e ∷ []
+written_by o Learn = []
+written_by o (Pin n) = []
+written_by o Unpin = []
+written_by o (Read s) = []
+
+abbrev pub written : (o : Object) → List (Step o × View o) → List o.Entry
+written o [] = []
+written o (x ∷ rest) = written_by o x.0 ++ written o rest
+
+-- one of these runs is that of the pass k
+abbrev pub HasRun : (o : Object) → List (PassRun o) → ℕ → Type 0
+HasRun o [] k = ⊥
+HasRun o (r ∷ runs) k = (r.number ≡ k) ⊎ HasRun o runs k
+
+-- The journal is a legal history of the object. It has the writes of each pass once, in the order
+-- of its calls, and nothing else. It says of each step what that step returned.
+pub record IsOneHistory (o : Object) (journal : List o.Entry) (runs : List (PassRun o)) : Type 0
+  where
+    pub legal : IsLegalFor o journal
+    pub authors : All (λ (e : o.Entry). HasRun o runs (o.by e)) journal
+    pub writes : All (λ (r : PassRun o). entries_by o r.number journal ≡ written o r.steps) runs
+    pub kept : All (λ (r : PassRun o). AreKept o journal (first_view o r.number) r.steps) runs

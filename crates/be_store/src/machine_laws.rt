@@ -1,0 +1,95 @@
+//! Each call of a pass is a step of one small machine, and what a whole run of it promises.
+//!
+//! Each law does nothing; its contract is the law. The contract of a public call says what its pass
+//! knew before and after: the law makes that one step of the machine (`specs/Machine.antt`), over
+//! what the pass has seen, has written and is pinned to (`specs/Views.antt`). The last law is the
+//! promise of the whole (`specs/OneHistory.antt`).
+ghost use Rattle.std.specs.Prelude.{◌≡◌, ◌+◌, ℕ, List, All, map};
+ghost use Rattle.be_journal.specs.declared.entries.Entry.{Entry};
+ghost use Rattle.be_journal.specs.Journal.{Agrees};
+ghost use Rattle.be_table.specs.History.{StartsWith};
+ghost use Rattle.be_table.specs.Rule.{one_step_on};
+ghost use Rattle.be_table.specs.Steps.{entry_by, met};
+ghost use Rattle.be_table.specs.declared.pass.Commit.{Commit};
+ghost use Rattle.be_table.specs.declared.pass.Knowledge.{Knowledge};
+ghost use Rattle.be_volume.specs.declared.ops.Done.{Done};
+ghost use Rattle.be_volume.specs.declared.ops.Op.{Op};
+ghost use Rattle.be_store.specs.Calls.{Calls};
+ghost use Rattle.be_store.specs.Conditional.{AcceptsAt, IsUnapplied};
+ghost use Rattle.be_store.specs.History.{Accepts, Learns, Pins, Unpins};
+ghost use Rattle.be_store.specs.Machine.{View, Step, Apply, Learn, Pin, Unpin, Read, Run, Closes};
+ghost use Rattle.be_store.specs.OneHistory.{PassRun, IsOneHistory};
+ghost use Rattle.be_store.specs.Passes.{HasRead, IsPinnedTo, volume_pinned};
+ghost use Rattle.be_store.specs.declared.conditional.ApplyIfError.{ApplyIfError};
+ghost use Rattle.be_store.specs.Views.{HasBegunNew, IsClosed, IsStep, view_of, volume};
+
+/// An accepted write is the step Apply, of its entry at the number that it returned.
+pub fn write_is_step()
+    ensures { (a c : Knowledge) (ops : List Op) (n : ℕ) (dones : List Done)
+        → Accepts a c ops n dones → IsStep a (Apply (entry_by a ops dones) n) c }
+{}
+
+/// An accepted conditional write is the same step at the next number after the one that it names.
+/// The volume accepts it as it was at the pin, if the pass was pinned to that number.
+pub fn conditional_write_is_step()
+    ensures { (a c : Knowledge) (number : ℕ) (ops : List Op) (n : ℕ) (dones : List Done)
+        → AcceptsAt a c number ops n dones
+        → IsStep a (Apply (entry_by a ops dones) (number + 1)) c
+        × (IsPinnedTo a number → Agrees (volume_pinned a) (entry_by a ops dones)) }
+{}
+
+/// A refused write is the step Learn, which writes nothing; so is a call that reads the journal.
+pub fn refusal_is_step()
+    ensures plain { (a c : Knowledge) → Learns a c → IsStep a Learn c }
+    ensures conditional { (a c : Knowledge) (number : ℕ) (ops : List Op) (e : ApplyIfError)
+        → IsUnapplied a c number ops e → IsStep a Learn c }
+{}
+
+/// A pin is the step Pin at the number that it returned.
+pub fn pin_is_step()
+    ensures { (a c : Knowledge) (n : ℕ) → Pins a c n → IsStep a (Pin n) c }
+{}
+
+/// An unpin is the step Unpin.
+pub fn unpin_is_step()
+    ensures { (a c : Knowledge) → Unpins a c → IsStep a Unpin c }
+{}
+
+/// A read of a pinned pass is the step Read, from the volume of which its contract speaks.
+pub fn read_is_step()
+    ensures { (a c : Knowledge) (n : ℕ) → IsPinnedTo a n → HasRead a c
+        → IsStep a (Read (volume_pinned a)) c }
+{}
+
+/// A meeting or a join is the step Learn; so is a witness, which changes nothing.
+pub fn meeting_is_step()
+    ensures meets { (a c : Knowledge) (log : List Commit) → StartsWith log a.seen → c ≡ met a log
+        → IsStep a Learn c }
+    ensures witness { (a c : Knowledge) → c ≡ one_step_on a → IsStep a Learn c }
+{}
+
+/// The calls of one pass are a run of the machine, with the same views after each.
+pub fn calls_are_run()
+    ensures { (a : Knowledge) (cs : List Knowledge) (z : Knowledge) → Calls a cs z
+        → (steps : List (Step volume × View volume)) × Run volume (view_of a) steps (view_of z)
+        × (map (λ (x : Step volume × View volume). x.1) steps ≡ map view_of cs) }
+{}
+
+/// A store that was closed is the last step: what `close` ensures of its passes and its journal.
+pub fn close_is_step()
+    ensures { (count : ℕ) (log : List Entry) (passes : List Knowledge) → IsClosed count log passes
+        → Closes volume log (map view_of passes) }
+{}
+
+/// The journal that `close` returns explains all runs of its passes: `given`, of whatever runs end
+/// in what these passes know; `made`, of the calls that each of them made as a new pass.
+pub fn one_history()
+    ensures given { (count : ℕ) (log : List Entry) (passes : List Knowledge)
+        (runs : List (PassRun volume)) → IsClosed count log passes
+        → map (λ (r : PassRun volume). r.last) runs ≡ map view_of passes
+        → IsOneHistory volume log runs }
+    ensures made { (count : ℕ) (log : List Entry) (passes : List Knowledge)
+        → IsClosed count log passes → All HasBegunNew passes → (runs : List (PassRun volume))
+        × (map (λ (r : PassRun volume). r.last) runs ≡ map view_of passes)
+        × IsOneHistory volume log runs }
+{}
