@@ -2,6 +2,7 @@ pub mod Codec
 pub mod Padded
 pub mod Order
 pub mod Ranges
+pub mod Untils
 pub mod Frame
 pub mod TreeFacts
 pub mod Trees
@@ -11,3 +12,4 @@ pub mod Putting
 pub mod Reading
 pub mod Searching
 pub mod Items
+pub mod Walks

@@ -7,3 +7,6 @@ pub mod Cursor
 pub mod Forest
 pub mod Words
 pub mod Places
+pub mod Back
+pub mod Way
+pub mod Walk

@@ -29,10 +29,10 @@ use be_pages::Look;
 /// A place in a page of a level: the number of the item that comes next. It is kept small, since a
 /// cursor has room for 14.
 #[derive(Clone, Copy)]
-struct Place {
-    page: u32,
-    next: u8,
-    level: u8,
+pub(crate) struct Place {
+    pub(crate) page: u32,
+    pub(crate) next: u8,
+    pub(crate) level: u8,
 }
 
 impl Default for Place {
@@ -259,7 +259,13 @@ impl Cursor {
 }
 
 /// How many of a leaf's items come before the pairs at or after a key.
-fn leaf_from<L: Look>(look: &mut L, page: u64, from: &[u8], first: u64, after: bool) -> usize
+pub(crate) fn leaf_from<L: Look>(
+    look: &mut L,
+    page: u64,
+    from: &[u8],
+    first: u64,
+    after: bool,
+) -> usize
     requires tree { IsTreeAt 0 1 (L.standing look.old) (L.words look.old) page }
     requires first { IsFirst from.now first }
     ensures in_range { result ≤ length (items_of (L.words look.old page)) }

@@ -9,19 +9,27 @@
 //! # What is proved
 //! Reading decodes the list from the words (`specs/Tree.antt`). `find_into`, `range` and `Cursor`
 //! are look-up, next pair and walk on it (`specs/Key.antt`, `specs/Range.antt`,
-//! `specs/Cursor.antt`). be_tree changes trees.
+//! `specs/Cursor.antt`). `Walk` and `numbers_in_order` go over a range of it in either direction
+//! (`specs/Way.antt`, `specs/Walk.antt`). be_tree changes trees.
 #![tactic(auto)]
 
+mod about;
+mod back;
 mod cursor;
 mod lookup;
 mod numbers;
+mod ordered;
 mod page;
 mod payload;
 mod walk;
+mod way;
 
+pub use about::about_within;
+pub use back::BackCursor;
 pub use cursor::Cursor;
 pub use lookup::{branch_in, find, find_into, find_place, has_key, is_key_at, item_number, search};
 pub use numbers::{first_of, is_past_at, number_at, numbers_within};
+pub use ordered::{first_of_end, is_within, numbers_in_order};
 pub use page::{
     HEADER_WORDS, ITEM_WORDS, LEAST_ITEMS, LENGTH_BITS, MOST_ITEMS, child_at, extend, fill_bytes,
     first_word, number_beyond, straddled, word_from,
@@ -30,3 +38,4 @@ pub use payload::{
     fill_payload, payload_byte_at, payload_len_at, payload_number_at, payload_number32_at,
 };
 pub use walk::{TreeItem, key_at, range};
+pub use way::{Leaf, Walk, Way};

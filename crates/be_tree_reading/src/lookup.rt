@@ -10,7 +10,7 @@
 ghost use Rattle.std.specs.Prelude.{◌≡◌, [], ◌+◌, ◌-◌, ◌<◌, ◌≤◌, true, false, length, option_map};
 ghost use Rattle.std.specs.Prelude.{is_some, IfNone, IfSome, IfOk, IfErr, None, Some};
 ghost use Rattle.std.specs.Prelude.{◌/◌, IsTrue};
-ghost use Rattle.std.specs.Ordering.{is_eq, is_gt};
+ghost use Rattle.std.specs.Ordering.{is_eq, is_gt, is_lt};
 ghost use Rattle.be_pages.specs.Pages.{IsUnchanged, is_readable};
 ghost use Rattle.be_tree_reading.specs.Page.{IsItem, IsPage, item_at, item_place, items_of};
 ghost use Rattle.be_tree_reading.specs.Key.{IsRank, key_cmp, payload_at};
@@ -228,6 +228,19 @@ pub(crate) fn is_above<L: Look>(look: &mut L, page: u64, at: usize, key: &[u8], 
     ensures unchanged { IsUnchanged L.kept L.standing L.words look.old look.new }
 {
     order_at(look, page, at, key, first).is_gt()
+}
+
+/// Whether the key of the item at a place is less than a key whose first word is at hand.
+#[inline(always)]
+pub(crate) fn is_below<L: Look>(look: &mut L, page: u64, at: usize, key: &[u8], first: u64) -> bool
+    requires readable { IsTrue (is_readable (L.standing look.old page)) }
+    requires in_page { at + 42 ≤ 512 }
+    requires item { IsItem (L.words look.old page) at }
+    requires first { IsFirst key.now first }
+    ensures below { result ≡ is_lt (key_cmp (item_at (L.words look.old page) at).key key.now) }
+    ensures unchanged { IsUnchanged L.kept L.standing L.words look.old look.new }
+{
+    order_at(look, page, at, key, first).is_lt()
 }
 
 /// How the key of the item at a place compares with a key whose first word is at hand: mostly this

@@ -130,7 +130,7 @@ pub(crate) fn cmp_from<L: Look>(
 }
 
 /// The lesser of two numbers.
-fn least_of(a: usize, b: usize) -> usize
+pub(crate) fn least_of(a: usize, b: usize) -> usize
     ensures at_most { (result ≤ a) × (result ≤ b) }
     ensures one { (result ≡ a) ⊎ (result ≡ b) }
 {

@@ -1,0 +1,23 @@
+-- The first of an answer by number, and any few of it.
+use Rattle.std.specs.Prelude.{◌≡◌, ◌≢◌, ℕ, ◌<◌, List, Ok, filter, length, min, nat_le, take}
+use Rattle.std.specs.Prelude.{slice_index}
+use Rattle.std.specs.List.{Contains}
+use Rattle.std.specs.Result.{result_map_both}
+use Rattle.std.specs.declared.result.Result.{Result}
+use Rattle.be_value.specs.declared.refusals.Refusal.{Refusal}
+use Rattle.be_query.specs.Grammar.{Formula}
+use Rattle.be_volume.specs.Query.{scan}
+use Rattle.be_volume.specs.Volume.{State}
+
+-- the nodes of the scan from this number on, `most` at most
+abbrev pub from_number : State → Formula → ℕ → ℕ → Result (List ℕ) Refusal
+from_number s f first most = result_map_both (λ nodes. take most (filter (nat_le first) nodes))
+    (λ e. e) (scan s f)
+
+-- The nodes are some of an answer, none of them twice: `most`, or all that there are.
+pub record IsAnyOf (answer : Result (List ℕ) Refusal) (most : ℕ) (nodes : List ℕ) : Type 0 where
+  pub all : List ℕ
+  pub is : answer ≡ Ok all
+  pub among : (n : ℕ) → Contains nodes n → Contains all n
+  pub once : (i j : ℕ) → i < j → j < length nodes → slice_index nodes i ≢ slice_index nodes j
+  pub count : length nodes ≡ min most (length all)

@@ -1,0 +1,3 @@
+pub mod Firsts
+pub mod Ordered
+pub mod Walks

@@ -1,0 +1,35 @@
+-- What a walk over an index in its order finds.
+use Rattle.std.specs.Prelude.{◌≡◌, ◌⊎◌, ℕ, ◌≤◌, Bool, true, List, ◌++◌, length}
+use Rattle.std.specs.List.{Contains}
+use Rattle.std.specs.List.Sorted.{IsStrictlySortedBy}
+use Rattle.std.specs.declared.option.Option.{Option}
+use Rattle.std.specs.declared.cmp.Ordering.TheVariants.{Less}
+use Rattle.be_volume.specs.Keys.{IsKey}
+use Rattle.be_volume.specs.Volume.{State}
+use Rattle.be_plan.specs.Narrow.{Within}
+use Rattle.be_order.specs.Ordered.{is_after, key_cmp, keys_of, nodes_of}
+
+-- the key is one of the index of that name, from `low` to `high`, and it is this node's
+pub record IsEntry (s : State) (name low : List ℕ) (high : Option (List ℕ)) (k : List ℕ) (node : ℕ) : Type 0
+  where
+    pub is_key : IsKey s name k
+    pub within : Within low high k
+    pub node_is : is_key.node ≡ node
+
+-- These are the first of the entries that come after the cursor, `most` at most, in order.
+pub record AreFirst (Is : List ℕ → ℕ → Type 0) (descending : Bool) (cursor : Option (List ℕ))
+    (most : ℕ) (es : List (List ℕ × ℕ)) : Type 0 where
+  pub rising : IsStrictlySortedBy (key_cmp descending) (keys_of es)
+  pub few : length es ≤ most
+  pub only : (k : List ℕ) (node : ℕ) → Contains es (k, node)
+      → Is k node × (is_after descending cursor k ≡ true)
+  pub all : (k : List ℕ) (node : ℕ) → Is k node → is_after descending cursor k ≡ true
+      → Contains es (k, node) ⊎ ((length es ≡ most)
+      × ((x : List ℕ) (n : ℕ) → Contains es (x, n) → key_cmp descending x k ≡ Less))
+
+-- the nodes of such entries were added
+pub record HasWalked (Is : List ℕ → ℕ → Type 0) (descending : Bool) (cursor : Option (List ℕ))
+    (most : ℕ) (before after : List ℕ) : Type 0 where
+  pub entries : List (List ℕ × ℕ)
+  pub first : AreFirst Is descending cursor most entries
+  pub added : after ≡ before ++ nodes_of entries

@@ -1,0 +1,18 @@
+//! Answers in the order of an index, a page at a time.
+//!
+//! A plan finds the nodes of which a query is true, ascending by number. Here they come in the
+//! order of an index, rising or falling, from a cursor on and up to so many: the newest 50 of a
+//! folder, and then the next 50. The answer rests on no plan: it is what a scan of the volume
+//! gives, in order.
+#![tactic(auto)]
+
+mod firsts;
+mod keys;
+mod pages;
+mod prepared;
+mod sources;
+
+pub use firsts::{any_into, first_by_number};
+pub use pages::{Order, ordered_into};
+pub use prepared::ordered_prepared_into;
+pub use sources::{OrderedKeys, OrderedSource};

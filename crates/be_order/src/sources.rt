@@ -1,0 +1,46 @@
+//! Sources that walk an index in its order.
+ghost use Rattle.std.specs.Prelude.{◌≡◌, true, false, IfErr, IfOk};
+ghost use Rattle.std.specs.Option.{option_copied};
+ghost use Rattle.be_value.specs.declared.refusals.Refusal.TheVariants.{OutOfMemory};
+ghost use Rattle.be_volume.specs.Volume.{State};
+ghost use Rattle.be_plan.specs.Sources.{StillAnswers};
+ghost use Rattle.be_order.specs.Ordered.{cursor_bytes};
+ghost use Rattle.be_order.specs.Walks.{HasWalked, IsEntry};
+
+use arrayvec::ArrayVec;
+use be_plan::{KeyRange, Source};
+use be_value::Refusal;
+
+/// The keys of a range of an index, in one of both directions, strictly after a cursor.
+#[derive(Clone, Copy)]
+pub struct OrderedKeys<'a> {
+    pub keys: KeyRange<'a>,
+    pub descending: bool,
+    pub cursor: &'a Option<ArrayVec<u8, 264>>,
+}
+
+/// A source that may walk an index in its order.
+pub trait OrderedSource: Source {
+    /// Adds the nodes of the first of these keys, `most` at most, in their order, and returns true,
+    /// if the source walks so. Otherwise it adds nothing and returns false, and the caller sorts.
+    fn first_nodes(
+        &mut self,
+        keys: OrderedKeys<'_>,
+        most: usize,
+        found: &mut Vec<u64>,
+    ) -> Result<bool, Refusal>
+        requires { (volume : State) × Self.answers_for self.old volume }
+        ensures memory { IfErr result (λ e. e ≡ OutOfMemory) }
+        ensures walked { IfOk result (λ walked. walked ≡ true → (volume : State)
+            → Self.answers_for self.old volume →
+            HasWalked (IsEntry volume keys.entry.keys.name.now keys.entry.keys.low.now
+            (option_copied keys.entry.keys.high)) keys.entry.descending
+            (cursor_bytes keys.entry.cursor.now) most found.old.items found.new.items) }
+        ensures none { IfOk result (λ walked. walked ≡ false
+            → found.new.items ≡ found.old.items) }
+        ensures stays { Self.kept self.new ≡ Self.kept self.old }
+        ensures answers { StillAnswers Self.answers_for self.old self.new }
+    {
+        Ok(false)
+    }
+}

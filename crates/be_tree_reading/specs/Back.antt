@@ -1,0 +1,27 @@
+-- The pairs before a cursor that goes back.
+use Rattle.std.specs.Prelude.{ℕ, List, [], ◌∷◌, ◌++◌, take}
+use Rattle.be_pages.specs.declared.room.Standing.{Standing}
+use Rattle.be_tree_reading.specs.Pair.{Pair}
+use Rattle.be_tree_reading.specs.Page.{items_of}
+use Rattle.be_tree_reading.specs.Tree.{pairs_below}
+use Rattle.be_tree_reading.specs.Cursor.{IsPath}
+use Rattle.be_tree_reading.specs.declared.back.BackCursor.{BackCursor}
+use Rattle.be_tree_reading.specs.declared.cursor.Place.{Place}
+
+-- the pairs below the items of a place's page, before its next one
+abbrev pub pairs_before : (words : ℕ → ℕ → ℕ) → Place → List Pair
+pairs_before words place = pairs_below place.level words
+    (take place.next (items_of (words place.page)))
+
+-- the pairs before the places of a path, those of the deepest last
+abbrev pub pairs_up_to : (words : ℕ → ℕ → ℕ) → List Place → List Pair
+pairs_up_to words [] = []
+pairs_up_to words (place ∷ path) = pairs_before words place ++ pairs_up_to words path
+
+-- the pairs before a cursor, of which it has still to return all, the last one first
+abbrev pub coming : (words : ℕ → ℕ → ℕ) → BackCursor → List Pair
+coming words cursor = pairs_up_to words cursor.path.items
+
+-- a cursor that can go on
+abbrev pub IsBackCursor : (standing : ℕ → Standing) (words : ℕ → ℕ → ℕ) → BackCursor → Type 0
+IsBackCursor standing words cursor = IsPath standing words cursor.path.items
