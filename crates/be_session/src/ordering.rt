@@ -1,10 +1,11 @@
 //! Answers of a live query a part at a time, at the session's pin.
 ghost use Rattle.std.specs.Prelude.{◌≡◌, ◌≤◌, ℕ, [], IfErr, IfOk, Ok, OnErr, OnOk, Some};
 ghost use Rattle.be_order.specs.Firsts.{IsAnyOf, from_number};
+ghost use Rattle.be_order.specs.Ordered.{cursor_bytes, page, page_with};
 ghost use Rattle.be_paged_reading.specs.Cells.{name_in};
 ghost use Rattle.be_session.specs.Meaning.{IsNoName};
-ghost use Rattle.be_session.specs.Ordering.{AreUnread, IsNoPage, IsNoPageIn, IsPageRead};
-ghost use Rattle.be_session.specs.Sitting.{IsUnread, IsUnrefreshed};
+ghost use Rattle.be_session.specs.Ordering.{AreUnread, IsNoPage, IsPageRead};
+ghost use Rattle.be_session.specs.Sitting.{IsUnanswered, IsUnread, IsUnrefreshed};
 ghost use Rattle.be_session.specs.declared.faults.Fault.{Fault as AnyFault};
 ghost use Rattle.be_session.specs.declared.faults.Fault.TheVariants.{Refused};
 ghost use Rattle.be_store.specs.History.{Learns, LocksAtMostOnce};
@@ -17,6 +18,7 @@ ghost use Rattle.be_volume.specs.Reading.{index_kind};
 
 use crate::meanings::name;
 use crate::{Cursor, Fault, Session};
+use arrayvec::ArrayVec;
 use be_store::{HeldName, Kind, Live, Name, Order, Refusal, Updates};
 
 /// An order as other languages name it: by the index of a name that is held, rising or exactly the
@@ -42,6 +44,36 @@ fn index_name(held: &HeldName) -> Result<Name, Fault>
 }
 
 impl Session {
+    /// A page of an answer after a key. After an error the key is as it was, and the list is empty.
+    fn page_after(
+        &mut self,
+        live: &mut Live,
+        order: Order<'_>,
+        key: &mut Option<ArrayVec<u8, 264>>,
+        nodes: &mut Vec<u64>,
+    ) -> Result<bool, Fault>
+        requires pinned { (n : ℕ) × IsPinnedTo self.old.knows n }
+        ensures store { (self.new.store ≡ self.old.store) × (self.new.spare ≡ self.old.spare) }
+        ensures read { HasRead self.old.knows self.new.knows }
+        ensures same { live.new ≡ live.old }
+        ensures page { IfOk result (λ more. page (volume_pinned self.old.knows) live.old.query
+            order.entry.by.now order.entry.descending (cursor_bytes key.old) order.entry.most
+            ≡ Ok (page_with nodes.new.items (cursor_bytes key.new) more)) }
+        ensures err { IfErr result (IsUnanswered (page (volume_pinned self.old.knows)
+            live.old.query order.entry.by.now order.entry.descending (cursor_bytes key.old)
+            order.entry.most)) }
+        ensures kept { OnErr result (nodes.new.items ≡ []) }
+    {
+        let more = match live.ordered(self.shared.store(), &mut self.pass, order, key, nodes) {
+            Ok(more) => more,
+            Err(refusal) => {
+                nodes.clear();
+                return Err(Fault::Refused(refusal));
+            }
+        };
+        Ok(more)
+    }
+
     /// A page of an answer by an index of this kind, from a cursor of that kind on. After an error
     /// the cursor is as it was, and the list is empty.
     fn page_by(
@@ -53,6 +85,7 @@ impl Session {
         nodes: &mut Vec<u64>,
     ) -> Result<bool, Fault>
         requires pinned { (n : ℕ) × IsPinnedTo self.old.knows n }
+        requires wanted { 1 ≤ order.most }
         requires kind { index_kind (volume_pinned self.old.knows) order.by.now ≡ Some kind }
         requires empty { nodes.old.items ≡ [] }
         ensures store { (self.new.store ≡ self.old.store) × (self.new.spare ≡ self.old.spare) }
@@ -61,22 +94,14 @@ impl Session {
         ensures page { IfOk result (IsPageRead (volume_pinned self.old.knows) live.old.query
             order.entry.by.now order.entry.descending order.entry.most cursor.old cursor.new
             nodes.new.items) }
-        ensures err { IfErr result (IsNoPageIn kind (volume_pinned self.old.knows) live.old.query
+        ensures err { IfErr result (IsNoPage (volume_pinned self.old.knows) live.old.query
             order.entry.by.now order.entry.descending order.entry.most cursor.old) }
         ensures kept { OnErr result ((cursor.new ≡ cursor.old) × (nodes.new.items ≡ [])) }
     {
         let mut position = cursor.position(kind)?;
-        let store = self.shared.store();
-        match live.ordered(store, &mut self.pass, order, &mut position, nodes) {
-            Ok(more) => {
-                cursor.move_to(kind, &position, nodes.len());
-                Ok(more)
-            }
-            Err(refusal) => {
-                nodes.clear();
-                Err(Fault::Refused(refusal))
-            }
-        }
+        let more = self.page_after(live, order, &mut position, nodes)?;
+        cursor.move_to(kind, &position, nodes.len());
+        Ok(more)
     }
 
     /// Puts a page of a live query's answer in the order of an index into a list, in place of what

@@ -149,7 +149,8 @@ impl Pinned<'_> {
         ensures cursor { OnErr result (cursor.new ≡ cursor.old) }
         ensures same { query.new ≡ query.old }
     {
-        self.store.ordered(alloc, self.pass, query, order, cursor, nodes)
+        self.store
+            .ordered(alloc, self.pass, query, order, cursor, nodes)
     }
 
     /// As `Store::first`.
@@ -170,7 +171,8 @@ impl Pinned<'_> {
             (from_number (volume_pinned self.old.pass.now.knows) query.old first most) }
         ensures same { query.new ≡ query.old }
     {
-        self.store.first(alloc, self.pass, query, first, most, nodes)
+        self.store
+            .first(alloc, self.pass, query, first, most, nodes)
     }
 
     /// As `Store::any`.
