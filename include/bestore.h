@@ -119,7 +119,9 @@ enum {
     BES_BAD_PART = 74,        /* a name or value isn't within the bytes */
     BES_NO_ITEM = 75,         /* there is no item of this number */
     BES_CONFLICT = 76,        /* the journal has another length than bes_apply_if expects */
-    BES_IN_USE = 77           /* another handle of the store is open */
+    BES_IN_USE = 77,          /* another handle of the store is open */
+    BES_BAD_CURSOR = 78,      /* the cursor isn't one of an index of this kind */
+    BES_NO_ROOM = 79          /* there is no room for a node */
 };
 
 /* The kinds of values, by the type codes of BeOS. */
@@ -225,6 +227,15 @@ typedef struct bes_updates {
     uint64_t created;
     uint64_t removed;
 } bes_updates;
+
+/* A position in an order, which bes_ordered leaves: that of the last node of a page. All zero is the beginning. It may be copied
+ * and kept, and points to nothing. */
+typedef struct bes_cursor {
+    uint32_t kind;     /* the type code of the index's kind; 0 at the beginning */
+    uint32_t length;   /* how many bytes the key has; 0 at the beginning */
+    uint8_t key[264];  /* the value's bytes as the index orders them, then the node in 8 bytes, the high one first
+                        * (bestore's ARCHITECTURE.md, Keys of an index) */
+} bes_cursor;
 
 /* How long a list is. */
 typedef struct bes_counts {
@@ -432,6 +443,45 @@ uint32_t bes_query_prepared(bes_pass *pass, bes_prepared *prepared, uint64_t *no
  * Cost: the time to copy them. */
 uint32_t bes_found(bes_prepared *prepared, uint64_t from, uint64_t *nodes, size_t nodes_room, uint64_t *count);
 
+/* Asks a prepared query in the pinned snapshot for a page of its answer in the order of an index: by the value of one attribute, and
+ * of one value by node, rising or exactly the reverse. A page has the first nodes_room nodes after the cursor. A node that has no
+ * value in this index is in no page: bes_query_prepared finds it, too. The handle keeps the page for bes_found.
+ *
+ * A cursor is a position and no count. If the pass is pinned again between two pages, the second goes on in the new snapshot from
+ * where the first ended, whatever was written in between. A node that has since got a value before the cursor isn't met any more, and
+ * one that was met, and whose value is now after the cursor, comes again. Within one snapshot each node comes once.
+ * [in] by        the name of the index, checked by bes_check_name
+ * [in] descending  0: rising; any other number: the reverse
+ * [in,out] cursor  where the page begins; then the position of its last node. It stays as it was if the page is empty. All zero
+ *                before the first page. A cursor goes with an index of its kind, and with either direction.
+ * [out] nodes    the page, nodes_room nodes at most
+ * [out] count    how many nodes it has
+ * [out] more     1 if others come after them, otherwise 0
+ * BES_CLOSED (of pass, then of prepared), BES_NOT_PINNED, BES_NO_ROOM (nodes_room is 0), BES_NO_INDEX (the snapshot has no index by),
+ * BES_BAD_CURSOR (it is of another kind than the index, or its key doesn't have 8 to 264 bytes), BES_NOT_COVERED, BES_NO_MEMORY.
+ * count is 0 then, and nodes, more and cursor stay as they were. After all but BES_CLOSED the handle keeps no result.
+ * Cost: that of bes_query_prepared, two descents of a tree for each node of the answer, and a sort of those after the cursor, with
+ * memory for their keys. */
+uint32_t bes_ordered(bes_pass *pass, bes_prepared *prepared, const bes_name *by, uint32_t descending, bes_cursor *cursor,
+                     uint64_t *nodes, size_t nodes_room, uint64_t *count, uint32_t *more);
+
+/* Asks a prepared query in the pinned snapshot for the first nodes of its answer from a number on, ascending. To go on, ask from the
+ * number after the last. The handle keeps them for bes_found.
+ * [in] from      the number
+ * [out] nodes    the nodes; nodes_room of them at most
+ * [out] count    how many were written. If that is less than the room, there are no more.
+ * BES_CLOSED (of pass, then of prepared), BES_NOT_PINNED, BES_NO_ROOM (nodes_room is 0), BES_NOT_COVERED, BES_NO_MEMORY. After all but
+ * BES_CLOSED the handle keeps no result.
+ * Cost: that of bes_query_prepared. */
+uint32_t bes_first(bes_pass *pass, bes_prepared *prepared, uint64_t from, uint64_t *nodes, size_t nodes_room, uint64_t *count);
+
+/* Asks a prepared query in the pinned snapshot for any nodes of its answer, none twice, in any order. The handle keeps them for
+ * bes_found. Which they are may differ from call to call.
+ * [out] nodes    the nodes; nodes_room of them, or as many as there are
+ * [out] count    how many were written
+ * Errors and cost are those of bes_first. */
+uint32_t bes_any(bes_pass *pass, bes_prepared *prepared, uint64_t *nodes, size_t nodes_room, uint64_t *count);
+
 /* Refreshes a prepared query: asks it in the pinned snapshot, and compares with its result at the last refresh, which at first is
  * empty. The handle keeps which nodes came and went until the next refresh, for bes_changes. Nodes are compared by their numbers, so
  * a node that changed and is in both results isn't reported. Use passes of one store, or of another that its state was carried on
@@ -440,6 +490,18 @@ uint32_t bes_found(bes_prepared *prepared, uint64_t from, uint64_t *nodes, size_
  * BES_CLOSED (of pass, then of prepared), BES_NOT_PINNED, BES_NOT_COVERED, BES_NO_MEMORY. The query keeps its last result.
  * Cost: that of bes_query_prepared, and a walk over both results. Memory for the nodes that came and went. */
 uint32_t bes_refresh(bes_pass *pass, bes_prepared *prepared, bes_updates *updates);
+
+/* As bes_refresh, by what was written since the last refresh: it reads the journal's entries since then, and asks the query only of
+ * the nodes that they name. Use it for a large result of which little changes. It asks the whole query, as bes_refresh does, if the
+ * last result has fewer than 96 nodes, another pass is writing, the snapshot is older than that of the last refresh, an index was
+ * made or removed since then, or many nodes were written: more than 4 and one for each 32 of the last result, or more than 64.
+ * [in,out] prepared  a query whose last refresh, if there was one, was in this store. The library can't test that: with one of
+ *                another store the behaviour is undefined.
+ * [out] updates  how many nodes came and how many went
+ * BES_CLOSED (of pass, then of prepared), BES_NOT_PINNED, BES_NOT_COVERED, BES_NO_MEMORY. The query keeps its last result.
+ * Cost: a step for each entry since the last refresh, and of each node that they name a look-up for each comparison, for which it
+ * keeps the writers' lock: writes of other passes return BES_BUSY meanwhile. Otherwise that of bes_refresh. */
+uint32_t bes_refresh_changed(bes_pass *pass, bes_prepared *prepared, bes_updates *updates);
 
 /* Writes the nodes that came at the last refresh, and those that went, each ascending. Needs no pin.
  * [out] created  the first that came; as many as created_room

@@ -195,6 +195,20 @@ CALL(bes_dismiss, bes_witness *)
 CALL(bes_move_witness, bes_witness *, bes_witness *)
 CALL(bes_finish, bes_pass *, uint8_t *, size_t, uint64_t *)
 
+/* After version 0.3.0. */
+CALL(bes_ordered, bes_pass *, bes_prepared *, const bes_name *, uint32_t, bes_cursor *, uint64_t *, size_t, uint64_t *,
+     uint32_t *)
+CALL(bes_first, bes_pass *, bes_prepared *, uint64_t, uint64_t *, size_t, uint64_t *)
+CALL(bes_any, bes_pass *, bes_prepared *, uint64_t *, size_t, uint64_t *)
+CALL(bes_refresh_changed, bes_pass *, bes_prepared *, bes_updates *)
+NUMBER(BES_BAD_CURSOR, 78)
+NUMBER(BES_NO_ROOM, 79)
+
+SIZE(bes_cursor, 272)
+FIELD(bes_cursor, kind, 0, uint32_t)
+FIELD(bes_cursor, length, 4, uint32_t)
+_Static_assert(offsetof(bes_cursor, key) == 8, "the place of bes_cursor.key");
+
 int main(void)
 {
     return 0;

@@ -1,6 +1,7 @@
 pub mod Spare
 pub mod Collected
 pub mod Meant
+pub mod Pages
 pub mod Built
 pub mod Spelt
 pub mod Told

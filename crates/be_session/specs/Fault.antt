@@ -8,7 +8,7 @@ use Rattle.be_session.specs.declared.faults.Fault.TheVariants.{NotPinned, Alread
 use Rattle.be_session.specs.declared.faults.Fault.TheVariants.{BadCount}
 use Rattle.be_session.specs.declared.faults.Fault.TheVariants.{NotUtf8, NoOperation, NoKind}
 use Rattle.be_session.specs.declared.faults.Fault.TheVariants.{NoValue, BadPart, NoItem, Conflict}
-use Rattle.be_session.specs.declared.faults.Fault.TheVariants.{InUse}
+use Rattle.be_session.specs.declared.faults.Fault.TheVariants.{InUse, BadCursor, NoRoom}
 use Rattle.be_session.specs.declared.faults.Fault.TheVariants.{Refused}
 
 -- the number by which other languages know an error: a refusal's own, and from 66 on those of a
@@ -26,6 +26,8 @@ fault_code BadPart = 74
 fault_code NoItem = 75
 fault_code (Conflict length) = 76
 fault_code InUse = 77
+fault_code BadCursor = 78
+fault_code NoRoom = 79
 fault_code (Refused e) = refusal_number e
 
 -- the number that an error carries: what a refusal carries, the journal's length for a conflict,
@@ -43,6 +45,8 @@ fault_carried BadPart = 0
 fault_carried NoItem = 0
 fault_carried (Conflict length) = length
 fault_carried InUse = 0
+fault_carried BadCursor = 0
+fault_carried NoRoom = 0
 fault_carried (Refused e) = unwrap_or (carried e) 0
 
 -- the error of a conditional write that the store did not make

@@ -1,8 +1,10 @@
+pub mod Cursors
 pub mod Fault
 pub mod Meaning
 pub mod Sitting
 pub mod Finishing
 pub mod Operations
+pub mod Ordering
 pub mod Items
 pub mod Explained
 pub mod Prepared

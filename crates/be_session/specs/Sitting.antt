@@ -132,6 +132,11 @@ abbrev pub IsUnrefreshed : Option ℕ → Result (List ℕ) Refusal → Fault �
 IsUnrefreshed None meant e = e ≡ NotPinned
 IsUnrefreshed (Some n) meant e = IsUnanswered meant e
 
+-- why a call that reads returned nothing: there is no pin, or this reason
+abbrev pub IsUnread : Option ℕ → Type 0 → Fault → Type 0
+IsUnread None why e = e ≡ NotPinned
+IsUnread (Some n) why e = why
+
 -- why bytes are no text of a query: they are no UTF-8, the text has this error, or the call runs
 -- out of memory
 abbrev pub IsNoQuery : List ℕ → Fault → Type 0

@@ -34,6 +34,10 @@ pub enum Fault {
     Conflict(u64),
     /// Another session of the store is open, so this one can't close the store.
     InUse,
+    /// A cursor that isn't of the index's kind, or whose key has not 8 to 264 bytes.
+    BadCursor,
+    /// No room for a node.
+    NoRoom,
     Refused(Refusal),
 }
 
@@ -69,6 +73,8 @@ impl Fault {
             Fault::NoItem => 75,
             Fault::Conflict(_) => 76,
             Fault::InUse => 77,
+            Fault::BadCursor => 78,
+            Fault::NoRoom => 79,
         }
     }
 }

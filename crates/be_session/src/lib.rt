@@ -5,6 +5,7 @@
 //! thread between two calls. The store goes with its last session.
 #![tactic(auto)]
 
+mod cursors;
 mod explaining;
 mod faults;
 mod finishing;
@@ -12,6 +13,7 @@ mod held;
 mod items;
 mod lists;
 mod meanings;
+mod ordering;
 mod passes;
 mod preparing;
 mod session;
@@ -19,12 +21,14 @@ mod shared;
 mod spellings;
 mod states;
 
+pub use cursors::Cursor;
 pub use faults::{Fault, ListFault};
 pub use finishing::Unfinished;
 pub use held::held_name;
 pub use items::{PredicateItem, query_of_items};
 pub use lists::{Operation, operations};
 pub use meanings::{name, spelled};
+pub use ordering::HeldOrder;
 pub use preparing::{Prepared, prepare, prepare_items};
 pub use session::{Session, may_move, query_of, sent};
 pub use spellings::{Spelling, attributes_spelled, entry_spelled, indices_spelled};

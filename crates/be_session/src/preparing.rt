@@ -1,19 +1,23 @@
 //! Queries that are parsed once and kept, so that they can be asked again.
-ghost use Rattle.std.specs.Prelude.{◌≡◌, ℕ, [], Ok, IfOk, IfErr, OnOk, string_bytes};
+ghost use Rattle.std.specs.Prelude.{◌≡◌, ◌≤◌, ℕ, [], Ok, IfOk, IfErr, OnErr, OnOk, string_bytes};
 ghost use Rattle.be_value.specs.declared.refusals.Refusal.TheVariants.{OutOfMemory};
 ghost use Rattle.be_query.specs.Grammar.{Formula, IsTextOf};
 ghost use Rattle.be_query.specs.Printing.{or_text};
 ghost use Rattle.be_volume.specs.Query.{scan};
+ghost use Rattle.be_order.specs.Firsts.{IsAnyOf, from_number};
+ghost use Rattle.be_paged_reading.specs.Cells.{name_in};
 ghost use Rattle.be_table.specs.Seats.{pinned_number};
-ghost use Rattle.be_store.specs.Live.{Refreshes};
+ghost use Rattle.be_store.specs.History.{Learns, LocksAtMostOnce};
+ghost use Rattle.be_store.specs.Live.{IsLiveOf, Refreshes};
 ghost use Rattle.be_store.specs.Passes.{HasRead, IsPinnedTo, volume_pinned};
 ghost use Rattle.be_session.specs.Items.{IsBuilt, IsUnbuilt};
 ghost use Rattle.be_session.specs.Prepared.{IsUnasked, with_found};
-ghost use Rattle.be_session.specs.Sitting.{IsNoQuery, IsUnrefreshed};
+ghost use Rattle.be_session.specs.Ordering.{AreUnread, IsNoPage, IsPageRead};
+ghost use Rattle.be_session.specs.Sitting.{IsNoQuery, IsUnread, IsUnrefreshed};
 ghost use Rattle.be_session.specs.declared.faults.Fault.TheVariants.{Refused};
 
 use crate::session::{Session, query_of};
-use crate::{Fault, ListFault, PredicateItem, query_of_items};
+use crate::{Cursor, Fault, HeldOrder, ListFault, PredicateItem, query_of_items};
 use be_query::print;
 use be_store::{Live, Query, Updates};
 use std::alloc::{AllocError, Global};
@@ -67,7 +71,78 @@ impl Prepared {
         session.query_into(&mut self.live, &mut self.found)
     }
 
-    /// The nodes that the last asking found, ascending; none before the first, or after an error.
+    /// Asks the query in the session's pinned version for a page in the order of an index, and
+    /// keeps its nodes in place of what was found before. Returns whether there are more. Errors
+    /// are those of `Session::ordered`: they leave the cursor as it was, and no node is kept.
+    #[tactic(auto, using(crate::proofs::Same::same_but_found))]
+    pub fn find_ordered(
+        &mut self,
+        session: &mut Session,
+        order: HeldOrder<'_>,
+        cursor: &mut Cursor,
+    ) -> Result<bool, Fault>
+        ensures store { (session.new.store ≡ session.old.store)
+            × (session.new.spare ≡ session.old.spare) }
+        ensures read { HasRead session.old.knows session.new.knows }
+        ensures pin { IfOk result (λ more. (n : ℕ) × IsPinnedTo session.old.knows n) }
+        ensures page { IfOk result (IsPageRead (volume_pinned session.old.knows)
+            self.old.live.query (name_in order.entry.by.now) order.entry.descending
+            order.entry.most cursor.old cursor.new self.new.found) }
+        ensures same { self.new ≡ with_found self.old self.new.found }
+        ensures err { IfErr result (λ e. IsUnread (pinned_number session.old.knows.phase)
+            (IsNoPage (volume_pinned session.old.knows) self.old.live.query
+            (name_in order.entry.by.now) order.entry.descending order.entry.most cursor.old e) e) }
+        ensures kept { OnErr result ((cursor.new ≡ cursor.old) × (self.new.found ≡ [])) }
+    {
+        session.ordered(&mut self.live, order, cursor, &mut self.found)
+    }
+
+    /// Asks the query in the session's pinned version for its nodes from a number on, up to `most`
+    /// of them, and keeps these in place of what was found before. After an error none is kept.
+    #[tactic(auto, using(crate::proofs::Same::same_but_found))]
+    pub fn find_first(
+        &mut self,
+        session: &mut Session,
+        first: u64,
+        most: usize,
+    ) -> Result<(), Fault>
+        ensures store { (session.new.store ≡ session.old.store)
+            × (session.new.spare ≡ session.old.spare) }
+        ensures read { HasRead session.old.knows session.new.knows }
+        ensures pin { OnOk result ((n : ℕ) × IsPinnedTo session.old.knows n) }
+        ensures wanted { OnOk result (1 ≤ most) }
+        ensures nodes { OnOk result (from_number (volume_pinned session.old.knows)
+            self.old.live.query first most ≡ Ok self.new.found) }
+        ensures same { self.new ≡ with_found self.old self.new.found }
+        ensures err { IfErr result (λ e. IsUnread (pinned_number session.old.knows.phase)
+            (AreUnread (from_number (volume_pinned session.old.knows) self.old.live.query first
+            most) most e) e) }
+        ensures kept { OnErr result (self.new.found ≡ []) }
+    {
+        session.first(&mut self.live, first, most, &mut self.found)
+    }
+
+    /// Asks the query in the session's pinned version for any `most` of its nodes, and keeps these
+    /// in place of what was found before. After an error none is kept.
+    #[tactic(auto, using(crate::proofs::Same::same_but_found))]
+    pub fn find_any(&mut self, session: &mut Session, most: usize) -> Result<(), Fault>
+        ensures store { (session.new.store ≡ session.old.store)
+            × (session.new.spare ≡ session.old.spare) }
+        ensures read { HasRead session.old.knows session.new.knows }
+        ensures pin { OnOk result ((n : ℕ) × IsPinnedTo session.old.knows n) }
+        ensures wanted { OnOk result (1 ≤ most) }
+        ensures nodes { OnOk result (IsAnyOf (scan (volume_pinned session.old.knows)
+            self.old.live.query) most self.new.found) }
+        ensures same { self.new ≡ with_found self.old self.new.found }
+        ensures err { IfErr result (λ e. IsUnread (pinned_number session.old.knows.phase)
+            (AreUnread (scan (volume_pinned session.old.knows) self.old.live.query) most e) e) }
+        ensures kept { OnErr result (self.new.found ≡ []) }
+    {
+        session.any(&mut self.live, most, &mut self.found)
+    }
+
+    /// The nodes that the last asking found, in the order in which it found them; none before the
+    /// first, or after an error.
     pub fn found(&self) -> &[u64]
         ensures { result.now ≡ self.now.found }
     {
@@ -89,6 +164,33 @@ impl Prepared {
             (scan (volume_pinned session.old.knows) self.old.live.query) e) }
     {
         match session.refresh(&mut self.live) {
+            Ok(updates) => {
+                self.updates = updates;
+                Ok(())
+            }
+            Err(fault) => Err(fault),
+        }
+    }
+
+    /// Asks what changed as `refresh` does, by what was written since the last refresh, which was
+    /// one of the session's store. An error leaves the query as it was.
+    #[tactic(auto, using(crate::proofs::Same::same_prepared))]
+    pub fn refresh_changed(&mut self, session: &mut Session) -> Result<(), Fault>
+        requires own { IsLiveOf session.old.store self.old.live }
+        ensures store { (session.new.store ≡ session.old.store)
+            × (session.new.spare ≡ session.old.spare) }
+        ensures learns { Learns session.old.knows session.new.knows }
+        ensures moves { LocksAtMostOnce session.old.knows session.new.knows }
+        ensures volume { volume_pinned session.new.knows ≡ volume_pinned session.old.knows }
+        ensures own { IsLiveOf session.old.store self.new.live }
+        ensures ok { IfOk result (λ _. Refreshes (volume_pinned session.old.knows) self.old.live
+            self.new.live self.new.came self.new.went) }
+        ensures pin { IfOk result (λ _. (n : ℕ) × IsPinnedTo session.old.knows n) }
+        ensures err { IfErr result (λ e. (self.new ≡ self.old)
+            × IsUnrefreshed (pinned_number session.old.knows.phase)
+            (scan (volume_pinned session.old.knows) self.old.live.query) e) }
+    {
+        match session.refresh_changed(&mut self.live) {
             Ok(updates) => {
                 self.updates = updates;
                 Ok(())

@@ -48,8 +48,8 @@ use std::sync::Arc;
 /// own.
 #[derive(Drop)]
 pub struct Session {
-    shared: Arc<Shared, Global>,
-    pass: Pass,
+    pub(crate) shared: Arc<Shared, Global>,
+    pub(crate) pass: Pass,
     spare: Vec<Pass>,
 }
 

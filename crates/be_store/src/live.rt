@@ -1,7 +1,7 @@
 //! Live queries: what changed in an answer since it was asked last.
 ghost use Rattle.std.specs.List.Sorted.{IsStrictlyIncreasing};
 ghost use Rattle.std.specs.Prelude.{◌≡◌, ◌≢◌, ◌⊎◌, ◌<◌, ◌≤◌, ◌-◌, ◌++◌, ℕ, [], IfOk, IfErr, OnOk};
-ghost use Rattle.std.specs.Prelude.{Err, None, drop, false, get_or, length, take, true};
+ghost use Rattle.std.specs.Prelude.{Err, OnErr, None, drop, false, get_or, length, take, true};
 ghost use Rattle.be_value.specs.declared.refusals.Refusal.TheVariants.{OutOfMemory};
 ghost use Rattle.be_value.specs.Refusal.{Answers};
 ghost use Rattle.be_volume.specs.Query.{scan};
@@ -11,6 +11,8 @@ ghost use Rattle.be_table.specs.Rule.{entries};
 ghost use Rattle.be_journal.specs.declared.entries.Entry.{Entry as AnyEntry};
 ghost use Rattle.be_store.specs.Named.{NamesAmong};
 ghost use Rattle.be_store.specs.Passes.{IsPassOf, IsPinnedTo, HasRead, volume_pinned};
+ghost use Rattle.be_order.specs.Firsts.{IsAnyOf, from_number};
+ghost use Rattle.be_order.specs.Ordered.{cursor_bytes, page, page_with};
 
 use crate::answers::Updates;
 use crate::changed::{ask_each, put_in, take_out};
@@ -18,6 +20,7 @@ use crate::marks::Mark;
 use crate::named::MOST;
 use crate::{Pass, Store};
 use arrayvec::ArrayVec;
+use be_order::Order;
 use be_plan::PreparedQuery;
 use be_query::Query;
 use be_value::Refusal;
@@ -98,6 +101,69 @@ impl Live {
         ensures same { self.new ≡ self.old }
     {
         store.query_prepared(self.alloc, pass, &mut self.query, nodes)
+    }
+
+    /// Puts a page of the query's answer in the order of an index into a list, as `Store::ordered`
+    /// does. What the last refresh found stays.
+    pub fn ordered(
+        &mut self,
+        store: &Store,
+        pass: &mut Pass,
+        order: Order<'_>,
+        cursor: &mut Option<ArrayVec<u8, 264>>,
+        nodes: &mut Vec<u64>,
+    ) -> Result<bool, Refusal>
+        requires pass { IsPassOf store.now pass.old }
+        requires pinned { (n : ℕ) × IsPinnedTo pass.old.knows n }
+        ensures pass { IsPassOf store.now pass.new × HasRead pass.old.knows pass.new.knows }
+        ensures page { Answers (page_with nodes.new.items (cursor_bytes cursor.new)) result
+            (page (volume_pinned pass.old.knows) self.old.query order.entry.by.now
+            order.entry.descending (cursor_bytes cursor.old) order.entry.most) }
+        ensures cursor { OnErr result (cursor.new ≡ cursor.old) }
+        ensures same { self.new ≡ self.old }
+    {
+        store.ordered(self.alloc, pass, &mut self.query, order, cursor, nodes)
+    }
+
+    /// Puts the nodes of the query's answer from a number on into a list, as `Store::first` does.
+    /// What the last refresh found stays.
+    pub fn first(
+        &mut self,
+        store: &Store,
+        pass: &mut Pass,
+        first: u64,
+        most: usize,
+        nodes: &mut Vec<u64>,
+    ) -> Result<(), Refusal>
+        requires pass { IsPassOf store.now pass.old }
+        requires pinned { (n : ℕ) × IsPinnedTo pass.old.knows n }
+        ensures pass { IsPassOf store.now pass.new × HasRead pass.old.knows pass.new.knows }
+        ensures nodes { Answers (λ _. nodes.new.items) result
+            (from_number (volume_pinned pass.old.knows) self.old.query first most) }
+        ensures same { self.new ≡ self.old }
+    {
+        store.first(self.alloc, pass, &mut self.query, first, most, nodes)
+    }
+
+    /// Puts any nodes of the query's answer into a list, as `Store::any` does. What the last
+    /// refresh found stays.
+    pub fn any(
+        &mut self,
+        store: &Store,
+        pass: &mut Pass,
+        most: usize,
+        nodes: &mut Vec<u64>,
+    ) -> Result<(), Refusal>
+        requires pass { IsPassOf store.now pass.old }
+        requires pinned { (n : ℕ) × IsPinnedTo pass.old.knows n }
+        ensures pass { IsPassOf store.now pass.new × HasRead pass.old.knows pass.new.knows }
+        ensures any { OnOk result
+            (IsAnyOf (scan (volume_pinned pass.old.knows) self.old.query) most nodes.new.items) }
+        ensures refused { IfErr result (λ e. (e ≡ OutOfMemory)
+            ⊎ (scan (volume_pinned pass.old.knows) self.old.query ≡ Err e)) }
+        ensures same { self.new ≡ self.old }
+    {
+        store.any(self.alloc, pass, &mut self.query, most, nodes)
     }
 
     /// Takes the query's nodes as of now, wherever they were found, and returns which nodes came

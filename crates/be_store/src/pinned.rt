@@ -4,12 +4,14 @@
 //! that leaves a function by `?` asks through a `Pinned`, which unpins when it goes.
 ghost use Rattle.std.specs.List.Sorted.{IsStrictlyIncreasing};
 ghost use Rattle.std.specs.Prelude.{◌≡◌, ◌⊎◌, ◌<◌, ◌≤◌, ◌++◌, ◌*◌, ◌^◌, ℕ, true, false, [], None};
-ghost use Rattle.std.specs.Prelude.{Ok, Err, IsOk, IfOk, IfErr, IfNone, IfSome, OnOk, length};
+ghost use Rattle.std.specs.Prelude.{Ok, Err, IsOk, IfOk, IfErr, IfNone, IfSome, OnErr, OnOk, length};
 ghost use Rattle.std.specs.Prelude.{map as each};
 ghost use Rattle.be_value.specs.Refusal.{Answers};
 ghost use Rattle.be_value.specs.declared.refusals.Refusal.TheVariants.{OutOfMemory, NotCovered};
 ghost use Rattle.be_volume.specs.Query.{scan, has_index, covered};
-ghost use Rattle.be_volume.specs.Reading.{attribute, attributes_at, index_kinds};
+ghost use Rattle.be_volume.specs.Reading.{attribute, attributes_at, index_kind, index_kinds};
+ghost use Rattle.be_order.specs.Firsts.{IsAnyOf, from_number};
+ghost use Rattle.be_order.specs.Ordered.{cursor_bytes, page, page_with};
 ghost use Rattle.be_volume_state.specs.Places.{given, left};
 ghost use Rattle.be_plan.specs.Cover.{chosen, covers};
 ghost use Rattle.be_plan.specs.Explain.{are_places};
@@ -24,6 +26,8 @@ ghost use Rattle.be_store.specs.Passes.{HasRead, volume_pinned};
 
 use crate::answers::{Answer, Updates};
 use crate::{Live, Pass, Store};
+use arrayvec::ArrayVec;
+use be_order::Order;
 use be_paged::{Cell, HeldName};
 use be_plan::{Cover, PreparedQuery};
 use be_query::Query;
@@ -123,6 +127,86 @@ impl Pinned<'_> {
         ensures same { query.new ≡ query.old }
     {
         self.store.query_prepared(alloc, self.pass, query, nodes)
+    }
+
+    /// As `Store::ordered`.
+    pub fn ordered(
+        &mut self,
+        alloc: Global,
+        query: &mut PreparedQuery,
+        order: Order<'_>,
+        cursor: &mut Option<ArrayVec<u8, 264>>,
+        nodes: &mut Vec<u64>,
+    ) -> Result<bool, Refusal>
+        requires pinned { (n : ℕ) × IsPinnedTo self.old.pass.now.knows n }
+        ensures same_reference { self.new.pass.ghost_name ≡ self.old.pass.ghost_name }
+        ensures store { (self.new.store.now ≡ self.old.store.now)
+            × (self.new.number ≡ self.old.number) }
+        ensures read { HasRead self.old.pass.now.knows self.new.pass.now.knows }
+        ensures page { Answers (page_with nodes.new.items (cursor_bytes cursor.new)) result
+            (page (volume_pinned self.old.pass.now.knows) query.old order.entry.by.now
+            order.entry.descending (cursor_bytes cursor.old) order.entry.most) }
+        ensures cursor { OnErr result (cursor.new ≡ cursor.old) }
+        ensures same { query.new ≡ query.old }
+    {
+        self.store
+            .ordered(alloc, self.pass, query, order, cursor, nodes)
+    }
+
+    /// As `Store::first`.
+    pub fn first(
+        &mut self,
+        alloc: Global,
+        query: &mut PreparedQuery,
+        first: u64,
+        most: usize,
+        nodes: &mut Vec<u64>,
+    ) -> Result<(), Refusal>
+        requires pinned { (n : ℕ) × IsPinnedTo self.old.pass.now.knows n }
+        ensures same_reference { self.new.pass.ghost_name ≡ self.old.pass.ghost_name }
+        ensures store { (self.new.store.now ≡ self.old.store.now)
+            × (self.new.number ≡ self.old.number) }
+        ensures read { HasRead self.old.pass.now.knows self.new.pass.now.knows }
+        ensures nodes { Answers (λ _. nodes.new.items) result
+            (from_number (volume_pinned self.old.pass.now.knows) query.old first most) }
+        ensures same { query.new ≡ query.old }
+    {
+        self.store
+            .first(alloc, self.pass, query, first, most, nodes)
+    }
+
+    /// As `Store::any`.
+    pub fn any(
+        &mut self,
+        alloc: Global,
+        query: &mut PreparedQuery,
+        most: usize,
+        nodes: &mut Vec<u64>,
+    ) -> Result<(), Refusal>
+        requires pinned { (n : ℕ) × IsPinnedTo self.old.pass.now.knows n }
+        ensures same_reference { self.new.pass.ghost_name ≡ self.old.pass.ghost_name }
+        ensures store { (self.new.store.now ≡ self.old.store.now)
+            × (self.new.number ≡ self.old.number) }
+        ensures read { HasRead self.old.pass.now.knows self.new.pass.now.knows }
+        ensures any { OnOk result (IsAnyOf (scan (volume_pinned self.old.pass.now.knows) query.old)
+            most nodes.new.items) }
+        ensures refused { IfErr result (λ e. (e ≡ OutOfMemory)
+            ⊎ (scan (volume_pinned self.old.pass.now.knows) query.old ≡ Err e)) }
+        ensures same { query.new ≡ query.old }
+    {
+        self.store.any(alloc, self.pass, query, most, nodes)
+    }
+
+    /// As `Store::index_kind`.
+    pub fn index_kind(&mut self, name: &Name) -> Option<Kind>
+        requires pinned { (n : ℕ) × IsPinnedTo self.old.pass.now.knows n }
+        ensures same_reference { self.new.pass.ghost_name ≡ self.old.pass.ghost_name }
+        ensures store { (self.new.store.now ≡ self.old.store.now)
+            × (self.new.number ≡ self.old.number) }
+        ensures read { HasRead self.old.pass.now.knows self.new.pass.now.knows }
+        ensures kind { result ≡ index_kind (volume_pinned self.old.pass.now.knows) name.now }
+    {
+        self.store.index_kind(self.pass, name)
     }
 
     /// As `Store::explain`.

@@ -6,3 +6,4 @@ pub mod Usage
 pub mod States
 pub mod Witnesses
 pub mod Finishing
+pub mod Ordering

@@ -2,10 +2,11 @@
 //!
 //! Each export takes a handle that its caller owns, calls the session in it, and returns a number:
 //! 0, the number of a refusal or of another error, or 64 and 65, which are the handle's own. Only
-//! `bes_join` has a `requires`: its witness is one of the pass's store.
+//! two have a `requires`: the witness of `bes_join` is one of the pass's store, and the last refresh
+//! of the query of `bes_refresh_changed` was in it.
 #![tactic(auto)]
 
-ghost use Rattle.std.specs.Prelude.{◌≡◌, ◌⊎◌, ◌+◌, None, Ok, length, map};
+ghost use Rattle.std.specs.Prelude.{◌≡◌, ◌⊎◌, ◌+◌, ◌==◌, None, Ok, length, map, not};
 ghost use Rattle.be_paged_reading.specs.Cells.{name_in};
 ghost use Rattle.be_paged_reading.specs.Nodes.{nodes_from};
 ghost use Rattle.be_query.specs.Grammar.{IsTextOf};
@@ -25,6 +26,8 @@ ghost use Rattle.bestore_c.specs.Calls.{Refuses, ShowsFound};
 ghost use Rattle.bestore_c.specs.Calls.{HoldsName, ReadsHeld, ShowsChanges, TellsAtPin, TellsEntry};
 ghost use Rattle.bestore_c.specs.Calls.{TellsJournal, TellsNumber, WritesSpelled, WritesSpelledIf};
 ghost use Rattle.bestore_c.specs.Finishing.{Finishes};
+ghost use Rattle.bestore_c.specs.Ordering.{AnyFew, First, IsRefreshedHere, Ordered};
+ghost use Rattle.bestore_c.specs.Ordering.{ReadsPrepared, RefreshesByWrites};
 ghost use Rattle.bestore_c.specs.States.{TellsState, untold_at};
 ghost use Rattle.bestore_c.specs.Usage.{TellsUsage};
 ghost use Rattle.bestore_c.specs.Witnesses.{AreOfOneStore, JoinsWitness, Vouches};
@@ -35,6 +38,7 @@ mod finishing;
 mod handle;
 mod listing;
 mod loose;
+mod ordering;
 mod owned;
 mod owned_place;
 mod owned_query;
@@ -47,7 +51,7 @@ mod telling;
 
 use asking::{find_prepared, put_text, query_for, refresh_prepared, tell, tell_text};
 use be_session::{
-    Operation, PredicateItem, Session, held_name, operations, prepare, prepare_items,
+    Cursor, HeldOrder, Operation, PredicateItem, Session, held_name, operations, prepare, prepare_items,
     query_of_items,
 };
 use be_store::{ArrayVec, Cell, HeldName, Limits};
@@ -57,6 +61,7 @@ use handle::{
     Attribute, Counts, Handle, PlaceHandle, PreparedHandle, UpdateCounts, Usage, WitnessHandle,
 };
 use listing::{tell_attributes, tell_indices};
+use ordering::{find_any, find_first, find_ordered, refresh_changed};
 use owned::Owned;
 use owned_place::OwnedPlace;
 use owned_query::OwnedQuery;
@@ -970,6 +975,97 @@ pub extern "C" fn bes_query_prepared(
     find_prepared(pass.owned.lent(), query, nodes, count)
 }
 
+/// Asks a prepared query in the pinned version for a page of its answer in the order of an index:
+/// the first nodes after the cursor, as many as there is room for. Returns them and how many they
+/// are, and whether there are more, and moves the cursor to the last of them.
+#[unsafe(no_mangle)]
+pub extern "C" fn bes_ordered(
+    pass: &mut Handle,
+    prepared: &mut PreparedHandle,
+    by: &HeldName,
+    descending: u32,
+    cursor: &mut Cursor,
+    nodes: &mut [u64],
+    count: &mut u64,
+    more: &mut u32,
+) -> u32
+    ensures pass { Calls pass.old.owned.value pass.new.owned.value
+        (IsClosed count.new result × (prepared.new.owned.value ≡ prepared.old.owned.value))
+        (λ s t. ReadsPrepared s t prepared.old.owned.value prepared.new.owned.value count.new result
+        (λ p q. Ordered s p q (name_in by.now) (not (descending == 0)) cursor.old cursor.new
+        nodes.old nodes.new count.new more.new result)) }
+    ensures kept { (result ≡ 0) ⊎ ((nodes.new ≡ nodes.old) × (more.new ≡ more.old)
+        × (cursor.new ≡ cursor.old)) }
+{
+    *count = 0;
+    if !pass.live {
+        return CLOSED;
+    }
+    if !prepared.live {
+        return CLOSED;
+    }
+    let order = HeldOrder {
+        by,
+        descending: descending != 0,
+        most: nodes.len(),
+    };
+    let query = prepared.owned.lent();
+    find_ordered(pass.owned.lent(), query, order, cursor, nodes, count, more)
+}
+
+/// Asks a prepared query in the pinned version for its nodes from a number on, ascending, as many
+/// as there is room for. Returns them and how many they are.
+#[unsafe(no_mangle)]
+pub extern "C" fn bes_first(
+    pass: &mut Handle,
+    prepared: &mut PreparedHandle,
+    from: u64,
+    nodes: &mut [u64],
+    count: &mut u64,
+) -> u32
+    ensures pass { Calls pass.old.owned.value pass.new.owned.value
+        (IsClosed count.new result × (prepared.new.owned.value ≡ prepared.old.owned.value))
+        (λ s t. ReadsPrepared s t prepared.old.owned.value prepared.new.owned.value count.new result
+        (λ p q. First s p q from nodes.old nodes.new count.new result)) }
+    ensures kept { (result ≡ 0) ⊎ (nodes.new ≡ nodes.old) }
+{
+    *count = 0;
+    if !pass.live {
+        return CLOSED;
+    }
+    if !prepared.live {
+        return CLOSED;
+    }
+    let query = prepared.owned.lent();
+    find_first(pass.owned.lent(), query, from, nodes, count)
+}
+
+/// Asks a prepared query in the pinned version for any of its nodes, none twice, as many as there
+/// is room for. Returns them and how many they are.
+#[unsafe(no_mangle)]
+pub extern "C" fn bes_any(
+    pass: &mut Handle,
+    prepared: &mut PreparedHandle,
+    nodes: &mut [u64],
+    count: &mut u64,
+) -> u32
+    ensures pass { Calls pass.old.owned.value pass.new.owned.value
+        (IsClosed count.new result × (prepared.new.owned.value ≡ prepared.old.owned.value))
+        (λ s t. ReadsPrepared s t prepared.old.owned.value prepared.new.owned.value count.new result
+        (λ p q. AnyFew s p q nodes.old nodes.new count.new result)) }
+    ensures kept { (result ≡ 0) ⊎ (nodes.new ≡ nodes.old) }
+{
+    *count = 0;
+    if !pass.live {
+        return CLOSED;
+    }
+    if !prepared.live {
+        return CLOSED;
+    }
+    let query = prepared.owned.lent();
+    find_any(pass.owned.lent(), query, nodes, count)
+}
+
 /// Returns the nodes that a prepared query found when it was asked last, from an index on, as many
 /// as there is room for, and how many it found in all.
 #[unsafe(no_mangle)]
@@ -1014,6 +1110,31 @@ pub extern "C" fn bes_refresh(
         return CLOSED;
     }
     refresh_prepared(pass.owned.lent(), prepared.owned.lent(), counts)
+}
+
+/// Refreshes a prepared query in the pinned version by what was written since its last refresh,
+/// which was one of this store. Otherwise as `bes_refresh`.
+#[unsafe(no_mangle)]
+pub extern "C" fn bes_refresh_changed(
+    pass: &mut Handle,
+    prepared: &mut PreparedHandle,
+    counts: &mut UpdateCounts,
+) -> u32
+    requires { IsRefreshedHere pass.old.owned.value prepared.old.owned.value }
+    ensures pass { Calls pass.old.owned.value pass.new.owned.value
+        ((result ≡ 64) × (prepared.new.owned.value ≡ prepared.old.owned.value))
+        (λ s t. RefreshesByWrites s t prepared.old.owned.value prepared.new.owned.value counts.new
+        result) }
+    ensures kept { (result ≡ 0) ⊎ ((counts.new ≡ counts.old)
+        × (prepared.new.owned.value ≡ prepared.old.owned.value)) }
+{
+    if !pass.live {
+        return CLOSED;
+    }
+    if !prepared.live {
+        return CLOSED;
+    }
+    refresh_changed(pass.owned.lent(), prepared.owned.lent(), counts)
 }
 
 /// Returns the nodes that came at the last refresh of a prepared query, and those that went, of

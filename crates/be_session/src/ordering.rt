@@ -1,0 +1,244 @@
+//! Answers of a live query a part at a time, at the session's pin.
+ghost use Rattle.std.specs.Prelude.{◌≡◌, ◌≤◌, ℕ, [], IfErr, IfOk, Ok, OnErr, OnOk, Some};
+ghost use Rattle.be_order.specs.Firsts.{IsAnyOf, from_number};
+ghost use Rattle.be_order.specs.Ordered.{cursor_bytes, page, page_with};
+ghost use Rattle.be_paged_reading.specs.Cells.{name_in};
+ghost use Rattle.be_session.specs.Meaning.{IsNoName};
+ghost use Rattle.be_session.specs.Ordering.{AreUnread, IsNoPage, IsPageRead};
+ghost use Rattle.be_session.specs.Sitting.{IsUnanswered, IsUnread, IsUnrefreshed};
+ghost use Rattle.be_session.specs.declared.faults.Fault.{Fault as AnyFault};
+ghost use Rattle.be_session.specs.declared.faults.Fault.TheVariants.{Refused};
+ghost use Rattle.be_store.specs.History.{Learns, LocksAtMostOnce};
+ghost use Rattle.be_store.specs.Live.{IsLiveOf, Refreshes};
+ghost use Rattle.be_store.specs.Passes.{HasRead, IsPinnedTo, volume_pinned};
+ghost use Rattle.be_table.specs.Seats.{pinned_number};
+ghost use Rattle.be_value.specs.declared.refusals.Refusal.TheVariants.{NoSuchIndex};
+ghost use Rattle.be_volume.specs.Query.{scan};
+ghost use Rattle.be_volume.specs.Reading.{index_kind};
+
+use crate::meanings::name;
+use crate::{Cursor, Fault, Session};
+use arrayvec::ArrayVec;
+use be_store::{HeldName, Kind, Live, Name, Order, Refusal, Updates};
+
+/// An order as other languages name it: by the index of a name that is held, rising or exactly the
+/// reverse; and how many nodes are wanted at most.
+#[derive(Clone, Copy)]
+pub struct HeldOrder<'a> {
+    pub by: &'a HeldName,
+    pub descending: bool,
+    pub most: usize,
+}
+
+/// The name that is held. NoSuchIndex if the bytes are none, since no index has them.
+fn index_name(held: &HeldName) -> Result<Name, Fault>
+    ensures ok { IfOk result (λ name. name ≡ name_in held.now) }
+    ensures err { IfErr result (λ e. (e ≡ Refused NoSuchIndex)
+        × ((why : AnyFault) × IsNoName (name_in held.now) why)) }
+{
+    let length = held.length.min(64) as usize;
+    match name(&held.bytes[..length]) {
+        Ok(name) => Ok(name),
+        Err(_) => Err(Fault::Refused(Refusal::NoSuchIndex)),
+    }
+}
+
+impl Session {
+    /// A page of an answer after a key. After an error the key is as it was, and the list is empty.
+    fn page_after(
+        &mut self,
+        live: &mut Live,
+        order: Order<'_>,
+        key: &mut Option<ArrayVec<u8, 264>>,
+        nodes: &mut Vec<u64>,
+    ) -> Result<bool, Fault>
+        requires pinned { (n : ℕ) × IsPinnedTo self.old.knows n }
+        ensures store { (self.new.store ≡ self.old.store) × (self.new.spare ≡ self.old.spare) }
+        ensures read { HasRead self.old.knows self.new.knows }
+        ensures same { live.new ≡ live.old }
+        ensures page { IfOk result (λ more. page (volume_pinned self.old.knows) live.old.query
+            order.entry.by.now order.entry.descending (cursor_bytes key.old) order.entry.most
+            ≡ Ok (page_with nodes.new.items (cursor_bytes key.new) more)) }
+        ensures err { IfErr result (IsUnanswered (page (volume_pinned self.old.knows)
+            live.old.query order.entry.by.now order.entry.descending (cursor_bytes key.old)
+            order.entry.most)) }
+        ensures kept { OnErr result (nodes.new.items ≡ []) }
+    {
+        let more = match live.ordered(self.shared.store(), &mut self.pass, order, key, nodes) {
+            Ok(more) => more,
+            Err(refusal) => {
+                nodes.clear();
+                return Err(Fault::Refused(refusal));
+            }
+        };
+        Ok(more)
+    }
+
+    /// A page of an answer by an index of this kind, from a cursor of that kind on. After an error
+    /// the cursor is as it was, and the list is empty.
+    fn page_by(
+        &mut self,
+        live: &mut Live,
+        kind: Kind,
+        order: Order<'_>,
+        cursor: &mut Cursor,
+        nodes: &mut Vec<u64>,
+    ) -> Result<bool, Fault>
+        requires pinned { (n : ℕ) × IsPinnedTo self.old.knows n }
+        requires wanted { 1 ≤ order.most }
+        requires kind { index_kind (volume_pinned self.old.knows) order.by.now ≡ Some kind }
+        requires empty { nodes.old.items ≡ [] }
+        ensures store { (self.new.store ≡ self.old.store) × (self.new.spare ≡ self.old.spare) }
+        ensures read { HasRead self.old.knows self.new.knows }
+        ensures same { live.new ≡ live.old }
+        ensures page { IfOk result (IsPageRead (volume_pinned self.old.knows) live.old.query
+            order.entry.by.now order.entry.descending order.entry.most cursor.old cursor.new
+            nodes.new.items) }
+        ensures err { IfErr result (IsNoPage (volume_pinned self.old.knows) live.old.query
+            order.entry.by.now order.entry.descending order.entry.most cursor.old) }
+        ensures kept { OnErr result ((cursor.new ≡ cursor.old) × (nodes.new.items ≡ [])) }
+    {
+        let mut position = cursor.position(kind)?;
+        let more = self.page_after(live, order, &mut position, nodes)?;
+        cursor.move_to(kind, &position, nodes.len());
+        Ok(more)
+    }
+
+    /// Puts a page of a live query's answer in the order of an index into a list, in place of what
+    /// it had, and moves the cursor to its last node. Returns whether there are more.
+    ///
+    /// Errors, in this order: NotPinned; NoRoom if no node is wanted; NoSuchIndex; BadCursor if the
+    /// cursor is of another kind than the index, or its key has not 8 to 264 bytes; and those of
+    /// the query. They leave the cursor as it was, and the list is empty.
+    pub fn ordered(
+        &mut self,
+        live: &mut Live,
+        order: HeldOrder<'_>,
+        cursor: &mut Cursor,
+        nodes: &mut Vec<u64>,
+    ) -> Result<bool, Fault>
+        ensures store { (self.new.store ≡ self.old.store) × (self.new.spare ≡ self.old.spare) }
+        ensures read { HasRead self.old.knows self.new.knows }
+        ensures same { live.new ≡ live.old }
+        ensures pin { IfOk result (λ more. (n : ℕ) × IsPinnedTo self.old.knows n) }
+        ensures page { IfOk result (IsPageRead (volume_pinned self.old.knows) live.old.query
+            (name_in order.entry.by.now) order.entry.descending order.entry.most cursor.old
+            cursor.new nodes.new.items) }
+        ensures err { IfErr result (λ e. IsUnread (pinned_number self.old.knows.phase)
+            (IsNoPage (volume_pinned self.old.knows) live.old.query (name_in order.entry.by.now)
+            order.entry.descending order.entry.most cursor.old e) e) }
+        ensures kept { OnErr result ((cursor.new ≡ cursor.old) × (nodes.new.items ≡ [])) }
+    {
+        nodes.clear();
+        let Some(_) = self.pass.pinned() else {
+            return Err(Fault::NotPinned);
+        };
+        if order.most == 0 {
+            return Err(Fault::NoRoom);
+        }
+        let by = index_name(order.by)?;
+        let Some(kind) = self.shared.store().index_kind(&mut self.pass, &by) else {
+            return Err(Fault::Refused(Refusal::NoSuchIndex));
+        };
+        let wanted = Order {
+            by: &by,
+            descending: order.descending,
+            most: order.most,
+        };
+        self.page_by(live, kind, wanted, cursor, nodes)
+    }
+
+    /// Puts the nodes of a live query's answer from a number on into a list, ascending, up to
+    /// `most` of them, in place of what it had. NotPinned; NoRoom if no node is wanted; and the
+    /// errors of the query. After an error the list is empty.
+    pub fn first(
+        &mut self,
+        live: &mut Live,
+        first: u64,
+        most: usize,
+        nodes: &mut Vec<u64>,
+    ) -> Result<(), Fault>
+        ensures store { (self.new.store ≡ self.old.store) × (self.new.spare ≡ self.old.spare) }
+        ensures read { HasRead self.old.knows self.new.knows }
+        ensures same { live.new ≡ live.old }
+        ensures pin { OnOk result ((n : ℕ) × IsPinnedTo self.old.knows n) }
+        ensures wanted { OnOk result (1 ≤ most) }
+        ensures nodes { OnOk result (from_number (volume_pinned self.old.knows) live.old.query first
+            most ≡ Ok nodes.new.items) }
+        ensures err { IfErr result (λ e. IsUnread (pinned_number self.old.knows.phase)
+            (AreUnread (from_number (volume_pinned self.old.knows) live.old.query first most) most
+            e) e) }
+        ensures kept { OnErr result (nodes.new.items ≡ []) }
+    {
+        nodes.clear();
+        let Some(_) = self.pass.pinned() else {
+            return Err(Fault::NotPinned);
+        };
+        if most == 0 {
+            return Err(Fault::NoRoom);
+        }
+        match live.first(self.shared.store(), &mut self.pass, first, most, nodes) {
+            Ok(()) => Ok(()),
+            Err(refusal) => {
+                nodes.clear();
+                Err(Fault::Refused(refusal))
+            }
+        }
+    }
+
+    /// Puts any nodes of a live query's answer into a list, in place of what it had: none twice,
+    /// `most` of them or as many as there are. NotPinned; NoRoom if no node is wanted; and the
+    /// errors of the query. After an error the list is empty.
+    pub fn any(&mut self, live: &mut Live, most: usize, nodes: &mut Vec<u64>) -> Result<(), Fault>
+        ensures store { (self.new.store ≡ self.old.store) × (self.new.spare ≡ self.old.spare) }
+        ensures read { HasRead self.old.knows self.new.knows }
+        ensures same { live.new ≡ live.old }
+        ensures pin { OnOk result ((n : ℕ) × IsPinnedTo self.old.knows n) }
+        ensures wanted { OnOk result (1 ≤ most) }
+        ensures nodes { OnOk result (IsAnyOf (scan (volume_pinned self.old.knows) live.old.query)
+            most nodes.new.items) }
+        ensures err { IfErr result (λ e. IsUnread (pinned_number self.old.knows.phase)
+            (AreUnread (scan (volume_pinned self.old.knows) live.old.query) most e) e) }
+        ensures kept { OnErr result (nodes.new.items ≡ []) }
+    {
+        nodes.clear();
+        let Some(_) = self.pass.pinned() else {
+            return Err(Fault::NotPinned);
+        };
+        if most == 0 {
+            return Err(Fault::NoRoom);
+        }
+        match live.any(self.shared.store(), &mut self.pass, most, nodes) {
+            Ok(()) => Ok(()),
+            Err(refusal) => {
+                nodes.clear();
+                Err(Fault::Refused(refusal))
+            }
+        }
+    }
+
+    /// Returns what `refresh` does, by what was written since the last refresh, as the live query's
+    /// own `refresh_changed`. It makes a lock and an unlock, or no move. An error leaves the query
+    /// as it was.
+    ///
+    /// As with `join`, its caller has to know that the last refresh was one of this store.
+    pub fn refresh_changed(&mut self, live: &mut Live) -> Result<Updates, Fault>
+        requires own { IsLiveOf self.old.store live.old }
+        ensures store { (self.new.store ≡ self.old.store) × (self.new.spare ≡ self.old.spare) }
+        ensures learns { Learns self.old.knows self.new.knows }
+        ensures moves { LocksAtMostOnce self.old.knows self.new.knows }
+        ensures volume { volume_pinned self.new.knows ≡ volume_pinned self.old.knows }
+        ensures own { IsLiveOf self.old.store live.new }
+        ensures ok { IfOk result (λ u. Refreshes (volume_pinned self.old.knows) live.old live.new
+            u.created.items u.removed.items) }
+        ensures pin { IfOk result (λ u. (n : ℕ) × IsPinnedTo self.old.knows n) }
+        ensures err { IfErr result (λ e. (live.new ≡ live.old)
+            × IsUnrefreshed (pinned_number self.old.knows.phase)
+            (scan (volume_pinned self.old.knows) live.old.query) e) }
+    {
+        let Some(_) = self.pass.pinned() else {
+            return Err(Fault::NotPinned);
+        };
+        Ok(live.refresh_changed(self.shared.store(), &mut self.pass)?)
+    }
+}

@@ -1,0 +1,139 @@
+//! Answers of prepared queries a part at a time, and refreshes by what was written.
+ghost use Rattle.std.specs.Prelude.{◌≡◌, ◌⊎◌, IfErr, OnOk, length};
+ghost use Rattle.be_paged_reading.specs.Cells.{name_in};
+ghost use Rattle.be_store.specs.Live.{IsLiveOf};
+ghost use Rattle.be_store.specs.Passes.{HasRead};
+ghost use Rattle.bestore_c.specs.Calls.{Refuses};
+ghost use Rattle.bestore_c.specs.Ordering.{AnyFew, First, Ordered, RefreshedByWrites, more_in};
+ghost use Rattle.bestore_c.specs.Places.{over};
+
+use crate::handle::UpdateCounts;
+use crate::places::put;
+use crate::refusing::refuse;
+use be_session::{Cursor, Fault, HeldOrder, Prepared, Session};
+
+/// Writes how many nodes a prepared query has found, and as many of them as there is room for; or
+/// the number that the error carries.
+fn tell_found(
+    answer: Result<(), Fault>,
+    prepared: &Prepared,
+    nodes: &mut [u64],
+    count: &mut u64,
+) -> u32
+    ensures found { OnOk answer ((result ≡ 0) × (count.new ≡ length prepared.now.found)
+        × (nodes.new ≡ over prepared.now.found nodes.old)) }
+    ensures refused { IfErr answer (λ e. Refuses e count.new result) }
+    ensures kept { (result ≡ 0) ⊎ (nodes.new ≡ nodes.old) }
+{
+    match answer {
+        Ok(()) => {
+            let found = prepared.found();
+            *count = found.len() as u64;
+            put(nodes, found);
+            0
+        }
+        Err(fault) => refuse(fault, count),
+    }
+}
+
+/// 1 if there are more nodes, otherwise 0.
+fn number_of(others: bool) -> u32
+    ensures { result ≡ more_in others }
+{
+    if others { 1 } else { 0 }
+}
+
+/// Asks a prepared query in the session's pinned version for a page in the order of an index: as
+/// many nodes as there is room for. Writes them, how many they are, and whether there are more, and
+/// moves the cursor to the last of them.
+pub(crate) fn find_ordered(
+    session: &mut Session,
+    prepared: &mut Prepared,
+    order: HeldOrder<'_>,
+    cursor: &mut Cursor,
+    nodes: &mut [u64],
+    count: &mut u64,
+    more: &mut u32,
+) -> u32
+    requires most { order.most ≡ length nodes.old }
+    ensures store { (session.new.store ≡ session.old.store)
+        × (session.new.spare ≡ session.old.spare) }
+    ensures read { HasRead session.old.knows session.new.knows }
+    ensures asked { Ordered session.old prepared.old prepared.new (name_in order.entry.by.now)
+        order.entry.descending cursor.old cursor.new nodes.old nodes.new count.new more.new result }
+    ensures kept { (result ≡ 0) ⊎ ((nodes.new ≡ nodes.old) × (more.new ≡ more.old)
+        × (cursor.new ≡ cursor.old)) }
+{
+    match prepared.find_ordered(session, order, cursor) {
+        Ok(others) => {
+            *more = number_of(others);
+            tell_found(Ok(()), prepared, nodes, count)
+        }
+        Err(fault) => refuse(fault, count),
+    }
+}
+
+/// Asks a prepared query in the session's pinned version for its nodes from a number on, as many as
+/// there is room for, and writes them.
+pub(crate) fn find_first(
+    session: &mut Session,
+    prepared: &mut Prepared,
+    from: u64,
+    nodes: &mut [u64],
+    count: &mut u64,
+) -> u32
+    ensures store { (session.new.store ≡ session.old.store)
+        × (session.new.spare ≡ session.old.spare) }
+    ensures read { HasRead session.old.knows session.new.knows }
+    ensures asked { First session.old prepared.old prepared.new from nodes.old nodes.new count.new
+        result }
+    ensures kept { (result ≡ 0) ⊎ (nodes.new ≡ nodes.old) }
+{
+    let answer = prepared.find_first(session, from, nodes.len());
+    tell_found(answer, prepared, nodes, count)
+}
+
+/// Asks a prepared query in the session's pinned version for any of its nodes, as many as there is
+/// room for, and writes them.
+pub(crate) fn find_any(
+    session: &mut Session,
+    prepared: &mut Prepared,
+    nodes: &mut [u64],
+    count: &mut u64,
+) -> u32
+    ensures store { (session.new.store ≡ session.old.store)
+        × (session.new.spare ≡ session.old.spare) }
+    ensures read { HasRead session.old.knows session.new.knows }
+    ensures asked { AnyFew session.old prepared.old prepared.new nodes.old nodes.new count.new
+        result }
+    ensures kept { (result ≡ 0) ⊎ (nodes.new ≡ nodes.old) }
+{
+    let answer = prepared.find_any(session, nodes.len());
+    tell_found(answer, prepared, nodes, count)
+}
+
+/// Refreshes a prepared query in the session's pinned version by what was written since its last
+/// refresh, which was one of the session's store. Writes how many nodes came and how many went.
+pub(crate) fn refresh_changed(
+    session: &mut Session,
+    prepared: &mut Prepared,
+    counts: &mut UpdateCounts,
+) -> u32
+    requires own { IsLiveOf session.old.store prepared.old.live }
+    ensures store { (session.new.store ≡ session.old.store)
+        × (session.new.spare ≡ session.old.spare) }
+    ensures refreshed { RefreshedByWrites session.old session.new prepared.old prepared.new
+        counts.new result }
+    ensures kept { (result ≡ 0) ⊎ ((counts.new ≡ counts.old) × (prepared.new ≡ prepared.old)) }
+{
+    match prepared.refresh_changed(session) {
+        Ok(()) => {
+            *counts = UpdateCounts {
+                created: prepared.created().len() as u64,
+                removed: prepared.removed().len() as u64,
+            };
+            0
+        }
+        Err(fault) => fault.code(),
+    }
+}
