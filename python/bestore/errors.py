@@ -4,7 +4,7 @@ from __future__ import annotations
 
 import enum
 import unicodedata
-from typing import ClassVar, Dict, Optional, Sequence, Tuple, Type
+from typing import ClassVar, Dict, Iterable, Optional, Sequence, Tuple, Type
 
 
 class ErrorNumber(enum.IntEnum):
@@ -47,6 +47,8 @@ class ErrorNumber(enum.IntEnum):
     NO_ITEM = 75
     CONFLICT = 76
     IN_USE = 77
+    BAD_CURSOR = 78
+    NO_ROOM = 79
 
 
 class Error(Exception):
@@ -350,7 +352,22 @@ class NoAttribute(Refusal, KeyError, number=ErrorNumber.NO_ATTRIBUTE, meaning="n
 
 class TooManyAttributes(Refusal, number=ErrorNumber.TOO_MANY_ATTRS, meaning="too many attributes"): ...
 class IndexExists(Refusal, number=ErrorNumber.INDEX_EXISTS, meaning="the index exists"): ...
-class NoIndex(Refusal, number=ErrorNumber.NO_INDEX, meaning="no such index"): ...
+
+
+class NoIndex(Refusal, number=ErrorNumber.NO_INDEX, meaning="no such index"):
+    name: Optional[str] = None
+    """The name that has no index, if that is known."""
+    indices: Tuple[str, ...] = ()
+    """The names that have one, if `name` is known."""
+
+    @property
+    def summary(self) -> str:
+        if self.name is None:
+            return self.meaning
+        names = ", ".join(f'"{name}"' for name in self.indices)
+        return f'there is no index "{self.name}"; ' + (f"indices: {names}" if names else "there are no indices")
+
+
 class TooManyIndices(Refusal, number=ErrorNumber.TOO_MANY_INDICES, meaning="too many indices"): ...
 class NotIndexable(Refusal, number=ErrorNumber.NOT_INDEXABLE, meaning="no index may have this kind"): ...
 class CommitsSpent(Refusal, number=ErrorNumber.COMMITS_SPENT, meaning="the journal is at its limit"): ...
@@ -417,6 +434,24 @@ class QueryNotUTF8(_AtPlace, NotUTF8):
     meaning = "the query's text has no UTF-8"
 
 
+class BadCursor(Refusal, ValueError, number=ErrorNumber.BAD_CURSOR, meaning="the cursor doesn't fit the index"):
+    reason: Optional[str] = None
+    """Why no page can begin there, if that is known."""
+
+    @property
+    def summary(self) -> str:
+        return self.meaning if self.reason is None else self.reason
+
+
+class NoRoom(Refusal, ValueError, number=ErrorNumber.NO_ROOM, meaning="a page has at least one node"):
+    limit: Optional[int] = None
+    """How many nodes were asked for."""
+
+    @property
+    def summary(self) -> str:
+        return self.meaning if self.limit is None else f"{self.meaning}, and {self.limit} are asked for"
+
+
 class Conflict(Refusal, number=ErrorNumber.CONFLICT, meaning="the journal has another length"):
     expected: Optional[int] = None
     """How many entries the journal should have had."""
@@ -429,6 +464,27 @@ class Conflict(Refusal, number=ErrorNumber.CONFLICT, meaning="the journal has an
     @property
     def summary(self) -> str:
         return f"{self.meaning}: {self.found} entries, and not {self.expected}"
+
+
+def no_index(name: str, indices: Iterable[str]) -> NoIndex:
+    """The error of an order by a name without an index, where there are these."""
+    error = NoIndex()
+    error.name, error.indices = name, tuple(indices)
+    return error
+
+
+def bad_cursor(reason: str) -> BadCursor:
+    """The error of a cursor from which no page can go on."""
+    error = BadCursor()
+    error.reason = reason
+    return error
+
+
+def no_room(limit: int) -> NoRoom:
+    """The error of a page for so few nodes."""
+    error = NoRoom()
+    error.limit = limit
+    return error
 
 
 def encoded(text: str) -> bytes:

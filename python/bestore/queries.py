@@ -12,6 +12,7 @@ from ._library import calls, check
 from .errors import Closed, encoded, encoded_query
 from .handles import PREPARED, HandleOwner
 from .language import Comparison, comparisons
+from .pages import check_of
 from .values import Kind, encode_value
 
 
@@ -65,6 +66,7 @@ class Prepared(HandleOwner):
         self._refreshing = threading.RLock()  # who has it refreshes the query, and it guards what follows
         self._is_in_library = False  # whether the library has the nodes of the last refresh
         self._seen: Optional[Set[int]] = None  # these nodes, if the last refresh was in a version of a server
+        self._known_check: Optional[int] = None  # of cursors
 
     def close(self) -> None:
         """Gives the query up, if it is still there."""
@@ -81,6 +83,13 @@ class Prepared(HandleOwner):
             if count.value <= room:
                 return written.raw[:count.value].decode()
             room = count.value
+
+    @property
+    def _check(self) -> int:
+        """What cursors of this query keep of it."""
+        if self._known_check is None:
+            self._known_check = check_of(self.text)
+        return self._known_check
 
     def _asked_text(self) -> str:
         """The text by which a server is asked. `Closed` if the query is closed."""

@@ -8,13 +8,15 @@ from bisect import bisect_left
 from types import TracebackType
 from typing import ClassVar, Dict, Iterable, Iterator, List, Literal, Mapping, Optional, Tuple, Type, TypeVar, Union, overload
 
-from .errors import NoAttribute, NoIndex, NoNode, NotCovered, NoVolume
+from .errors import NoAttribute, NoNode, NotCovered, NoVolume, no_index, no_room
 from .language import Hint, comparisons, hint
 from .operations import Batch
+from .pages import After, Cursor, Order, Page, cursor_of, decode_key, encode_key
 from .queries import Item, Name, Operator, Prepared, prepare
 from .values import RANGES, Kind, Typed, Value
 
 _Self = TypeVar("_Self", bound="Version")
+Asked = Union[str, Prepared]  # a query by its text or prepared
 Query = Union[str, Prepared, Tuple[Item, ...]]  # as it was asked
 Row = Tuple[int, List[Optional[Value]]]
 """A node, and values of its attributes."""
@@ -115,10 +117,90 @@ class Version(ABC):
         """The error of a query that needs another index."""
         return not_covered(asked, self.indices())
 
-    def query(self, text: str) -> List[int]:
+    def _first_of(self, asked: Query, start: int, limit: int) -> List[int]:
+        """The first so many nodes that meet a query, from the number `start` on."""
+        nodes = self._nodes_of(asked)
+        begin = bisect_left(nodes, start)
+        return nodes[begin:begin + limit]
+
+    def _any_of(self, asked: Query, limit: int) -> List[int]:
+        """Any so many nodes that meet a query."""
+        return self._nodes_of(asked)[:limit]
+
+    def _page_of(self, asked: Asked, order: Order, after: Optional[Cursor], limit: Optional[int]) -> Page[int]:
+        """A page in an order, of all nodes if no limit is given. Here it is cut from the whole answer; a store that walks an index
+        overrides it."""
+        if isinstance(asked, str):
+            with prepare(asked) as prepared:
+                return self._page_of(prepared, order, after, limit)
+        if after is None:
+            after = Cursor(order, asked._check)
+        after.check_fits(order, asked._check)
+        kind = self._order_kind(order.by)
+        if after.kind not in (None, kind):
+            raise after.of_other_kind(kind)
+        keys = self._keys_of(asked, order, kind)
+        rest = [key for key in keys if after.kind is None or (key < after.key if order.descending else key > after.key)]
+        page = rest if limit is None else rest[:limit]
+        cursor = Cursor.of_key(order, asked._check, kind, page[-1]) if page else after
+        return Page([decode_key(kind, key)[1] for key in page], len(page) < len(rest), cursor)
+
+    def _order_kind(self, name: str) -> Kind:
+        """The kind of the index that an order is by. `NoIndex` if there is none."""
+        indices = self.indices()
+        if name not in indices:
+            raise no_index(name, indices)
+        return indices[name]
+
+    def _keys_of(self, asked: Query, order: Order, kind: Kind) -> List[bytes]:
+        """The keys that the nodes of a query have in an index, in the order."""
+        indexed = set(self._nodes_of(self._all_in(order.by, kind)))
+        nodes = [node for node in self._nodes_of(asked) if node in indexed]
+        found = zip(nodes, self.column(nodes, order.by))
+        return sorted((encode_key(kind, value, node) for node, value in found if value is not None), reverse=order.descending)
+
+    def _part_of(self, asked: Asked, *, by: Optional[str] = None, descending: bool = False, limit: Optional[int] = None,
+                 after: After = None, start: int = 0) -> List[int]:
+        """What `query` returns of a query by its text or prepared."""
+        if limit is not None and operator.index(limit) < 1:
+            raise no_room(limit)
+        if by is not None:
+            if start:
+                raise TypeError("start is a number of a node, and an order goes on from a cursor: after=page.cursor")
+            return self._page_of(asked, Order(by, bool(descending)), cursor_of(after), limit)
+        if descending or after is not None:
+            raise TypeError('an order needs the name of an index, as by="size"')
+        if limit is None and start <= 0:
+            return self._nodes_of(asked)
+        return self._first_of(asked, max(operator.index(start), 0), 2**64 if limit is None else limit)
+
+    @overload
+    def query(self, text: str) -> List[int]: ...
+
+    @overload
+    def query(self, text: str, *, by: str, descending: bool = ..., limit: Optional[int] = ..., after: After = ...) -> Page[int]: ...
+
+    @overload
+    def query(self, text: str, *, limit: Optional[int] = ..., start: int = ...) -> List[int]: ...
+
+    def query(self, text: str, *, by: Optional[str] = None, descending: bool = False, limit: Optional[int] = None,
+              after: After = None, start: int = 0) -> List[int]:
         """The nodes that meet the query, ascending. A `QueryError` if the text is no query, or `NotCovered` if it
-        needs another index. Takes the time to parse the text, and to read the part of the indices that it needs."""
-        return self._nodes_of(text)
+        needs another index. Takes the time to parse the text, and to read the part of the indices that it needs.
+
+        With `limit` it has the first so many from the number `start` on. With `by` it is a `Page`: the nodes in the order of the
+        values that the index of this name has, and by number where these are equal; `descending` is the exact reverse. Nodes
+        without a value in that index aren't in it. `after` is the cursor of another page of the same query and order, which this
+        one goes on from. A page takes less time than the whole answer. `NoIndex`, `BadCursor` or `NoRoom` if there is no such
+        page."""
+        return self._part_of(text, by=by, descending=descending, limit=limit, after=after, start=start)
+
+    def any(self, query: Asked, limit: int) -> List[int]:
+        """Any `limit` of the nodes that meet the query, or all if there are fewer, in no order. Takes less time than `query` where
+        the answer is large: as for one of the jobs that nobody has taken."""
+        if operator.index(limit) < 1:
+            raise no_room(limit)
+        return self._any_of(query, limit)
 
     def query_items(self, *items: Item) -> List[int]:
         """The nodes that meet the query which items in reverse Polish order build: names, texts, numbers and operators.
@@ -128,9 +210,20 @@ class Version(ABC):
         """
         return self._nodes_of(items)
 
-    def query_prepared(self, prepared: Prepared) -> List[int]:
-        """The nodes that meet a prepared query, ascending. What its last refresh returned stays."""
-        return self._nodes_of(prepared)
+    @overload
+    def query_prepared(self, prepared: Prepared) -> List[int]: ...
+
+    @overload
+    def query_prepared(self, prepared: Prepared, *, by: str, descending: bool = ..., limit: Optional[int] = ...,
+                       after: After = ...) -> Page[int]: ...
+
+    @overload
+    def query_prepared(self, prepared: Prepared, *, limit: Optional[int] = ..., start: int = ...) -> List[int]: ...
+
+    def query_prepared(self, prepared: Prepared, *, by: Optional[str] = None, descending: bool = False,
+                       limit: Optional[int] = None, after: After = None, start: int = 0) -> List[int]:
+        """The nodes that meet a prepared query, as `query` returns them. What its last refresh returned stays."""
+        return self._part_of(prepared, by=by, descending=descending, limit=limit, after=after, start=start)
 
     def count(self, query: Union[str, Prepared]) -> int:
         """How many nodes meet the query, by its text or prepared. Takes what the query takes, but no list."""
@@ -145,10 +238,7 @@ class Version(ABC):
     def pairs(self, name: str) -> int:
         """How many pairs of a value and a node the index of this name has. `NoIndex` if there is none. Takes the
         time to read the whole index."""
-        kind = self.indices().get(name)
-        if kind is None:
-            raise NoIndex()
-        return self._count_of(self._all_in(name, kind))
+        return self._count_of(self._all_in(name, self._order_kind(name)))
 
     def hints(self, query: Union[str, Prepared]) -> List[Hint]:
         """The comparisons of a query that are never true, because their value is no number of the kind that the
@@ -237,20 +327,41 @@ class Version(ABC):
         read = list(nodes)
         return [self.column(read, name) for name in names]
 
-    def rows(self, query: Union[str, Prepared], names: Iterable[str], first: int = 0, most: int = 1024) -> List[Row]:
+    @overload
+    def rows(self, query: Asked, names: Iterable[str], first: int = ..., most: int = ...) -> List[Row]: ...
+
+    @overload
+    def rows(self, query: Asked, names: Iterable[str], *, most: int = ..., by: str, descending: bool = ...,
+             after: After = ...) -> Page[Row]: ...
+
+    def rows(self, query: Asked, names: Iterable[str], first: int = 0, most: int = 1024, *, by: Optional[str] = None,
+             descending: bool = False, after: After = None) -> List[Row]:
         """Nodes that meet the query, ascending and from the number `first` on, up to `most` of them, each with its attributes of
         these names: pairs of a node and a list of values, None where it has none. Takes the query and a search in a tree for each
-        value. In a version of a server it takes a round trip for some thousand rows, and no more than 64 names."""
+        value. In a version of a server it takes a round trip for some thousand rows, and no more than 64 names. With `by` it is a
+        `Page` of rows, whose nodes are those of `query` with `by`, `descending` and `after`."""
+        if by is not None:
+            if first:
+                raise TypeError("first is a number of a node, and an order goes on from a cursor: after=page.cursor")
+            if operator.index(most) < 1:
+                raise no_room(most)
+            return self._page_of_rows(query, list(names), Order(by, bool(descending)), cursor_of(after), most)
+        if descending or after is not None:
+            raise TypeError('an order needs the name of an index, as by="size"')
         if most < 0:
             raise ValueError(f"{most} rows are asked for")
         return self._rows_of(query, list(names), max(operator.index(first), 0), most)
 
-    def _rows_of(self, query: Union[str, Prepared], names: List[str], first: int, most: int) -> List[Row]:
-        nodes = self._nodes_of(query)
-        begin = bisect_left(nodes, first)
-        nodes = nodes[begin:begin + most]
+    def _rows_of(self, query: Asked, names: List[str], first: int, most: int) -> List[Row]:
+        return self._with_columns(self._first_of(query, first, most) if most else [], names)
+
+    def _page_of_rows(self, query: Asked, names: List[str], order: Order, after: Optional[Cursor], most: int) -> Page[Row]:
+        page = self._page_of(query, order, after, most)
+        return Page(self._with_columns(page, names), page.more, page.cursor)
+
+    def _with_columns(self, nodes: List[int], names: List[str]) -> List[Row]:
         found = self.columns(nodes, names)
-        return [(node, [column[place] for column in found]) for place, node in enumerate(nodes)]
+        return [(node, list(values)) for node, values in zip(nodes, zip(*found))] if names else [(node, []) for node in nodes]
 
     def __getitem__(self, node: int) -> Attributes:
         """A node's attributes, each of which is read when it is asked for."""

@@ -60,6 +60,8 @@ constants! {
     BES_NO_ITEM = 75;
     BES_CONFLICT = 76;
     BES_IN_USE = 77;
+    BES_BAD_CURSOR = 78;
+    BES_NO_ROOM = 79;
 
     BES_STRING_TYPE = 0x4353_5452;
     BES_INT32_TYPE = 0x4c4f_4e47;
@@ -175,6 +177,24 @@ pub struct bes_cell {
     pub length: u64,
 }
 
+/// A position in an order, as `bes_ordered` leaves it.
+#[repr(C)]
+#[derive(Clone, Copy, Debug, PartialEq, Eq)]
+pub struct bes_cursor {
+    pub kind: u32,
+    pub length: u32,
+    pub key: [u8; 264],
+}
+
+impl bes_cursor {
+    /// The beginning of each order.
+    pub const BEGINNING: Self = Self {
+        kind: 0,
+        length: 0,
+        key: [0; 264],
+    };
+}
+
 /// How full a store is.
 #[repr(C)]
 #[derive(Clone, Copy, Debug, Default, PartialEq, Eq)]
@@ -286,6 +306,33 @@ extern "C" {
         nodes_room: usize,
         count: *mut u64,
     ) -> u32;
+    pub fn bes_ordered(
+        pass: *mut bes_pass,
+        prepared: *mut bes_prepared,
+        by: *const bes_name,
+        descending: u32,
+        cursor: *mut bes_cursor,
+        nodes: *mut u64,
+        nodes_room: usize,
+        count: *mut u64,
+        more: *mut u32,
+    ) -> u32;
+    pub fn bes_first(
+        pass: *mut bes_pass,
+        prepared: *mut bes_prepared,
+        from: u64,
+        nodes: *mut u64,
+        nodes_room: usize,
+        count: *mut u64,
+    ) -> u32;
+    pub fn bes_any(
+        pass: *mut bes_pass,
+        prepared: *mut bes_prepared,
+        nodes: *mut u64,
+        nodes_room: usize,
+        count: *mut u64,
+    ) -> u32;
+    pub fn bes_refresh_changed(pass: *mut bes_pass, prepared: *mut bes_prepared, updates: *mut bes_updates) -> u32;
     pub fn bes_refresh(pass: *mut bes_pass, prepared: *mut bes_prepared, updates: *mut bes_updates) -> u32;
     pub fn bes_changes(
         prepared: *mut bes_prepared,

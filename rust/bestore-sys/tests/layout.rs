@@ -33,6 +33,9 @@ fn layouts() -> Vec<Layout> {
         bes_operation { kind, code, node, number, name_at, name_length, value_at, value_length }
         bes_item { kind, at, length, number }
         bes_attribute { code, length, number }
+        bes_name { length, bytes }
+        bes_cell { error, code, number, offset, length }
+        bes_cursor { kind, length, key }
         bes_usage { pages, free, retired, entries, commits, is_held, oldest, holder }
         bes_updates { created, removed }
         bes_counts { operations, bytes }

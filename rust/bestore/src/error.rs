@@ -1,7 +1,7 @@
 //! Why a call did nothing.
 
 use crate::raw::{Refused, FORKED, OPERATIONS};
-use crate::{text, Kind};
+use crate::{text, CursorFault, Kind};
 use bestore_sys as sys;
 use std::fmt;
 
@@ -27,6 +27,17 @@ pub enum Error {
     IndexExists,
     /// There is no index of this name.
     NoIndex,
+    /// There is no index of the name by which an order is.
+    NoOrder {
+        /// The name.
+        name: String,
+        /// The names that have an index.
+        indices: Vec<String>,
+    },
+    /// No page can go on from the cursor.
+    BadCursor(CursorFault),
+    /// A page has at least one node.
+    NoRoom,
     /// There are 32 indices already.
     TooManyIndices,
     /// No index may have this kind.
@@ -153,7 +164,7 @@ impl Error {
             Error::Query(QueryError { fault, .. }) if fault != QueryFault::NotCovered => self,
             Error::NoNode | Error::NoAttribute | Error::NotIndexable | Error::Forked | Error::BadCount { .. } => self,
             Error::NameLength { .. } | Error::DataLength { .. } | Error::HasNul { .. } => self,
-            Error::InVolume { .. } => self,
+            Error::BadCursor(_) | Error::NoRoom | Error::InVolume { .. } => self,
             error => Error::InVolume {
                 volume,
                 error: Box::new(error),
@@ -188,7 +199,9 @@ impl Error {
             Error::NoAttribute => sys::BES_NO_ATTRIBUTE,
             Error::TooManyAttributes => sys::BES_TOO_MANY_ATTRS,
             Error::IndexExists => sys::BES_INDEX_EXISTS,
-            Error::NoIndex => sys::BES_NO_INDEX,
+            Error::NoIndex | Error::NoOrder { .. } => sys::BES_NO_INDEX,
+            Error::BadCursor(_) => sys::BES_BAD_CURSOR,
+            Error::NoRoom => sys::BES_NO_ROOM,
             Error::TooManyIndices => sys::BES_TOO_MANY_INDICES,
             Error::NotIndexable => sys::BES_NOT_INDEXABLE,
             Error::CommitsSpent => sys::BES_COMMITS_SPENT,
@@ -212,6 +225,14 @@ impl Error {
             #[cfg(feature = "saved")]
             Error::NotSaved(_) | Error::Stopped(_) => return None,
         })
+    }
+
+    /// The error of an order by a name without an index, where there are these.
+    pub(crate) fn no_order(name: &str, indices: Vec<(String, Kind)>) -> Self {
+        Error::NoOrder {
+            name: name.into(),
+            indices: indices.into_iter().map(|(name, _)| name).collect(),
+        }
     }
 
     pub(crate) fn of_query(refused: Refused, text: impl FnOnce() -> String) -> Self {
@@ -292,6 +313,8 @@ impl From<Refused> for Error {
             sys::BES_BAD_LIMITS => Error::BadLimits,
             sys::BES_NO_PASS => Error::NoPass,
             sys::BES_IN_USE => Error::InUse,
+            sys::BES_BAD_CURSOR => Error::BadCursor(CursorFault::Text),
+            sys::BES_NO_ROOM => Error::NoRoom,
             FORKED => Error::Forked,
             code => Error::Unexpected {
                 code,
@@ -326,6 +349,7 @@ impl Error {
             Error::InUse => "another pass is open",
             Error::OtherStore => "the witness is of another store",
             Error::Forked => "the handle belongs to the parent of this process",
+            Error::NoRoom => "a page has at least one node, and none is asked for",
             Error::NodesSpent => "the next node is too great for a volume of a shelf",
             _ => "unknown error",
         }
@@ -382,8 +406,23 @@ impl Error {
                 let what = "an index is made in all volumes, and not beside other operations";
                 at_operation(f, what, Some(*operation))
             }
+            Error::NoOrder { name, indices } => {
+                write!(f, "there is no index {name:?}; {}", listed(indices))
+            }
+            Error::BadCursor(fault) => write!(f, "{fault}"),
             Error::InVolume { volume, error } => write!(f, "volume {volume}: {error}"),
             _ => f.write_str(self.plain()),
+        }
+    }
+}
+
+/// The names of the indices that there are.
+fn listed(indices: &[String]) -> String {
+    match indices {
+        [] => "there are no indices".into(),
+        names => {
+            let names: Vec<_> = names.iter().map(|name| format!("{name:?}")).collect();
+            format!("indices: {}", names.join(", "))
         }
     }
 }
@@ -547,7 +586,7 @@ mod tests {
 
     #[test]
     fn each_code_leads_to_its_error_and_back() {
-        for (name, code) in sys::CONSTANTS.iter().skip(2).take(36) {
+        for (name, code) in sys::CONSTANTS.iter().skip(2).take(38) {
             let error = Error::of_write(
                 match Error::of_query(refused(*code, 7), String::new) {
                     Error::Query(error) => {

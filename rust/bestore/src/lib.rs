@@ -66,9 +66,11 @@
 mod batch;
 mod bytes;
 mod change;
+mod cursor;
 mod error;
 mod hints;
 mod journal;
+mod page;
 mod pass;
 mod predicate;
 mod prepared;
@@ -83,9 +85,11 @@ mod value;
 
 pub use batch::{Batch, Operation, Operations};
 pub use change::Change;
+pub use cursor::{Cursor, CursorFault, Order};
 pub use error::{Error, QueryError, QueryFault, Result};
 pub use hints::{hints, Hint};
 pub use journal::{Entries, Entry};
+pub use page::{Ordered, Page};
 pub use pass::{Keeper, Oldest, Pass, Retry, Status, Witness, Written};
 pub use predicate::{attribute, Attribute, Operand, Predicate};
 pub use prepared::{Live, Prepared, Updates};

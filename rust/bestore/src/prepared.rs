@@ -1,7 +1,9 @@
 //! Queries that are parsed once.
 
-use crate::raw::RawPrepared;
+use crate::cursor::crc32;
+use crate::raw::{RawPass, RawPrepared, RawUpdates};
 use crate::{Error, Result, Snapshot};
+use std::cell::Cell;
 use std::fmt;
 
 /// A query that was parsed once, or built by [`Predicate::prepare`](crate::Predicate::prepare). It belongs to no store, and any
@@ -14,7 +16,11 @@ use std::fmt;
 /// # Ok::<(), bestore::Error>(())
 /// ```
 #[derive(Debug)]
-pub struct Prepared(RawPrepared);
+pub struct Prepared {
+    raw: RawPrepared,
+    /// The CRC-32 of the canonical text, once it was asked for.
+    check: Cell<Option<u32>>,
+}
 
 impl Prepared {
     /// Parses the query.
@@ -23,13 +29,16 @@ impl Prepared {
     /// [`Error::Query`], [`Error::OutOfMemory`].
     pub fn new(text: &str) -> Result<Self> {
         match RawPrepared::parse(text) {
-            Ok(prepared) => Ok(Self(prepared)),
+            Ok(prepared) => Ok(Self::of_raw(prepared)),
             Err(refused) => Err(Error::of_query(refused, || text.into())),
         }
     }
 
     pub(crate) fn of_raw(raw: RawPrepared) -> Self {
-        Self(raw)
+        Self {
+            raw,
+            check: Cell::new(None),
+        }
     }
 
     /// The canonical text of the query.
@@ -37,15 +46,27 @@ impl Prepared {
     /// # Errors
     /// [`Error::OutOfMemory`], [`Error::Forked`].
     pub fn text(&self) -> Result<String> {
-        Ok(String::from_utf8_lossy(&self.0.text()?).into_owned())
+        Ok(String::from_utf8_lossy(&self.raw.text()?).into_owned())
     }
 
     pub(crate) fn text_or_empty(&self) -> String {
         self.text().unwrap_or_default()
     }
 
+    /// What cursors of this query keep of it.
+    pub(crate) fn check(&self) -> Result<u32> {
+        match self.check.get() {
+            Some(check) => Ok(check),
+            None => {
+                let check = crc32(&self.raw.text()?);
+                self.check.set(Some(check));
+                Ok(check)
+            }
+        }
+    }
+
     pub(crate) fn raw(&self) -> &RawPrepared {
-        &self.0
+        &self.raw
     }
 }
 
@@ -59,7 +80,7 @@ impl std::str::FromStr for Prepared {
 
 impl From<Prepared> for Live {
     fn from(prepared: Prepared) -> Self {
-        Self(prepared)
+        Self { prepared, store: None }
     }
 }
 
@@ -94,7 +115,11 @@ pub struct Updates {
 /// # Ok::<(), bestore::Error>(())
 /// ```
 #[derive(Debug)]
-pub struct Live(Prepared);
+pub struct Live {
+    prepared: Prepared,
+    /// The store of the last refresh, by the number that a pass of it has.
+    store: Option<u64>,
+}
 
 impl Live {
     /// Parses the query.
@@ -102,7 +127,7 @@ impl Live {
     /// # Errors
     /// [`Error::Query`], [`Error::OutOfMemory`].
     pub fn new(text: &str) -> Result<Self> {
-        Prepared::new(text).map(Self)
+        Prepared::new(text).map(Self::from)
     }
 
     /// Asks the query, and compares with its answer at the last refresh. Snapshots of one store, or of another to which its
@@ -111,15 +136,41 @@ impl Live {
     /// # Errors
     /// As [`Snapshot::query`]. The query stays as it was.
     pub fn refresh(&mut self, snapshot: &Snapshot<'_>) -> Result<Updates> {
-        match snapshot.pass().raw().refresh(self.0.raw()) {
-            Ok((created, removed)) => Ok(Updates { created, removed }),
-            Err(refused) => Err(snapshot.query_error(refused, || self.0.text_or_empty())),
+        self.refresh_by(snapshot, RawPass::refresh)
+    }
+
+    /// Returns what [`refresh`](Self::refresh) does. It asks the query only of the nodes that were written since the last refresh,
+    /// and takes less time where the answer is large and little was written. It reads the journal's entries since then, and other
+    /// passes get [`Error::Busy`] meanwhile. After many writes it asks the whole query.
+    ///
+    /// # Errors
+    /// As `refresh`.
+    pub fn refresh_changed(&mut self, snapshot: &Snapshot<'_>) -> Result<Updates> {
+        // The library reads the entries of the last refresh in this store.
+        match self.store == Some(snapshot.pass().raw().store()) {
+            true => self.refresh_by(snapshot, RawPass::refresh_changed),
+            false => self.refresh(snapshot),
+        }
+    }
+
+    fn refresh_by(
+        &mut self,
+        snapshot: &Snapshot<'_>,
+        call: impl Fn(&RawPass, &RawPrepared) -> RawUpdates,
+    ) -> Result<Updates> {
+        let pass = snapshot.pass().raw();
+        match call(pass, self.prepared.raw()) {
+            Ok((created, removed)) => {
+                self.store = Some(pass.store());
+                Ok(Updates { created, removed })
+            }
+            Err(refused) => Err(snapshot.query_error(refused, || self.prepared.text_or_empty())),
         }
     }
 
     /// The query, to ask it without a refresh.
     #[must_use]
     pub fn prepared(&self) -> &Prepared {
-        &self.0
+        &self.prepared
     }
 }

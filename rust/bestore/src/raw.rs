@@ -5,17 +5,19 @@
 //! - a handle takes one call at a time: `Handle` isn't `Sync`, and no call of the library calls back;
 //! - a slice has a pointer that isn't null, even with a length of 0;
 //! - of a list the library writes as many items as it counts, up to the room that it is given;
-//! - a pass and a witness have the number of their store, and are joined only if it is the same.
+//! - a pass and a witness have the number of their store, and are joined only if it is the same;
+//! - a `Live` has the number of the store of its last refresh, and is refreshed by what changed only in that one.
 #![allow(unsafe_code)]
 #![deny(unsafe_op_in_unsafe_fn)]
 
+use crate::Order;
 use bestore_sys as sys;
 use std::cell::Cell;
 use std::marker::PhantomData;
 use std::ptr::NonNull;
 use std::sync::atomic::{AtomicU64, Ordering};
 use std::sync::Once;
-use sys::{bes_counts, bes_operation, bes_pass, bes_place, bes_prepared, bes_witness};
+use sys::{bes_counts, bes_cursor, bes_operation, bes_pass, bes_place, bes_prepared, bes_updates, bes_witness};
 
 /// The code of a call in a forked child, which no call of the library returns.
 pub(crate) const FORKED: u32 = u32::MAX;
@@ -32,6 +34,9 @@ pub(crate) struct Refused {
 }
 
 pub(crate) type Answer<T> = Result<T, Refused>;
+
+/// The nodes that came and those that went.
+pub(crate) type RawUpdates = Answer<(Vec<u64>, Vec<u64>)>;
 
 /// Operations with the bytes of their names and values.
 #[derive(Clone, Debug, Default)]
@@ -238,6 +243,19 @@ fn found(room: &Cell<usize>, call: impl FnMut(*mut u64, usize, &mut u64) -> u32)
     Ok(nodes)
 }
 
+/// Up to `most` nodes, from a call that writes as many as it counts. There is room for no more than `all`, which is all there can be.
+fn some(all: u64, most: usize, call: impl FnOnce(*mut u64, usize, &mut u64) -> u32) -> Answer<Vec<u64>> {
+    // Room for one at least, so that a page of a store without nodes is empty, and no error.
+    let room = usize::try_from(all).unwrap_or(usize::MAX).max(1).min(most);
+    let mut nodes = Vec::with_capacity(room);
+    let mut count = 0;
+    let code = call(nodes.as_mut_ptr(), room, &mut count);
+    check(code, count)?;
+    // SAFETY: the library has written `count` nodes, and no more than there is room for.
+    unsafe { nodes.set_len(room.min(count as usize)) };
+    Ok(nodes)
+}
+
 /// How many stores this process has tried to open.
 static STORES: AtomicU64 = AtomicU64::new(0);
 
@@ -256,6 +274,11 @@ impl RawPass {
             store,
             room: Cell::new(NODES),
         }
+    }
+
+    /// The number of the store, which no other one of this process has.
+    pub(crate) fn store(&self) -> u64 {
+        self.store
     }
 
     pub(crate) fn open(pages: u64, passes: u64, commits: u64) -> Answer<Self> {
@@ -377,15 +400,59 @@ impl RawPass {
         check(code, count).map(|()| count)
     }
 
-    /// The nodes that came and those that went.
-    pub(crate) fn refresh(&self, prepared: &RawPrepared) -> Answer<(Vec<u64>, Vec<u64>)> {
+    /// The next page in an order, and whether there is more. Moves the cursor to its end.
+    pub(crate) fn ordered(
+        &self,
+        prepared: &RawPrepared,
+        order: &Order,
+        cursor: &mut bes_cursor,
+        most: usize,
+    ) -> Answer<(Vec<u64>, bool)> {
+        let (pass, prepared) = (self.handle.get()?, prepared.0.get()?);
+        let by = checked_name(order.name())?;
+        let (descending, mut more) = (u32::from(order.is_descending()), 0);
+        let nodes = some(self.next()?, most, |nodes, room, count| {
+            // SAFETY: as the module says; the name and the cursor outlive the call.
+            unsafe { sys::bes_ordered(pass, prepared, &by, descending, cursor, nodes, room, count, &mut more) }
+        })?;
+        Ok((nodes, more != 0))
+    }
+
+    /// The first nodes of a query from a number on.
+    pub(crate) fn first(&self, prepared: &RawPrepared, from: u64, most: usize) -> Answer<Vec<u64>> {
+        let (pass, prepared) = (self.handle.get()?, prepared.0.get()?);
+        some(self.next()?, most, |nodes, room, count| {
+            // SAFETY: as the module says.
+            unsafe { sys::bes_first(pass, prepared, from, nodes, room, count) }
+        })
+    }
+
+    /// Any nodes of a query.
+    pub(crate) fn any(&self, prepared: &RawPrepared, most: usize) -> Answer<Vec<u64>> {
+        let (pass, prepared) = (self.handle.get()?, prepared.0.get()?);
+        some(self.next()?, most, |nodes, room, count| {
+            // SAFETY: as the module says.
+            unsafe { sys::bes_any(pass, prepared, nodes, room, count) }
+        })
+    }
+
+    pub(crate) fn refresh(&self, prepared: &RawPrepared) -> RawUpdates {
+        self.refresh_by(prepared, sys::bes_refresh)
+    }
+
+    pub(crate) fn refresh_changed(&self, prepared: &RawPrepared) -> RawUpdates {
+        self.refresh_by(prepared, sys::bes_refresh_changed)
+    }
+
+    fn refresh_by(
+        &self,
+        prepared: &RawPrepared,
+        call: unsafe extern "C" fn(*mut bes_pass, *mut bes_prepared, *mut bes_updates) -> u32,
+    ) -> RawUpdates {
         let prepared = prepared.0.get()?;
-        let mut updates = sys::bes_updates::default();
+        let mut updates = bes_updates::default();
         // SAFETY: as the module says.
-        check(
-            unsafe { sys::bes_refresh(self.handle.get()?, prepared, &mut updates) },
-            0,
-        )?;
+        check(unsafe { call(self.handle.get()?, prepared, &mut updates) }, 0)?;
         let rooms = (updates.created as usize, updates.removed as usize);
         let mut created = Vec::with_capacity(rooms.0);
         let mut removed = Vec::with_capacity(rooms.1);

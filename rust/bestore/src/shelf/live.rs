@@ -2,7 +2,7 @@
 
 use super::node::extend;
 use super::ShelfSnapshot;
-use crate::{Live, Result, Updates};
+use crate::{Live, Result, Snapshot, Updates};
 use std::collections::BTreeSet;
 
 /// A live query over all volumes: each refresh returns what changed since the last one. At the first, all nodes of the answer
@@ -45,18 +45,30 @@ impl ShelfLive {
     /// # Errors
     /// As [`ShelfSnapshot::query`]. What changed until then is returned by the next refresh that succeeds.
     pub fn refresh(&mut self, snapshot: &ShelfSnapshot<'_>) -> Result<Updates> {
+        self.refresh_by(snapshot, Live::refresh)
+    }
+
+    /// Returns what [`refresh`](Self::refresh) does, in each volume by [`Live::refresh_changed`].
+    ///
+    /// # Errors
+    /// As [`Live::refresh_changed`]. What changed until then is returned by the next refresh that succeeds.
+    pub fn refresh_changed(&mut self, snapshot: &ShelfSnapshot<'_>) -> Result<Updates> {
+        self.refresh_by(snapshot, Live::refresh_changed)
+    }
+
+    fn refresh_by(&mut self, snapshot: &ShelfSnapshot<'_>, call: Refresh) -> Result<Updates> {
         let mut found = Updates::default();
-        let answer = self.ask(snapshot, &mut found);
+        let answer = self.ask(snapshot, call, &mut found);
         self.pending = after(std::mem::take(&mut self.pending), found);
         answer.map(|()| std::mem::take(&mut self.pending))
     }
 
-    fn ask(&mut self, snapshot: &ShelfSnapshot<'_>, found: &mut Updates) -> Result<()> {
+    fn ask(&mut self, snapshot: &ShelfSnapshot<'_>, call: Refresh, found: &mut Updates) -> Result<()> {
         for (volume, of_volume) in (0..).zip(snapshot.volumes()) {
             if self.volumes.len() == volume as usize {
                 self.volumes.push(Live::new(&self.text)?);
             }
-            let updates = self.volumes[volume as usize].refresh(of_volume);
+            let updates = call(&mut self.volumes[volume as usize], of_volume);
             let updates = updates.map_err(|error| snapshot.error(volume, error))?;
             extend(&mut found.created, volume, updates.created);
             extend(&mut found.removed, volume, updates.removed);
@@ -64,6 +76,9 @@ impl ShelfLive {
         Ok(())
     }
 }
+
+/// A refresh of one volume.
+type Refresh = fn(&mut Live, &Snapshot<'_>) -> Result<Updates>;
 
 /// The changes that these two make, one after the other.
 fn after(first: Updates, then: Updates) -> Updates {

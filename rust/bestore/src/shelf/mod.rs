@@ -39,6 +39,7 @@
 mod change;
 mod live;
 mod node;
+mod page;
 mod pass;
 mod snapshot;
 

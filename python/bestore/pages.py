@@ -1,0 +1,175 @@
+"""Pages of an answer in the order of an index, and cursors, from which the next page goes on.
+
+    page = version.query("MAIL:to==ann", by="MAIL:when", descending=True, limit=50)
+    older = version.query("MAIL:to==ann", by="MAIL:when", descending=True, limit=50, after=page.cursor)
+"""
+
+from __future__ import annotations
+
+import base64
+import reprlib
+import struct
+import zlib
+from dataclasses import dataclass
+from typing import Iterable, List, NamedTuple, Optional, Tuple, TypeVar, Union
+
+from .errors import BadCursor, bad_cursor, decoded, encoded
+from .values import RANGES, Kind, Value
+
+_Item = TypeVar("_Item")
+
+_FORMAT = 1  # the first byte of a cursor's text
+_HEAD = struct.Struct(">BBBB")  # the format, 1 if it descends, the kind's number, and how many bytes the name has
+_CHECK = struct.Struct(">I")  # a CRC-32
+_NODE = struct.Struct(">Q")
+_LONGEST = (4 + 63 + 4 + 264 + 4) * 4 // 3  # characters of a cursor's text, for the longest name and key
+_NUMBERED = tuple(Kind)  # a kind's number is its place, from 1
+_SIZES = {Kind.INT32: 4, Kind.UINT32: 4, Kind.INT64: 8, Kind.UINT64: 8}
+
+
+class Order(NamedTuple):
+    """An order of nodes: by the values that an index has, and by number where these are equal."""
+
+    by: str
+    """The name of the index."""
+    descending: bool = False
+    """Whether it is the reverse."""
+
+    def __str__(self) -> str:
+        return f'"{self.by}" {"descending" if self.descending else "ascending"}'
+
+
+def check_of(text: str) -> int:
+    """What a cursor keeps of a query: the CRC-32 of its canonical text."""
+    return zlib.crc32(text.encode())
+
+
+@dataclass(frozen=True)
+class Cursor:
+    """A position in the answer of a query in an order: that of the last node of a page. The next page has what comes after it,
+    also in a later version, whatever was written in between. `str` makes a short text of it, and `parse` reads that."""
+
+    order: Order
+    """The order of the page."""
+    check: int
+    """The CRC-32 of the query's canonical text. A cursor of another query is a `BadCursor`."""
+    kind: Optional[Kind] = None
+    """The kind of the index; None at the beginning, where no node comes before."""
+    value: Optional[Value] = None
+    """The value of that node in the index."""
+    node: Optional[int] = None
+    """That node."""
+
+    @property
+    def key(self) -> bytes:
+        """The value and the node as a key of the index, whose byte order is the order; empty at the beginning."""
+        if self.kind is None or self.value is None or self.node is None:
+            return b""
+        return encode_key(self.kind, self.value, self.node)
+
+    def __str__(self) -> str:
+        name, kind = encoded(self.order.by), 0 if self.kind is None else _NUMBERED.index(self.kind) + 1
+        head = _HEAD.pack(_FORMAT, self.order.descending, kind, len(name))
+        written = head + name + _CHECK.pack(self.check) + self.key
+        return base64.urlsafe_b64encode(written + _CHECK.pack(zlib.crc32(written))).rstrip(b"=").decode()
+
+    @staticmethod
+    def parse(text: str) -> Cursor:
+        """The cursor of this text. `BadCursor` if it is none."""
+        try:
+            return _read(text)
+        except (ValueError, struct.error):
+            raise bad_cursor(f"{reprlib.repr(text)} isn't a cursor: it is cut off or changed") from None
+
+    @staticmethod
+    def of_key(order: Order, check: int, kind: int, key: bytes) -> Cursor:
+        """The cursor with this key of an index of this kind. 0 and no key are the beginning."""
+        if kind == 0 and not key:
+            return Cursor(order, check)
+        value, node = decode_key(Kind(kind), key)
+        return Cursor(order, check, Kind(kind), value, node)
+
+    def check_fits(self, order: Order, check: int) -> None:
+        """`BadCursor` if it is of another order, or of another query."""
+        if self.order != order:
+            raise bad_cursor(f"the cursor is of the order by {self.order}, and this page is in the "
+                             f"order by {order}: keep the order, or begin without a cursor")
+        if self.check != check:
+            raise bad_cursor("the cursor is of another query: ask the query that it came from, "
+                             "or begin without a cursor")
+
+    def of_other_kind(self, kind: Kind) -> BadCursor:
+        """The error if the index has this kind, and the cursor another."""
+        had = "no kind" if self.kind is None else f"kind {self.kind.name}"
+        return bad_cursor(f'the index "{self.order.by}" has kind {kind.name}, and had {had} when the '
+                          "cursor was made: begin without a cursor")
+
+
+class Page(List[_Item]):
+    """Some of an answer in an order, as a list: nodes, or rows with their values."""
+
+    def __init__(self, items: Iterable[_Item], more: bool, cursor: Cursor) -> None:
+        super().__init__(items)
+        self.more = more
+        """Whether others come after these."""
+        self.cursor = cursor
+        """The position of the last one, for the next page. Of an empty page it is where that began."""
+
+
+After = Union[Cursor, str, None]
+"""Where a page begins: after a cursor, by itself or its text, or None at the beginning."""
+
+
+def cursor_of(after: After) -> Optional[Cursor]:
+    """The cursor that a call was given. `BadCursor` if it is a text that is none."""
+    if after is None or isinstance(after, Cursor):
+        return after
+    if not isinstance(after, str):
+        raise TypeError(f"{after!r} is no cursor: a cursor is that of a page, or its text")
+    return Cursor.parse(after)
+
+
+def encode_key(kind: Kind, value: Value, node: int) -> bytes:
+    """The key of a value and a node in an index of this kind. The byte order of keys is the order of values and nodes."""
+    if isinstance(value, int) and kind in _SIZES:
+        return (value - RANGES[kind][0]).to_bytes(_SIZES[kind], "big") + _NODE.pack(node)
+    if isinstance(value, str) and kind is Kind.STRING:
+        return encoded(value) + b"\0" + _NODE.pack(node)
+    raise ValueError(f"no index has {value!r} of kind {kind.name}")
+
+
+def decode_key(kind: Kind, key: bytes) -> Tuple[Value, int]:
+    """The value and the node of a key of an index of this kind. A ValueError if it is none."""
+    front, node = key[:-_NODE.size], _NODE.unpack(key[-_NODE.size:])[0]
+    if kind in _SIZES and len(front) == _SIZES[kind]:
+        return int.from_bytes(front, "big") + RANGES[kind][0], node
+    if kind is Kind.STRING and 1 <= len(front) <= 256 and front.index(0) == len(front) - 1:
+        return decoded(front[:-1]), node
+    raise ValueError(f"{key.hex()} is no key of an index of kind {kind.name}")
+
+
+def _bytes_of(text: str) -> bytes:
+    """The bytes of a cursor's text, whose last four were compared. A ValueError if it is none."""
+    if len(text) > _LONGEST:
+        raise ValueError("the text is too long")
+    padded = text.encode("ascii") + b"=" * (-len(text) % 4)
+    written = base64.b64decode(padded, altchars=b"-_", validate=True)
+    front, (check,) = written[:-_CHECK.size], _CHECK.unpack(written[-_CHECK.size:])
+    if zlib.crc32(front) != check:
+        raise ValueError("the check differs")
+    return front
+
+
+def _read(text: str) -> Cursor:
+    """The cursor of a text. A ValueError or a struct.error if it is none."""
+    front = _bytes_of(text)
+    form, descending, number, length = _HEAD.unpack(front[:_HEAD.size])
+    name, rest = front[_HEAD.size:_HEAD.size + length], front[_HEAD.size + length:]
+    if form != _FORMAT or descending > 1 or number > len(_NUMBERED) or not 1 <= length <= 63:
+        raise ValueError("the head can't be")
+    (check,), key = _CHECK.unpack(rest[:_CHECK.size]), rest[_CHECK.size:]
+    kind = 0 if number == 0 else _NUMBERED[number - 1]
+    cursor = Cursor.of_key(Order(decoded(name), bool(descending)), check, kind, key)
+    if str(cursor) != text:
+        raise ValueError("the same cursor has another text")
+    return cursor

@@ -1,0 +1,227 @@
+//! Parts of an answer: pages in the order of an index, the first nodes by number, and any few.
+
+use crate::cursor::{CursorFault, Order};
+use crate::raw::Refused;
+use crate::{Cursor, Error, Prepared, Result, ShelfSnapshot, Snapshot};
+use bestore_sys as sys;
+
+/// Some of the nodes that a query finds, in an order, by [`Snapshot::page`].
+#[derive(Clone, Debug, PartialEq, Eq)]
+pub struct Page {
+    /// The nodes.
+    pub nodes: Vec<u64>,
+    /// Whether others come after these.
+    pub more: bool,
+    /// The position of the last node, for the next page. Of an empty page it is where that began.
+    pub cursor: Cursor,
+}
+
+impl Snapshot<'_> {
+    /// The nodes that the query finds, in an order: an iterator, which asks for page after page.
+    ///
+    /// ```
+    /// # use bestore::{Kind, Limits, Order, Store};
+    /// # let mut pass = Store::open(Limits::default())?.pass()?;
+    /// # pass.make_index("MAIL:when", Kind::Int64)?;
+    /// # let nodes = (0..3).map(|when: i64| {
+    /// #     let node = pass.new_node()?;
+    /// #     pass.set(node, "MAIL:when", when).map(|()| node)
+    /// # }).collect::<Result<Vec<_>, _>>()?;
+    /// let snapshot = pass.pin()?;
+    /// let newest_first = Order::by("MAIL:when").descending();
+    /// let found: Vec<u64> = snapshot.ordered("MAIL:when>0", newest_first)?.collect::<Result<_, _>>()?;
+    /// # assert_eq!(found, [nodes[2], nodes[1]]);
+    /// # Ok::<(), bestore::Error>(())
+    /// ```
+    ///
+    /// # Errors
+    /// [`Error::Query`] of the text, [`Error::OutOfMemory`]. The iterator's are those of [`page`](Self::page).
+    pub fn ordered(&self, text: &str, order: Order) -> Result<Ordered<'_>> {
+        Ok(Ordered::new(Source::One(self), Prepared::new(text)?, order))
+    }
+
+    /// A page: up to `most` of the nodes that the query finds, in the order, and after the cursor if one is given. Nodes without a
+    /// value in the order's index aren't in it.
+    ///
+    /// A page of a later snapshot goes on where the last one ended, whatever was written in between.
+    ///
+    /// # Errors
+    /// [`Error::NoOrder`]: there is no such index. [`Error::BadCursor`]: the cursor is of another order or query, or the index has
+    /// another kind now. [`Error::NoRoom`]: `most` is 0. Otherwise as [`query`](Self::query).
+    pub fn page(&self, prepared: &Prepared, order: &Order, after: Option<&Cursor>, most: usize) -> Result<Page> {
+        let check = prepared.check()?;
+        let after = begin(order, check, after, most)?;
+        self.page_after(prepared, &after, most)
+    }
+
+    /// The page after a cursor, which is one of this query.
+    pub(crate) fn page_after(&self, prepared: &Prepared, after: &Cursor, most: usize) -> Result<Page> {
+        let mut raw = after.to_raw();
+        let order = after.order();
+        let answer = self.pass().raw().ordered(prepared.raw(), order, &mut raw, most);
+        let (nodes, more) = answer.map_err(|refused| self.page_error(refused, prepared, after))?;
+        Ok(Page {
+            nodes,
+            more,
+            cursor: Cursor::of_raw(order.clone(), prepared.check()?, &raw),
+        })
+    }
+
+    fn page_error(&self, refused: Refused, prepared: &Prepared, after: &Cursor) -> Error {
+        let name = after.order().name();
+        match refused.code {
+            sys::BES_NO_INDEX => match self.indices() {
+                Ok(indices) => Error::no_order(name, indices),
+                Err(error) => error,
+            },
+            sys::BES_BAD_CURSOR => match (self.index(name), after.value()) {
+                (Ok(index), Some(value)) => Error::BadCursor(CursorFault::OtherKind {
+                    name: name.into(),
+                    cursor: value.kind(),
+                    index,
+                }),
+                _ => Error::BadCursor(CursorFault::Text),
+            },
+            _ => self.query_error(refused, || prepared.text_or_empty()),
+        }
+    }
+
+    /// The first `most` nodes that the query finds, ascending from the number `from` on.
+    ///
+    /// # Errors
+    /// [`Error::NoRoom`]: `most` is 0. Otherwise as [`query`](Self::query).
+    pub fn first(&self, text: &str, from: u64, most: usize) -> Result<Vec<u64>> {
+        let prepared = Prepared::new(text)?;
+        let answer = self.pass().raw().first(prepared.raw(), from, most);
+        answer.map_err(|refused| self.query_error(refused, || text.into()))
+    }
+
+    /// As [`first`](Self::first), of a prepared query.
+    ///
+    /// # Errors
+    /// As `first`.
+    pub fn first_prepared(&self, prepared: &Prepared, from: u64, most: usize) -> Result<Vec<u64>> {
+        let answer = self.pass().raw().first(prepared.raw(), from, most);
+        answer.map_err(|refused| self.query_error(refused, || prepared.text_or_empty()))
+    }
+
+    /// Any `most` of the nodes that the query finds, or all if there are fewer, in no order. Of a large answer it takes less time
+    /// than the whole.
+    ///
+    /// # Errors
+    /// [`Error::NoRoom`]: `most` is 0. Otherwise as [`query`](Self::query).
+    pub fn any(&self, text: &str, most: usize) -> Result<Vec<u64>> {
+        let prepared = Prepared::new(text)?;
+        let answer = self.pass().raw().any(prepared.raw(), most);
+        answer.map_err(|refused| self.query_error(refused, || text.into()))
+    }
+
+    /// As [`any`](Self::any), of a prepared query.
+    ///
+    /// # Errors
+    /// As `any`.
+    pub fn any_prepared(&self, prepared: &Prepared, most: usize) -> Result<Vec<u64>> {
+        let answer = self.pass().raw().any(prepared.raw(), most);
+        answer.map_err(|refused| self.query_error(refused, || prepared.text_or_empty()))
+    }
+}
+
+/// The cursor after which a page begins, if it is one of this order and query and the page has room.
+pub(crate) fn begin(order: &Order, check: u32, after: Option<&Cursor>, most: usize) -> Result<Cursor> {
+    if most == 0 {
+        return Err(Error::NoRoom);
+    }
+    match after {
+        None => Ok(Cursor::beginning(order.clone(), check)),
+        Some(after) => after.check_fits(order, check).map(|()| after.clone()),
+    }
+}
+
+/// How many nodes the first page of an iterator has, and how many a page has at most.
+const FIRST_PAGE: usize = 64;
+const LARGEST_PAGE: usize = 4096;
+
+#[derive(Clone, Copy, Debug)]
+enum Source<'a> {
+    One(&'a Snapshot<'a>),
+    Shelf(&'a ShelfSnapshot<'a>),
+}
+
+/// The nodes that a query finds in an order, by [`Snapshot::ordered`] or [`ShelfSnapshot::ordered`]. Each page is twice as long as
+/// the last one. An error ends them.
+#[derive(Debug)]
+pub struct Ordered<'a> {
+    source: Source<'a>,
+    prepared: Prepared,
+    order: Order,
+    after: Option<Cursor>,
+    most: usize,
+    read: std::vec::IntoIter<u64>,
+    is_over: bool,
+}
+
+impl<'a> Ordered<'a> {
+    fn new(source: Source<'a>, prepared: Prepared, order: Order) -> Self {
+        Self {
+            source,
+            prepared,
+            order,
+            after: None,
+            most: FIRST_PAGE,
+            read: Vec::new().into_iter(),
+            is_over: false,
+        }
+    }
+
+    pub(crate) fn of_shelf(shelf: &'a ShelfSnapshot<'a>, prepared: Prepared, order: Order) -> Self {
+        Self::new(Source::Shelf(shelf), prepared, order)
+    }
+
+    /// The nodes after this cursor, which a page of the same query and order left.
+    #[must_use]
+    pub fn after(mut self, cursor: Cursor) -> Self {
+        self.after = Some(cursor);
+        self
+    }
+
+    /// The first `most` nodes as a page.
+    ///
+    /// # Errors
+    /// As [`Snapshot::page`].
+    pub fn page(&self, most: usize) -> Result<Page> {
+        let after = self.after.as_ref();
+        match self.source {
+            Source::One(snapshot) => snapshot.page(&self.prepared, &self.order, after, most),
+            Source::Shelf(snapshot) => snapshot.page(&self.prepared, &self.order, after, most),
+        }
+    }
+
+    fn read_on(&mut self) -> Result<()> {
+        self.is_over = true;
+        let page = self.page(self.most)?;
+        self.is_over = !page.more;
+        self.after = Some(page.cursor);
+        self.most = (2 * self.most).min(LARGEST_PAGE);
+        self.read = page.nodes.into_iter();
+        Ok(())
+    }
+}
+
+impl Iterator for Ordered<'_> {
+    type Item = Result<u64>;
+
+    fn next(&mut self) -> Option<Result<u64>> {
+        if let Some(node) = self.read.next() {
+            return Some(Ok(node));
+        }
+        if self.is_over {
+            return None;
+        }
+        match self.read_on() {
+            Ok(()) => self.read.next().map(Ok),
+            Err(error) => Some(Err(error)),
+        }
+    }
+}
+
+impl std::iter::FusedIterator for Ordered<'_> {}

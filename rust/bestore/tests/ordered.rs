@@ -1,0 +1,364 @@
+//! Pages in the order of an index agree with the whole answer, sorted and cut, in one store and in a shelf.
+
+use bestore::{attribute, Cursor, CursorFault, Error, Kind, Limits, Live, Order, Page, Prepared, Result, Shelf};
+use bestore::{ShelfLive, ShelfPass, ShelfSnapshot, Store, Value};
+
+const KINDS: [(&str, Kind); 5] = [
+    ("text", Kind::Text),
+    ("i32", Kind::Int32),
+    ("i64", Kind::Int64),
+    ("u32", Kind::Uint32),
+    ("u64", Kind::Uint64),
+];
+const QUERIES: [&str; 8] = [
+    "i64>=-3",
+    "text==\"*a*\"",
+    "u32<2",
+    "text>\"a\" && i64<2",
+    "text!=ab && !(i32==0)",
+    "other==1 || u64>1",
+    "i64==7777",
+    "u64>=0",
+];
+
+/// Numbers that the seed gives.
+struct Chance(u64);
+
+impl Chance {
+    fn below(&mut self, most: u64) -> u64 {
+        self.0 ^= self.0 << 13;
+        self.0 ^= self.0 >> 7;
+        self.0 ^= self.0 << 17;
+        self.0 % most
+    }
+
+    fn value(&mut self, kind: Kind) -> Value {
+        let small = self.below(5);
+        match kind {
+            Kind::Int32 => [i32::MIN, -1, 0, 1, i32::MAX][small as usize].into(),
+            Kind::Int64 => [i64::MIN, -2, 0, 1, i64::MAX][small as usize].into(),
+            Kind::Uint32 => [0, 1, 2, 1 << 31, u32::MAX][small as usize].into(),
+            Kind::Uint64 => [0, 1, 2, 1 << 63, u64::MAX][small as usize].into(),
+            _ => ["", "a", "ab", "b", "ä"][small as usize].into(),
+        }
+    }
+}
+
+fn shelf(volumes: u32) -> ShelfPass {
+    let mut pass = Shelf::open(volumes, Limits::default()).unwrap().pass().unwrap();
+    for volume in 0..volumes {
+        // Set before the index is made, so that it lacks it.
+        pass.change_in(volume, |change| {
+            let node = change.new_node()?;
+            change.set(node, "other", 1_i64).map(drop)
+        })
+        .unwrap();
+    }
+    for (name, kind) in KINDS {
+        pass.make_index(name, kind).unwrap();
+    }
+    pass.make_index("other", Kind::Int64).unwrap();
+    pass
+}
+
+/// Some writes: nodes that come, go, and have other values.
+fn write(pass: &mut ShelfPass, chance: &mut Chance, volumes: u64, count: usize) {
+    for _ in 0..count {
+        let volume = chance.below(volumes) as u32;
+        let node = pass.change_in(volume, |change| {
+            let next = change.snapshot().volume(volume)?.next_node()?;
+            let number = 1 + chance.below(next);
+            let node = match number == next || !change.snapshot().volume(volume)?.contains(number)? {
+                true => change.new_node()?,
+                false => bestore::Node { volume, number }.into(),
+            };
+            for (name, kind) in KINDS {
+                if chance.below(3) > 0 {
+                    change.set(node, name, chance.value(kind))?;
+                }
+            }
+            change.set(node, "other", chance.below(3) as i64)?;
+            Ok(node)
+        });
+        match chance.below(12) {
+            0 => pass.remove_node(node.unwrap()).unwrap(),
+            // Of another kind than the index, which then lacks the node.
+            1 => pass.set(node.unwrap(), "text", 5_i64).unwrap(),
+            _ => {}
+        }
+    }
+}
+
+/// A value in an order that Rust has for each kind.
+fn rank(value: &Value) -> (i128, Vec<u8>) {
+    match value {
+        Value::Uint64(number) => ((*number).into(), Vec::new()),
+        other => match other.as_i64() {
+            Some(number) => (number.into(), Vec::new()),
+            None => (0, other.as_bytes().unwrap_or_default().to_vec()),
+        },
+    }
+}
+
+/// The whole answer in the order, each node with its value.
+fn plain(snapshot: &ShelfSnapshot<'_>, query: &Prepared, order: &Order, kind: Kind) -> Vec<(Value, u64)> {
+    let pairs = attribute(order.name()).any(kind).prepare().unwrap();
+    let indexed = snapshot.query_prepared(&pairs).unwrap();
+    let found = snapshot.query_prepared(query).unwrap().into_iter();
+    let found = found.filter(|node| indexed.contains(node));
+    let mut found: Vec<_> = found
+        .map(|node| (snapshot.get(node, order.name()).unwrap().unwrap(), node))
+        .collect();
+    found.sort_by_key(|(value, node)| (rank(value), *node));
+    if order.is_descending() {
+        found.reverse();
+    }
+    found
+}
+
+/// The page after a cursor that the whole answer has.
+fn cut(all: &[(Value, u64)], after: Option<&Cursor>, is_descending: bool, most: usize) -> (Vec<u64>, bool) {
+    let at = after.and_then(|after| Some((rank(after.value()?), after.node()?)));
+    let is_after = |(value, node): &&(Value, u64)| match &at {
+        None => true,
+        Some(at) if is_descending => (rank(value), *node) < *at,
+        Some(at) => (rank(value), *node) > *at,
+    };
+    let rest: Vec<u64> = all.iter().filter(is_after).map(|(_, node)| *node).collect();
+    let page: Vec<u64> = rest.iter().copied().take(most).collect();
+    let more = page.len() < rest.len();
+    (page, more)
+}
+
+/// All pages, with writes in between. Each is compared with the whole answer of its snapshot.
+fn page_on(pass: &mut ShelfPass, chance: &mut Chance, volumes: u64, query: &str, order: &Order, kind: Kind) {
+    let prepared = Prepared::new(query).unwrap();
+    let mut after: Option<Cursor> = None;
+    for _ in 0..12 {
+        let most = [1, 2, 7, 40][chance.below(4) as usize];
+        let snapshot = pass.pin().unwrap();
+        let page = snapshot.page(&prepared, order, after.as_ref(), most).unwrap();
+        let all = plain(&snapshot, &prepared, order, kind);
+        let (nodes, more) = cut(&all, after.as_ref(), order.is_descending(), most);
+        assert_eq!(
+            (&page.nodes, page.more),
+            (&nodes, more),
+            "{query} by {order} after {after:?}"
+        );
+        check_cursor(&page, after.as_ref(), &all);
+        drop(snapshot);
+        write(pass, chance, volumes, 2);
+        after = Some(page.cursor.to_string().parse().unwrap());
+        if !page.more {
+            break;
+        }
+    }
+}
+
+fn check_cursor(page: &Page, after: Option<&Cursor>, all: &[(Value, u64)]) {
+    match page.nodes.last() {
+        Some(last) => {
+            let (value, node) = all.iter().find(|(_, node)| node == last).unwrap();
+            assert_eq!((page.cursor.value(), page.cursor.node()), (Some(value), Some(*node)));
+        }
+        None => assert_eq!(page.cursor.node(), after.and_then(Cursor::node)),
+    }
+}
+
+fn alike(volumes: u32, seed: u64) {
+    let (mut pass, mut chance) = (shelf(volumes), Chance(seed));
+    write(&mut pass, &mut chance, volumes.into(), 150);
+    for query in QUERIES {
+        for (name, kind) in KINDS {
+            for order in [Order::by(name), Order::by(name).descending()] {
+                page_on(&mut pass, &mut chance, volumes.into(), query, &order, kind);
+            }
+        }
+    }
+}
+
+#[test]
+fn pages_of_a_store_are_those_of_the_whole_answer() {
+    alike(1, 0x5eed);
+}
+
+#[test]
+fn pages_of_a_shelf_are_those_of_the_whole_answer() {
+    alike(3, 0x5eed_5eed);
+}
+
+#[test]
+fn an_iterator_has_the_whole_answer_in_order() {
+    for volumes in [1, 4] {
+        let (mut pass, mut chance) = (shelf(volumes), Chance(0xc0de));
+        write(&mut pass, &mut chance, volumes.into(), 600);
+        let snapshot = pass.pin().unwrap();
+        let (query, order) = ("u64>=0", Order::by("text").descending());
+        let all = plain(&snapshot, &Prepared::new(query).unwrap(), &order, Kind::Text);
+        assert!(all.len() > 64);
+        let found = snapshot.ordered(query, order.clone()).unwrap();
+        let found: Vec<u64> = found.collect::<Result<_>>().unwrap();
+        assert!(found.iter().eq(all.iter().map(|(_, node)| node)));
+        let page = snapshot.ordered(query, order.clone()).unwrap().page(10).unwrap();
+        let rest = snapshot.ordered(query, order).unwrap().after(page.cursor);
+        assert!(rest.map(Result::unwrap).eq(found[10..].iter().copied()));
+    }
+}
+
+#[test]
+fn the_first_and_any_are_some_of_the_answer() {
+    for volumes in [1, 3] {
+        let (mut pass, mut chance) = (shelf(volumes), Chance(0xbed));
+        write(&mut pass, &mut chance, volumes.into(), 200);
+        let snapshot = pass.pin().unwrap();
+        for query in QUERIES {
+            let (all, prepared) = (snapshot.query(query).unwrap(), Prepared::new(query).unwrap());
+            for most in [1, 3, all.len().max(1), 5000] {
+                let place = chance.below(all.len() as u64 + 1) as usize;
+                let from = all.get(place).map_or(u64::MAX, |node| node - chance.below(2));
+                let rest: Vec<u64> = all.iter().copied().filter(|node| *node >= from).take(most).collect();
+                assert_eq!(snapshot.first(query, from, most).unwrap(), rest);
+                assert_eq!(snapshot.first_prepared(&prepared, from, most).unwrap(), rest);
+                let mut any = snapshot.any(query, most).unwrap();
+                any.sort_unstable();
+                any.dedup();
+                assert_eq!(any.len(), most.min(all.len()));
+                assert!(any.iter().all(|node| all.contains(node)));
+                assert_eq!(snapshot.any_prepared(&prepared, most).unwrap().len(), any.len());
+            }
+        }
+    }
+}
+
+#[test]
+fn what_has_no_page_is_refused() {
+    for volumes in [1, 2] {
+        let (mut pass, mut chance) = (shelf(volumes), Chance(0xbad));
+        write(&mut pass, &mut chance, volumes.into(), 30);
+        let snapshot = pass.pin().unwrap();
+        let query = Prepared::new("i64>=0 || i64<0").unwrap();
+        let (order, other) = (Order::by("i64"), Order::by("text"));
+        let cursor = snapshot.page(&query, &order, None, 1).unwrap().cursor;
+        let said = |page: Result<Page>| page.unwrap_err().without_volume().to_string();
+        assert_eq!(
+            said(snapshot.page(&query, &Order::by("none"), None, 1)),
+            "there is no index \"none\"; indices: \"i32\", \"i64\", \"other\", \"text\", \"u32\", \"u64\""
+        );
+        assert_eq!(
+            said(snapshot.page(&query, &other, Some(&cursor), 1)),
+            "the cursor is of the order by \"i64\" ascending, and this page is in the order by \"text\" ascending: \
+             keep the order, or begin without a cursor"
+        );
+        let reverse = snapshot.page(&query, &order.clone().descending(), Some(&cursor), 1);
+        assert!(said(reverse).contains("in the order by \"i64\" descending"));
+        let query_of = |text| snapshot.page(&Prepared::new(text).unwrap(), &order, Some(&cursor), 1);
+        assert!(matches!(
+            query_of("i64>0"),
+            Err(Error::BadCursor(CursorFault::OtherQuery))
+        ));
+        assert!(query_of("(i64 >= 0) || \"i64\" < \"0\"").is_ok());
+        assert!(matches!(snapshot.page(&query, &order, None, 0), Err(Error::NoRoom)));
+        assert!(matches!(snapshot.first("i64>0", 0, 0), Err(Error::NoRoom)));
+        assert!(matches!(snapshot.any("i64>0", 0), Err(Error::NoRoom)));
+        assert!(matches!(snapshot.ordered("i64>", order.clone()), Err(Error::Query(_))));
+        assert!(said(snapshot.page(&Prepared::new("none==1").unwrap(), &order, None, 1)).contains("\"none\" has none"));
+        let long = snapshot.page(&query, &Order::by(&"n".repeat(64)), None, 1);
+        assert!(long.is_err());
+    }
+}
+
+#[test]
+fn a_cursor_of_another_kind_is_refused() {
+    for volumes in [1, 2] {
+        let mut pass = shelf(volumes);
+        write(&mut pass, &mut Chance(0x1d), volumes.into(), 60);
+        let (query, order) = (Prepared::new("i64>=0 || i64<0").unwrap(), Order::by("u32"));
+        let cursor = pass.pin().unwrap().page(&query, &order, None, 1).unwrap().cursor;
+        pass.remove_index("u32").unwrap();
+        pass.make_index("u32", Kind::Uint64).unwrap();
+        let refused = pass.pin().unwrap().page(&query, &order, Some(&cursor), 1).unwrap_err();
+        let said = "the index \"u32\" has the kind u64, and had u32 when the cursor was made: begin without a cursor";
+        assert_eq!(refused.to_string(), said);
+        assert!(pass
+            .pin()
+            .unwrap()
+            .page(&query, &order, None, 1)
+            .unwrap()
+            .nodes
+            .is_empty());
+    }
+}
+
+#[test]
+fn an_index_that_a_volume_lacks_orders_nothing() {
+    let shelf = Shelf::open(2, Limits::default()).unwrap();
+    let mut pass = shelf.pass().unwrap();
+    pass.make_index("size", Kind::Int64).unwrap();
+    shelf.volumes()[0]
+        .pass()
+        .unwrap()
+        .make_index("when", Kind::Int64)
+        .unwrap();
+    let query = Prepared::new("size>0").unwrap();
+    let mut refused = |order: &Order| {
+        pass.pin()
+            .unwrap()
+            .page(&query, order, None, 1)
+            .unwrap_err()
+            .to_string()
+    };
+    let said = "volume 1: there is no index \"when\"; indices: \"size\"";
+    assert_eq!(refused(&Order::by("when")), said);
+    shelf.volumes()[1]
+        .pass()
+        .unwrap()
+        .make_index("when", Kind::Text)
+        .unwrap();
+    assert_eq!(refused(&Order::by("when")), said);
+}
+
+#[test]
+fn a_refresh_by_what_changed_returns_the_same() {
+    let store = Store::open(Limits::default()).unwrap();
+    let mut pass = store.pass().unwrap();
+    pass.make_index("i64", Kind::Int64).unwrap();
+    let mut chance = Chance(0x11fe);
+    let (mut live, mut changed) = (Live::new("i64>=0").unwrap(), Live::new("i64>=0").unwrap());
+    for round in 0..60 {
+        for _ in 0..if round == 0 { 300 } else { chance.below(6) } {
+            let node = pass.new_node().unwrap() - chance.below(2);
+            match pass.set(node, "i64", chance.value(Kind::Int64)) {
+                Ok(()) | Err(Error::NoNode) => {}
+                Err(error) => panic!("{error}"),
+            }
+        }
+        let snapshot = pass.pin().unwrap();
+        assert_eq!(
+            live.refresh(&snapshot).unwrap(),
+            changed.refresh_changed(&snapshot).unwrap()
+        );
+    }
+    // In a snapshot of another store all nodes go.
+    let mut other = Store::open(Limits::default()).unwrap().pass().unwrap();
+    other.make_index("i64", Kind::Int64).unwrap();
+    let snapshot = other.pin().unwrap();
+    assert_eq!(
+        live.refresh(&snapshot).unwrap(),
+        changed.refresh_changed(&snapshot).unwrap()
+    );
+}
+
+#[test]
+fn a_refresh_of_a_shelf_by_what_changed_returns_the_same() {
+    let (mut pass, mut chance) = (shelf(3), Chance(0x11fe));
+    let (mut live, mut changed) = (ShelfLive::new("u64>=1").unwrap(), ShelfLive::new("u64>=1").unwrap());
+    write(&mut pass, &mut chance, 3, 400);
+    for _ in 0..20 {
+        write(&mut pass, &mut chance, 3, 3);
+        let snapshot = pass.pin().unwrap();
+        assert_eq!(
+            live.refresh(&snapshot).unwrap(),
+            changed.refresh_changed(&snapshot).unwrap()
+        );
+    }
+}
