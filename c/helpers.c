@@ -30,7 +30,7 @@ static void close_three(bes_pass *passes)
 static void names(void)
 {
     for (uint32_t error = 0; error <= 80; error++) {
-        bool is_known = error <= BES_BAD_RPN || (error >= BES_CLOSED && error <= BES_IN_USE);
+        bool is_known = error <= BES_BAD_RPN || (error >= BES_CLOSED && error <= BES_NO_ROOM);
         CHECK((strcmp(bes_error_name(error), "BES_?") != 0) == is_known && strncmp(bes_error_name(error), "BES_", 4) == 0);
         CHECK((strcmp(bes_strerror(error), "unknown error") != 0) == is_known);
     }

@@ -30,7 +30,7 @@ static inline const char *bes_strerror(uint32_t error)
         "the handle is closed", "the handle is open", "the pass isn't pinned", "the pass is pinned", "each pass is in use",
         "a write has not 1 to 64 operations", "the bytes are no UTF-8", "no such operation", "no such kind",
         "the number doesn't fit the kind", "a part isn't within the bytes", "no such item", "the journal has another length",
-        "another handle is open"
+        "another handle is open", "the cursor doesn't fit the index", "a page has at least one node"
     };
     if (error < sizeof of_store / sizeof *of_store)
         return of_store[error];
@@ -50,7 +50,8 @@ static inline const char *bes_error_name(uint32_t error)
     };
     static const char *const of_calls[] = {
         "BES_CLOSED", "BES_OPEN", "BES_NOT_PINNED", "BES_PINNED", "BES_NO_PASS", "BES_BAD_COUNT", "BES_NOT_UTF8",
-        "BES_NO_OPERATION", "BES_NO_KIND", "BES_NO_VALUE", "BES_BAD_PART", "BES_NO_ITEM", "BES_CONFLICT", "BES_IN_USE"
+        "BES_NO_OPERATION", "BES_NO_KIND", "BES_NO_VALUE", "BES_BAD_PART", "BES_NO_ITEM", "BES_CONFLICT", "BES_IN_USE",
+        "BES_BAD_CURSOR", "BES_NO_ROOM"
     };
     if (error < sizeof of_store / sizeof *of_store)
         return of_store[error];

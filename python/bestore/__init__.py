@@ -34,9 +34,9 @@ from ._connected_errors import (
 from .change import Change, ChangedAttributes
 from .connected import connect
 from .errors import (
-    BadBytes, BadCount, BadItems, BadLimits, BadPart, BadPattern, Busy, Closed, CommitsSpent, Conflict, DataLength,
+    BadBytes, BadCount, BadCursor, BadItems, BadLimits, BadPart, BadPattern, Busy, Closed, CommitsSpent, Conflict, DataLength,
     Error, ErrorNumber, Forked, Full, HasNul, InUse, IndexExists, NameLength, Nested, NoAttribute, NoIndex, NoItem, NoKind,
-    NoMemory, NoNode, NoOperation, NoPass, NotCovered, NotIndexable, NotPinned, NotReached, NotUTF8, NoValue, NoVolume, Opened,
+    NoMemory, NoNode, NoOperation, NoPass, NoRoom, NotCovered, NotIndexable, NotPinned, NotReached, NotUTF8, NoValue, NoVolume, Opened,
     OtherStore, OtherVolume, PartialIndex, Pinned, QueryError, QueryNotUTF8, QuerySyntax, Refusal, TooDeep, TooLong, TooMany, TooManyAttempts, TooManyAttributes,
     TooManyIndices, WrongKind,
 )
@@ -46,6 +46,7 @@ from .nodes import node_in, number_of, volume_of
 from .operations import (
     MOST_OPERATIONS, Batch, MakeIndex, NewNode, Operation, RemoveIndex, RemoveNode, SetAttribute, UnsetAttribute,
 )
+from .pages import Cursor, Order, Page
 from .queries import Item, Name, Operator, Prepared, prepare, prepare_items
 from .shelf import Shelf, ShelfVersion
 from .shelf import open as open_shelf
@@ -58,15 +59,15 @@ STRING, INT32, INT64, MIME, RAW, UINT32, UINT64 = (
     Kind.STRING, Kind.INT32, Kind.INT64, Kind.MIME, Kind.RAW, Kind.UINT32, Kind.UINT64)
 
 __all__ = [
-    "Attributes", "BadBytes", "BadCount", "BadItems", "BadLimits", "BadPart", "BadPattern", "Batch",
-    "BrokenConnection", "Busy", "Change", "ChangedAttributes", "Changes", "Closed", "CommitsSpent", "Comparison", "Conflict",
+    "Attributes", "BadBytes", "BadCount", "BadCursor", "BadItems", "BadLimits", "BadPart", "BadPattern", "Batch",
+    "BrokenConnection", "Busy", "Change", "ChangedAttributes", "Changes", "Closed", "CommitsSpent", "Comparison", "Conflict", "Cursor",
     "DataLength", "Disconnected", "Entry", "Error", "ErrorNumber", "Expired", "Forked", "Full", "HasNul", "Held",
     "Hint", "INT32", "INT64", "InUse", "IndexExists", "Int32", "Int64", "Integer", "Item", "Kind", "LineTooLong", "MIME",
     "MOST_OPERATIONS", "MakeIndex", "Name", "NameLength", "Nested", "NewNode", "NoAttribute", "NoIndex", "NoItem",
-    "NoKind", "NoMemory", "NoNode", "NoOperation", "NoPass", "NoServer", "NoValue", "NoVolume", "NoWatch", "NotAllowed",
-    "NotCovered", "NotIndexable", "NotKept", "NotPinned", "NotReached", "NotUTF8", "Opened", "Operation", "Operator", "OtherStore",
+    "NoKind", "NoMemory", "NoNode", "NoOperation", "NoPass", "NoRoom", "NoServer", "NoValue", "NoVolume", "NoWatch", "NotAllowed",
+    "NotCovered", "NotIndexable", "NotKept", "NotPinned", "NotReached", "NotUTF8", "Opened", "Operation", "Operator", "Order", "OtherStore",
     "OtherUser", "OtherVolume",
-    "PartialIndex", "Pass", "Pinned", "Prepared", "ProtocolError", "QueryError", "QueryNotUTF8", "QuerySyntax", "RAW",
+    "Page", "PartialIndex", "Pass", "Pinned", "Prepared", "ProtocolError", "QueryError", "QueryNotUTF8", "QuerySyntax", "RAW",
     "Refusal", "RemoveIndex", "RemoveNode", "STRING", "ServerError", "ServerRefusal", "SetAttribute", "Shelf",
     "ShelfVersion", "Status", "TimedOut", "TooDeep", "TooLong", "TooMany", "TooManyAttempts", "TooManyAttributes",
     "TooManyIndices", "TooManyWatches", "Typed", "UINT32", "UINT64", "UInt32", "UInt64", "Unavailable",

@@ -67,6 +67,14 @@ class Cell(ctypes.Structure):
     ]
 
 
+class Position(ctypes.Structure):
+    """A bes_cursor."""
+
+    kind: int
+    length: int
+    _fields_ = [("kind", ctypes.c_uint32), ("length", ctypes.c_uint32), ("key", ctypes.c_uint8 * 264)]
+
+
 class Usage(ctypes.Structure):
     pages: int
     free: int
@@ -124,6 +132,11 @@ def _arguments() -> dict[str, List[Any]]:
         "bes_prepared_text": [handle, text, size, words],
         "bes_release": [handle],
         "bes_query_prepared": [handle, handle, *put_out],
+        "bes_ordered": [
+            handle, handle, ctypes.POINTER(HeldName), ctypes.c_uint32, ctypes.POINTER(Position), *put_out,
+            ctypes.POINTER(ctypes.c_uint32)],
+        "bes_first": [handle, handle, word, *put_out],
+        "bes_any": [handle, handle, *put_out],
         "bes_found": [handle, word, *put_out],
         "bes_refresh": [handle, handle, ctypes.POINTER(Updates)],
         "bes_changes": [handle, words, size, words, size],

@@ -4,19 +4,22 @@ from __future__ import annotations
 
 import ctypes
 import operator
+import sys
 import time
 from typing import Any, Callable, Dict, Iterator, List, Optional, Set, Tuple, TypeVar
 
 from . import _native
 from ._library import Usage, calls, check
 from .commits import Commits
-from .errors import BadLimits, ErrorNumber, NotCovered, NoVolume, OtherStore, Refusal, encoded_query, refusal
+from .errors import (
+    BadCursor, BadLimits, ErrorNumber, NoIndex, NotCovered, NoVolume, OtherStore, Refusal, encoded, encoded_query, no_index, refusal)
 from .handles import CURSOR, PASS, WITNESS, HandleOwner
 from .operations import Batch
-from .queries import Prepared, encode_items
+from .pages import Cursor, Order, Page
+from .queries import Prepared, encode_items, prepare
 from .store import PASSES, PAUSES, TRIES, Entry, Held, Pass, StandingBack, Status, Witness
 from .values import RANGES, Kind, Typed, Value
-from .versions import Query, Version
+from .versions import Asked, Query, Version
 
 _Answered = TypeVar("_Answered", bound=Tuple[Any, ...])
 
@@ -44,6 +47,8 @@ class LocalVersion(_native.Reader, Version):
     """A version of a store in this process. Most of its calls are those of the extension."""
 
     _user: LocalPass
+    _query_part = Version.query
+    _query_prepared_part = Version.query_prepared
 
     @property
     def next_node(self) -> int:
@@ -62,6 +67,38 @@ class LocalVersion(_native.Reader, Version):
         if isinstance(asked, (str, Prepared)):
             return self.count(asked)
         return self._count_items(asked, *encode_items(asked))
+
+    def _first_of(self, asked: Query, start: int, limit: int) -> List[int]:
+        if isinstance(asked, str):
+            with prepare(asked) as prepared:
+                return self._first_of(prepared, start, limit)
+        if not isinstance(asked, Prepared):
+            return super()._first_of(asked, start, limit)
+        return self._first(asked, start, min(limit, sys.maxsize)) if start < 2**64 else []
+
+    def _any_of(self, asked: Query, limit: int) -> List[int]:
+        if isinstance(asked, str):
+            with prepare(asked) as prepared:
+                return self._any_of(prepared, limit)
+        if not isinstance(asked, Prepared):
+            return super()._any_of(asked, limit)
+        return self._any(asked, min(limit, sys.maxsize))
+
+    def _page_of(self, asked: Asked, order: Order, after: Optional[Cursor], limit: Optional[int]) -> Page[int]:
+        if isinstance(asked, str):
+            with prepare(asked) as prepared:
+                return self._page_of(prepared, order, after, limit)
+        if after is None:
+            after = Cursor(order, asked._check)
+        after.check_fits(order, asked._check)
+        most = sys.maxsize if limit is None else min(limit, sys.maxsize)
+        try:
+            nodes, more, kind, key = self._page(asked, encoded(order.by), order.descending, after.kind or 0, after.key, most)
+        except NoIndex:
+            raise no_index(order.by, self.indices()) from None
+        except BadCursor:
+            raise after.of_other_kind(self._order_kind(order.by)) from None
+        return Page(nodes, more, Cursor.of_key(order, asked._check, kind, key))
 
     def _query_error(self, answer: int, carried: int, asked: Query) -> Refusal:
         """The error of a query, with what goes with it."""

@@ -21,23 +21,30 @@ that `volume`, so no answer is a part.
 
 from __future__ import annotations
 
-from contextlib import ExitStack
+from contextlib import ExitStack, contextmanager
+from dataclasses import replace
 from functools import partial
+from heapq import merge
+from itertools import islice
 from types import TracebackType
 from typing import Callable, Dict, Iterable, Iterator, List, Optional, Sequence, Tuple, Type, TypeVar, Union
 
 from . import local as _local
 from .commits import Commits
-from .errors import BadCount, BadLimits, IndexExists, NoIndex, NoNode, NotCovered, NoVolume, OtherStore, PartialIndex, Refusal
+from .errors import BadCount, BadLimits, IndexExists, NoIndex, NoNode, NotCovered, NoVolume, OtherStore, PartialIndex, Refusal, no_index
 from .local import refreshed
 from .nodes import MOST_VOLUMES, NUMBERS, indices_in, node_in, node_number, number_of, of_volume, volume_of, within
 from .operations import MOST_OPERATIONS, Batch, MakeIndex, Operation
-from .queries import Prepared
+from .pages import Cursor, Order, Page, decode_key, encode_key
+from .queries import Prepared, prepare
 from .store import PASSES, TRIES, Entry, Pass, Status, ThreadPass, Witness
 from .values import Kind, Typed, Value
-from .versions import Query, Version
+from .versions import Asked, Query, Version
 
 __all__ = ["MOST_VOLUMES", "Shelf", "ShelfVersion", "node_in", "number_of", "open", "volume_of"]
+
+_LEAST_ASKED = 8
+"""A volume is asked for at least so many nodes, if a page may have them."""
 
 _Result = TypeVar("_Result")
 _Taken = TypeVar("_Taken", bound=Union[Pass, Version, Witness])
@@ -80,17 +87,77 @@ class ShelfVersion(Version):
     def _each(self, read: Callable[[Version], _Result]) -> Iterator[Tuple[int, _Result]]:
         """What is read of each volume. An error says of which, unless it is of the call alone."""
         for volume, version in enumerate(self.volumes):
-            try:
-                yield volume, read(version)
-            except NotCovered as error:
-                error.volume = volume
-                raise
+            with _of_volume(volume):
+                found = read(version)
+            yield volume, found
 
     def _nodes_of(self, asked: Query) -> List[int]:
         found: List[int] = []
         for volume, numbers in self._each(lambda version: version._nodes_of(asked)):
             found += _in_volume(volume, numbers)
         return found
+
+    def _first_of(self, asked: Query, start: int, limit: int) -> List[int]:
+        first, number = divmod(start, NUMBERS)
+
+        def read(volume: int, room: int) -> List[int]:
+            return self.volumes[volume]._first_of(asked, number if volume == first else 0, room)
+
+        return self._some(read, range(first, len(self.volumes)), limit)
+
+    def _any_of(self, asked: Query, limit: int) -> List[int]:
+        def read(volume: int, room: int) -> List[int]:
+            return self.volumes[volume]._any_of(asked, room)
+
+        return self._some(read, range(len(self.volumes)), limit)
+
+    def _some(self, read: Callable[[int, int], List[int]], volumes: Iterable[int], limit: int) -> List[int]:
+        """What is read of one volume after another, until it is so many nodes."""
+        found: List[int] = []
+        for volume in volumes:
+            if len(found) < limit:
+                with _of_volume(volume):
+                    found += _in_volume(volume, read(volume, limit - len(found)))
+        return found
+
+    def _page_of(self, asked: Asked, order: Order, after: Optional[Cursor], limit: Optional[int]) -> Page[int]:
+        if isinstance(asked, str):
+            with prepare(asked) as prepared:
+                return self._page_of(prepared, order, after, limit)
+        if len(self.volumes) == 1:
+            return self.volumes[0]._page_of(asked, order, after, limit)
+        kind = self._order_kind(order.by)
+        if after is None:
+            after = Cursor(order, asked._check)
+        after.check_fits(order, asked._check)
+        room = None if limit is None else min(max(limit // len(self.volumes) + 1, _LEAST_ASKED), limit)
+        volumes = (self._keys_in(volume, asked, kind, _position_in(volume, after), room) for volume in range(len(self.volumes)))
+        merged = iter(merge(*volumes, reverse=order.descending))
+        keys = list(merged if limit is None else islice(merged, limit))
+        more = next(merged, None) is not None
+        cursor = Cursor.of_key(order, asked._check, kind, keys[-1]) if keys else after
+        return Page([decode_key(kind, key)[1] for key in keys], more, cursor)
+
+    def _keys_in(self, volume: int, asked: Prepared, kind: Kind, after: Cursor, room: Optional[int]) -> Iterator[bytes]:
+        """The keys of a volume's pages after a position there, in which nodes have their numbers in the whole."""
+        version, order, more = self.volumes[volume], after.order, True
+        while more:
+            with _of_volume(volume):
+                page = version._page_of(asked, order, after, room)
+                values = version.column(page, order.by)
+            for node, value in zip(page, values):
+                if value is not None:
+                    yield encode_key(kind, value, node_in(volume, node))
+            more, after = page.more, page.cursor
+
+    def _order_kind(self, name: str) -> Kind:
+        kinds = self._indices_in().get(name, {})
+        for volume in range(len(self.volumes)):
+            if kinds.get(volume) is None or kinds[volume] != kinds[0]:
+                error = no_index(name, self.indices())
+                error.volume = volume
+                raise error
+        return kinds[0]
 
     def _count_of(self, asked: Query) -> int:
         return sum(count for _, count in self._each(lambda version: version._count_of(asked)))
@@ -172,6 +239,25 @@ class ShelfVersion(Version):
         asked = user._checked(volume)
         for batch in self.volumes[asked].state():
             yield of_volume(batch, asked)
+
+
+@contextmanager
+def _of_volume(volume: int) -> Iterator[None]:
+    """Says of an error that a volume needs another index which volume it is."""
+    try:
+        yield
+    except (NotCovered, NoIndex) as error:
+        error.volume = volume
+        raise
+
+
+def _position_in(volume: int, after: Cursor) -> Cursor:
+    """The position in a volume of a shelf's cursor. Of the nodes with the cursor's value those of lower volumes come before it in the
+    ascending order, and those of higher volumes after it. No node has the number 2^64 - 1 or 0."""
+    if after.node is None:
+        return after
+    own, number = divmod(after.node, NUMBERS)
+    return replace(after, node=number if volume == own else 2**64 - 1 if volume < own else 0)
 
 
 def _put(column: List[Optional[Value]], places: List[int], values: List[Optional[Value]]) -> None:

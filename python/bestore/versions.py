@@ -170,9 +170,9 @@ class Version(ABC):
             return self._page_of(asked, Order(by, bool(descending)), cursor_of(after), limit)
         if descending or after is not None:
             raise TypeError('an order needs the name of an index, as by="size"')
-        if limit is None:
-            limit = 2**64
-        return self._first_of(asked, max(operator.index(start), 0), limit)
+        if limit is None and start <= 0:
+            return self._nodes_of(asked)
+        return self._first_of(asked, max(operator.index(start), 0), 2**64 if limit is None else limit)
 
     @overload
     def query(self, text: str) -> List[int]: ...

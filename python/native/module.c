@@ -16,7 +16,7 @@ typedef struct Named {
 
 static const Named calls[] = {
     CALL(pin), CALL(unpin), CALL(close), CALL(release), CALL(leave), CALL(dismiss), CALL(next), CALL(apply), CALL(apply_if),
-    CALL(query), CALL(query_items), CALL(query_prepared), CALL(found), CALL(refresh), CALL(changes), CALL(nodes), CALL(get), CALL(check_name),
+    CALL(query), CALL(query_items), CALL(query_prepared), CALL(ordered), CALL(first), CALL(any), CALL(found), CALL(refresh), CALL(changes), CALL(nodes), CALL(get), CALL(check_name),
     CALL(columns), CALL(attributes), CALL(indices), CALL(state), CALL(journal_from),
 };
 

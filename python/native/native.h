@@ -35,6 +35,10 @@ typedef struct Library {
     uint32_t (*query)(bes_pass *, const uint8_t *, size_t, uint64_t *, size_t, uint64_t *);
     uint32_t (*query_items)(bes_pass *, const bes_item *, size_t, const uint8_t *, size_t, uint64_t *, size_t, uint64_t *);
     uint32_t (*query_prepared)(bes_pass *, bes_prepared *, uint64_t *, size_t, uint64_t *);
+    uint32_t (*ordered)(
+        bes_pass *, bes_prepared *, const bes_name *, uint32_t, bes_cursor *, uint64_t *, size_t, uint64_t *, uint32_t *);
+    uint32_t (*first)(bes_pass *, bes_prepared *, uint64_t, uint64_t *, size_t, uint64_t *);
+    uint32_t (*any)(bes_pass *, bes_prepared *, uint64_t *, size_t, uint64_t *);
     uint32_t (*found)(bes_prepared *, uint64_t, uint64_t *, size_t, uint64_t *);
     uint32_t (*refresh)(bes_pass *, bes_prepared *, bes_updates *);
     uint32_t (*changes)(bes_prepared *, uint64_t *, size_t, uint64_t *, size_t);

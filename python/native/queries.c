@@ -13,12 +13,23 @@ enum {
 };
 static const uint64_t MOST_NODES = 8u << 20; /* no store has more nodes with attributes: its pages have 64 MiB */
 
-/* A query as it is asked: by a text, by items, or prepared. */
+/* A part of an answer: a page in an order, the first nodes from a number on, or any. */
+typedef struct Part {
+    enum { IN_ORDER, FROM_NUMBER, ANY } how;
+    size_t limit;
+    uint64_t from;
+    bes_name by;
+    bes_cursor cursor;
+    uint32_t descending, more;
+} Part;
+
+/* A query as it is asked: by a text, by items, or prepared. Of a prepared one a part may be asked for. */
 typedef struct Asked {
     Handle *prepared;
     const bes_item *items;
     const uint8_t *bytes;
     size_t count, length;
+    Part *part;
     PyObject *source; /* what the error is about */
 } Asked;
 
@@ -29,9 +40,22 @@ typedef struct Result {
     uint64_t count;
 } Result;
 
+static uint32_t ask_part(bes_pass *pass, bes_prepared *prepared, Part *part, Result *it)
+{
+    size_t room = it->room < part->limit ? it->room : part->limit;
+    if (part->how == FROM_NUMBER)
+        return library.first(pass, prepared, part->from, it->nodes, room, &it->count);
+    if (part->how == ANY)
+        return library.any(pass, prepared, it->nodes, room, &it->count);
+    return library.ordered(
+        pass, prepared, &part->by, part->descending, &part->cursor, it->nodes, room, &it->count, &part->more);
+}
+
 static uint32_t ask_now(bes_pass *pass, const Asked *asked, Result *it)
 {
     uint64_t none, *nodes = it->nodes == NULL ? &none : it->nodes;
+    if (asked->part != NULL)
+        return ask_part(pass, &asked->prepared->held.prepared, asked->part, it);
     if (asked->prepared != NULL)
         return library.query_prepared(pass, &asked->prepared->held.prepared, nodes, it->room, &it->count);
     if (asked->items != NULL)
@@ -248,11 +272,47 @@ static const Signature of_prepared = { "query_prepared", { "prepared" }, 1, 1 };
 static const Signature of_count = { "count", { "query" }, 1, 1 };
 static const Signature of_refresh = { "refresh", { "prepared" }, 1, 1 };
 
+/* The parameters of a call that are named, as a dict. */
+static PyObject *named(PyObject *const *given, PyObject *names)
+{
+    PyObject *dict = PyDict_New();
+    Py_ssize_t count = names == NULL ? 0 : PyTuple_Size(names);
+    for (Py_ssize_t at = 0; dict != NULL && at < count; at++)
+        if (PyDict_SetItem(dict, PyTuple_GetItem(names, at), given[at]) < 0)
+            Py_CLEAR(dict);
+    return dict;
+}
+
+/* Makes a call by the method of the package that does the same, and knows more parameters. */
+static PyObject *forward(
+    PyObject *self, const char *method, PyObject *const *given, Py_ssize_t count, PyObject *names)
+{
+    PyObject *call = PyObject_GetAttrString(self, method), *arguments = PyTuple_New(count), *result = NULL;
+    PyObject *others = named(given + count, names);
+    for (Py_ssize_t at = 0; arguments != NULL && at < count; at++)
+        PyTuple_SetItem(arguments, at, Py_NewRef(given[at]));
+    if (call != NULL && arguments != NULL && others != NULL)
+        result = PyObject_Call(call, arguments, others);
+    Py_XDECREF(call);
+    Py_XDECREF(arguments);
+    Py_XDECREF(others);
+    return result;
+}
+
+/* Whether a call has more than a query: it asks for a part of the answer. */
+static bool asks_part(Py_ssize_t count, PyObject *names)
+{
+    return count + (names == NULL ? 0 : PyTuple_Size(names)) > 1;
+}
+
 PyObject *reader_query(PyObject *self, PyObject *const *given, Py_ssize_t count, PyObject *names)
 {
     PyObject *text;
     Asked asked;
-    bool is_read = read_arguments(&of_text, given, count, names, &text) && read_query(text, &asked);
+    bool is_read;
+    if (asks_part(count, names))
+        return forward(self, "_query_part", given, count, names);
+    is_read = read_arguments(&of_text, given, count, names, &text) && read_query(text, &asked);
     return is_read ? answered((Reader *)self, &asked, true) : NULL;
 }
 
@@ -266,7 +326,10 @@ PyObject *reader_query_prepared(PyObject *self, PyObject *const *given, Py_ssize
 {
     PyObject *prepared;
     Asked asked;
-    bool is_read = read_arguments(&of_prepared, given, count, names, &prepared) && read_prepared(prepared, &asked);
+    bool is_read;
+    if (asks_part(count, names))
+        return forward(self, "_query_prepared_part", given, count, names);
+    is_read = read_arguments(&of_prepared, given, count, names, &prepared) && read_prepared(prepared, &asked);
     return is_read ? answered((Reader *)self, &asked, true) : NULL;
 }
 
@@ -283,6 +346,69 @@ PyObject *reader_count_items(PyObject *self, PyObject *arguments)
 {
     Asked asked;
     return read_items(arguments, &asked) ? answered((Reader *)self, &asked, false) : NULL;
+}
+
+/* The part of a prepared query's answer. */
+static PyObject *answered_part(PyObject *self, PyObject *prepared, Part *part)
+{
+    Asked asked;
+    if (!read_prepared(prepared, &asked))
+        return NULL;
+    asked.part = part;
+    return answered((Reader *)self, &asked, true);
+}
+
+PyObject *reader_first(PyObject *self, PyObject *arguments)
+{
+    PyObject *prepared;
+    unsigned long long from;
+    Py_ssize_t limit;
+    if (!PyArg_ParseTuple(arguments, "OKn", &prepared, &from, &limit))
+        return NULL;
+    return answered_part(self, prepared, &(Part){ .how = FROM_NUMBER, .limit = (size_t)limit, .from = from });
+}
+
+PyObject *reader_any(PyObject *self, PyObject *arguments)
+{
+    PyObject *prepared;
+    Py_ssize_t limit;
+    if (!PyArg_ParseTuple(arguments, "On", &prepared, &limit))
+        return NULL;
+    return answered_part(self, prepared, &(Part){ .how = ANY, .limit = (size_t)limit });
+}
+
+/* Reads what a page is asked by: the query, the name of the index, the direction, where it begins, and how many nodes it may have. */
+static bool read_page(PyObject *arguments, PyObject **prepared, Part *part)
+{
+    const char *name, *key;
+    Py_ssize_t length, key_length, limit;
+    int descending;
+    uint32_t answer;
+    *part = (Part){ .how = IN_ORDER };
+    if (!PyArg_ParseTuple(arguments, "Oy#pIy#n", prepared, &name, &length, &descending, &part->cursor.kind, &key, &key_length, &limit))
+        return false;
+    answer = library.check_name((const uint8_t *)name, (size_t)length, &part->by);
+    if (answer == BES_OK && (size_t)key_length > sizeof part->cursor.key)
+        answer = BES_BAD_CURSOR;
+    if (answer != BES_OK) {
+        refused(answer);
+        return false;
+    }
+    part->descending = (uint32_t)descending;
+    part->cursor.length = (uint32_t)key_length;
+    memcpy(part->cursor.key, key, (size_t)key_length);
+    part->limit = (size_t)limit;
+    return true;
+}
+
+PyObject *reader_page(PyObject *self, PyObject *arguments)
+{
+    PyObject *prepared, *nodes;
+    Part part;
+    if (!read_page(arguments, &prepared, &part) || (nodes = answered_part(self, prepared, &part)) == NULL)
+        return NULL;
+    return Py_BuildValue("(NOIy#)", nodes, part.more ? Py_True : Py_False, part.cursor.kind, (const char *)part.cursor.key,
+                         (Py_ssize_t)part.cursor.length);
 }
 
 /* The changes that a refresh found: room for them, and how many they are. */

@@ -325,12 +325,13 @@ static PyMethodDef methods[] = {
     { "indices", reader_indices, METH_NOARGS,
       "indices($self, /)\n--\n\nThe indices: a dict of names and kinds, by ascending names." },
     { "query", METHOD(reader_query),
-      "query($self, /, text)\n--\n\n"
+      "query($self, /, text, *, by=None, descending=False, limit=None, after=None, start=0)\n--\n\n"
       "The nodes that meet the query, ascending. A `QueryError` if the text is no query, or `NotCovered` if it\n"
-      "needs another index. Takes the time to parse the text, and to read the part of the indices that it needs." },
+      "needs another index. Takes the time to parse the text, and to read the part of the indices that it needs.\n\n"
+      "`help(bestore.Version.query)` describes the parts of an answer: with `limit`, and in the order `by` an index." },
     { "query_prepared", METHOD(reader_query_prepared),
-      "query_prepared($self, /, prepared)\n--\n\n"
-      "The nodes that meet a prepared query, ascending. What its last refresh returned stays." },
+      "query_prepared($self, /, prepared, *, by=None, descending=False, limit=None, after=None, start=0)\n--\n\n"
+      "The nodes that meet a prepared query, as `query` returns them. What its last refresh returned stays." },
     { "count", METHOD(reader_count),
       "count($self, /, query)\n--\n\n"
       "How many nodes meet the query, by its text or prepared. Takes what the query takes, but no list." },
@@ -343,6 +344,10 @@ static PyMethodDef methods[] = {
     { "_read", METHOD(reader_read), "A node's attribute with its kind. `NoAttribute` if it isn't there." },
     { "_value", METHOD(reader_value), "A node's attribute. `NoAttribute` if it isn't there." },
     { "_query_items", reader_query_items, METH_VARARGS, "The nodes that meet the query of items, which were encoded." },
+    { "_page", reader_page, METH_VARARGS,
+      "A page of a prepared query: its nodes, whether there are more, and the kind and the key of the last one." },
+    { "_first", reader_first, METH_VARARGS, "The first nodes that meet a prepared query, from a number on." },
+    { "_any", reader_any, METH_VARARGS, "Any nodes that meet a prepared query." },
     { "_count_items", reader_count_items, METH_VARARGS, "How many nodes these are." },
     { "_nodes_from", reader_nodes_from, METH_VARARGS, "So many nodes from a number on, by one call." },
     { "_state", reader_state, METH_O, "The next batch of those that make the snapshot again, or None at their end." },

@@ -233,7 +233,7 @@ impl FromStr for Cursor {
 
     fn from_str(text: &str) -> Result<Self> {
         let found = of_base64(text).and_then(|bytes| read(&bytes));
-        // Bits behind the last byte may differ, and would give one cursor two texts.
+        // Bits after the last byte may differ, and would give one cursor two texts.
         let found = found.filter(|cursor| cursor.to_string() == text);
         found.ok_or(Error::BadCursor(CursorFault::Text))
     }

@@ -141,7 +141,7 @@ impl Live {
 
     /// Returns what [`refresh`](Self::refresh) does. It asks the query only of the nodes that were written since the last refresh,
     /// and takes less time where the answer is large and little was written. It reads the journal's entries since then, and other
-    /// passes get [`Error::Busy`] meanwhile. Where it can't, as after many writes, it asks the whole query.
+    /// passes get [`Error::Busy`] meanwhile. After many writes it asks the whole query.
     ///
     /// # Errors
     /// As `refresh`.

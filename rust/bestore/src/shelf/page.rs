@@ -17,7 +17,7 @@ impl<'a> ShelfSnapshot<'a> {
         Ok(Ordered::of_shelf(self, Prepared::new(text)?, order))
     }
 
-    /// A page of all volumes, as [`Snapshot::page`]. Where values are equal, nodes are in the order of their integers. It takes about
+    /// A page of all volumes, as [`Snapshot::page`]. If values are equal, nodes are in the order of their integers. It takes about
     /// what a page of each volume takes.
     ///
     /// # Errors
@@ -125,7 +125,7 @@ struct Merge<'s, 'a> {
 /// What was read of a volume, and isn't taken yet.
 struct Ahead {
     nodes: VecDeque<Keyed>,
-    /// Where the volume goes on, if it has more.
+    /// The position from which the volume goes on, if it has more.
     after: Option<Cursor>,
 }
 
