@@ -5,7 +5,7 @@ from __future__ import annotations
 from typing import Callable, Dict, List, Optional, Tuple
 
 from . import _saved_errors
-from .errors import NotReached, Error, ErrorNumber, NoVolume, OtherVolume, PartialIndex, Refusal, refusal
+from .errors import BadCursor, NotReached, Error, ErrorNumber, NoVolume, OtherVolume, PartialIndex, Refusal, refusal
 
 
 class ServerError(Error):
@@ -175,6 +175,8 @@ def _of_library(number: int, details: Dict[str, object], query: Optional[str]) -
     carried = details.get(key)
     refused = refusal(number, carried if isinstance(carried, int) else None, query, listed)
     refused.volume = _number(details, "volume")
+    if isinstance(refused, BadCursor):
+        refused.reason = str(details.get("message"))
     return refused
 
 

@@ -31,6 +31,7 @@ from weakref import WeakValueDictionary
 from ._connected_errors import (
     BrokenConnection, Disconnected, Expired, LineTooLong, NoServer, NotAllowed, NotKept, NoWatch, OtherUser, ProtocolError,
     ServerError, ServerRefusal, TimedOut, TooManyWatches, Unavailable, error_of)
+from ._connected_queries import MOST_NAMES, QueriedVersion
 from ._connection import Connection
 from ._journal import line_of
 from ._socket_path import SocketPath
@@ -43,10 +44,10 @@ from .handles import LockOwner
 from .local import refreshed
 from .nodes import node_number, within
 from .operations import MOST_OPERATIONS, NEW, Batch
-from .queries import Prepared, prepare_items
+from .queries import Prepared
 from .store import TRIES, Entry, Held, Status, ThreadPass, Witness
 from .values import RANGES, Kind, Typed, Value
-from .versions import Query, Row, Version, not_covered
+from .versions import not_covered
 from .watches import Changes, Watch
 
 __all__ = [
@@ -61,7 +62,6 @@ TIMEOUT = 60.0
 """How many seconds connecting and each reply may take, if nothing else is said."""
 _WORDS = 512  # of a page
 _MOST_WAITED = 30.0  # seconds that the server waits by itself
-_MOST_NAMES = 64  # of a request for columns
 _MOST_NODES = 1 << 14  # of such a request, which then is no line that is too long
 
 
@@ -84,6 +84,9 @@ class Server(NamedTuple):
     """How many watches a pass may have."""
     volumes: int = 1
     """How many volumes there are. `pages` and `commits` are of each."""
+    features: Tuple[str, ...] = ()
+    """What the server has that older ones lack. With `order` it finds pages in the order of an index; otherwise they are cut here
+    from the whole answer."""
 
 
 def _read_server(hello: JSON) -> Tuple[Server, int]:
@@ -91,11 +94,11 @@ def _read_server(hello: JSON) -> Tuple[Server, int]:
     limits = hello["limits"]
     server = Server(
         hello["server"], hello["library"], hello["run"], hello["kept"], limits["pages"], limits["passes"], limits["commits"],
-        limits["watches"], hello.get("volumes", 1))
+        limits["watches"], hello.get("volumes", 1), tuple(hello.get("features", ())))
     return server, hello["pass"]
 
 
-class ConnectedVersion(Version):
+class ConnectedVersion(QueriedVersion):
     """A version of a server's store. Each read is a round trip, and more than one if the reply has several pages."""
 
     _is_pinned = False
@@ -135,6 +138,10 @@ class ConnectedVersion(Version):
             return user._ask(command, parameters, read, query=query)
 
     @property
+    def _features(self) -> Tuple[str, ...]:
+        return self._user.server.features
+
+    @property
     def next_node(self) -> int:
         if not self._is_pinned:
             raise NotPinned()
@@ -145,43 +152,6 @@ class ConnectedVersion(Version):
         if not 0 <= volume < len(self._nexts):
             raise NoVolume(volume, len(self._nexts))
         return self._nexts[volume]
-
-    def _ask_query(self, command: str, asked: Query, text: str, others: JSON, read: Callable[[JSON], _Result]) -> _Result:
-        """Asks something of a query. `text` is what is sent for it."""
-        try:
-            return self._ask(command, {"query": text, **others}, read, asked if isinstance(asked, str) else None)
-        except NotCovered as error:
-            named = self._not_covered(asked)
-            named.volume = error.volume
-            raise named from None
-        except LineTooLong:
-            raise TooLong(query=text) from None
-
-    def _nodes_of(self, asked: Query) -> List[int]:
-        text = _text_of(asked)
-        nodes, more = self._ask_query("query", asked, text, {}, _read_page)
-        while more is not None:
-            page, more = self._ask_query("query", asked, text, {"from": more}, _read_page)
-            nodes += page
-        return nodes
-
-    def _count_of(self, asked: Query) -> int:
-        return self._ask_query("query", asked, _text_of(asked), {"count": True}, lambda ok: int(ok["count"]))
-
-    def _rows_of(self, query: Union[str, Prepared], names: List[str], first: int, most: int) -> List[Row]:
-        for name in names:
-            encoded(name)
-        text, rows = _text_of(query), []  # type: str, List[Row]
-        more: Optional[int] = first
-        while more is not None and more < 2**64 and len(rows) < most:
-            others: JSON = {"columns": names, "from": more, "limit": most - len(rows)}
-            page, more = self._ask_query("query", query, text, others, _read_rows)
-            rows += page
-        return rows
-
-    def explain(self, text: str) -> str:
-        encoded_query(text)
-        return self._ask_query("explain", text, text, {}, lambda ok: str(ok["text"]))
 
     def refresh(self, prepared: Prepared) -> Tuple[List[int], List[int]]:
         """As in a version of a store in this process, up to this version. All nodes of the query come through the socket,
@@ -209,8 +179,8 @@ class ConnectedVersion(Version):
     def columns(self, nodes: Iterable[int], names: Iterable[str]) -> List[List[Optional[Value]]]:
         asked, wanted = [_asked_node(node) for node in nodes], [_asked_name(name) for name in names]
         columns: List[List[Optional[Value]]] = [[] for _ in wanted]
-        for first in range(0, len(wanted), _MOST_NAMES):
-            part = slice(first, first + _MOST_NAMES)
+        for first in range(0, len(wanted), MOST_NAMES):
+            part = slice(first, first + MOST_NAMES)
             self._fill(columns[part], asked, wanted[part])
         return columns
 
@@ -276,25 +246,6 @@ def _asked_name(name: str) -> str:
         raise TypeError(f"{name!r} is no name: a name is a str")
     encoded(name)
     return name
-
-
-def _text_of(asked: Query) -> str:
-    """The text that asks a query. Items are asked by their canonical text."""
-    if isinstance(asked, str):
-        encoded_query(asked)
-        return asked
-    if isinstance(asked, Prepared):
-        return asked._asked_text()
-    with prepare_items(*asked) as prepared:
-        return prepared.text
-
-
-def _read_page(ok: JSON) -> Tuple[List[int], Optional[int]]:
-    return read_nodes(ok["nodes"]), ok.get("more")
-
-
-def _read_rows(ok: JSON) -> Tuple[List[Row], Optional[int]]:
-    return list(zip(read_nodes(ok["nodes"]), map(read_row, ok["rows"]))), ok.get("more")
 
 
 def _read_state(ok: JSON) -> Tuple[List[Batch], Optional[int]]:

@@ -10,6 +10,7 @@ from collections import deque
 from typing import Deque, Dict, Iterable, List, Mapping, NamedTuple, Optional, Sequence, Set, Union
 
 import bestore
+from bestore.pages import Order
 
 from . import columns, find
 from .places import PLACE_NAMES, Places
@@ -26,6 +27,21 @@ COUNTING = 1.0  # seconds between two counts of all nodes
 ENDING = 5.0    # seconds that the end is waited for
 
 
+class Begin(NamedTuple):
+    """The first hits of an order that an index has."""
+
+    order: Order
+    most: int
+    """How many of them: those that are seen, and some more."""
+
+
+class Sort(NamedTuple):
+    """A request: report the first hits of the query that is followed, in this order."""
+
+    turn: int
+    begin: Begin
+
+
 class Ask(NamedTuple):
     """A request: ask this query, and follow it."""
 
@@ -34,6 +50,8 @@ class Ask(NamedTuple):
     text: str
     names: Sequence[str]
     """The attributes that are read of each hit."""
+    begin: Optional[Begin] = None
+    """The hits that are reported before all others."""
 
 
 class Write(NamedTuple):
@@ -80,6 +98,14 @@ class Named(NamedTuple):
     names: List[str]
 
 
+class First(NamedTuple):
+    """A report: the first hits in an order that an index has."""
+
+    turn: int
+    order: Order
+    hits: List[Hit]
+
+
 class Came(NamedTuple):
     """A report: hits that are new, or that have other attributes now."""
 
@@ -110,7 +136,7 @@ class Written(NamedTuple):
     fault: Optional[str]
 
 
-Report = Union[Opened, Lost, Accepted, Refused, Named, Came, Went, Counted, Written]
+Report = Union[Opened, Lost, Accepted, Refused, Named, First, Came, Went, Counted, Written]
 
 
 class NotWritten(Exception):
@@ -123,6 +149,8 @@ class _Following:
     def __init__(self, ask: Ask, live: LiveAnswer) -> None:
         self.ask, self.live = ask, live
         self.known: Set[Node] = set()
+        self.reported: Set[Node] = set()
+        self._ahead: List[Node] = []  # those that were reported of a snapshot that the answer has still to reach
         self.waiting: Dict[Node, None] = {}
         self.gone: List[Node] = []  # those that went, and that isn't reported yet
         self.seen: Optional[Numbers] = None
@@ -132,19 +160,28 @@ class _Following:
         """Goes on to a snapshot, in which these nodes may have other attributes."""
         came, went = self.live.refresh(version)
         self.seen = version.numbers
-        self.gone += [node for node in went if node not in self.waiting]
-        for node in went:
-            self.waiting.pop(node, None)
         self.known.difference_update(went)
         self.known.update(came)
+        gone = {node for node in (*went, *self._ahead) if node in self.reported and node not in self.known}
+        self._ahead = []
+        self.gone += sorted(gone)
+        self.reported -= gone
+        for node in went:
+            self.waiting.pop(node, None)
         self.waiting.update(dict.fromkeys(came))
         self.waiting.update(dict.fromkeys(node for node in changed if node in self.known))
+
+    def report_first(self, hits: List[Hit]) -> None:
+        """Keeps in mind that the first hits of an order were reported, of a snapshot of their own."""
+        self._ahead += [hit.node for hit in hits]
+        self.reported.update(self._ahead)
 
     def reports(self, hits: List[Hit]) -> List[Report]:
         """What there is to report once these hits were read. Those that went come first, since one may have come again."""
         turn, gone, self.gone = self.ask.turn, self.gone, []
         for hit in hits:
             del self.waiting[hit.node]
+            self.reported.add(hit.node)
         parts = [hits[first:first + REPORTED] for first in range(0, len(hits), REPORTED)]
         return [*([Went(turn, gone)] if gone else []), *(Came(turn, part) for part in parts)]
 
@@ -158,20 +195,28 @@ class _Following:
         return {node: values for node, values in rows if node in self.waiting}
 
 
+def _names(ask: Ask) -> List[str]:
+    """The attributes of each hit that the window needs."""
+    return list(dict.fromkeys([*ask.names, *PLACE_NAMES]))
+
+
 class _Requests:
     """What the window asks for: the last query, and the writes that aren't done yet."""
 
     def __init__(self) -> None:
         self._came = threading.Condition()
         self._ask: Optional[Ask] = None
+        self._sort: Optional[Sort] = None
         self._writes: Deque[Write] = deque()
         self._is_ended = False
 
-    def put(self, request: Union[Ask, Write, None]) -> None:
+    def put(self, request: Union[Ask, Sort, Write, None]) -> None:
         """Adds a request, or with None the end."""
         with self._came:
             if isinstance(request, Ask):
-                self._ask = request
+                self._ask, self._sort = request, None
+            elif isinstance(request, Sort):
+                self._sort = request
             elif request is not None:
                 self._writes.append(request)
             else:
@@ -186,13 +231,19 @@ class _Requests:
     def wait(self, timeout: float) -> None:
         """If there is nothing, waits up to so many seconds."""
         with self._came:
-            self._came.wait_for(lambda: self._ask or self._writes or self._is_ended, timeout)
+            self._came.wait_for(lambda: self._ask or self._sort or self._writes or self._is_ended, timeout)
 
     def take_ask(self) -> Optional[Ask]:
         """Takes the query."""
         with self._came:
             ask, self._ask = self._ask, None
             return ask
+
+    def take_sort(self) -> Optional[Sort]:
+        """Takes the order whose first hits are asked for."""
+        with self._came:
+            sort, self._sort = self._sort, None
+            return sort
 
     def take_write(self) -> Optional[Write]:
         """Takes the first write."""
@@ -216,7 +267,7 @@ class Asker(threading.Thread):
         self._has_news = False
         self._all, self._counted_at = 0, 0.0
 
-    def send(self, request: Union[Ask, Write]) -> None:
+    def send(self, request: Union[Ask, Sort, Write]) -> None:
         """Asks for something. A query takes the place of one that wasn't asked yet."""
         self._requests.put(request)
 
@@ -269,6 +320,9 @@ class Asker(threading.Thread):
             ask = self._requests.take_ask()
             if ask is not None:
                 self._ask(session, ask)
+            sort = self._requests.take_sort()
+            if sort is not None and self._following is not None:
+                self._sort(session, self._following, sort)
             if self._following is not None:
                 self._step(session, self._following)
 
@@ -285,6 +339,7 @@ class Asker(threading.Thread):
             self._following.live.close()
             self._following = None
         try:
+            first = self._report_first(session, ask, ask.begin)
             live = session.begin(ask.text)
             with session.user.pin() as version:
                 self._indices = version.indices()
@@ -295,7 +350,31 @@ class Asker(threading.Thread):
             self._report(Refused(ask.turn, error, self._indices))
         else:
             self._following = _Following(ask, live)
+            self._following.report_first(first)
             self._report(Accepted(ask.turn, hints))
+
+    def _sort(self, session: Session, following: _Following, sort: Sort) -> None:
+        """Reports the first hits in another order."""
+        if sort.turn == following.ask.turn:
+            following.report_first(self._report_first(session, following.ask, sort.begin))
+            self._has_news = True
+
+    def _report_first(self, session: Session, ask: Ask, begin: Optional[Begin]) -> List[Hit]:
+        """Reads the first hits in an order, and reports them. At an error there are none: the window sorts all hits when it has
+        them."""
+        if begin is None:
+            return []
+        names, (by, descending) = _names(ask), begin.order
+        try:
+            with session.user.pin() as version:
+                rows = version.rows(ask.text, names, most=begin.most, by=by, descending=descending)
+                hits = [self._hit(version, node, names, values) for node, values in rows]
+        except bestore.BrokenConnection:
+            raise
+        except bestore.Error:
+            return []
+        self._report(First(ask.turn, begin.order, hits))
+        return hits
 
     def _step(self, session: Session, following: _Following) -> None:
         """Goes on to the current snapshot, and reads hits of it."""
@@ -342,13 +421,14 @@ class Asker(threading.Thread):
 
     def _read(self, following: _Following, version: bestore.Version) -> List[Hit]:
         """The next hits that wait, with the attributes that the window needs."""
-        names = list(dict.fromkeys([*following.ask.names, *PLACE_NAMES]))
-        hits = []
-        for node, values in following.read(version, names).items():
-            attributes = {name: value for name, value in zip(names, values) if value is not None}
-            self._places.locate(version, attributes)
-            hits.append(Hit(node, attributes))
-        return hits
+        names = _names(following.ask)
+        return [self._hit(version, node, names, values) for node, values in following.read(version, names).items()]
+
+    def _hit(self, version: bestore.Version, node: Node, names: Sequence[str], values: Sequence[Optional[bestore.Value]]) -> Hit:
+        """A node with the attributes of these names, and its place."""
+        attributes = {name: value for name, value in zip(names, values) if value is not None}
+        self._places.locate(version, attributes)
+        return Hit(node, attributes)
 
     def _count(self, version: bestore.Version) -> int:
         """How many nodes there are to be found. They are counted now and then."""

@@ -89,6 +89,11 @@ class HitList(tk.Frame):
         self._cancel_edit()
         super().destroy()
 
+    @property
+    def room(self) -> int:
+        """How many hits are seen at a time."""
+        return self._room
+
     def show_columns(self, shown: List[Column]) -> None:
         """Shows these columns. The first one has the icon."""
         self.editor.end()

@@ -6,7 +6,7 @@ from __future__ import annotations
 import heapq
 from bisect import bisect_left, insort
 from itertools import islice
-from typing import Any, Dict, Iterator, List, NamedTuple, Optional, Tuple
+from typing import Any, Dict, Iterator, List, NamedTuple, Optional, Sequence, Tuple
 
 import bestore
 
@@ -106,6 +106,8 @@ class SortedHits:
         self._listed = _Listed(attribute)
         self._sorting: Optional[_Sorting] = None
         self._sorted: Optional[_Listed] = None  # which still lacks what was touched
+        self._first: List[Node] = []  # the first hits in the order that is being made, which come before the others
+        self._gaps: Optional[List[int]] = None  # their places in the order that the others still have, if these are known
         self.is_turned = self.will_be_turned = False
         """Whether the greatest come first. Hits without the attribute come last all the same."""
 
@@ -116,6 +118,11 @@ class SortedHits:
         return node in self._hits
 
     def __getitem__(self, place: int) -> Hit:
+        if place < len(self._first):
+            return self._hits[self._first[place]]
+        place -= len(self._first)
+        for gap in self._gaps_of_first():
+            place += gap <= place
         entries, lacking = self._listed.entries, self._listed.lacking
         if place >= len(entries):
             return self._hits[lacking[place - len(entries)]]
@@ -130,7 +137,20 @@ class SortedHits:
         hit = self._hits.get(node)
         if hit is None:
             return None
-        entries = self._listed.entries
+        if node in self._first:
+            return self._first.index(node)
+        place = self._listed_place(hit)
+        return len(self._first) + place - bisect_left(self._gaps_of_first(), place)
+
+    def _gaps_of_first(self) -> List[int]:
+        """The places that the hits which come first have among those that are listed."""
+        if self._gaps is None:
+            self._gaps = sorted(self._listed_place(self._hits[node]) for node in self._first)
+        return self._gaps
+
+    def _listed_place(self, hit: Hit) -> int:
+        """The place among those that are listed."""
+        node, entries = hit.node, self._listed.entries
         entry = entry_of(self._listed.attribute, hit)
         if entry is None:
             return len(entries) + bisect_left(self._listed.lacking, node)
@@ -139,7 +159,7 @@ class SortedHits:
 
     def put(self, hit: Hit) -> None:
         """Puts a hit at its place. If it is there already, with its attributes as they were, it takes the place of that."""
-        old = self._hits.get(hit.node)
+        old, self._gaps = self._hits.get(hit.node), None
         self._touch(hit.node, old)
         if old is not None:
             self._listed.remove(old)
@@ -152,10 +172,12 @@ class SortedHits:
         if old is not None:
             self._touch(node, old)
             self._listed.remove(old)
+            self._set_first([it for it in self._first if it != node])
 
     def clear(self) -> None:
         """Takes all hits away. Their order stays."""
         self._hits, self._listed = {}, _Listed(self.attribute)
+        self._set_first([])
         self._sorting, self._sorted, self.is_turned = None, None, self.will_be_turned
 
     def _touch(self, node: Node, old: Optional[Hit]) -> None:
@@ -169,12 +191,22 @@ class SortedHits:
 
     def sort(self, attribute: str, is_turned: bool = False) -> None:
         """Sorts the hits by an attribute. Until `step` has done it they stay in the order that they have."""
+        self._set_first([])
         if attribute == self._listed.attribute:
             self._sorting = self._sorted = None
             self.is_turned = is_turned
         elif self._sorting is None or attribute != self._sorting.attribute:
             self._sorting, self._sorted = _Sorting(attribute, iter(list(self._hits.values()))), None
         self.will_be_turned = is_turned
+
+    def show_first(self, nodes: Sequence[Node]) -> None:
+        """Puts these hits, which the store has found as the first ones of the new order, before all others until `step` has sorted
+        them."""
+        if self._sorting is not None:
+            self._set_first([node for node in nodes if node in self._hits])
+
+    def _set_first(self, nodes: List[Node]) -> None:
+        self._first, self._gaps = nodes, None
 
     @property
     def is_sorting(self) -> bool:
@@ -199,4 +231,5 @@ class SortedHits:
             return False
         self._listed, self.is_turned = self._sorted, self.will_be_turned
         self._sorting = self._sorted = None
+        self._set_first([])
         return True

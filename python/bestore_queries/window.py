@@ -10,9 +10,11 @@ from tkinter import ttk
 from typing import List, Mapping, Optional, Sequence, Union
 
 import bestore
+from bestore.pages import Order
 
 from . import columns, find, theme, typed_query
-from .asker import Accepted, Ask, Asker, Came, Counted, Lost, Named, Opened, Refused, Report, Went, Write, Written
+from .asker import (
+    Accepted, Ask, Asker, Begin, Came, Counted, First, Lost, Named, Opened, Refused, Report, Sort, Went, Write, Written)
 from .attribute_editor import Cell
 from .columns import Column
 from .find_row import FindRow
@@ -160,7 +162,7 @@ class Window:
             self._typed, self._fault = typed_query.TypedQuery(text, "", ()), error.fault
         self._show_columns()
         if self._is_open and self._fault is None:
-            self._asker.send(Ask(self._turn, self._typed.sent, [it.attribute for it in self._columns()]))
+            self._asker.send(Ask(self._turn, self._typed.sent, [it.attribute for it in self._columns()], self._begin()))
         self._tell_query()
         self._tell_state()
 
@@ -173,8 +175,19 @@ class Window:
         """Sorts the hits by a column from now on; at the second time the other way round."""
         is_turned = self.hits.attribute == column.attribute and not self.hits.will_be_turned
         self.hits.sort(column.attribute, is_turned)
+        begin = self._begin()
+        if begin is not None and self._is_answered:
+            self._asker.send(Sort(self._turn, begin))
         self.list.show_order()
         self.list.paint()
+
+    def _begin(self) -> Optional[Begin]:
+        """The hits that the list begins with, if an index has its order: those that are seen, and a page more. The order of an index
+        of texts is another one than that of the list, which pays no heed to case."""
+        attribute = self.hits.attribute
+        if not columns.is_number(self._indices.get(attribute)):
+            return None
+        return Begin(Order(attribute, self.hits.will_be_turned), 2 * self.list.room)
 
     def open(self, hits: List[Hit]) -> None:
         """Opens files by the programs that the desktop has for them."""
@@ -268,10 +281,12 @@ class Window:
         self.find_row.take_indices(indices)
         self._offer_attributes()
 
-    def _take_answer(self, report: Union[Accepted, Refused, Named, Came, Went, Counted]) -> None:
-        if isinstance(report, Came):
+    def _take_answer(self, report: Union[Accepted, Refused, Named, First, Came, Went, Counted]) -> None:
+        if isinstance(report, (First, Came)):
             for hit in report.hits:
                 self.hits.put(hit)
+            if isinstance(report, First) and report.order == Order(self.hits.attribute, self.hits.will_be_turned):
+                self.hits.show_first([hit.node for hit in report.hits])
         elif isinstance(report, Went):
             for node in report.nodes:
                 self.hits.remove(node)

@@ -8,8 +8,10 @@ from unittest import mock
 
 import bestore
 from bestore_queries import asker
-from bestore_queries.asker import Accepted, Ask, Asker, Came, Counted, Lost, Opened, Refused, Went, Write, Written
-from bestore_queries.sources import ServerSource, Session, _ServerSession
+from bestore.pages import Order
+from bestore_queries.asker import (
+    Accepted, Ask, Asker, Begin, Came, Counted, First, Lost, Opened, Refused, Sort, Went, Write, Written)
+from bestore_queries.sources import LiveAnswer, ServerSource, Session, _FolderSession, _ServerSession
 
 import servers
 from common import PATIENCE, MadeSource, file_of, files_store, wait_for
@@ -25,9 +27,9 @@ class Asking(unittest.TestCase):
         self.asker = Asker(MadeSource(self.store))
         self.addCleanup(self.asker.end)
 
-    def start(self, query: str, names: Sequence[str] = ("name",)) -> None:
+    def start(self, query: str, names: Sequence[str] = ("name",), begin: Optional[Begin] = None) -> None:
         self.asker.start()
-        self.asker.send(Ask(1, query, names))
+        self.asker.send(Ask(1, query, names, begin))
 
     def file(self, name: str, size: int = 1) -> int:
         return file_of(self.store, name=name, size=size)
@@ -45,6 +47,8 @@ class Asking(unittest.TestCase):
                 self.count = report
             else:
                 self.others.append(report)
+            if isinstance(report, First):
+                self.names.update({hit.node: str(hit.attributes["name"]) for hit in report.hits})
         return self.names
 
     def becomes(self, *names: str) -> None:
@@ -67,6 +71,57 @@ class Asking(unittest.TestCase):
         self.store.set(nodes[1], "size", 1)
         self.becomes("z", "d", "b")
         self.assertTrue(wait_for(lambda: self.take() is not None and self.count == Counted(1, 3, 0, 3)), self.count)
+
+    def firsts(self) -> List[List[int]]:
+        """The nodes of each report of first hits."""
+        self.take()
+        return [[hit.node for hit in it.hits] for it in self.others if isinstance(it, First)]
+
+    def test_first_hits_of_an_order(self) -> None:
+        """They come before all others, and for another order as soon as that is asked for."""
+        nodes = [self.file(name, size) for name, size in [("a", 1), ("b", 3), ("c", 2), ("d", 3)]]
+        self.start("size>0", begin=Begin(Order("size", True), 2))
+        self.becomes("a", "b", "c", "d")
+        self.assertEqual([type(it) for it in self.others[:3]], [Opened, First, Accepted])
+        self.assertEqual(self.firsts(), [[nodes[3], nodes[1]]])
+        self.asker.send(Sort(2, Begin(Order("size"), 9)))  # of a query that isn't the one that is followed
+        self.asker.send(Sort(1, Begin(Order("size"), 3)))
+        self.assertTrue(wait_for(lambda: len(self.firsts()) == 2))
+        self.assertEqual(self.firsts()[1], [nodes[0], nodes[2], nodes[1]])
+
+    def test_first_hit_that_goes_at_once(self) -> None:
+        """One that is gone when the answer comes, or that came and went since, is reported to have gone."""
+        node, begin = self.file("a"), _FolderSession.begin
+        self.file("b")
+
+        def late(session: _FolderSession, text: str) -> LiveAnswer:
+            self.store.remove_node(node)
+            return begin(session, text)
+        with mock.patch.object(_FolderSession, "begin", late):
+            self.start("size==1", begin=Begin(Order("size"), 2))
+            self.becomes("b")
+        self.assertEqual(self.firsts()[0][0], node)
+        step, ghosts = Asker._step, []  # type: object, List[int]
+
+        def between(asking: Asker, session: Session, following: asker._Following) -> None:
+            if not ghosts:
+                with self.store.another() as other:
+                    ghosts.append(file_of(other, name="ghost", size=1))
+                    asking._sort(session, following, Sort(1, Begin(Order("size", True), 1)))
+                    other.remove_node(ghosts[0])
+            step(asking, session, following)  # type: ignore[operator]
+        with mock.patch.object(Asker, "_step", between):
+            self.assertTrue(wait_for(lambda: bool(ghosts)))
+        self.file("c")
+        self.becomes("b", "c")
+        self.assertEqual(self.firsts()[-1], ghosts)
+
+    def test_first_hits_of_no_index(self) -> None:
+        """Without them the hits come all the same."""
+        self.file("a")
+        self.start("size==1", begin=Begin(Order("none"), 2))
+        self.becomes("a")
+        self.assertEqual(self.firsts(), [])
 
     def test_more_than_the_journal_is_read_for(self) -> None:
         """After many writes all hits are read again."""

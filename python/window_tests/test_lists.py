@@ -57,6 +57,7 @@ class Sorted(unittest.TestCase):
                     model.pop(node, None)
                 elif what < 0.85:
                     hits.sort(chance.choice(("name", "size")), chance.random() < 0.5)
+                    hits.show_first(chance.sample(range(60), 5))
                 else:
                     hits.step()
                 if chance.random() < 0.1:
@@ -88,6 +89,26 @@ class Sorted(unittest.TestCase):
             self.assertEqual(listed(hits), before)
         self.assertGreater(steps, 5)
         self.assertEqual(listed(hits), in_order(model, "size", True))
+
+    def test_first_of_a_new_order(self) -> None:
+        """Those that the store has found come first until all are sorted, and the others stay in the order that they have."""
+        hits = SortedHits()
+        for node in range(6):
+            hits.put(Hit(node, {"name": str(node), "size": -node}))
+        hits.show_first([5])  # nothing is being sorted
+        self.assertEqual(listed(hits), [0, 1, 2, 3, 4, 5])
+        hits.sort("size")
+        hits.show_first([5, 4, 9])
+        self.assertEqual(listed(hits), [5, 4, 0, 1, 2, 3])
+        hits.remove(5)
+        hits.put(Hit(7, {"name": "1", "size": 7}))
+        self.assertEqual(listed(hits), [4, 0, 1, 7, 2, 3])
+        self.assertEqual([hits.place_of(node) for node in (4, 0, 7, 3, 5)], [0, 1, 3, 5, None])
+        hits.sort("size", True)
+        self.assertEqual(listed(hits), [0, 1, 7, 2, 3, 4])
+        while not hits.step():
+            pass
+        self.assertEqual(listed(hits), [7, 0, 1, 2, 3, 4])
 
     def test_turning_back(self) -> None:
         """Who sorts by another attribute and at once by the old one again has the old order."""

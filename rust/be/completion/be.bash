@@ -28,7 +28,7 @@ _be_command() {
 _be_options() {
     case $1 in
     "") echo --version ;;
-    query) printf '%s\n' --columns --limit --count --watch --escape --json --path --null ;;
+    query) printf '%s\n' --columns --limit --sort --reverse --after --any --count --watch --escape --json --path --null ;;
     addattr) printf '%s\n' --type --file --new ;;
     catattr) printf '%s\n' --raw --json ;;
     listattr) printf '%s\n' --long --hexdump --json ;;
@@ -55,8 +55,9 @@ _be() {
     _get_comp_words_by_ref -n : cur prev words cword
     command=$(_be_command)
     case $command:$prev in
-    *:--wait | *:--timeout) ;;
+    *:--wait | *:--timeout | query:-n | query:--limit | query:--after | query:--any) ;;
     *:--socket | addattr:-f | addattr:--file) compopt -o default ;;
+    query:-s | query:--sort) _be_offer < <(_be_indices) ;;
     addattr:-t | addattr:--type | mkindex:-t | mkindex:--type)
         _be_offer < <(printf '%s\n' string mime int32 int64 uint32 uint64 raw)
         ;;

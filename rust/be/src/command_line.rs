@@ -56,11 +56,23 @@ pub struct Query {
     /// Print the first N nodes alone
     #[arg(short = 'n', long, value_name = "N")]
     pub limit: Option<u64>,
+    /// Print the nodes by their values in this index, the least first. Nodes without a value there are left out
+    #[arg(short, long, value_name = "NAME")]
+    pub sort: Option<String>,
+    /// With --sort: print the greatest first
+    #[arg(short, long, requires = "sort")]
+    pub reverse: bool,
+    /// With --sort: go on after a page that was printed by --json and had this cursor
+    #[arg(long, value_name = "CURSOR", requires = "sort")]
+    pub after: Option<String>,
+    /// Print any N of the nodes, those that are found fastest
+    #[arg(long, value_name = "N", conflicts_with_all = ["limit", "sort"])]
+    pub any: Option<u64>,
     /// Print how many nodes there are, not which
-    #[arg(long, conflicts_with_all = ["columns", "limit"])]
+    #[arg(long, conflicts_with_all = ["columns", "limit", "sort", "any"])]
     pub count: bool,
     /// Go on, and print nodes that come as +NODE and nodes that go as -NODE
-    #[arg(short, long, conflicts_with = "limit")]
+    #[arg(short, long, conflicts_with_all = ["limit", "sort", "any"])]
     pub watch: bool,
     /// Escape control characters also in a pipe or a file
     #[arg(short, long, conflicts_with = "json")]

@@ -143,7 +143,9 @@ impl fmt::Display for QueryRefused {
         if let Some(offset) = self.offset {
             f.write_str(&pointed(&self.text, offset))?;
         }
-        if let Some(missing) = self.refusal.details.get("missing").and_then(|name| name.as_str()) {
+        // The message about an order has the name already.
+        let missing = self.refusal.details.get("missing").filter(|_| self.offset.is_some());
+        if let Some(missing) = missing.and_then(|name| name.as_str()) {
             write!(f, "\n  {} has no index", escaped(missing))?;
         }
         match &self.indices {

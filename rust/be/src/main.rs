@@ -5,6 +5,7 @@ mod attributes;
 mod command_line;
 mod dates;
 mod failure;
+mod found;
 mod hints;
 mod import;
 mod indices;

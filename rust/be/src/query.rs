@@ -3,6 +3,7 @@
 use crate::command_line::Query as Line;
 use crate::dates::Clock;
 use crate::failure::{complain, Failure, QueryRefused};
+use crate::found::{Found, Row};
 use crate::hints;
 use crate::output::Output;
 use crate::paths::paths_of;
@@ -11,13 +12,10 @@ use crate::text::{escaped, pointed};
 use crate::typed_query::TypedQuery;
 use bestore::Value;
 use bestore_client::wire::{self, kind_named, Command, Hits, Json, Push};
-use bestore_client::{Client, Error, Query};
+use bestore_client::{Client, Error};
 use serde::Serialize;
 use std::path::PathBuf;
 use std::time::Duration;
-
-/// The values of a node's columns.
-type Row = Vec<Option<Json>>;
 
 /// How long a wait for a push is, after which the next begins.
 const WAIT: Duration = Duration::from_secs(3_600);
@@ -54,7 +52,7 @@ fn warn(client: &mut Client, query: &TypedQuery) -> Result<(), Failure> {
 
 /// Adds to an error of a query what helps to see why.
 fn refused(client: &mut Client, query: &TypedQuery, refusal: wire::Refusal) -> Failure {
-    let lacks_index = refusal.name == "NotCovered";
+    let lacks_index = matches!(refusal.name.as_str(), "NotCovered" | "NoIndex");
     if !lacks_index && !matches!(refusal.name.as_str(), "Syntax" | "BadPattern") {
         return Failure::Server(Error::Refused(refusal));
     }
@@ -81,18 +79,17 @@ fn count(client: &mut Client, query: &TypedQuery, line: &Line, output: &mut Outp
     warn(client, query)?;
     match line.json {
         true => output.json(&hits),
-        false => output.line(hits.count.to_string().as_bytes()),
+        false => output.line(hits.count.unwrap_or_default().to_string().as_bytes()),
     }
 }
 
 fn find(client: &mut Client, query: &TypedQuery, line: &Line, output: &mut Output) -> Result<(), Failure> {
-    let hits = pinned(client, |client| all_pages(client, &query.sent, line))?;
+    let found = pinned(client, |client| Found::read(client, &query.sent, line))?;
     warn(client, query)?;
     if line.json {
-        return output.json(&hits);
+        return output.json(&found);
     }
-    let nodes = hits.nodes.unwrap_or_default();
-    let mut found = hits.rows.unwrap_or_default();
+    let (nodes, mut found) = found.into_rows();
     found.resize(nodes.len(), Row::new());
     let names = names_of(client, &nodes, line, output)?;
     let rows: Vec<_> = names
@@ -106,35 +103,6 @@ fn find(client: &mut Client, query: &TypedQuery, line: &Line, output: &mut Outpu
             .try_for_each(|row| output.bytes(&[&row.join(&b'\t')[..], b"\0"].concat()));
     }
     output.rows(&headings(line), &rows)
-}
-
-/// All that the query finds, up to the limit, as one page. The client is pinned.
-fn all_pages(client: &mut Client, text: &str, line: &Line) -> Result<Hits, Failure> {
-    let columns: Vec<&str> = line.columns.iter().map(String::as_str).collect();
-    let mut query = Query {
-        text,
-        columns: &columns,
-        limit: line.limit,
-        from: 0,
-    };
-    let mut all = client.hits(query)?;
-    while let Some(from) = all.more.take() {
-        let had = all.nodes.as_ref().map_or(0, Vec::len) as u64;
-        query.from = from;
-        query.limit = line.limit.map(|limit| limit.saturating_sub(had));
-        if query.limit == Some(0) {
-            break;
-        }
-        let page = client.hits(query)?;
-        all.nodes
-            .get_or_insert_with(Vec::new)
-            .extend(page.nodes.unwrap_or_default());
-        if let Some(rows) = &mut all.rows {
-            rows.extend(page.rows.unwrap_or_default());
-        }
-        all.more = page.more;
-    }
-    Ok(all)
 }
 
 /// What the first column has: the numbers of the nodes, or the paths of their files. A node that is no file has its number.

@@ -52,6 +52,107 @@ fn an_answer_of_several_pages_is_whole() {
     assert!(json.get("more").is_none());
 }
 
+#[test]
+fn nodes_are_sorted_by_an_index_page_after_page() {
+    let server = server!(Server::with_three());
+    server.done(&["addattr", "-t", "int64", "size", "5", "3"]);
+    assert_eq!(server.done(&["query", "--sort", "size", "name==*"]), "3\n1\n2\n");
+    assert_eq!(
+        server.done(&["query", "-s", "size", "-r", "-n", "2", "-c", "size,name", "name==*"]),
+        "2\t20\tb\n1\t10\ta\n"
+    );
+    let page = |after: &[&str]| -> serde_json::Value {
+        let words = [
+            &["query", "--json", "-n", "1", "-c", "name", "-s", "size", "-r"],
+            after,
+            &["name==*"],
+        ]
+        .concat();
+        serde_json::from_str(&server.done(&words)).unwrap()
+    };
+    let first = page(&[]);
+    assert_eq!((&first["nodes"], &first["more"]), (&vec![2].into(), &true.into()));
+    let second = page(&["--after", first["cursor"].as_str().unwrap()]);
+    assert_eq!(
+        (&second["nodes"], &second["rows"]),
+        (&vec![1].into(), &serde_json::json!([["a"]]))
+    );
+    server.done(&["rmnode", "1"]);
+    let third = page(&["--after", second["cursor"].as_str().unwrap()]);
+    assert_eq!((&third["nodes"], third.get("more")), (&vec![3].into(), None));
+    // Of those without a size there are none in the order of sizes.
+    server.done(&["rmattr", "size", "3"]);
+    assert_eq!(server.done(&["query", "--sort", "size", "name==*"]), "2\n");
+}
+
+#[test]
+fn a_sorted_answer_of_several_pages_is_whole() {
+    let server = server!(Server::start());
+    server.done(&["mkindex", "n"]);
+    server.make(300, "n", &"x".repeat(255));
+    let columns = vec!["n"; 64].join(",");
+    let printed = server.done(&["query", "-c", &columns, "-s", "n", "-r", "n==*"]);
+    let nodes: Vec<&str> = printed.lines().filter_map(|line| line.split('\t').next()).collect();
+    assert_eq!((nodes.len(), nodes[0], nodes[299]), (300, "300", "1"));
+    let limited = server.done(&["query", "-n", "250", "-c", &columns, "-s", "n", "n==*"]);
+    assert_eq!(limited.lines().count(), 250);
+}
+
+#[test]
+fn any_nodes_are_found() {
+    let server = server!(Server::with_three());
+    assert_eq!(server.done(&["query", "--any", "2", "name==*"]).lines().count(), 2);
+    assert_eq!(server.done(&["query", "--any", "9", "-c", "name", "name==b"]), "2\tb\n");
+    assert_eq!(server.done(&["query", "--any", "9", "name==z"]), "");
+}
+
+#[test]
+fn what_can_not_be_sorted_is_said() {
+    let server = server!(Server::with_three());
+    let error = |words: &[&str]| {
+        let said = server.be(&[&["query"], words, &["name==*"]].concat());
+        (said.status, said.error)
+    };
+    assert_eq!(
+        error(&["-s", "kind"]),
+        (
+            1,
+            "be: an order needs an index, and there is none of the name \"kind\"\n  \
+             the indices are: name (string), size (int64)\n"
+                .into()
+        )
+    );
+    assert_eq!(
+        error(&["-s", "size", "--after", "AQ"]),
+        (1, "be: this text isn't a cursor: it is cut off or changed\n".into())
+    );
+    let json: serde_json::Value =
+        serde_json::from_str(&server.done(&["query", "--json", "-s", "size", "name==*"])).unwrap();
+    let (status, other) = error(&["-s", "size", "-r", "--after", json["cursor"].as_str().unwrap()]);
+    assert_eq!(
+        (status, other.contains("keep the order, or begin without a cursor")),
+        (1, true),
+        "{other}"
+    );
+    assert_eq!(
+        error(&["-s", "size", "-n", "0"]),
+        (1, "be: `limit` is 0, and a page has 1 to 50000 nodes\n".into())
+    );
+    for words in [
+        &["-r"][..],
+        &["--after", "AQ"],
+        &["--any", "1", "-n", "1"],
+        &["--any", "1", "-s", "size"],
+        &["-w", "-s", "size"],
+        &["--count", "-s", "size"],
+        &["--count", "--any", "1"],
+        &["--any", "-1"],
+    ] {
+        let (status, said) = error(words);
+        assert_eq!((status, said.contains("error: ")), (2, true), "{words:?} {said}");
+    }
+}
+
 fn fault(server: &Server, query: &str) -> Vec<String> {
     let said = server.be(&["query", query]);
     assert_eq!((said.status, said.out.as_str()), (1, ""), "{said:?}");
@@ -355,7 +456,7 @@ fn words_are_completed() {
          [[ $1 != *' ' ]] || COMP_WORDS+=(''); COMP_CWORD=$((${{#COMP_WORDS[@]}} - 1)); \
          _be; echo \"${{COMPREPLY[*]}}\"; }}; \
          complete_line 'be lsi'; complete_line 'be query --co'; complete_line 'be addattr -t uint'; \
-         complete_line 'be rmindex s'; complete_line 'be rmindex MAIL:f'",
+         complete_line 'be rmindex s'; complete_line 'be rmindex MAIL:f'; complete_line 'be query --sort si'",
         env!("CARGO_MANIFEST_DIR")
     );
     let mut command = Command::new("bash");
@@ -367,7 +468,7 @@ fn words_are_completed() {
         .env("PATH", path);
     let said: Said = command.output().unwrap().into();
     assert_eq!(
-        said.out, "lsindex\n--columns --count\nuint32 uint64\nsize\nfrom\n",
+        said.out, "lsindex\n--columns --count\nuint32 uint64\nsize\nfrom\nsize\n",
         "{}",
         said.error
     );

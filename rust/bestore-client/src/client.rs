@@ -36,6 +36,8 @@ pub struct Client {
     waits: BTreeMap<u64, Duration>,
     /// The queries of requests whose replies haven't come.
     queries: BTreeMap<u64, String>,
+    /// What the server has said that it has.
+    features: Vec<String>,
     /// Whether a call has timed out. What the server sends after that belongs to no call.
     is_over: bool,
 }
@@ -51,6 +53,8 @@ pub struct Query<'a> {
     pub limit: Option<u64>,
     /// The lowest node.
     pub from: u64,
+    /// Whether the reply needs no `count`, which takes the whole answer. A server that can't leave it out sends it.
+    pub uncounted: bool,
 }
 
 /// A line of the server, whose result is read later.
@@ -133,6 +137,7 @@ impl Client {
             pushes: Pushes::new(options.most_pushed),
             waits: BTreeMap::new(),
             queries: BTreeMap::new(),
+            features: Vec::new(),
             is_over: false,
         }
     }
@@ -323,10 +328,18 @@ impl Client {
     }
 
     fn greet(&mut self, visit: bool) -> Result<wire::Hello> {
-        self.call(Command::Hello(wire::Greeting {
+        let hello: wire::Hello = self.call(Command::Hello(wire::Greeting {
             protocol: Some(wire::PROTOCOL),
             visit,
-        }))
+        }))?;
+        self.features = hello.features.clone();
+        Ok(hello)
+    }
+
+    /// Whether the server has said by [`hello`](Self::hello) that it has this, such as [`wire::ORDER`].
+    #[must_use]
+    pub fn has(&self, feature: &str) -> bool {
+        self.features.iter().any(|it| it == feature)
     }
 
     /// Writes all operations of the batch or none.
@@ -457,7 +470,8 @@ impl Client {
             columns: (!columns.is_empty()).then_some(wire::Columns(columns)),
             limit: query.limit,
             from: query.from,
-            count: false,
+            uncounted: query.uncounted && self.has(wire::ORDER),
+            ..wire::Query::default()
         }))
     }
 
@@ -471,7 +485,7 @@ impl Client {
             count: true,
             ..wire::Query::default()
         }))?;
-        Ok(hits.count)
+        Ok(hits.count.unwrap_or_default())
     }
 
     /// Begins a live query, whose changes come by [`next_push`](Self::next_push). Without a query each commit is pushed.

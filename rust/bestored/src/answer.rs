@@ -3,6 +3,7 @@
 use crate::failure::Failure;
 use crate::outbox::Outbox;
 use crate::page::{self, commits, rows_of, Reading, Room};
+use crate::query::Queries;
 use crate::reach;
 use crate::server::Shared;
 use crate::volumes;
@@ -117,6 +118,7 @@ pub struct Desk<'a> {
     is_left: bool,
     watches: Option<Arc<Watches>>,
     last_watch: u64,
+    queries: Queries,
 }
 
 impl Drop for Desk<'_> {
@@ -136,6 +138,7 @@ impl<'a> Desk<'a> {
             is_left: false,
             watches: None,
             last_watch: 0,
+            queries: Queries::default(),
         }
     }
 
@@ -254,7 +257,10 @@ impl<'a> Desk<'a> {
     fn read(&mut self, id: u64, command: Command<'_>, snapshot: &ShelfSnapshot<'_>) -> Result<(), Failure> {
         let (commit, commits) = (snapshot.number(), commits(snapshot));
         match command {
-            Command::Query(query) => self.reply(id, &hits(snapshot, &query)?),
+            Command::Query(query) => {
+                let answer = self.queries.answer(snapshot, &query)?;
+                self.reply(id, &answer)
+            }
             Command::Get(wire::Get { node, name }) => {
                 let value = snapshot.get(node, &name)?.map(wire::Json);
                 self.reply(id, &wire::Value { commit, commits, value })
@@ -308,6 +314,7 @@ impl<'a> Desk<'a> {
                 watches: WATCHES as u64,
             },
             volumes: view.volumes() as u32,
+            features: vec![wire::ORDER.into()],
         };
         self.reply(id, &hello);
         Ok(())
@@ -385,32 +392,6 @@ impl<'a> Desk<'a> {
             _ => Err(Failure::no_watch()),
         }
     }
-}
-
-fn hits(snapshot: &ShelfSnapshot<'_>, query: &wire::Query<'_>) -> Result<wire::Hits, Failure> {
-    let mut found = snapshot.query(&query.query)?;
-    let before = found.partition_point(|node| *node < query.from);
-    found.drain(..before);
-    let mut hits = wire::Hits {
-        commit: snapshot.number(),
-        commits: commits(snapshot),
-        count: found.len() as u64,
-        ..wire::Hits::default()
-    };
-    if query.count {
-        return Ok(hits);
-    }
-    let mut room = Room::new(query.limit);
-    let mut more = found.split_off(room.nodes.min(found.len())).first().copied();
-    if let Some(columns) = &query.columns {
-        let rows = rows_of(snapshot, &found, columns, &mut room)?;
-        more = found.get(rows.len()).copied().or(more);
-        found.truncate(rows.len());
-        hits.rows = Some(rows);
-    }
-    hits.nodes = Some(found);
-    hits.more = more;
-    Ok(hits)
 }
 
 /// A page of the batches that make the kept snapshot again.

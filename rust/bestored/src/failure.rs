@@ -113,6 +113,10 @@ impl From<Error> for Failure {
                 None => Failure::new("Unexpected", other.to_string()),
             },
             Error::Query(query) => Failure::of_query(query),
+            Error::NoOrder { name, .. } => {
+                let message = format!("an order needs an index, and there is none of the name {name:?}");
+                Failure::new("NoIndex", message).with("missing", name.as_str())
+            }
             _ => Failure::new(name(&error), error.to_string()),
         };
         let failure = Failure(Refusal {
@@ -147,6 +151,7 @@ fn name(error: &Error) -> &'static str {
         Error::NoIndex => "NoIndex",
         Error::TooManyIndices => "TooManyIndices",
         Error::NotIndexable => "NotIndexable",
+        Error::BadCursor(_) => "BadCursor",
         Error::CommitsSpent => "CommitsSpent",
         Error::OutOfMemory => "OutOfMemory",
         Error::Full { .. } => "Full",

@@ -16,6 +16,7 @@ mod os;
 mod outbox;
 mod page;
 mod pressure;
+mod query;
 mod reach;
 mod server;
 mod socket;

@@ -12,7 +12,7 @@ use std::thread;
 use std::time::{Duration, Instant};
 
 /// The most nodes of a line.
-pub const NODES: usize = 50_000;
+pub const NODES: usize = wire::NODES;
 
 /// How often lines that a client doesn't take are tried again.
 const AGAIN: Duration = Duration::from_millis(20);

@@ -1,5 +1,6 @@
 //! The tests of the server. They are one program, so that it is linked once, and so that tests that wait run beside others.
 
+mod alike;
 mod background;
 mod changes;
 mod common;
@@ -11,6 +12,7 @@ mod live;
 mod log;
 mod manual;
 mod memory;
+mod ordered;
 mod pages;
 mod protocol;
 mod slow;

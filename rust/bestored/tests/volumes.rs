@@ -238,14 +238,14 @@ fn pages_go_on_over_volumes() {
                 text: "size==5",
                 columns: &["size"],
                 limit: Some(limit),
-                from: 0,
+                ..Query::default()
             },
             vec![],
             5,
         );
         loop {
             let page = client.hits(query).unwrap();
-            assert_eq!(page.count, count);
+            assert_eq!(page.count, Some(count));
             let nodes = page.nodes.unwrap();
             assert_eq!(page.rows.unwrap().len(), nodes.len());
             count -= nodes.len() as u64;

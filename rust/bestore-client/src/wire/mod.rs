@@ -8,7 +8,7 @@ mod value;
 pub use operation::{Operations, ShownOperations};
 pub use reply::{
     Attributes, Commit, Explained, HeldBy, Hello, Hits, Indices, Journal, JournalEntry, Limits, LogStatus, Next, Nodes,
-    Push, Refusal, Rows, State, Status, Value, VolumeStatus, Watched, Written,
+    Page, Push, Refusal, Rows, State, Status, Value, VolumeStatus, Watched, Written,
 };
 pub use request::{
     id_of, Columns, ColumnsOf, Command, From, Get, Greeting, JournalFrom, Node, NodesFrom, Nothing, Numbers, OfLog,
@@ -27,6 +27,12 @@ pub fn several(numbers: &[u64]) -> Vec<u64> {
 
 /// The version of the protocol.
 pub const PROTOCOL: u64 = 1;
+
+/// The name in `features` of answers in the order of an index, of any nodes, and of pages that aren't counted.
+pub const ORDER: &str = "order";
+
+/// The most nodes of a line.
+pub const NODES: usize = 50_000;
 
 /// The most bytes of a request, with the end of the line.
 pub const LINE: usize = 1 << 20;

@@ -33,6 +33,9 @@ replies! {
         /// How many volumes the server has.
         #[serde(default = "one", skip_serializing_if = "is_one")]
         pub volumes: u32,
+        /// What the server has that the first servers of this protocol don't.
+        #[serde(default, skip_serializing_if = "Vec::is_empty")]
+        pub features: Vec<String>,
     }
 
     /// How large the store may grow, and a connection's requests.
@@ -107,8 +110,9 @@ replies! {
         /// The snapshot of each volume, if there are several.
         #[serde(default, skip_serializing_if = "Vec::is_empty")]
         pub commits: Vec<u64>,
-        /// How many nodes the query finds.
-        pub count: u64,
+        /// How many nodes the query finds from `from` on. Missing if the request was uncounted.
+        #[serde(default, skip_serializing_if = "Option::is_none")]
+        pub count: Option<u64>,
         /// The nodes of this page. Missing if the count alone was asked for.
         #[serde(default, skip_serializing_if = "Option::is_none")]
         pub nodes: Option<Vec<u64>>,
@@ -118,6 +122,26 @@ replies! {
         /// Where the next page begins.
         #[serde(default, skip_serializing_if = "Option::is_none")]
         pub more: Option<u64>,
+    }
+
+    /// Of `query` in the order of an index, or for any nodes.
+    Page {
+        /// The snapshot.
+        pub commit: u64,
+        /// The snapshot of each volume, if there are several.
+        #[serde(default, skip_serializing_if = "Vec::is_empty")]
+        pub commits: Vec<u64>,
+        /// The nodes, in their order if they have one.
+        pub nodes: Vec<u64>,
+        /// Of each node the values of the columns.
+        #[serde(default, skip_serializing_if = "Option::is_none")]
+        pub rows: Option<Vec<Vec<Option<Json>>>>,
+        /// Whether there are more, of any nodes because the rows of those that were asked for don't fit into a line.
+        #[serde(default, skip_serializing_if = "is_false")]
+        pub more: bool,
+        /// The position of the last node in the order. It is what the request had if the page is empty, and missing if that had none.
+        #[serde(default, skip_serializing_if = "Option::is_none")]
+        pub cursor: Option<String>,
     }
 
     /// Of `get`.

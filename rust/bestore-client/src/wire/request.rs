@@ -192,6 +192,21 @@ parameters_with_texts! {
         /// Whether only the number of nodes is asked for.
         #[serde(default)]
         pub count: bool,
+        /// Whether the reply has no `count`, which takes the whole answer.
+        #[serde(default, skip_serializing_if = "std::ops::Not::not")]
+        pub uncounted: bool,
+        /// The index in whose order the nodes come, those without a value there left out.
+        #[serde(borrow, default, deserialize_with = "given", skip_serializing_if = "Option::is_none")]
+        pub by: Option<Cow<'a, str>>,
+        /// Whether the greatest values come first.
+        #[serde(default, skip_serializing_if = "std::ops::Not::not")]
+        pub descending: bool,
+        /// The cursor of the page before.
+        #[serde(borrow, default, deserialize_with = "given", skip_serializing_if = "Option::is_none")]
+        pub after: Option<Cow<'a, str>>,
+        /// How many nodes are asked for, whichever they are.
+        #[serde(default, deserialize_with = "given", skip_serializing_if = "Option::is_none")]
+        pub any: Option<u64>,
     }
 
     /// Of `explain`.
@@ -458,6 +473,9 @@ mod tests {
             r#"{"id":1,"hello":{}}"#,
             r#"{"id":0,"batch":{"operations":[["new"]],"expected":3}}"#,
             r#"{"id":2,"query":{"query":"size>=5","columns":["size"],"limit":3,"from":0,"count":false}}"#,
+            r#"{"id":2,"query":{"query":"size>=5","limit":3,"from":7,"count":false,"uncounted":true}}"#,
+            r#"{"id":2,"query":{"query":"a==b","limit":3,"from":0,"count":false,"by":"size","descending":true,"after":"A\n"}}"#,
+            r#"{"id":2,"query":{"query":"a==b","from":0,"count":false,"any":1}}"#,
             r#"{"id":3,"watch":{}}"#,
             r#"{"id":3,"log":{"entry":7,"within":0}}"#,
             r#"{"id":3,"hello":{"protocol":1,"visit":true}}"#,
@@ -498,6 +516,10 @@ mod tests {
             (r#"{"id":5,"batch":{"operations":[["new",7]]}}"#, Some(5)),
             (r#"{"id":5,"journal":{"limit":null}}"#, Some(5)),
             (r#"{"id":5,"watch":{"query":null}}"#, Some(5)),
+            (r#"{"id":5,"query":{"query":"a==1","by":null}}"#, Some(5)),
+            (r#"{"id":5,"query":{"query":"a==1","by":"a","descending":1}}"#, Some(5)),
+            (r#"{"id":5,"query":{"query":"a==1","by":"a","after":7}}"#, Some(5)),
+            (r#"{"id":5,"query":{"query":"a==1","any":-1}}"#, Some(5)),
             (r#"{"id":5,"status":[]}"#, Some(5)),
             (r#"{"id":5,"get":[1,"a"]}"#, Some(5)),
             (r#"[1]"#, None),

@@ -1,0 +1,153 @@
+"""The queries of a version of a server's store: answers by number, pages in an order, and any nodes, in as many replies as it takes."""
+
+from __future__ import annotations
+
+from abc import abstractmethod
+from typing import Callable, List, Optional, Tuple, TypeVar
+
+from ._connected_errors import LineTooLong
+from ._wire import JSON, read_nodes, read_row
+from .errors import NoIndex, NotCovered, TooLong, encoded, encoded_query, no_index
+from .pages import Cursor, Order, Page
+from .queries import Prepared, prepare_items
+from .versions import Asked, Query, Row, Version
+
+_Item = TypeVar("_Item")
+_Result = TypeVar("_Result")
+
+MOST_NAMES = 64
+"""The names of a request for columns."""
+_ALL = 2**64 - 1  # nodes, or more than any store has
+_MOST_OF_A_PAGE = 50_000  # nodes of a reply
+_ORDER = "order"  # of the features of a server
+
+
+class QueriedVersion(Version):
+    """A version that is queried through a server."""
+
+    @property
+    @abstractmethod
+    def _features(self) -> Tuple[str, ...]:
+        """What the server has that older ones lack."""
+
+    @abstractmethod
+    def _ask(self, command: str, parameters: JSON, read: Callable[[JSON], _Result], query: Optional[str] = None) -> _Result:
+        """Makes a call on the pass while it has this pin."""
+
+    @property
+    def _can_order(self) -> bool:
+        """Whether the server has pages in an order, any nodes, and pages that aren't counted."""
+        return _ORDER in self._features
+
+    def _ask_query(self, command: str, asked: Query, text: str, others: JSON, read: Callable[[JSON], _Result]) -> _Result:
+        """Asks something of a query. `text` is what is sent for it."""
+        try:
+            return self._ask(command, {"query": text, **others}, read, asked if isinstance(asked, str) else None)
+        except NotCovered as error:
+            named = self._not_covered(asked)
+            named.volume = error.volume
+            raise named from None
+        except LineTooLong:
+            raise TooLong(query=text) from None
+
+    def _nodes_of(self, asked: Query) -> List[int]:
+        return self._first_of(asked, 0, _ALL)
+
+    def _first_of(self, asked: Query, start: int, limit: int) -> List[int]:
+        text, nodes = _text_of(asked), []  # type: str, List[int]
+        more: Optional[int] = start
+        while more is not None and more < 2**64 and len(nodes) < limit:
+            page, more = self._ask_query("query", asked, text, self._part(more, limit, len(nodes)), _read_page)
+            nodes += page
+        return nodes
+
+    def _part(self, first: int, limit: int, had: int) -> JSON:
+        """The parameters of a page from a number on, of which there were so many nodes before. Without a limit the reply has what a
+        line holds."""
+        parameters: JSON = {"from": first} if first else {}
+        if limit < _ALL:
+            parameters["limit"] = min(limit - had, _MOST_OF_A_PAGE)
+        if parameters and self._can_order:
+            parameters["uncounted"] = True
+        return parameters
+
+    def _any_of(self, asked: Query, limit: int) -> List[int]:
+        if limit > _MOST_OF_A_PAGE or not self._can_order:
+            return self._first_of(asked, 0, limit)
+        return self._ask_query("query", asked, _text_of(asked), {"any": limit}, lambda ok: read_nodes(ok["nodes"]))
+
+    def _count_of(self, asked: Query) -> int:
+        return self._ask_query("query", asked, _text_of(asked), {"count": True}, lambda ok: int(ok["count"]))
+
+    def _rows_of(self, query: Asked, names: List[str], first: int, most: int) -> List[Row]:
+        for name in names:
+            encoded(name)
+        text, rows = _text_of(query), []  # type: str, List[Row]
+        more: Optional[int] = first
+        while more is not None and more < 2**64 and len(rows) < most:
+            others = {"columns": names, **self._part(more, most, len(rows))}
+            page, more = self._ask_query("query", query, text, others, _read_rows)
+            rows += page
+        return rows
+
+    def _page_of(self, asked: Asked, order: Order, after: Optional[Cursor], limit: Optional[int]) -> Page[int]:
+        if not self._can_order:
+            return super()._page_of(asked, order, after, limit)
+        return self._pages(asked, order, after, limit, {}, lambda ok: read_nodes(ok["nodes"]))
+
+    def _page_of_rows(self, query: Asked, names: List[str], order: Order, after: Optional[Cursor], most: int) -> Page[Row]:
+        if not self._can_order or len(names) > MOST_NAMES:
+            return super()._page_of_rows(query, names, order, after, most)
+        for name in names:
+            encoded(name)
+        return self._pages(query, order, after, most, {"columns": names}, lambda ok: _read_rows(ok)[0])
+
+    def _pages(self, asked: Asked, order: Order, after: Optional[Cursor], limit: Optional[int], others: JSON,
+               read: Callable[[JSON], List[_Item]]) -> Page[_Item]:
+        """A page in an order, of as many replies as it takes."""
+        encoded(order.by)
+        parameters: JSON = {"by": order.by, **({"descending": True} if order.descending else {}), **others}
+        items: List[_Item] = []
+
+        def read_page(ok: JSON) -> Tuple[bool, Cursor]:
+            items.extend(read(ok))
+            return bool(ok.get("more")), Cursor.parse(ok["cursor"])
+        text, more, cursor = _text_of(asked), True, after
+        while more and (limit is None or len(items) < limit):
+            room = _MOST_OF_A_PAGE if limit is None else min(limit - len(items), _MOST_OF_A_PAGE)
+            position = {} if cursor is None else {"after": str(cursor)}
+            more, cursor = self._ask_order(asked, order, text, {**parameters, **position, "limit": room}, read_page)
+        assert cursor is not None  # since a limit is at least 1
+        return Page(items, more, cursor)
+
+    def _ask_order(self, asked: Asked, order: Order, text: str, others: JSON, read: Callable[[JSON], _Result]) -> _Result:
+        """Asks for a page. The error of a missing index names those that there are."""
+        try:
+            return self._ask_query("query", asked, text, others, read)
+        except NoIndex as error:
+            named = no_index(order.by, self.indices())
+            named.volume = error.volume
+            raise named from None
+
+    def explain(self, text: str) -> str:
+        encoded_query(text)
+        return self._ask_query("explain", text, text, {}, lambda ok: str(ok["text"]))
+
+
+def _text_of(asked: Query) -> str:
+    """The text that asks a query. Items are asked by their canonical text."""
+    if isinstance(asked, str):
+        encoded_query(asked)
+        return asked
+    if isinstance(asked, Prepared):
+        return asked._asked_text()
+    with prepare_items(*asked) as prepared:
+        return prepared.text
+
+
+def _read_page(ok: JSON) -> Tuple[List[int], Optional[int]]:
+    return read_nodes(ok["nodes"]), ok.get("more")
+
+
+def _read_rows(ok: JSON) -> Tuple[List[Row], Optional[int]]:
+    return list(zip(read_nodes(ok["nodes"]), map(read_row, ok["rows"]))), ok.get("more")

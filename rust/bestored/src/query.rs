@@ -1,0 +1,295 @@
+//! The answers to `query`: counted, by the nodes' numbers, in the order of an index, or any nodes.
+
+use crate::failure::Failure;
+use crate::page::{commits, rows_of, Room};
+use bestore::{Cursor, Error, Order, Prepared, ShelfSnapshot};
+use bestore_client::wire::{self, NODES};
+use serde::Serialize;
+use std::collections::VecDeque;
+
+/// How many queries of a connection stay parsed.
+const KEPT: usize = 8;
+
+/// The queries that a connection has asked last, the last one first.
+#[derive(Debug, Default)]
+pub struct Queries(VecDeque<Parsed>);
+
+/// A query that was parsed.
+#[derive(Debug)]
+struct Parsed {
+    text: String,
+    prepared: Prepared,
+    /// What the page that comes next by number counts, so that the pages of an answer are counted once.
+    next: Option<Count>,
+}
+
+/// How many nodes a query finds from a number on, in the snapshot with these numbers.
+#[derive(Debug)]
+struct Count {
+    numbers: Vec<u64>,
+    from: u64,
+    count: u64,
+}
+
+/// The reply to a request.
+#[derive(Debug, Serialize)]
+#[serde(untagged)]
+pub enum Answer {
+    Hits(wire::Hits),
+    Page(wire::Page),
+}
+
+/// What a request asks for.
+enum Form<'q> {
+    Count,
+    ByNumber,
+    InOrder {
+        order: Order,
+        after: Option<&'q str>,
+        most: usize,
+    },
+    Any {
+        most: usize,
+    },
+}
+
+impl Queries {
+    /// Answers a request.
+    pub fn answer(&mut self, snapshot: &ShelfSnapshot<'_>, query: &wire::Query<'_>) -> Result<Answer, Failure> {
+        let form = form_of(query)?;
+        let parsed = self.parsed(&query.query)?;
+        match form {
+            Form::Count => parsed.count(snapshot, query).map(Answer::Hits),
+            Form::ByNumber => parsed.by_number(snapshot, query).map(Answer::Hits),
+            Form::InOrder { order, after, most } => {
+                let page = parsed.in_order(snapshot, query, &order, after, most);
+                page.map(Answer::Page)
+            }
+            Form::Any { most } => parsed.any(snapshot, query, most).map(Answer::Page),
+        }
+    }
+
+    /// The query with this text.
+    fn parsed(&mut self, text: &str) -> Result<&mut Parsed, Failure> {
+        let kept = self.0.iter().position(|parsed| parsed.text == text);
+        let parsed = match kept.and_then(|place| self.0.remove(place)) {
+            Some(parsed) => parsed,
+            None => Parsed {
+                text: text.into(),
+                prepared: Prepared::new(text)?,
+                next: None,
+            },
+        };
+        self.0.truncate(KEPT - 1);
+        self.0.push_front(parsed);
+        Ok(&mut self.0[0])
+    }
+}
+
+fn form_of<'q>(query: &'q wire::Query<'_>) -> Result<Form<'q>, Failure> {
+    let lone = |is_given: bool, name: &str, goes: &str| match is_given {
+        true => Err(Failure::bad_request(&format!("`{name}` goes {goes}"))),
+        false => Ok(()),
+    };
+    let by_number = query.from != 0 || query.uncounted;
+    if let Some(by) = &query.by {
+        lone(
+            query.any.is_some(),
+            "any",
+            "without `by`, since any nodes have no order",
+        )?;
+        lone(
+            query.count,
+            "count",
+            "without `by`: the nodes that have a value in the index are asked for by a comparison",
+        )?;
+        lone(
+            by_number,
+            "from",
+            "by number; with `by` a page goes on `after` a cursor, and is never counted",
+        )?;
+        let order = Order::by(by);
+        return Ok(Form::InOrder {
+            order: if query.descending { order.descending() } else { order },
+            after: query.after.as_deref(),
+            most: most_of("limit", query.limit.unwrap_or(NODES as u64))?,
+        });
+    }
+    lone(query.descending, "descending", "with `by`, the name of an index")?;
+    lone(
+        query.after.is_some(),
+        "after",
+        "with `by`, the name of the index whose cursor it is",
+    )?;
+    match query.any {
+        None if query.count => Ok(Form::Count),
+        None => Ok(Form::ByNumber),
+        Some(any) => {
+            lone(
+                query.count || by_number || query.limit.is_some(),
+                "any",
+                "only with `columns`: it is a number of nodes",
+            )?;
+            let most = most_of("any", any)?;
+            Ok(Form::Any { most })
+        }
+    }
+}
+
+/// A number of nodes that a page can have.
+fn most_of(name: &str, nodes: u64) -> Result<usize, Failure> {
+    match usize::try_from(nodes) {
+        Ok(nodes @ 1..=NODES) => Ok(nodes),
+        _ => Err(Failure::bad_request(&format!(
+            "`{name}` is {nodes}, and a page has 1 to {NODES} nodes"
+        ))),
+    }
+}
+
+impl Parsed {
+    /// Asks, and says at an error where in the text it is.
+    fn ask<T>(
+        &self,
+        snapshot: &ShelfSnapshot<'_>,
+        ask: impl FnOnce(&Prepared) -> Result<T, Error>,
+    ) -> Result<T, Failure> {
+        ask(&self.prepared).map_err(|error| match error {
+            Error::Query(_) => snapshot.explain(&self.text).err().unwrap_or(error).into(),
+            error => error.into(),
+        })
+    }
+
+    fn count(&self, snapshot: &ShelfSnapshot<'_>, query: &wire::Query<'_>) -> Result<wire::Hits, Failure> {
+        Ok(wire::Hits {
+            commit: snapshot.number(),
+            commits: commits(snapshot),
+            count: Some(self.count_from(snapshot, query.from)?),
+            ..wire::Hits::default()
+        })
+    }
+
+    /// How many nodes the query finds from this number on.
+    fn count_from(&self, snapshot: &ShelfSnapshot<'_>, from: u64) -> Result<u64, Failure> {
+        if from == 0 {
+            return self.ask(snapshot, |prepared| snapshot.count_prepared(prepared));
+        }
+        let found = self.ask(snapshot, |prepared| snapshot.query_prepared(prepared))?;
+        Ok((found.len() - found.partition_point(|node| *node < from)) as u64)
+    }
+
+    fn by_number(&mut self, snapshot: &ShelfSnapshot<'_>, query: &wire::Query<'_>) -> Result<wire::Hits, Failure> {
+        let mut room = Room::new(query.limit);
+        let is_whole = query.limit.is_none() && query.from == 0;
+        let mut found = self.first(snapshot, query.from, (!is_whole).then_some(room.nodes + 1))?;
+        let whole = is_whole.then_some(found.len() as u64);
+        let mut more = found.split_off(room.nodes.min(found.len()));
+        let mut hits = wire::Hits {
+            commit: snapshot.number(),
+            commits: commits(snapshot),
+            ..wire::Hits::default()
+        };
+        if let Some(columns) = &query.columns {
+            let rows = rows_of(snapshot, &found, columns, &mut room)?;
+            more = [found.split_off(rows.len()), more].concat();
+            hits.rows = Some(rows);
+        }
+        hits.more = more.first().copied();
+        if !query.uncounted {
+            let count = self.count_of_page(snapshot, query.from, found.len() as u64, hits.more, whole)?;
+            hits.count = Some(count);
+        }
+        hits.nodes = Some(found);
+        Ok(hits)
+    }
+
+    /// The first so many nodes from this number on, or all of them.
+    fn first(&self, snapshot: &ShelfSnapshot<'_>, from: u64, most: Option<usize>) -> Result<Vec<u64>, Failure> {
+        if let Some(most) = most {
+            return self.ask(snapshot, |prepared| snapshot.first_prepared(prepared, from, most));
+        }
+        let mut found = self.ask(snapshot, |prepared| snapshot.query_prepared(prepared))?;
+        found.drain(..found.partition_point(|node| *node < from));
+        Ok(found)
+    }
+
+    /// How many nodes the query finds from a number on, where a page has so many of them and the next one begins at `more`. It may
+    /// be known from the whole answer.
+    fn count_of_page(
+        &mut self,
+        snapshot: &ShelfSnapshot<'_>,
+        from: u64,
+        page: u64,
+        more: Option<u64>,
+        whole: Option<u64>,
+    ) -> Result<u64, Failure> {
+        let next = match more {
+            Some(next) => next,
+            None => return Ok(page),
+        };
+        let numbers: Vec<u64> = snapshot.numbers().collect();
+        let known = self
+            .next
+            .take()
+            .filter(|next| next.from == from && next.numbers == numbers);
+        let count = match whole.or(known.map(|next| next.count)) {
+            Some(count) => count,
+            None => self.count_from(snapshot, from)?,
+        };
+        self.next = Some(Count {
+            numbers,
+            from: next,
+            count: count - page,
+        });
+        Ok(count)
+    }
+
+    fn in_order(
+        &self,
+        snapshot: &ShelfSnapshot<'_>,
+        query: &wire::Query<'_>,
+        order: &Order,
+        after: Option<&str>,
+        most: usize,
+    ) -> Result<wire::Page, Failure> {
+        let after: Option<Cursor> = after.map(str::parse).transpose()?;
+        let ask = |most| {
+            self.ask(snapshot, |prepared| {
+                snapshot.page(prepared, order, after.as_ref(), most)
+            })
+        };
+        let mut page = ask(most)?;
+        let mut rows = None;
+        if let Some(columns) = &query.columns {
+            let read = rows_of(snapshot, &page.nodes, columns, &mut Room::new(None))?;
+            if read.len() < page.nodes.len() {
+                page = ask(read.len())?;
+            }
+            rows = Some(read);
+        }
+        Ok(wire::Page {
+            commit: snapshot.number(),
+            commits: commits(snapshot),
+            nodes: page.nodes,
+            rows,
+            more: page.more,
+            cursor: Some(page.cursor.to_string()),
+        })
+    }
+
+    fn any(&self, snapshot: &ShelfSnapshot<'_>, query: &wire::Query<'_>, most: usize) -> Result<wire::Page, Failure> {
+        let nodes = self.ask(snapshot, |prepared| snapshot.any_prepared(prepared, most))?;
+        let mut page = wire::Page {
+            commit: snapshot.number(),
+            commits: commits(snapshot),
+            nodes,
+            ..wire::Page::default()
+        };
+        if let Some(columns) = &query.columns {
+            let rows = rows_of(snapshot, &page.nodes, columns, &mut Room::new(None))?;
+            page.more = rows.len() < page.nodes.len();
+            page.nodes.truncate(rows.len());
+            page.rows = Some(rows);
+        }
+        Ok(page)
+    }
+}

@@ -1,0 +1,281 @@
+//! Pages in the order of an index, any nodes, and pages that aren't counted.
+
+use crate::common::{Folder, Server, Talk};
+use bestore::{Batch, Kind, Value};
+use bestore_client::wire::{self, Command};
+use bestore_client::{Client, Query};
+
+fn start(options: &[&str]) -> (Folder, Server) {
+    let folder = Folder::new();
+    let server = Server::start(&folder, options);
+    (folder, server)
+}
+
+/// Indices `size` and `name`, and nodes 1 to 4 of the sizes 2, 1, 2 and none. The first two have names.
+fn four(talk: &mut Talk) {
+    talk.check(
+        concat!(
+            r#""batch":{"operations":[["index","size","int64"],["index","name","text"],["new"],["set",1,"size",2],"#,
+            r#"["set",1,"name","a"],["new"],["set",2,"size",1],["set",2,"name","b"],["new"],["set",3,"size",2],"#,
+            r#"["new"],["set",4,"name","c"]]}"#
+        ),
+        r#""ok":{"commit":1,"nodes":[1,2,3,4]}"#,
+    );
+}
+
+/// What the reply to a request has as its cursor.
+fn cursor_of(talk: &mut Talk, request: &str) -> String {
+    let line = talk.ask(&format!("{{\"id\":1,{request}}}"));
+    let reply: serde_json::Value = serde_json::from_str(&line).unwrap();
+    reply["ok"]["cursor"].as_str().expect(&line).to_owned()
+}
+
+#[test]
+fn pages_in_an_order() {
+    let (_folder, server) = start(&[]);
+    let mut talk = server.talk();
+    four(&mut talk);
+    let one = cursor_of(&mut talk, r#""query":{"query":"size>0","by":"size","limit":1}"#);
+    let all = cursor_of(&mut talk, r#""query":{"query":"size>0","by":"size"}"#);
+    let down = cursor_of(
+        &mut talk,
+        r#""query":{"query":"size>0","by":"size","descending":true,"limit":2}"#,
+    );
+    for (parameters, reply) in [
+        (
+            r#""by":"size","limit":1"#.into(),
+            format!(r#""nodes":[2],"more":true,"cursor":"{one}""#),
+        ),
+        (r#""by":"size""#.into(), format!(r#""nodes":[2,1,3],"cursor":"{all}""#)),
+        (
+            format!(r#""by":"size","after":"{one}""#),
+            format!(r#""nodes":[1,3],"cursor":"{all}""#),
+        ),
+        (
+            format!(r#""by":"size","after":"{all}""#),
+            format!(r#""nodes":[],"cursor":"{all}""#),
+        ),
+        (
+            r#""by":"size","descending":true,"limit":2,"columns":["name","size"]"#.into(),
+            format!(r#""nodes":[3,1],"rows":[[null,2],["a",2]],"more":true,"cursor":"{down}""#),
+        ),
+        (r#""any":9"#.into(), r#""nodes":[1,2,3]"#.into()),
+        (
+            r#""any":9,"columns":["size"]"#.into(),
+            r#""nodes":[1,2,3],"rows":[[2],[1],[2]]"#.into(),
+        ),
+        (
+            r#""uncounted":true,"limit":2"#.into(),
+            r#""nodes":[1,2],"more":3"#.into(),
+        ),
+        (r#""uncounted":true,"from":3"#.into(), r#""nodes":[3]"#.into()),
+    ] {
+        let request = format!(r#""query":{{"query":"size>0",{parameters}}}"#);
+        talk.check(&request, &format!(r#""ok":{{"commit":1,{reply}}}"#));
+    }
+    // A node without a size isn't in the order of sizes.
+    assert_eq!(server.client().any("size>0", 2).unwrap().len(), 2);
+    let by_size = server
+        .client()
+        .page("name==*", &bestore::Order::by("size"), None, 9)
+        .unwrap();
+    assert_eq!((by_size.nodes, by_size.more), (vec![2, 1], false));
+    let none = cursor_of(&mut talk, r#""query":{"query":"size>7","by":"size"}"#);
+    let request = format!(r#""query":{{"query":"size>7","by":"size","after":"{none}"}}"#);
+    talk.check(
+        &request,
+        &format!(r#""ok":{{"commit":1,"nodes":[],"cursor":"{none}"}}"#),
+    );
+}
+
+#[test]
+fn what_a_page_can_not_be() {
+    let (_folder, server) = start(&[]);
+    let mut talk = server.talk();
+    four(&mut talk);
+    let cursor = cursor_of(&mut talk, r#""query":{"query":"size>0","by":"size","limit":1}"#);
+    let after = |parameters: &str| format!(r#"{parameters},"after":"{cursor}""#);
+    let bad = |why: &str| format!(r#""name":"BadRequest","message":"{why}""#);
+    let cursor_fault = |why: &str| format!(r#""name":"BadCursor","number":78,"message":"{why}""#);
+    for (parameters, error) in [
+        (r#""by":"size","limit":0"#.into(), bad("`limit` is 0, and a page has 1 to 50000 nodes")),
+        (r#""by":"size","limit":50001"#.into(), bad("`limit` is 50001, and a page has 1 to 50000 nodes")),
+        (r#""any":0"#.into(), bad("`any` is 0, and a page has 1 to 50000 nodes")),
+        (r#""any":18446744073709551615"#.into(), bad("`any` is 18446744073709551615, and a page has 1 to 50000 nodes")),
+        (r#""any":1,"limit":1"#.into(), bad("`any` goes only with `columns`: it is a number of nodes")),
+        (r#""by":"size","any":1"#.into(), bad("`any` goes without `by`, since any nodes have no order")),
+        (r#""by":"size","from":1"#.into(), bad("`from` goes by number; with `by` a page goes on `after` a cursor, and is never counted")),
+        (r#""descending":true"#.into(), bad("`descending` goes with `by`, the name of an index")),
+        (after(r#""limit":1"#), bad("`after` goes with `by`, the name of the index whose cursor it is")),
+        (
+            r#""by":"kind""#.into(),
+            r#""name":"NoIndex","number":6,"message":"an order needs an index, and there is none of the name \"kind\"","missing":"kind""#.into(),
+        ),
+        (
+            r#""by":"size","after":"AQ""#.into(),
+            cursor_fault("this text isn't a cursor: it is cut off or changed"),
+        ),
+        (
+            after(r#""by":"size","descending":true"#),
+            cursor_fault(concat!(
+                r#"the cursor is of the order by \"size\" ascending, and this page is in the order by \"size\" descending: "#,
+                "keep the order, or begin without a cursor"
+            )),
+        ),
+        (
+            after(r#""by":"name""#),
+            cursor_fault(concat!(
+                r#"the cursor is of the order by \"size\" ascending, and this page is in the order by \"name\" ascending: "#,
+                "keep the order, or begin without a cursor"
+            )),
+        ),
+    ] {
+        let request = format!(r#""query":{{"query":"size>0",{parameters}}}"#);
+        talk.check(&request, &format!(r#""error":{{{error}}}"#));
+    }
+    let other = format!(r#""query":{{"query":"size>1","by":"size","after":"{cursor}"}}"#);
+    let why = "the cursor is of another query: ask the query that it came from, or begin without a cursor";
+    talk.check(&other, &format!(r#""error":{{{}}}"#, cursor_fault(why)));
+}
+
+/// The same query may be written in another way.
+#[test]
+fn a_cursor_of_an_index_that_was_made_anew() {
+    let (_folder, server) = start(&[]);
+    let mut talk = server.talk();
+    four(&mut talk);
+    let cursor = cursor_of(&mut talk, r#""query":{"query":"name==*","by":"size","limit":1}"#);
+    let again = format!(r#""query":{{"query":"( name==\"*\" )","by":"size","after":"{cursor}","limit":1}}"#);
+    assert!(talk.ask(&format!("{{\"id\":1,{again}}}")).contains(r#""nodes":[1]"#));
+    let mut client = server.client();
+    client.apply(Batch::new().remove_index("size")).unwrap();
+    assert!(talk
+        .ask(&format!("{{\"id\":1,{again}}}"))
+        .contains(r#""missing":"size""#));
+    client
+        .apply(Batch::new().make_index("size", Kind::Uint32).set(3, "size", 7_u32))
+        .unwrap();
+    let refused = talk.ask(&format!("{{\"id\":1,{again}}}"));
+    assert!(
+        refused.contains("BadCursor") && refused.contains("begin without a cursor"),
+        "{refused}"
+    );
+}
+
+#[test]
+fn the_server_says_that_it_orders() {
+    let (_folder, server) = start(&[]);
+    let mut client = server.client();
+    assert!(!client.has(wire::ORDER));
+    assert_eq!(client.hello().unwrap().features, [wire::ORDER]);
+    assert!(client.has(wire::ORDER));
+}
+
+/// Pages of a snapshot that was taken back have an error, as other reads have it, and pages of a pinned one stay in it.
+#[test]
+fn pages_are_of_the_pinned_snapshot() {
+    let (_folder, server) = start(&[]);
+    let mut talk = server.talk();
+    four(&mut talk);
+    let (mut client, mut other) = (server.client(), server.client());
+    let order = bestore::Order::by("size");
+    client.pin().unwrap();
+    let first = client.page("size>0", &order, None, 1).unwrap();
+    other.apply(Batch::new().set(1, "size", 9_i64).remove_node(3)).unwrap();
+    let rest = client.page("size>0", &order, Some(&first.cursor), 9).unwrap();
+    assert_eq!((first.nodes, rest.nodes), (vec![2], vec![1, 3]));
+    client.unpin().unwrap();
+    let now = client.page("size>0", &order, Some(&first.cursor), 9).unwrap();
+    assert_eq!(now.nodes, [1]);
+    assert_eq!(now.cursor.value(), Some(&Value::Int64(9)));
+}
+
+/// Rows that don't fit into a line: the page has those of the first nodes, and the cursor is at the last of them.
+#[test]
+fn long_rows_end_a_page() {
+    let (_folder, server) = start(&["--pages", "16384"]);
+    let mut client = server.client();
+    client.apply(Batch::new().make_index("size", Kind::Int64)).unwrap();
+    let long = "\u{1}".repeat(255);
+    for node in 1..=200 {
+        let mut batch = Batch::new();
+        batch.new_node().set(node, "size", 1_000 - node as i64);
+        for name in 0..10 {
+            batch.set(node, &format!("text{name}"), &*long);
+        }
+        client.apply(&batch).unwrap();
+    }
+    let names: Vec<String> = (0..10).map(|name| format!("text{name}")).collect();
+    let columns: Vec<&str> = names.iter().map(|name| &**name).collect();
+    let (mut found, mut pages, mut after) = (Vec::new(), 0, None);
+    loop {
+        let mut ordered = client.ordered("size>0", bestore::Order::by("size"));
+        if let Some(cursor) = after {
+            ordered = ordered.after(cursor);
+        }
+        let read = ordered.rows(200, &columns).unwrap();
+        assert_eq!(read.rows.len(), read.page.nodes.len());
+        found.extend(read.page.nodes);
+        pages += 1;
+        if !read.page.more {
+            break;
+        }
+        after = Some(read.page.cursor);
+    }
+    assert_eq!(found, (1..=200).rev().collect::<Vec<u64>>());
+    assert!((3..10).contains(&pages), "{pages} pages");
+    let any: wire::Page = client
+        .call(Command::Query(wire::Query {
+            query: "size>0".into(),
+            columns: Some(wire::Columns(columns.iter().map(|name| (*name).into()).collect())),
+            any: Some(200),
+            ..wire::Query::default()
+        }))
+        .unwrap();
+    assert_eq!((any.more, any.nodes.len()), (true, any.rows.unwrap().len()));
+}
+
+/// The count of a page is that of the answer from its first node on, whatever the connection has asked before.
+#[test]
+fn counts_of_pages() {
+    let (_folder, server) = start(&[]);
+    let (mut client, mut other) = (server.client(), server.client());
+    let mut batch = Batch::new();
+    batch.make_index("size", Kind::Int64);
+    for node in 1..=20 {
+        batch.new_node().set(node, "size", 1_i64);
+    }
+    client.apply(&batch).unwrap();
+    let page = |client: &mut Client, text, from, limit| {
+        let limit = Some(limit);
+        let query = Query {
+            text,
+            limit,
+            from,
+            ..Query::default()
+        };
+        let hits = client.hits(query).unwrap();
+        (hits.nodes.unwrap(), hits.count.unwrap(), hits.more)
+    };
+    assert_eq!(page(&mut client, "size>0", 0, 3), (vec![1, 2, 3], 20, Some(4)));
+    assert_eq!(page(&mut client, "size>0", 4, 2), (vec![4, 5], 17, Some(6)));
+    assert_eq!(page(&mut client, "size>1", 0, 2), (vec![], 0, None));
+    other.apply(Batch::new().remove_node(9)).unwrap();
+    assert_eq!(page(&mut client, "size>0", 6, 1), (vec![6], 14, Some(7)));
+    assert_eq!(page(&mut client, "size>0", 18, 3), (vec![18, 19, 20], 3, None));
+    assert_eq!(page(&mut client, "size>0", 7, 0), (vec![], 13, Some(7)));
+    for text in [
+        "size>0", "size!=7", "size==1", "size>=1", "size<9", "size<=9", "size<8", "size<7", "size<6",
+    ] {
+        assert_eq!(page(&mut client, text, 0, 5).1, 19, "{text}");
+        assert_eq!(
+            page(&mut client, text, 6, 5),
+            (vec![6, 7, 8, 10, 11], 14, Some(12)),
+            "{text}"
+        );
+    }
+    assert_eq!(
+        page(&mut client, "size>0", 12, 5),
+        (vec![12, 13, 14, 15, 16], 9, Some(17))
+    );
+}
