@@ -45,6 +45,10 @@ pub enum Command {
     Rmindex(RemoveIndex),
     Reindex(Reindex),
     Status(Status),
+    Backup(Backup),
+    /// Print a snapshot of the server as JSON: a line about it, and the batches that make it again
+    Dump,
+    Restore(Restore),
 }
 
 /// Find nodes
@@ -233,6 +237,26 @@ pub struct Status {
     /// Print JSON
     #[arg(long)]
     pub json: bool,
+}
+
+/// Write a snapshot of the server into a file that bestored --keep opens
+#[derive(Debug, Args)]
+pub struct Backup {
+    /// Print JSON
+    #[arg(long)]
+    pub json: bool,
+    /// The file, which may not exist yet; a folder, if the server has several volumes
+    pub file: PathBuf,
+}
+
+/// Write what a backup has into a server whose store is empty
+#[derive(Debug, Args)]
+pub struct Restore {
+    /// Print JSON
+    #[arg(long)]
+    pub json: bool,
+    /// The backup, or the file of a server that has ended
+    pub file: PathBuf,
 }
 
 /// The longest time of an option, in seconds: a day.

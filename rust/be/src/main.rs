@@ -2,6 +2,7 @@
 #![warn(rust_2018_idioms)]
 
 mod attributes;
+mod backup;
 mod command_line;
 mod dates;
 mod failure;
@@ -13,7 +14,9 @@ mod output;
 mod paths;
 mod query;
 mod query_text;
+mod restore;
 mod server;
+mod state;
 mod status;
 mod text;
 mod typed_query;
@@ -53,6 +56,9 @@ fn run(command: Command, server: &ServerOptions, output: &mut Output) -> Result<
         Command::Lsindex(line) => indices::list(&mut visit()?, &line, output),
         Command::Rmindex(line) => indices::remove(&mut visit()?, &line),
         Command::Reindex(line) => indices::fill(&mut server::connect(server)?, &line, output),
+        Command::Backup(line) => backup::make(&mut server::connect(server)?, &line, output),
+        Command::Dump => backup::dump(&mut server::connect(server)?, output),
+        Command::Restore(line) => restore::restore(&mut server::connect(server)?, &line, output),
         Command::Status(line) => status::show(&mut visit()?, &line, output),
     }
 }

@@ -2,6 +2,7 @@
 
 #[macro_use]
 mod common;
+mod backups;
 mod broken;
 mod follow;
 mod guide;

@@ -398,6 +398,14 @@ impl Client {
         self.call(Command::Pin(Nothing {}))
     }
 
+    /// The number of the snapshot that is pinned, otherwise of the current one, and that of the next node.
+    ///
+    /// # Errors
+    /// As `call`.
+    pub fn next_node(&mut self) -> Result<wire::Next> {
+        self.call(Command::Next(Nothing {}))
+    }
+
     /// Gives the snapshot back.
     ///
     /// # Errors

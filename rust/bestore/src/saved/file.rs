@@ -31,13 +31,21 @@ const TABLES: &str = "
     CREATE TABLE entry (number INTEGER PRIMARY KEY, pass INTEGER NOT NULL, batch BLOB NOT NULL);
 ";
 
-/// What the file says of its state.
-pub(super) struct About {
+/// What a file says of its state.
+#[derive(Clone, Copy, Debug, PartialEq, Eq)]
+pub struct About {
     /// The number of the last entry that the state contains.
-    pub(super) entries: u64,
+    pub entries: u64,
     /// The number of the next node after it.
-    pub(super) next: u64,
+    pub next: u64,
 }
+
+/// Of a file that nobody sees before it is whole. Its journal is that of SQLite by default, so the one file has all.
+const STATE_SETTINGS: &str = "
+    PRAGMA auto_vacuum = FULL;
+    PRAGMA journal_mode = MEMORY;
+    PRAGMA synchronous = OFF;
+";
 
 /// An accepted transaction on its way into the file.
 #[derive(Debug)]
@@ -45,6 +53,18 @@ pub(super) struct Row {
     pub(super) number: u64,
     pub(super) pass: u64,
     pub(super) batch: Vec<u8>,
+}
+
+/// Marks an empty file as one of a store, and makes its tables.
+fn new_tables() -> String {
+    format!("BEGIN IMMEDIATE; PRAGMA application_id = {APPLICATION}; PRAGMA user_version = {FORMAT}; {TABLES} COMMIT;")
+}
+
+fn set_about(connection: &Connection, about: About) -> rusqlite::Result<()> {
+    let mut update = connection.prepare("UPDATE about SET number = ? WHERE what = ?")?;
+    update.execute((about.entries as i64, "entries"))?;
+    update.execute((about.next as i64, "next"))?;
+    Ok(())
 }
 
 /// Makes the file if it isn't there, so that the user alone may read it. SQLite gives the file with `-wal` the same mode.
@@ -76,6 +96,56 @@ impl File {
         Ok(file)
     }
 
+    /// Opens a file of a store to read it, and leaves it as it is.
+    pub(super) fn open_to_read(path: &Path) -> Result<Self> {
+        let flags = OpenFlags::SQLITE_OPEN_READ_ONLY | OpenFlags::SQLITE_OPEN_NO_MUTEX;
+        let opened = Connection::open_with_flags(Path::new(".").join(path), flags);
+        let file = Self {
+            connection: opened.map_err(|error| Error::of_sqlite(path, error))?,
+            path: path.to_owned(),
+        };
+        file.sqlite(file.connection.busy_timeout(Duration::ZERO))?;
+        match file.check_format()? {
+            false => Ok(file),
+            true => Err(Error::Foreign { path: path.to_owned() }),
+        }
+    }
+
+    /// Makes a file at `place` that gets a state. It is whole after [`end_state`](Self::end_state), and errors name it `path`.
+    pub(super) fn begin_state(place: &Path, path: &Path) -> Result<Self> {
+        let made = OpenOptions::new().write(true).create_new(true).mode(0o600).open(place);
+        made.map_err(|error| Error::folder(place, error))?;
+        let flags = OpenFlags::SQLITE_OPEN_READ_WRITE | OpenFlags::SQLITE_OPEN_NO_MUTEX;
+        let opened = Connection::open_with_flags(Path::new(".").join(place), flags);
+        let file = Self {
+            connection: opened.map_err(|error| Error::of_sqlite(path, error))?,
+            path: path.to_owned(),
+        };
+        file.run(STATE_SETTINGS)?;
+        file.run(&new_tables())?;
+        file.run("BEGIN")?;
+        Ok(file)
+    }
+
+    /// Adds a batch of the state.
+    pub(super) fn add_state(&self, place: u64, batch: &[u8]) -> Result<()> {
+        let insert = self.connection.prepare_cached("INSERT INTO state VALUES (?, ?)");
+        let added = insert.and_then(|mut insert| insert.execute((place as i64, batch)));
+        self.sqlite(added.map(drop))
+    }
+
+    /// Ends the state, and closes the file.
+    pub(super) fn end_state(self, about: About) -> Result<()> {
+        self.sqlite(set_about(&self.connection, about))?;
+        self.run("COMMIT")?;
+        let Self { connection, path } = self;
+        connection.close().map_err(|(_, error)| Error::of_sqlite(&path, error))
+    }
+
+    fn run(&self, sql: &str) -> Result<()> {
+        self.sqlite(self.connection.execute_batch(sql))
+    }
+
     fn sqlite<T>(&self, answer: rusqlite::Result<T>) -> Result<T> {
         answer.map_err(|error| Error::of_sqlite(&self.path, error))
     }
@@ -88,15 +158,12 @@ impl File {
     fn take(&self) -> Result<()> {
         self.sqlite(self.connection.busy_timeout(Duration::ZERO))?;
         self.sqlite(self.connection.pragma_update(None, "locking_mode", "EXCLUSIVE"))?;
-        let run = |sql: &str| self.sqlite(self.connection.execute_batch(sql));
         if self.check_format()? {
-            run("PRAGMA auto_vacuum = FULL")?;
-            run(SETTINGS)?;
-            run(&format!(
-                "BEGIN IMMEDIATE; PRAGMA application_id = {APPLICATION}; PRAGMA user_version = {FORMAT}; {TABLES} COMMIT;"
-            ))
+            self.run("PRAGMA auto_vacuum = FULL")?;
+            self.run(SETTINGS)?;
+            self.run(&new_tables())
         } else {
-            run(SETTINGS)
+            self.run(SETTINGS)
         }
     }
 
@@ -203,10 +270,7 @@ impl File {
             }
             drop(insert);
             transaction.execute("DELETE FROM entry WHERE number <= ?", [number as i64])?;
-            let mut about = transaction.prepare("UPDATE about SET number = ? WHERE what = ?")?;
-            about.execute((number as i64, "entries"))?;
-            about.execute((next as i64, "next"))?;
-            drop(about);
+            set_about(&transaction, About { entries: number, next })?;
             Ok(transaction)
         });
         let transaction = written.map_err(|error| Error::of_sqlite(&path, error))?;

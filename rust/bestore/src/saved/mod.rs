@@ -30,15 +30,18 @@
 //!
 //! Opening and [`Saved::compact`] write the state anew, so the file doesn't grow for ever.
 
+mod backup;
 mod error;
 mod file;
 mod queue;
 mod shelf;
 
+pub use backup::Backup;
 pub use error::{Error, Place};
+pub use file::About;
 pub use shelf::SavedShelf;
 
-use crate::{Batch, Limits, Pass, Snapshot, Store};
+use crate::{Batch, Limits, Pass, Shelf, Snapshot, Store};
 use file::File;
 use queue::Queue;
 use std::path::Path;
@@ -102,6 +105,33 @@ impl Options {
         };
         let queue = Queue::start(file, number, in_memory, self.every)?;
         Ok(Saved { store, queue })
+    }
+
+    /// Makes the store again that a file has, or the volumes of a folder, and leaves the files as they are: what is written then is
+    /// kept nowhere. The limits are those of each volume.
+    ///
+    /// # Errors
+    /// Those of [`open`](Self::open) and [`open_shelf`](Self::open_shelf), but for a full disk.
+    pub fn load(&self, path: impl AsRef<Path>) -> Result<Shelf> {
+        let path = path.as_ref();
+        if !path.is_dir() {
+            return Ok(Shelf::of_volumes(vec![self.load_file(path)?])?);
+        }
+        let load = |volume| {
+            let loaded = self.load_file(&shelf::path(path, volume));
+            loaded.map_err(|error| error.of_volume(volume))
+        };
+        let volumes = (0..shelf::count(path)?).map(load).collect::<Result<Vec<_>>>()?;
+        match volumes.is_empty() {
+            false => Ok(Shelf::of_volumes(volumes)?),
+            true => Err(Error::Foreign { path: path.to_owned() }),
+        }
+    }
+
+    fn load_file(&self, path: &Path) -> Result<Store> {
+        let store = Store::open(self.limits)?;
+        load(&File::open_to_read(path)?, &store)?;
+        Ok(store)
     }
 }
 

@@ -15,7 +15,7 @@ pub struct SavedShelf {
 }
 
 /// The file of a volume.
-fn path(folder: &Path, volume: u32) -> PathBuf {
+pub(super) fn path(folder: &Path, volume: u32) -> PathBuf {
     folder.join(format!("{volume}.bestore"))
 }
 
@@ -27,7 +27,7 @@ fn volume_of(name: &std::ffi::OsStr) -> Option<u32> {
 }
 
 /// How many volumes the folder has.
-fn count(folder: &Path) -> Result<u32> {
+pub(super) fn count(folder: &Path) -> Result<u32> {
     let wrong = |error| Error::folder(folder, error);
     let mut found = Vec::new();
     for entry in fs::read_dir(folder).map_err(wrong)? {
