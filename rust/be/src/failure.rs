@@ -152,7 +152,10 @@ impl fmt::Display for Failure {
             }
             Failure::NotEmpty { entries } => {
                 writeln!(f, "the server's store isn't empty: its journal has {entries} entries")?;
-                write!(f, "  a backup is restored into a new store; bestored --keep also opens a copy of it")
+                write!(
+                    f,
+                    "  a backup is restored into a new store; bestored --keep also opens a copy of it"
+                )
             }
             Failure::Reported => Ok(()),
         }

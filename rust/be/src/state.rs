@@ -36,7 +36,9 @@ impl Shown {
         match is_json {
             true => output.json(self),
             false => {
-                let Self { run, commit, batches, .. } = self;
+                let Self {
+                    run, commit, batches, ..
+                } = self;
                 output.line(format!("{what}: commit {commit} of run {run}, {batches} batches").as_bytes())
             }
         }

@@ -71,7 +71,10 @@ fn a_backup_is_a_file_that_a_server_opens_and_another_restores() {
     let (of_restored, batches_of_restored) = dump(&restored);
     assert_eq!(batches_of_restored, batches);
     assert_ne!(of_restored["run"], about["run"]);
-    refused(&restored.be(&["restore", text(&path)]), "the server's store isn't empty");
+    refused(
+        &restored.be(&["restore", text(&path)]),
+        "the server's store isn't empty",
+    );
 }
 
 #[test]
