@@ -78,6 +78,7 @@ fn send(client: &mut Client, volume: Option<u32>, expected: u64, batch: Batch) -
         operations: batch.into(),
         expected: Some(Numbers::One(expected)),
         volume,
+        ..wire::Write::default()
     }))
 }
 

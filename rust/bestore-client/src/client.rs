@@ -26,7 +26,14 @@ const MOST_WITHIN: Duration = Duration::from_secs(60);
 #[derive(Debug)]
 pub struct Client {
     stream: UnixStream,
-    options: Options,
+    /// Where the server listens, to connect again.
+    pub(crate) socket: Option<SocketPath>,
+    /// The server's run, once it has said it.
+    pub(crate) run: Option<String>,
+    /// Whether a snapshot is pinned, and whether there were live queries. A new connection has neither.
+    pub(crate) is_pinned: bool,
+    pub(crate) has_watches: bool,
+    pub(crate) options: Options,
     last: u64,
     received: Vec<u8>,
     /// How many of the received bytes have been looked at and have no end of a line.
@@ -126,6 +133,10 @@ impl Client {
     pub(crate) fn over(stream: UnixStream, options: Options) -> Self {
         Self {
             stream,
+            socket: None,
+            run: None,
+            is_pinned: false,
+            has_watches: false,
             options,
             last: 0,
             received: Vec::new(),
@@ -135,6 +146,15 @@ impl Client {
             queries: BTreeMap::new(),
             is_over: false,
         }
+    }
+
+    /// Goes on over the connection of another client.
+    pub(crate) fn continue_as(&mut self, other: Client) {
+        *self = Client {
+            last: self.last,
+            options: self.options,
+            ..other
+        };
     }
 
     /// Sends a command, and returns the `ok` of its reply.
@@ -155,6 +175,12 @@ impl Client {
             return Err(Error::Closed);
         }
         self.last += 1;
+        match command {
+            Command::Pin(_) => self.is_pinned = true,
+            Command::Unpin(_) => self.is_pinned = false,
+            Command::Watch(_) => self.has_watches = true,
+            _ => {}
+        }
         if let Some(wait) = wait_of(&command) {
             self.waits.insert(self.last, wait);
         }
@@ -323,10 +349,11 @@ impl Client {
     }
 
     fn greet(&mut self, visit: bool) -> Result<wire::Hello> {
-        self.call(Command::Hello(wire::Greeting {
+        let hello = self.call(Command::Hello(wire::Greeting {
             protocol: Some(wire::PROTOCOL),
             visit,
-        }))
+        }))?;
+        Ok(self.greeted(hello))
     }
 
     /// Writes all operations of the batch or none.
@@ -362,12 +389,16 @@ impl Client {
         self.write(batch, Some(Numbers::One(expected)), Some(volume))
     }
 
-    pub(crate) fn write(&mut self, batch: &Batch, expected: Option<Numbers>, volume: Option<u32>) -> Result<Written> {
-        let written: wire::Written = self.call(Command::Batch(wire::Write {
+    fn write(&mut self, batch: &Batch, expected: Option<Numbers>, volume: Option<u32>) -> Result<Written> {
+        let write = wire::Write {
             operations: batch.clone().into(),
             expected,
             volume,
-        }))?;
+            ..wire::Write::default()
+        };
+        // What is pinned would be lost on a new connection.
+        let until = self.repeats_until().filter(|_| !self.is_pinned);
+        let written = self.write_until(write, until)?;
         Ok(Written {
             number: written.commit,
             nodes: written.nodes,

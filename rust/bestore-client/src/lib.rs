@@ -28,6 +28,7 @@ mod indices;
 mod options;
 mod os;
 mod pushes;
+mod repeat;
 pub mod socket;
 pub mod wire;
 

@@ -7,6 +7,7 @@ use crate::reach;
 use crate::server::Shared;
 use crate::volumes;
 use crate::watcher::{self, Watch, Watches};
+use crate::writes;
 use bestore::{Error, Pass, ShelfLive, ShelfPass, ShelfSnapshot, Snapshot, Status, Updates};
 use bestore_client::wire::{self, Command};
 use serde::Serialize;
@@ -16,6 +17,9 @@ use std::time::Instant;
 
 /// The most live queries of one connection.
 pub const WATCHES: usize = 32;
+
+/// What the server knows beyond the first version of the protocol.
+const FEATURES: [&str; 2] = ["token", "run"];
 
 /// How many bytes of replies are collected before they are sent.
 const COLLECTED: usize = 1 << 16;
@@ -192,7 +196,7 @@ impl<'a> Desk<'a> {
 
     fn carry_out(&mut self, id: u64, command: Command<'_>, view: &mut View<'_, '_>) -> io::Result<()> {
         let answered = match command {
-            Command::Batch(write) => self.write(id, &write, view),
+            Command::Batch(write) => writes::write(self.shared, write, view).map(|written| self.reply(id, &written)),
             Command::Watch(watch) => match self.watch(watch, view) {
                 Ok((reply, watch)) => return self.begin(id, &reply, watch, view.since()),
                 Err(failure) => Err(failure),
@@ -226,27 +230,6 @@ impl<'a> Desk<'a> {
         if let Err(failure) = answered {
             self.refuse(Some(id), failure);
         }
-        Ok(())
-    }
-
-    fn write(&mut self, id: u64, write: &wire::Write, view: &mut View<'_, '_>) -> Result<(), Failure> {
-        let wire::Operations { batch, count } = &write.operations;
-        if *count > batch.len() {
-            return Err(Error::BadCount { count: *count }.into());
-        }
-        self.shared.kept.check_room()?;
-        let written = match volumes::is_for_all(write, view.volumes()) {
-            true => view.read(|snapshot| volumes::write_indices(snapshot, batch)),
-            false => volumes::write(&self.shared.pressure, view, write),
-        };
-        // Some volumes may have been written before another one refused.
-        self.shared.watcher.written();
-        if written.is_err() {
-            self.shared.kept.end_if_failed();
-        }
-        let mut written = written?;
-        written.entry = self.shared.kept.entry(written.commit);
-        self.reply(id, &written);
         Ok(())
     }
 
@@ -308,6 +291,7 @@ impl<'a> Desk<'a> {
                 watches: WATCHES as u64,
             },
             volumes: view.volumes() as u32,
+            features: FEATURES.iter().map(|name| name.to_string()).collect(),
         };
         self.reply(id, &hello);
         Ok(())

@@ -7,8 +7,10 @@ use crate::log::Log;
 use crate::options::Options;
 use crate::os;
 use crate::server::Shared;
+use crate::tokens::Tokens;
+use crate::volumes;
 use bestore::saved::{self, Saved, SavedShelf};
-use bestore::{Shelf, ShelfPass};
+use bestore::{Shelf, ShelfPass, Written};
 use bestore_client::wire;
 use std::error::Error;
 use std::fs::File;
@@ -37,9 +39,11 @@ pub struct InFiles {
 }
 
 impl InFiles {
-    fn open(options: &Options, path: &Path) -> Result<Self, Box<dyn Error>> {
+    fn open(options: &Options, path: &Path, tokens: &Tokens) -> Result<Self, Box<dyn Error>> {
+        let mut saved = open_files(options, path)?;
+        add_tokens(saved.take_tokens(), tokens);
         Ok(Self {
-            saved: open_files(options, path)?,
+            saved,
             each: options.every.is_none(),
             disk: Disk::of(path, options.spare)?,
             is_over: AtomicBool::new(false),
@@ -83,9 +87,14 @@ pub fn start(_: &Arc<Shared>) -> io::Result<()> {
 impl Kept {
     /// Opens the volumes of a server with this text of its run. `None`: one of the signals has come while the database of a log
     /// could not be reached.
-    pub fn open(options: &Options, run: &str, signals: &File) -> Result<Option<Self>, Box<dyn Error>> {
+    pub fn open(
+        options: &Options,
+        run: &str,
+        tokens: &Arc<Tokens>,
+        signals: &File,
+    ) -> Result<Option<Self>, Box<dyn Error>> {
         if options.log.is_some() {
-            return Self::open_log(options, run, signals);
+            return Self::open_log(options, run, tokens, signals);
         }
         let path = match &options.keep {
             None => {
@@ -94,17 +103,22 @@ impl Kept {
             }
             Some(path) => path,
         };
-        Ok(Some(Kept::File(Box::new(InFiles::open(options, path)?))))
+        Ok(Some(Kept::File(Box::new(InFiles::open(options, path, tokens)?))))
     }
 
     #[cfg(feature = "log")]
-    fn open_log(options: &Options, run: &str, signals: &File) -> Result<Option<Self>, Box<dyn Error>> {
-        let log = Log::open(options, run, signals)?;
+    fn open_log(
+        options: &Options,
+        run: &str,
+        tokens: &Arc<Tokens>,
+        signals: &File,
+    ) -> Result<Option<Self>, Box<dyn Error>> {
+        let log = Log::open(options, run, tokens, signals)?;
         Ok(log.map(|log| Kept::Log(Box::new(log))))
     }
 
     #[cfg(not(feature = "log"))]
-    fn open_log(_: &Options, _: &str, _: &File) -> Result<Option<Self>, Box<dyn Error>> {
+    fn open_log(_: &Options, _: &str, _: &Arc<Tokens>, _: &File) -> Result<Option<Self>, Box<dyn Error>> {
         Err("this program is built without the feature log".into())
     }
 
@@ -232,6 +246,22 @@ impl Kept {
 
 fn not_kept() -> Failure {
     Failure::new("NotKept", "the server keeps no file")
+}
+
+/// Adds the tokens that the files of the volumes have.
+fn add_tokens(found: Vec<Vec<saved::Token>>, tokens: &Tokens) {
+    let count = found.len();
+    tokens.make_room(count);
+    for (volume, of_volume) in (0..).zip(found) {
+        for token in of_volume {
+            let written = Written {
+                number: token.commit,
+                nodes: token.nodes,
+            };
+            let volume = (count > 1).then_some(volume);
+            tokens.add(token.text.into(), volumes::shown(volume, &written));
+        }
+    }
 }
 
 /// Opens the file of one store, or the folder of several volumes.

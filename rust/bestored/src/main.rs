@@ -19,8 +19,10 @@ mod pressure;
 mod reach;
 mod server;
 mod socket;
+mod tokens;
 mod volumes;
 mod watcher;
+mod writes;
 
 use background::{Side, Starter};
 use kept::Kept;
@@ -30,7 +32,8 @@ use server::Shared;
 use socket::Place;
 use std::error::Error;
 use std::process::ExitCode;
-use std::sync::Mutex;
+use std::sync::{Arc, Mutex};
+use tokens::Tokens;
 
 fn main() -> ExitCode {
     start(Options::read()).unwrap_or_else(|error| {
@@ -66,7 +69,8 @@ fn place(options: &Options) -> Result<Place, Box<dyn Error>> {
 fn serve(options: Options, place: Place, starter: Option<Starter>) -> Result<(), Box<dyn Error>> {
     let signals = os::ending_signals()?;
     let run = server::run_text()?;
-    let kept = match Kept::open(&options, &run, &signals)? {
+    let tokens = Arc::new(Tokens::new(options.volumes.unwrap_or(1) as usize));
+    let kept = match Kept::open(&options, &run, &tokens, &signals)? {
         Some(kept) => kept,
         None => return Ok(()),
     };
@@ -74,6 +78,7 @@ fn serve(options: Options, place: Place, starter: Option<Starter>) -> Result<(),
     visits.set_retry(pressure::retry());
     let shared = Shared {
         kept,
+        tokens,
         watcher: Default::default(),
         pressure: Pressure::new(options.hold),
         clients: Default::default(),

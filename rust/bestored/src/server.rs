@@ -8,6 +8,7 @@ use crate::options::Options;
 use crate::os;
 use crate::pressure::{self, Pressure};
 use crate::socket::{Place, Socket};
+use crate::tokens::Tokens;
 use crate::watcher::Watcher;
 use bestore::{Error, ShelfPass};
 use bestore_client::socket::{peer_user, user};
@@ -46,6 +47,7 @@ const LAST: Duration = Duration::from_secs(5);
 pub struct Shared {
     pub options: Options,
     pub kept: Kept,
+    pub tokens: Arc<Tokens>,
     pub watcher: Watcher,
     pub pressure: Pressure,
     pub clients: Clients,

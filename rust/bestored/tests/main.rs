@@ -13,6 +13,7 @@ mod manual;
 mod memory;
 mod pages;
 mod protocol;
+mod repeats;
 mod slow;
 mod socket;
 mod volumes;

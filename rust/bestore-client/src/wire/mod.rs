@@ -3,6 +3,7 @@
 mod operation;
 mod reply;
 mod request;
+mod token;
 mod value;
 
 pub use operation::{Operations, ShownOperations};
@@ -14,6 +15,7 @@ pub use request::{
     id_of, Columns, ColumnsOf, Command, From, Get, Greeting, JournalFrom, Node, NodesFrom, Nothing, Numbers, OfLog,
     Query, QueryText, Reach, Request, Watch, Watching, Write,
 };
+pub use token::Token;
 pub use value::{kind_name, kind_named, Json};
 
 /// The numbers of the volumes as replies have them: none if there is one volume.

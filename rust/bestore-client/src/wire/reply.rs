@@ -33,6 +33,9 @@ replies! {
         /// How many volumes the server has.
         #[serde(default = "one", skip_serializing_if = "is_one")]
         pub volumes: u32,
+        /// What the server knows beyond the first version of the protocol, by the names of parameters and commands.
+        #[serde(default)]
+        pub features: Vec<String>,
     }
 
     /// How large the store may grow, and a connection's requests.
@@ -66,6 +69,9 @@ replies! {
         /// The number of the entry in the log, if the server has one.
         #[serde(default, skip_serializing_if = "Option::is_none")]
         pub entry: Option<u64>,
+        /// Whether a batch with this token was written before. A snapshot with the number `commit` has it.
+        #[serde(default, skip_serializing_if = "is_false")]
+        pub repeated: bool,
     }
 
     /// Of `log`.

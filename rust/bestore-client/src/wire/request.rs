@@ -1,7 +1,7 @@
 //! Requests: an `id` and one command.
 
 use super::operation::asked_operations;
-use super::Operations;
+use super::{Operations, Token};
 use serde::de::value::MapAccessDeserializer;
 use serde::de::{self, Deserialize, Deserializer, IgnoredAny, MapAccess, Visitor};
 use serde::ser::{Serialize, SerializeMap, Serializer};
@@ -57,6 +57,12 @@ parameters! {
         /// The volume that is written.
         #[serde(default, deserialize_with = "given", skip_serializing_if = "Option::is_none")]
         pub volume: Option<u32>,
+        /// By which the batch can be sent again: it is written once.
+        #[serde(default, deserialize_with = "given", skip_serializing_if = "Option::is_none")]
+        pub token: Option<Token>,
+        /// The run of the server whose commit numbers `expected` has.
+        #[serde(default, deserialize_with = "given", skip_serializing_if = "Option::is_none")]
+        pub run: Option<String>,
     }
 
     /// Of `attributes`.
@@ -463,6 +469,7 @@ mod tests {
             r#"{"id":3,"hello":{"protocol":1,"visit":true}}"#,
             r#"{"id":4,"batch":{"operations":[["new"]],"expected":[3,0],"volume":1}}"#,
             r#"{"id":5,"reach":{"commit":[3,0],"within":5}}"#,
+            r#"{"id":6,"batch":{"operations":[["new"]],"expected":3,"token":"ä","run":"1-2"}}"#,
             r#"{"id":3,"get":{"node":1,"name":"a\"b"}}"#,
             r#"{"id":3,"columns":{"nodes":[2,1],"names":["a","b"]}}"#,
         ] {
@@ -497,6 +504,8 @@ mod tests {
             (r#"{"id":5,"batch":{"operations":[["new"]],"expected":null}}"#, Some(5)),
             (r#"{"id":5,"batch":{"operations":[["new",7]]}}"#, Some(5)),
             (r#"{"id":5,"journal":{"limit":null}}"#, Some(5)),
+            (r#"{"id":5,"batch":{"operations":[["new"]],"token":""}}"#, Some(5)),
+            (r#"{"id":5,"batch":{"operations":[["new"]],"token":7}}"#, Some(5)),
             (r#"{"id":5,"watch":{"query":null}}"#, Some(5)),
             (r#"{"id":5,"status":[]}"#, Some(5)),
             (r#"{"id":5,"get":[1,"a"]}"#, Some(5)),

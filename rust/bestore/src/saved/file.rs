@@ -3,6 +3,7 @@
 use super::{Error, Place, Result};
 use crate::Batch;
 use rusqlite::{Connection, OpenFlags};
+use std::collections::VecDeque;
 use std::fs::OpenOptions;
 use std::os::unix::fs::OpenOptionsExt;
 use std::path::{Path, PathBuf};
@@ -31,6 +32,10 @@ const TABLES: &str = "
     CREATE TABLE entry (number INTEGER PRIMARY KEY, pass INTEGER NOT NULL, batch BLOB NOT NULL);
 ";
 
+/// Earlier versions made files without it.
+const TOKENS: &str =
+    "CREATE TABLE IF NOT EXISTS token (number INTEGER PRIMARY KEY, token TEXT NOT NULL, nodes BLOB NOT NULL)";
+
 /// What a file says of its state.
 #[derive(Clone, Copy, Debug, PartialEq, Eq)]
 pub struct About {
@@ -39,6 +44,10 @@ pub struct About {
     /// The number of the next node after it.
     pub next: u64,
 }
+
+/// How many tokens a file has at least before the oldest ones go, and how many go at once.
+const MOST_TOKENS: usize = super::TOKENS;
+const TOKENS_AT_ONCE: usize = 1_024;
 
 /// Of a file that nobody sees before it is whole. Its journal is that of SQLite by default, so the one file has all.
 const STATE_SETTINGS: &str = "
@@ -53,6 +62,33 @@ pub(super) struct Row {
     pub(super) number: u64,
     pub(super) pass: u64,
     pub(super) batch: Vec<u8>,
+    pub(super) token: Option<Token>,
+}
+
+/// The token of an entry, and the nodes that it made.
+#[derive(Clone, Debug, PartialEq, Eq)]
+pub(super) struct Token {
+    pub(super) text: Box<str>,
+    pub(super) nodes: Vec<u64>,
+}
+
+impl Token {
+    fn node_bytes(&self) -> Vec<u8> {
+        self.nodes.iter().flat_map(|node| node.to_le_bytes()).collect()
+    }
+
+    fn read(text: &str, bytes: &[u8]) -> Self {
+        let number = |bytes: &[u8]| {
+            bytes
+                .iter()
+                .rev()
+                .fold(0, |number, byte| number << 8 | u64::from(*byte))
+        };
+        Self {
+            text: text.into(),
+            nodes: bytes.chunks(8).map(number).collect(),
+        }
+    }
 }
 
 /// Marks an empty file as one of a store, and makes its tables.
@@ -78,6 +114,8 @@ fn make_private(path: &Path) {
 pub(super) struct File {
     connection: Connection,
     path: PathBuf,
+    /// The entries whose tokens the file has, by rising numbers.
+    with_token: VecDeque<u64>,
 }
 
 impl File {
@@ -91,6 +129,7 @@ impl File {
         let file = Self {
             connection: opened.map_err(|error| Error::of_sqlite(path, error))?,
             path: path.to_owned(),
+            with_token: VecDeque::new(),
         };
         file.take()?;
         Ok(file)
@@ -103,6 +142,7 @@ impl File {
         let file = Self {
             connection: opened.map_err(|error| Error::of_sqlite(path, error))?,
             path: path.to_owned(),
+            with_token: VecDeque::new(),
         };
         file.sqlite(file.connection.busy_timeout(Duration::ZERO))?;
         match file.check_format()? {
@@ -120,6 +160,7 @@ impl File {
         let file = Self {
             connection: opened.map_err(|error| Error::of_sqlite(path, error))?,
             path: path.to_owned(),
+            with_token: VecDeque::new(),
         };
         file.run(STATE_SETTINGS)?;
         file.run(&new_tables())?;
@@ -138,7 +179,7 @@ impl File {
     pub(super) fn end_state(self, about: About) -> Result<()> {
         self.sqlite(set_about(&self.connection, about))?;
         self.run("COMMIT")?;
-        let Self { connection, path } = self;
+        let Self { connection, path, .. } = self;
         connection.close().map_err(|(_, error)| Error::of_sqlite(&path, error))
     }
 
@@ -161,10 +202,11 @@ impl File {
         if self.check_format()? {
             self.run("PRAGMA auto_vacuum = FULL")?;
             self.run(SETTINGS)?;
-            self.run(&new_tables())
+            self.run(&new_tables())?;
         } else {
-            self.run(SETTINGS)
+            self.run(SETTINGS)?;
         }
+        self.run(TOKENS)
     }
 
     /// Whether the file is new. One of another program, or of a newer format, is refused.
@@ -226,27 +268,61 @@ impl File {
     /// Adds the rows, all in one commit. One row alone is a transaction of its own, without statements that begin and end it.
     pub(super) fn append(&mut self, rows: &[Row]) -> Result<()> {
         let added = match rows {
-            [row] => self.insert(row),
+            [row] if row.token.is_none() => self.insert(row),
             rows => self.insert_all(rows),
         };
         self.sqlite(added)
     }
 
-    fn insert(&self, row: &Row) -> rusqlite::Result<()> {
-        let mut insert = self.connection.prepare_cached("INSERT INTO entry VALUES (?, ?, ?)")?;
-        insert
-            .execute((row.number as i64, row.pass as i64, &row.batch))
-            .map(drop)
+    /// The tokens that the file has, with the numbers of their entries, which rise.
+    pub(super) fn tokens(&mut self) -> Result<Vec<(u64, Token)>> {
+        let read = || {
+            let mut statement = self
+                .connection
+                .prepare("SELECT number, token, nodes FROM token ORDER BY number")?;
+            let tokens = statement.query_map([], |row| {
+                let text = row.get_ref(1)?.as_str()?.to_owned();
+                let nodes = row.get_ref(2)?.as_blob()?.to_owned();
+                Ok((row.get::<_, i64>(0)? as u64, Token::read(&text, &nodes)))
+            })?;
+            tokens.collect::<rusqlite::Result<Vec<_>>>()
+        };
+        let tokens = self.sqlite(read())?;
+        self.with_token = tokens.iter().map(|(number, _)| *number).collect();
+        Ok(tokens)
     }
 
-    fn insert_all(&self, rows: &[Row]) -> rusqlite::Result<()> {
-        let run = |sql: &str| self.connection.prepare_cached(sql)?.execute([]).map(drop);
-        run("BEGIN IMMEDIATE")?;
+    fn insert(&mut self, row: &Row) -> rusqlite::Result<()> {
+        let mut insert = self.connection.prepare_cached("INSERT INTO entry VALUES (?, ?, ?)")?;
+        insert.execute((row.number as i64, row.pass as i64, &row.batch))?;
+        drop(insert);
+        match &row.token {
+            None => Ok(()),
+            Some(token) => self.insert_token(row.number, token),
+        }
+    }
+
+    /// Adds the token of an entry. Once there are too many, the oldest ones go.
+    fn insert_token(&mut self, number: u64, token: &Token) -> rusqlite::Result<()> {
+        let mut insert = self.connection.prepare_cached("INSERT INTO token VALUES (?, ?, ?)")?;
+        insert.execute((number as i64, &*token.text, token.node_bytes()))?;
+        self.with_token.push_back(number);
+        if self.with_token.len() < MOST_TOKENS + TOKENS_AT_ONCE {
+            return Ok(());
+        }
+        let last = self.with_token.drain(..TOKENS_AT_ONCE).last().unwrap_or(0);
+        let mut delete = self.connection.prepare_cached("DELETE FROM token WHERE number <= ?")?;
+        delete.execute([last as i64]).map(drop)
+    }
+
+    fn insert_all(&mut self, rows: &[Row]) -> rusqlite::Result<()> {
+        let run = |connection: &Connection, sql: &str| connection.prepare_cached(sql)?.execute([]).map(drop);
+        run(&self.connection, "BEGIN IMMEDIATE")?;
         let inserted = rows.iter().try_for_each(|row| self.insert(row));
-        let added = inserted.and_then(|()| run("COMMIT"));
+        let added = inserted.and_then(|()| run(&self.connection, "COMMIT"));
         if added.is_err() && !self.connection.is_autocommit() {
             // What it returns is less than the error of the rows.
-            let _ = run("ROLLBACK");
+            let _ = run(&self.connection, "ROLLBACK");
         }
         added
     }

@@ -101,6 +101,11 @@ impl SavedShelf {
         &self.volumes
     }
 
+    /// Takes the tokens of each volume, as [`Saved::take_tokens`].
+    pub fn take_tokens(&mut self) -> Vec<Vec<super::Token>> {
+        self.volumes.iter_mut().map(Saved::take_tokens).collect()
+    }
+
     /// Takes a pass, whose writes are saved.
     ///
     /// # Errors

@@ -266,10 +266,16 @@ impl Keeper for Line {
         let written = write()?;
         let number = self.entry(written.number);
         state.written = number;
+        let token = batch.token().map(String::from);
         match batch.clone().set_nodes(&written.nodes).to_bytes() {
             Ok(batch) => {
                 state.waiting_bytes += batch.len();
-                state.waiting.push(Row { number, pass, batch });
+                state.waiting.push(Row {
+                    number,
+                    pass,
+                    batch,
+                    token,
+                });
             }
             // What the store has accepted has bytes, if there is memory. Nothing may follow an entry that is missing.
             Err(error) => {

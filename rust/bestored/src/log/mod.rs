@@ -17,6 +17,7 @@ use crate::kept::Kept;
 use crate::options::Options;
 use crate::os;
 use crate::server::Shared;
+use crate::tokens::Tokens;
 use bestore::{Shelf, ShelfPass, Store};
 use bestore_client::wire;
 use database::Database;
@@ -98,7 +99,7 @@ pub struct Log {
 impl Log {
     /// Connects, again and again while the database can't be reached, and makes the store again to the end of the log. `None`: a
     /// signal has come first.
-    pub fn open(options: &Options, run: &str, signals: &File) -> Result<Option<Self>> {
+    pub fn open(options: &Options, run: &str, tokens: &Arc<Tokens>, signals: &File) -> Result<Option<Self>> {
         let in_log = options.log.as_ref().ok_or(Error::NoLog)?;
         let access = Access {
             config: config(&in_log.url)?,
@@ -107,7 +108,7 @@ impl Log {
         };
         let mut is_said = false;
         loop {
-            match Self::begin(options, &access, in_log.leads) {
+            match Self::begin(options, &access, tokens, in_log.leads) {
                 Err(error) if error.is_unreachable() => {
                     if !mem::replace(&mut is_said, true) {
                         eprintln!("bestored: {error}; it is tried again");
@@ -122,11 +123,11 @@ impl Log {
     }
 
     /// Connects once. To lead is refused while another server does.
-    fn begin(options: &Options, access: &Access, leads: bool) -> Result<Self> {
+    fn begin(options: &Options, access: &Access, tokens: &Arc<Tokens>, leads: bool) -> Result<Self> {
         let store = Store::open(options.limits())?;
         let pass = store.pass()?;
         let runtime = runtime()?;
-        let (member, line) = runtime.block_on(Member::begin(access.clone(), pass, leads))?;
+        let (member, line) = runtime.block_on(Member::begin(access.clone(), pass, tokens.clone(), leads))?;
         Ok(Self {
             shelf: Shelf::of_volumes(vec![store.clone()])?,
             store,
