@@ -45,6 +45,11 @@ pub enum Command {
     Rmindex(RemoveIndex),
     Reindex(Reindex),
     Status(Status),
+    /// Print what goes on in the server: how much is written, and who keeps an old snapshot
+    Info(Activity),
+    /// List who is connected, and what each does
+    Clients(Activity),
+    Kick(Kick),
     Backup(Backup),
     /// Print a snapshot of the server as JSON: a line about it, and the batches that make it again
     Dump,
@@ -237,6 +242,21 @@ pub struct Status {
     /// Print JSON
     #[arg(long)]
     pub json: bool,
+}
+
+#[derive(Debug, Args)]
+pub struct Activity {
+    /// Print JSON
+    #[arg(long)]
+    pub json: bool,
+}
+
+/// End the connection of a client
+#[derive(Debug, Args)]
+pub struct Kick {
+    /// The number of the client, by be clients
+    #[arg(value_name = "CLIENT")]
+    pub client: u64,
 }
 
 /// Write a snapshot of the server into a file that bestored --keep opens

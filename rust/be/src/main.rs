@@ -1,6 +1,7 @@
 //! The attribute tools of BeOS, over a store that bestored shares. `docs/be.1` describes the commands.
 #![warn(rust_2018_idioms)]
 
+mod activity;
 mod attributes;
 mod backup;
 mod command_line;
@@ -56,6 +57,9 @@ fn run(command: Command, server: &ServerOptions, output: &mut Output) -> Result<
         Command::Lsindex(line) => indices::list(&mut visit()?, &line, output),
         Command::Rmindex(line) => indices::remove(&mut visit()?, &line),
         Command::Reindex(line) => indices::fill(&mut server::connect(server)?, &line, output),
+        Command::Info(line) => activity::info(&mut visit()?, &line, output),
+        Command::Clients(line) => activity::clients(&mut visit()?, &line, output),
+        Command::Kick(line) => activity::kick(&mut visit()?, &line),
         Command::Backup(line) => backup::make(&mut server::connect(server)?, &line, output),
         Command::Dump => backup::dump(&mut server::connect(server)?, output),
         Command::Restore(line) => restore::restore(&mut server::connect(server)?, &line, output),

@@ -2,6 +2,7 @@
 
 #[macro_use]
 mod common;
+mod activity;
 mod backups;
 mod broken;
 mod follow;

@@ -26,7 +26,7 @@ const MOST_WITHIN: Duration = Duration::from_secs(60);
 #[derive(Debug)]
 pub struct Client {
     stream: UnixStream,
-    /// Where the server listens, to connect again.
+    /// The socket of the server, to connect again.
     pub(crate) socket: Option<SocketPath>,
     /// The server's run, once it has said it.
     pub(crate) run: Option<String>,
@@ -546,6 +546,32 @@ impl Client {
     /// As `call`.
     pub fn status(&mut self) -> Result<wire::Status> {
         self.call(Command::Status(Nothing {}))
+    }
+
+    /// What goes on in the server.
+    ///
+    /// # Errors
+    /// As `call`.
+    pub fn info(&mut self) -> Result<wire::Info> {
+        self.call(Command::Info(Nothing {}))
+    }
+
+    /// Who is connected.
+    ///
+    /// # Errors
+    /// As `call`.
+    pub fn clients(&mut self) -> Result<Vec<wire::ClientInfo>> {
+        let read: wire::Clients = self.call(Command::Clients(Nothing {}))?;
+        Ok(read.clients)
+    }
+
+    /// Ends the connection of the client with this number, which [`clients`](Self::clients) says. What it has pinned is given back, and a
+    /// write that it has sent may still be made.
+    ///
+    /// # Errors
+    /// As `call`; `NoClient`.
+    pub fn kick(&mut self, client: u64) -> Result<()> {
+        self.call::<Nothing>(Command::Kick(wire::Kick { client })).map(drop)
     }
 
     /// What the server does in the log that machines share.

@@ -74,7 +74,7 @@ def fill(socket: str) -> int:
                 batch.new_node()
                 batch.set(node, "name", f"file {node}")
                 batch.set(node, "count", 0)
-                batch.set(node, "text", "some words " * 8)
+                batch.set(node, "size", node * 100)
             store.apply(batch)
         with store.pin() as version:
             return version.number

@@ -1,6 +1,8 @@
 //! The answers to requests.
 
+use crate::clients::Client;
 use crate::failure::Failure;
+use crate::info;
 use crate::outbox::Outbox;
 use crate::page::{self, commits, rows_of, Reading, Room};
 use crate::reach;
@@ -19,7 +21,7 @@ use std::time::Instant;
 pub const WATCHES: usize = 32;
 
 /// What the server knows beyond the first version of the protocol.
-const FEATURES: [&str; 2] = ["token", "run"];
+const FEATURES: [&str; 5] = ["token", "run", "info", "clients", "kick"];
 
 /// How many bytes of replies are collected before they are sent.
 const COLLECTED: usize = 1 << 16;
@@ -115,6 +117,7 @@ impl<'v, 'p> View<'v, 'p> {
 #[derive(Debug)]
 pub struct Desk<'a> {
     pub shared: &'a Shared,
+    client: &'a Client,
     outbox: Arc<Outbox>,
     out: Vec<u8>,
     /// Whether the outbox has something left that was to be sent.
@@ -132,9 +135,10 @@ impl Drop for Desk<'_> {
 }
 
 impl<'a> Desk<'a> {
-    pub fn new(shared: &'a Shared, outbox: Arc<Outbox>) -> Self {
+    pub fn new(shared: &'a Shared, client: &'a Client, outbox: Arc<Outbox>) -> Self {
         Self {
             shared,
+            client,
             outbox,
             out: Vec::new(),
             is_left: false,
@@ -183,7 +187,10 @@ impl<'a> Desk<'a> {
 
     /// Answers a command other than `pin` and `unpin`.
     pub fn answer(&mut self, id: u64, command: Command<'_>, view: &mut View<'_, '_>) -> io::Result<()> {
-        let is_of_server = matches!(command, Command::Status(_));
+        let is_of_server = matches!(
+            command,
+            Command::Status(_) | Command::Info(_) | Command::Clients(_) | Command::Kick(_)
+        );
         match self.shared.kept.check() {
             Err(failure) if !is_of_server => self.refuse(Some(id), failure),
             _ => self.carry_out(id, command, view)?,
@@ -216,6 +223,12 @@ impl<'a> Desk<'a> {
                 let reached = reach::reach(view, &self.shared.pressure, &reach);
                 reached.map(|reached| self.reply(id, &reached))
             }
+            Command::Info(_) => info::info(self.shared, view).map(|info| self.reply(id, &info)),
+            Command::Clients(_) => {
+                self.reply(id, &self.shared.clients.shown(self.client.number));
+                Ok(())
+            }
+            Command::Kick(kick) => info::kick(self.shared, self.client, &kick).map(|done| self.reply(id, &done)),
             Command::Flush(_) => self.shared.kept.flush().map(|()| self.reply(id, &wire::Nothing {})),
             Command::Log(wanted) => {
                 // Earlier replies don't wait for an entry.

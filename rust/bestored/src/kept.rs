@@ -15,7 +15,7 @@ use bestore_client::wire;
 use std::error::Error;
 use std::fs::File;
 use std::io;
-use std::path::Path;
+use std::path::{Path, PathBuf};
 use std::sync::atomic::{AtomicBool, Ordering};
 use std::sync::Arc;
 
@@ -32,6 +32,7 @@ pub enum Kept {
 #[derive(Debug)]
 pub struct InFiles {
     saved: SavedShelf,
+    path: PathBuf,
     each: bool,
     disk: Disk,
     /// Whether a commit has failed, so that the server ends.
@@ -44,10 +45,24 @@ impl InFiles {
         add_tokens(saved.take_tokens(), tokens);
         Ok(Self {
             saved,
+            path: path.to_owned(),
             each: options.every.is_none(),
             disk: Disk::of(path, options.spare)?,
             is_over: AtomicBool::new(false),
         })
+    }
+
+    /// How long the files of all volumes are now.
+    fn sizes(&self) -> wire::Files {
+        let mut files = wire::Files::default();
+        let length = |path: PathBuf| path.metadata().map_or(0, |found| found.len());
+        for path in saved::files_of(&self.path, self.saved.volumes().len() as u32) {
+            let mut wal = path.clone().into_os_string();
+            wal.push("-wal");
+            files.wal_bytes += length(wal.into());
+            files.bytes += length(path);
+        }
+        files
     }
 
     /// The error of the first commit that failed.
@@ -159,6 +174,23 @@ impl Kept {
         match trouble {
             Some(trouble) => Err(Failure::new("Stopped", format!("nothing was written: {trouble}"))),
             None => Ok(()),
+        }
+    }
+
+    /// How long the files are, if there are any.
+    pub fn files(&self) -> Option<wire::Files> {
+        match self {
+            Kept::File(files) => Some(files.sizes()),
+            _ => None,
+        }
+    }
+
+    /// What the server does in the log, if there is one.
+    pub fn role(&self) -> Option<wire::Role> {
+        match self {
+            #[cfg(feature = "log")]
+            Kept::Log(log) => Some(log.role()),
+            _ => None,
         }
     }
 

@@ -4,13 +4,16 @@
 
 mod answer;
 mod background;
+mod clients;
 mod connection;
 mod disk;
 mod failure;
+mod info;
 mod kept;
 mod lines;
 #[cfg(feature = "log")]
 mod log;
+mod meter;
 mod options;
 mod os;
 mod outbox;
@@ -26,6 +29,7 @@ mod writes;
 
 use background::{Side, Starter};
 use kept::Kept;
+use meter::Meter;
 use options::Options;
 use pressure::Pressure;
 use server::Shared;
@@ -82,6 +86,8 @@ fn serve(options: Options, place: Place, starter: Option<Starter>) -> Result<(),
         watcher: Default::default(),
         pressure: Pressure::new(options.hold),
         clients: Default::default(),
+        meter: Meter::new(),
+        is_full: Mutex::default(),
         visits: Mutex::new(visits),
         run,
         options,

@@ -55,6 +55,7 @@ fn write_now(
     view: &mut View<'_, '_>,
     made: impl FnMut(wire::Written),
 ) -> Result<wire::Written, Failure> {
+    let measured = shared.meter.begin();
     check_run(shared, write, view)?;
     shared.kept.check_room()?;
     let written = match volumes::is_for_all(write, view.volumes()) {
@@ -63,8 +64,9 @@ fn write_now(
     };
     // Some volumes may have been written before another one refused.
     shared.watcher.written();
-    if written.is_err() {
-        shared.kept.end_if_failed();
+    match &written {
+        Ok(_) => measured.is_done(),
+        Err(_) => shared.kept.end_if_failed(),
     }
     written
 }

@@ -772,6 +772,9 @@ fn a_token_goes_from_one_leader_to_the_next() {
     first.server.kill();
     wait_until("the other one leads", || following.leads());
     check(&following);
+    assert!(following.said().contains("this server leads the log, in term 2"));
+    let role = following.client().info().unwrap().log.unwrap();
+    assert_eq!((&*role.role, role.term, role.lag), ("leader", Some(2), 0));
     let third = make(&mut following.client(), "c").unwrap();
     assert_eq!(third.nodes, [3]);
 }

@@ -1,5 +1,6 @@
 //! The tests of the server. They are one program, so that it is linked once, and so that tests that wait run beside others.
 
+mod activity;
 mod background;
 mod changes;
 mod common;

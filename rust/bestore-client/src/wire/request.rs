@@ -120,6 +120,12 @@ parameters! {
         pub volume: Option<u32>,
     }
 
+    /// Of `kick`.
+    Kick {
+        /// The number of the client, as `clients` says it.
+        pub client: u64,
+    }
+
     /// Of `reach`.
     Reach {
         /// How many entries the journal has to have.
@@ -310,6 +316,14 @@ macro_rules! commands {
                 }
             }
 
+            /// The name of the command.
+            #[must_use]
+            pub fn name(&self) -> &'static str {
+                match self {
+                    $(Command::$variant(_) => $name,)*
+                }
+            }
+
             fn write<M: SerializeMap>(&self, to: &mut M) -> Result<(), M::Error> {
                 match self {
                     $(Command::$variant(parameters) => to.serialize_entry($name, parameters),)*
@@ -364,6 +378,12 @@ commands! {
     Compact(Nothing) = "compact";
     /// What the server does in the log that machines share. Waits for an entry.
     Log(OfLog) = "log";
+    /// What goes on in the server.
+    Info(Nothing) = "info";
+    /// Who is connected.
+    Clients(Nothing) = "clients";
+    /// Ends the connection of a client.
+    Kick(Kick) = "kick";
 }
 
 /// A request.

@@ -39,12 +39,12 @@ mod shelf;
 pub use backup::Backup;
 pub use error::{Error, Place};
 pub use file::About;
-pub use shelf::SavedShelf;
+pub use shelf::{files_of, SavedShelf};
 
 use crate::{Batch, Limits, Pass, Shelf, Snapshot, Store};
 use file::File;
 use queue::Queue;
-use std::path::Path;
+use std::path::{Path, PathBuf};
 use std::sync::Arc;
 use std::time::Duration;
 
@@ -136,14 +136,13 @@ impl Options {
     /// Those of [`open`](Self::open) and [`open_shelf`](Self::open_shelf), but for a full disk.
     pub fn load(&self, path: impl AsRef<Path>) -> Result<Shelf> {
         let path = path.as_ref();
-        if !path.is_dir() {
-            return Ok(Shelf::of_volumes(vec![self.load_file(path)?])?);
-        }
-        let load = |volume| {
-            let loaded = self.load_file(&shelf::path(path, volume));
-            loaded.map_err(|error| error.of_volume(volume))
+        let is_folder = path.is_dir();
+        let count = if is_folder { shelf::count(path)? } else { 1 };
+        let load = |(volume, file): (u32, PathBuf)| {
+            let loaded = self.load_file(&file);
+            loaded.map_err(|error| if is_folder { error.of_volume(volume) } else { error })
         };
-        let volumes = (0..shelf::count(path)?).map(load).collect::<Result<Vec<_>>>()?;
+        let volumes = (0..).zip(files_of(path, count)).map(load).collect::<Result<Vec<_>>>()?;
         match volumes.is_empty() {
             false => Ok(Shelf::of_volumes(volumes)?),
             true => Err(Error::Foreign { path: path.to_owned() }),

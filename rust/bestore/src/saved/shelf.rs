@@ -19,6 +19,15 @@ pub(super) fn path(folder: &Path, volume: u32) -> PathBuf {
     folder.join(format!("{volume}.bestore"))
 }
 
+/// The files of so many volumes at a path: the path itself, or those within the folder.
+#[must_use]
+pub fn files_of(place: &Path, volumes: u32) -> Vec<PathBuf> {
+    match place.is_dir() {
+        true => (0..volumes).map(|volume| path(place, volume)).collect(),
+        false => vec![place.to_owned()],
+    }
+}
+
 /// The volume whose file has this name.
 fn volume_of(name: &std::ffi::OsStr) -> Option<u32> {
     let digits = name.to_str()?.strip_suffix(".bestore")?;

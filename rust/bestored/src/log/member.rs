@@ -181,6 +181,7 @@ impl Member {
                 self.check(&head)?;
                 self.line.change(|state| {
                     state.leader = head.leader;
+                    state.last = head.last;
                     state.trouble = None;
                 });
                 if Instant::now() >= self.may_lead && self.database.try_lock().await? {
@@ -199,9 +200,11 @@ impl Member {
         self.check(&head)?;
         self.apply_to(head.last, Some(shared)).await?;
         self.database.unlisten().await?;
+        let role = Role::Leader { term: head.term };
+        role.say(&head.leader);
         self.line.change(|state| {
             state.leader = head.leader;
-            state.role = Role::Leader { term: head.term };
+            state.role = role;
         });
         Ok(())
     }
@@ -387,7 +390,9 @@ impl Member {
             None => return Err(self.deposed(&database.head().await?)),
         };
         self.settle(&head, head.term)?;
-        self.line.change(|state| state.role = Role::Leader { term: head.term });
+        let role = Role::Leader { term: head.term };
+        role.say(&head.leader);
+        self.line.change(|state| state.role = role);
         Ok(())
     }
 

@@ -201,6 +201,21 @@ impl Log {
         })
     }
 
+    /// What the server does, and how many entries it is late.
+    pub fn role(&self) -> wire::Role {
+        let state = self.line.lock();
+        let (role, term, last) = match state.role {
+            Role::Leader { term } => ("leader", Some(term), state.written),
+            Role::Follower => ("follower", None, state.last),
+        };
+        wire::Role {
+            role: role.into(),
+            term,
+            entry: state.saved,
+            lag: last.saturating_sub(state.saved),
+        }
+    }
+
     /// Why the database can't be read or written, if it can't.
     pub fn trouble(&self) -> Option<String> {
         let state = self.line.lock();
