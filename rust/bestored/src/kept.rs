@@ -4,6 +4,7 @@ use crate::disk::Disk;
 use crate::failure::Failure;
 #[cfg(feature = "log")]
 use crate::log::Log;
+use crate::notify::Notifier;
 use crate::options::Options;
 use crate::os;
 use crate::server::Shared;
@@ -106,10 +107,11 @@ impl Kept {
         options: &Options,
         run: &str,
         tokens: &Arc<Tokens>,
+        notifier: &Notifier,
         signals: &File,
     ) -> Result<Option<Self>, Box<dyn Error>> {
         if options.log.is_some() {
-            return Self::open_log(options, run, tokens, signals);
+            return Self::open_log(options, run, tokens, notifier, signals);
         }
         let path = match &options.keep {
             None => {
@@ -126,14 +128,15 @@ impl Kept {
         options: &Options,
         run: &str,
         tokens: &Arc<Tokens>,
+        notifier: &Notifier,
         signals: &File,
     ) -> Result<Option<Self>, Box<dyn Error>> {
-        let log = Log::open(options, run, tokens, signals)?;
+        let log = Log::open(options, run, tokens, notifier, signals)?;
         Ok(log.map(|log| Kept::Log(Box::new(log))))
     }
 
     #[cfg(not(feature = "log"))]
-    fn open_log(_: &Options, _: &str, _: &Arc<Tokens>, _: &File) -> Result<Option<Self>, Box<dyn Error>> {
+    fn open_log(_: &Options, _: &str, _: &Arc<Tokens>, _: &Notifier, _: &File) -> Result<Option<Self>, Box<dyn Error>> {
         Err("this program is built without the feature log".into())
     }
 

@@ -14,6 +14,7 @@ mod lines;
 #[cfg(feature = "log")]
 mod log;
 mod meter;
+mod notify;
 mod options;
 mod os;
 mod outbox;
@@ -30,6 +31,7 @@ mod writes;
 use background::{Side, Starter};
 use kept::Kept;
 use meter::Meter;
+use notify::Notifier;
 use options::Options;
 use pressure::Pressure;
 use server::Shared;
@@ -73,8 +75,9 @@ fn place(options: &Options) -> Result<Place, Box<dyn Error>> {
 fn serve(options: Options, place: Place, starter: Option<Starter>) -> Result<(), Box<dyn Error>> {
     let signals = os::ending_signals()?;
     let run = server::run_text()?;
+    let notifier = Notifier::of_environment();
     let tokens = Arc::new(Tokens::new(options.volumes.unwrap_or(1) as usize));
-    let kept = match Kept::open(&options, &run, &tokens, &signals)? {
+    let kept = match Kept::open(&options, &run, &tokens, &notifier, &signals)? {
         Some(kept) => kept,
         None => return Ok(()),
     };
@@ -92,5 +95,5 @@ fn serve(options: Options, place: Place, starter: Option<Starter>) -> Result<(),
         run,
         options,
     };
-    server::run(place, starter, &signals, shared, own)
+    server::run(place, starter, notifier, &signals, shared, own)
 }

@@ -6,6 +6,7 @@ use crate::connection::Connection;
 use crate::failure::Failure;
 use crate::kept::{self, Kept};
 use crate::meter::Meter;
+use crate::notify::Notifier;
 use crate::options::Options;
 use crate::os;
 use crate::pressure::{self, Pressure};
@@ -64,6 +65,7 @@ pub struct Shared {
 pub fn run(
     place: Place,
     starter: Option<Starter>,
+    mut notifier: Notifier,
     signals: &File,
     shared: Shared,
     own: ShelfPass,
@@ -75,7 +77,9 @@ pub fn run(
         let shared = shared.clone();
         thread::spawn(move || shared.watcher.run(own, &shared.pressure, &shared.kept))
     };
-    accept(&socket.listener, signals, &shared);
+    notifier.ready();
+    accept(&socket.listener, &mut notifier, signals, &shared);
+    notifier.ends();
     drop(socket);
     shared.clients.end();
     shared.watcher.end();
@@ -99,10 +103,10 @@ fn listen(place: Place, starter: Option<Starter>, run: &str) -> io::Result<Socke
     Ok(socket)
 }
 
-fn accept(listener: &UnixListener, signals: &File, shared: &Arc<Shared>) {
+fn accept(listener: &UnixListener, notifier: &mut Notifier, signals: &File, shared: &Arc<Shared>) {
     let waited_for = [listener.as_raw_fd(), signals.as_raw_fd()];
     loop {
-        match os::wait_readable(waited_for, None) {
+        match os::wait_readable(waited_for, notifier.lives()) {
             Ok([_, true]) => break,
             Ok([true, _]) => {}
             Ok(_) => continue,

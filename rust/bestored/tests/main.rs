@@ -12,6 +12,7 @@ mod live;
 mod log;
 mod manual;
 mod memory;
+mod notify;
 mod pages;
 mod protocol;
 mod repeats;

@@ -14,6 +14,7 @@ pub use error::{Error, Refused};
 
 use crate::failure::Failure;
 use crate::kept::Kept;
+use crate::notify::Notifier;
 use crate::options::Options;
 use crate::os;
 use crate::server::Shared;
@@ -99,7 +100,13 @@ pub struct Log {
 impl Log {
     /// Connects, again and again while the database can't be reached, and makes the store again to the end of the log. `None`: a
     /// signal has come first.
-    pub fn open(options: &Options, run: &str, tokens: &Arc<Tokens>, signals: &File) -> Result<Option<Self>> {
+    pub fn open(
+        options: &Options,
+        run: &str,
+        tokens: &Arc<Tokens>,
+        notifier: &Notifier,
+        signals: &File,
+    ) -> Result<Option<Self>> {
         let in_log = options.log.as_ref().ok_or(Error::NoLog)?;
         let access = Access {
             config: config(&in_log.url)?,
@@ -110,6 +117,7 @@ impl Log {
         loop {
             match Self::begin(options, &access, tokens, in_log.leads) {
                 Err(error) if error.is_unreachable() => {
+                    notifier.waits(&error.to_string());
                     if !mem::replace(&mut is_said, true) {
                         eprintln!("bestored: {error}; it is tried again");
                     }
