@@ -3,7 +3,7 @@
 use crate::command_line::Backup as Line;
 use crate::failure::Failure;
 use crate::output::Output;
-use crate::server::pinned;
+use crate::server::collect;
 use crate::state::{each_batch, volumes, Shown};
 use bestore::saved::Backup;
 use bestore::Batch;
@@ -13,20 +13,18 @@ use bestore_client::{Client, Error};
 /// Writes a snapshot into a file.
 pub fn make(client: &mut Client, line: &Line, output: &mut Output) -> Result<(), Failure> {
     let hello = client.hello()?;
-    let shown = pinned(client, |client| {
-        let snapshot = client.next_node()?;
-        let mut backup = Backup::create(&line.file, hello.volumes)?;
-        let (mut about, mut count) = (Vec::new(), 0);
-        for volume in volumes(&hello) {
-            about.push(each_batch(client, volume, |batch| {
-                count += 1;
-                Ok(backup.add(volume.unwrap_or(0), &to_volume(&batch, volume)?)?)
-            })?);
-        }
-        flush(client, &hello)?;
-        backup.finish(&about)?;
-        Ok(Shown::new(&hello, snapshot, count))
-    })?;
+    let mut backup = Backup::create(&line.file, hello.volumes)?;
+    let snapshot = collect(client)?;
+    let (mut about, mut count) = (Vec::new(), 0);
+    for volume in volumes(&hello) {
+        about.push(each_batch(client, volume, |batch| {
+            count += 1;
+            Ok(backup.add(volume.unwrap_or(0), &to_volume(&batch, volume)?)?)
+        })?);
+    }
+    flush(client, &hello)?;
+    backup.finish(&about)?;
+    let shown = Shown::new(&hello, snapshot, count);
     let file = output.path_bytes(&line.file);
     shown.print(&String::from_utf8_lossy(&file), line.json, output)
 }
@@ -50,21 +48,18 @@ fn flush(client: &mut Client, hello: &Hello) -> Result<(), Error> {
     }
 }
 
-/// Prints a snapshot. It is read as a whole first, since whoever reads the output may be slow.
+/// Prints a snapshot.
 pub fn dump(client: &mut Client, output: &mut Output) -> Result<(), Failure> {
     let hello = client.hello()?;
-    let (shown, batches) = pinned(client, |client| {
-        let snapshot = client.next_node()?;
-        let mut batches = Vec::new();
-        for volume in volumes(&hello) {
-            each_batch(client, volume, |batch| {
-                batches.push((volume, batch));
-                Ok(())
-            })?;
-        }
-        Ok((Shown::new(&hello, snapshot, batches.len() as u64), batches))
-    })?;
-    output.json(&shown)?;
+    let snapshot = collect(client)?;
+    let mut batches = Vec::new();
+    for volume in volumes(&hello) {
+        each_batch(client, volume, |batch| {
+            batches.push((volume, batch));
+            Ok(())
+        })?;
+    }
+    output.json(&Shown::new(&hello, snapshot, batches.len() as u64))?;
     batches.into_iter().try_for_each(|(volume, batch)| {
         output.json(&wire::Write {
             operations: batch.into(),

@@ -259,7 +259,7 @@ pub struct Kick {
     pub client: u64,
 }
 
-/// Write a snapshot of the server into a file that bestored --keep opens
+/// Write a snapshot of the server into a file that bestored can open
 #[derive(Debug, Args)]
 pub struct Backup {
     /// Print JSON

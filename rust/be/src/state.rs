@@ -51,7 +51,7 @@ pub fn volumes(hello: &Hello) -> impl Iterator<Item = Option<u32>> {
     (0..count).map(move |volume| (count > 1).then_some(volume))
 }
 
-/// Hands each batch of the pinned snapshot to the closure, of this volume. Returns the volume's numbers.
+/// Hands each batch of the collected snapshot to the closure, of this volume. Returns the volume's numbers.
 pub fn each_batch(
     client: &mut Client,
     volume: Option<u32>,

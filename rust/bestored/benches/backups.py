@@ -3,15 +3,16 @@
 
 usage: backups.py FOLDER    the folder with bestored and be, such as rust/target/release
 
-It makes a store of 60,000 nodes in a new folder, measures how long writes take, and measures again while `be backup` runs 50 times.
-Each backup is opened: its counters, of which each write moves one, have to give its commit number, and none may be lower than what
-was replied to before the backup began. PYTHONPATH names the folder of the package bestore. It exits with 1 if a backup is wrong, or
+It makes a store of 60,000 nodes in five volumes, in a new folder, measures how long writes take, and measures again while `be backup`
+runs 50 times. Each backup is opened: in each volume the counters, of which each write moves one, have to give the commit number, and
+none may be lower than what was replied to before the backup began. PYTHONPATH names the folder of the package bestore. It exits with 1 if a backup is wrong, or
 if the 99th percentile of the writes grows to more than three times what it was.
 """
 from __future__ import annotations
 
 import json
 import multiprocessing
+import shutil
 import subprocess
 import sys
 import tempfile
@@ -29,7 +30,20 @@ BACKUPS = 50
 ALONE = 10.0
 """How many seconds the writers write before the backups begin."""
 MOST_GROWTH = 3.0
-PAGES = "16384"
+PAGES = 16_384
+VOLUMES = 5
+STEP = 16
+"""How many nodes a batch makes."""
+
+
+def node_in(volume: int, number: int) -> int:
+    """The node with this number in the volume."""
+    return volume * 10**14 + number
+
+
+def counted_by(writer: int) -> int:
+    """The node of a writer, from 0 on. Writers take turns among the volumes."""
+    return node_in(writer % VOLUMES, writer // VOLUMES + 1)
 
 
 def counter() -> Synchronized[int]:
@@ -45,9 +59,9 @@ class Shared(NamedTuple):
     times: "multiprocessing.Queue[List[float]]"
 
 
-def write(socket: str, shared: Shared, node: int) -> None:
-    """Counts in a node, one more with each write, and says how long each took."""
-    answered = shared.answered[node - 1]
+def write(socket: str, shared: Shared, writer: int) -> None:
+    """Counts in the writer's node, one more with each write, and says how long each took."""
+    answered, node = shared.answered[writer], counted_by(writer)
     times: List[float] = []
     with bestore.connect(socket) as store:
         while not shared.is_over.value:
@@ -64,20 +78,21 @@ def percentile(times: List[float], part: float) -> float:
     return sorted(times)[int(len(times) * part)] * 1000
 
 
-def fill(socket: str) -> int:
-    """Makes the nodes, those of the writers first. Returns the commit number."""
+def fill(socket: str) -> List[int]:
+    """Makes the nodes. Returns the commit number of each volume."""
     with bestore.connect(socket) as store:
         store.make_index("name", bestore.Kind.STRING)
-        for first in range(1, NODES + 1, 16):
+        for number in range(NODES // STEP):
+            volume, first = number % VOLUMES, number // VOLUMES * STEP + 1
             batch = Batch()
-            for node in range(first, min(first + 16, NODES + 1)):
+            for node in range(first, first + STEP):
                 batch.new_node()
-                batch.set(node, "name", f"file {node}")
-                batch.set(node, "count", 0)
-                batch.set(node, "size", node * 100)
-            store.apply(batch)
+                batch.set(node_in(volume, node), "name", f"file {node}")
+                batch.set(node_in(volume, node), "count", 0)
+                batch.set(node_in(volume, node), "text", "some words " * 3)
+            store.apply(batch, volume=volume)
         with store.pin() as version:
-            return version.number
+            return list(version.numbers)
 
 
 class Writing:
@@ -86,7 +101,7 @@ class Writing:
     def __init__(self, socket: str, answered: List[Synchronized[int]]) -> None:
         self.shared = Shared(answered, counter(), multiprocessing.Queue())
         self._processes = [
-            multiprocessing.Process(target=write, args=(socket, self.shared, node)) for node in range(1, WRITERS + 1)]
+            multiprocessing.Process(target=write, args=(socket, self.shared, writer)) for writer in range(WRITERS)]
         self.times: List[float] = []
 
     def __enter__(self) -> Writing:
@@ -102,16 +117,20 @@ class Writing:
             process.join(60)
 
 
-def check(path: Path, about: Any, begin: int, before: List[int]) -> None:
-    """Fails unless the backup is the state of its commit and has what was replied to before."""
-    with saved.open(path, pages=int(PAGES)) as store, store.pin() as version:
-        counts = [int(value) for value in version.column(range(1, WRITERS + 1), "count") if isinstance(value, int)]
-        if sum(counts) != about["commit"] - begin:
-            raise SystemExit(f"{path}: {sum(counts)} writes, and commit {about['commit']} after {begin}")
+def check(path: Path, about: Any, begin: List[int], before: List[int]) -> None:
+    """Fails unless the backup is the state of its commit, in each volume, and has what was replied to before."""
+    with saved.open_shelf(path, pages=PAGES) as store, store.pin() as version:
+        found = version.column(map(counted_by, range(WRITERS)), "count")
+        counts = [int(value) for value in found if isinstance(value, int)]
         if any(count < answered for count, answered in zip(counts, before)):
             raise SystemExit(f"{path}: {counts}, of {before} that were replied to")
-        if version.next_node != NODES + 1:
-            raise SystemExit(f"{path}: the next node is {version.next_node}")
+        for volume, commit in enumerate(about["commits"]):
+            made = sum(counts[volume::VOLUMES])
+            if made != commit - begin[volume]:
+                raise SystemExit(f"{path}: {made} writes to volume {volume}, and commit {commit} after {begin[volume]}")
+        nodes = sum(1 for _ in version)
+        if nodes != NODES:
+            raise SystemExit(f"{path}: it has {nodes} nodes")
 
 
 def back_up(programs: Path, socket: str, path: Path) -> Any:
@@ -135,7 +154,7 @@ def measure(programs: Path, folder: Path, socket: str) -> float:
             about = back_up(programs, socket, path)
             seconds.append(time.perf_counter() - started)
             check(path, about, begin, before)
-            path.unlink()
+            shutil.rmtree(path)
     for what, writing in [("alone", alone), ("beside backups", beside)]:
         middle, high = (percentile(writing.times, part) for part in (0.5, 0.99))
         print(f"{what}: {len(writing.times)} writes, p50 {middle:.2f} ms, p99 {high:.2f} ms")
@@ -151,7 +170,8 @@ def main() -> None:
         folder = Path(name)
         socket = str(folder / "socket")
         server = subprocess.Popen(
-            [programs / "bestored", "--socket", socket, "--keep", folder / "kept", "--pages", PAGES])
+            [programs / "bestored", "--socket", socket, "--keep", folder / "kept", "--pages", str(PAGES), "--volumes",
+             str(VOLUMES)])
         try:
             while not (folder / "socket").exists() and server.poll() is None:
                 time.sleep(0.05)

@@ -1,6 +1,7 @@
 //! The answers to requests.
 
 use crate::clients::Client;
+use crate::copy::Copy;
 use crate::failure::Failure;
 use crate::info;
 use crate::outbox::Outbox;
@@ -21,7 +22,7 @@ use std::time::Instant;
 pub const WATCHES: usize = 32;
 
 /// What the server knows beyond the first version of the protocol.
-const FEATURES: [&str; 5] = ["token", "run", "info", "clients", "kick"];
+const FEATURES: [&str; 6] = ["token", "run", "collect", "info", "clients", "kick"];
 
 /// How many bytes of replies are collected before they are sent.
 const COLLECTED: usize = 1 << 16;
@@ -118,6 +119,8 @@ impl<'v, 'p> View<'v, 'p> {
 pub struct Desk<'a> {
     pub shared: &'a Shared,
     client: &'a Client,
+    /// What `state` reads if nothing is pinned.
+    copy: Option<Copy<'a>>,
     outbox: Arc<Outbox>,
     out: Vec<u8>,
     /// Whether the outbox has something left that was to be sent.
@@ -139,6 +142,7 @@ impl<'a> Desk<'a> {
         Self {
             shared,
             client,
+            copy: None,
             outbox,
             out: Vec::new(),
             is_left: false,
@@ -216,7 +220,8 @@ impl<'a> Desk<'a> {
             Command::Hello(greeting) => self.hello(id, &greeting, view),
             Command::Status(_) => self.status(id, view),
             Command::Journal(journal) => page::journal(view, &journal).map(|page| self.reply(id, &page)),
-            Command::State(from) => state(view, &from).map(|page| self.reply(id, &page)),
+            Command::State(from) => self.state(view, &from).map(|page| self.reply(id, &page)),
+            Command::Collect(_) => self.collect(view).map(|next| self.reply(id, &next)),
             Command::Reach(reach) => {
                 // Earlier replies don't wait for a commit.
                 self.send(view.since())?;
@@ -321,6 +326,29 @@ impl<'a> Desk<'a> {
         Ok(())
     }
 
+    /// Copies what reads see, so that `state` can read it without a snapshot.
+    fn collect(&mut self, view: &mut View<'_, '_>) -> Result<wire::Next, Failure> {
+        self.copy = None;
+        let Shared { copies, pressure, .. } = self.shared;
+        let since = view.since().unwrap_or_else(Instant::now);
+        let (copy, next) = view.read(|snapshot| {
+            let copy = copies.make(snapshot, || pressure.is_over(since))?;
+            Ok((copy, volumes::next(snapshot)?))
+        })?;
+        self.copy = Some(copy);
+        Ok(next)
+    }
+
+    /// A page of the batches that make the kept snapshot again, or the copy.
+    fn state(&self, view: &mut View<'_, '_>, from: &wire::From) -> Result<wire::State, Failure> {
+        match (view, &self.copy) {
+            (View::Kept { snapshot, state, .. }, _) => page::state(snapshot, state, from),
+            (View::Current(_), Some(copy)) => copy.page(from),
+            (View::Current(_), None) => Err(Failure::not_pinned()),
+            (View::Expired(_), _) => Err(Failure::expired()),
+        }
+    }
+
     /// Asks a live query for the first time.
     fn watch(&mut self, watch: wire::Watch<'_>, view: &mut View<'_, '_>) -> Result<(wire::Watched, Watch), Failure> {
         if self.watches.as_ref().map_or(0, |watches| watches.count()) >= WATCHES {
@@ -408,13 +436,4 @@ fn hits(snapshot: &ShelfSnapshot<'_>, query: &wire::Query<'_>) -> Result<wire::H
     hits.nodes = Some(found);
     hits.more = more;
     Ok(hits)
-}
-
-/// A page of the batches that make the kept snapshot again.
-fn state(view: &mut View<'_, '_>, from: &wire::From) -> Result<wire::State, Failure> {
-    match view {
-        View::Kept { snapshot, state, .. } => page::state(snapshot, state, from),
-        View::Current(_) => Err(Failure::not_pinned()),
-        View::Expired(_) => Err(Failure::expired()),
-    }
 }

@@ -6,6 +6,7 @@ mod answer;
 mod background;
 mod clients;
 mod connection;
+mod copy;
 mod disk;
 mod failure;
 mod info;
@@ -90,6 +91,7 @@ fn serve(options: Options, place: Place, starter: Option<Starter>) -> Result<(),
         pressure: Pressure::new(options.hold),
         clients: Default::default(),
         meter: Meter::new(),
+        copies: Default::default(),
         is_full: Mutex::default(),
         visits: Mutex::new(visits),
         run,

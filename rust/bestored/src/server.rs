@@ -3,6 +3,7 @@
 use crate::background::Starter;
 use crate::clients::{Client, Clients};
 use crate::connection::Connection;
+use crate::copy::Copies;
 use crate::failure::Failure;
 use crate::kept::{self, Kept};
 use crate::meter::Meter;
@@ -53,6 +54,7 @@ pub struct Shared {
     pub pressure: Pressure,
     pub clients: Clients,
     pub meter: Meter,
+    pub copies: Copies,
     /// When was said last that there is no place.
     pub is_full: Mutex<Option<Instant>>,
     /// The pass of clients that find none: each has it for a moment.

@@ -370,6 +370,8 @@ commands! {
     Journal(JournalFrom) = "journal";
     /// The batches that make the snapshot again.
     State(From) = "state";
+    /// Copies the snapshot, so that `state` reads it without a pin.
+    Collect(Nothing) = "collect";
     /// Waits for the journal.
     Reach(Reach) = "reach";
     /// Waits for the file.
