@@ -26,6 +26,7 @@ import time
 from contextlib import suppress
 from functools import partial
 from typing import Any, Callable, Dict, Iterable, Iterator, List, NamedTuple, Optional, Sequence, Set, Tuple, TypeVar, Union
+from uuid import uuid4
 from weakref import WeakValueDictionary
 
 from ._connected_errors import (
@@ -34,18 +35,20 @@ from ._connected_errors import (
 from ._connected_queries import MOST_NAMES, QueriedVersion
 from ._connection import Connection
 from ._journal import line_of
+from ._saved_errors import NotSaved, Stopped
 from ._socket_path import SocketPath
 from ._wire import (
     JSON, PROTOCOL, operations_of, read_entry, read_kind, read_nodes, read_operation, read_row, read_value)
 from .errors import (
-    BadCount, Closed, Error, Forked, NameLength, NoAttribute, NoNode, NotCovered, NotPinned, NotReached, NoVolume, Pinned, TooLong,
-    encoded, encoded_query)
+    BadCount, Closed, Error, Forked, NameLength, NoAttribute, NoNode, NoPass, NotCovered, NotPinned, NotReached, NoVolume, Pinned,
+    TooLong, encoded, encoded_query)
+from .change import Change
 from .handles import LockOwner
 from .local import refreshed
 from .nodes import node_number, within
 from .operations import MOST_OPERATIONS, NEW, Batch
 from .queries import Prepared
-from .store import TRIES, Entry, Held, Status, ThreadPass, Witness
+from .store import ATTEMPTS, TRIES, Entry, Held, Status, ThreadPass, Witness
 from .values import RANGES, Kind, Typed, Value
 from .versions import not_covered
 from .watches import Changes, Watch
@@ -60,6 +63,7 @@ _Result = TypeVar("_Result")
 
 TIMEOUT = 60.0
 """How many seconds connecting and each reply may take, if nothing else is said."""
+_AGAIN = 0.05  # seconds after which a write is repeated
 _WORDS = 512  # of a page
 _MOST_WAITED = 30.0  # seconds that the server waits by itself
 _MOST_NODES = 1 << 14  # of such a request, which then is no line that is too long
@@ -303,7 +307,7 @@ class ConnectedPass(LockOwner, ThreadPass):
     """A pass of a server's store: a connection. The calls of several threads on it wait for one another, so each thread has a
     pass of its own."""
 
-    def __init__(self, path: SocketPath, timeout: Optional[float], run: Optional[str] = None) -> None:
+    def __init__(self, path: SocketPath, timeout: Optional[float], run: Optional[str] = None, repeat: Optional[float] = None) -> None:
         self._connection: Optional[Connection] = None
         super().__init__()
         self._committed = 0
@@ -313,16 +317,46 @@ class ConnectedPass(LockOwner, ThreadPass):
         self.path = path.path
         """The server's socket."""
         self._socket_path = path
-        self._timeout = timeout
-        self._connection = Connection(path, timeout, partial(_take_push, self._watches))
-        try:
-            self.server, self._number = self._ask("hello", {"protocol": PROTOCOL}, _read_server)
-        except BaseException:
-            self._connection.close()
-            raise
+        self._timeout, self._repeat = timeout, repeat
+        self._connect()
         if run is not None and self.server.run != run:
-            self._connection.close()
+            self.close()
             raise Disconnected(self.path, "the server was started anew")
+
+    def _connect(self) -> None:
+        """Connects, and learns what the server says of itself."""
+        connection = Connection(self._socket_path, self._timeout, partial(_take_push, self._watches))
+        with self._lock:
+            self._connection, self._has_pin = connection, False
+            try:
+                self.server, self._number = self._ask("hello", {"protocol": PROTOCOL}, _read_server)
+            except BaseException:
+                connection.close()
+                raise
+
+    def _until_answered(self, call: Callable[[], _Result]) -> _Result:
+        """Makes a call that has no second effect. If the connection fails, or the server can't keep writes now, and the program has
+        asked for it, makes it again. What a new connection lacks, a pin or a watch, isn't lost so."""
+        repeats = self._repeat is not None and not self._has_pin and not self._watches
+        until = time.monotonic() + (self._repeat or 0)
+        while True:
+            try:
+                return call()
+            except (BrokenConnection, NoPass, NotSaved, Stopped) as error:
+                is_refused = isinstance(error, (NotSaved, Stopped))
+                if not repeats or not self._may_repeat(is_refused, until):
+                    raise
+
+    def _may_repeat(self, is_refused: bool, until: float) -> bool:
+        """Waits a moment, and connects if need be. Returns whether the pass is connected before the time is over."""
+        while time.monotonic() < until:
+            time.sleep(min(_AGAIN, max(until - time.monotonic(), 0)))
+            if is_refused and self._is_open:
+                return True
+            with suppress(NoServer, BrokenConnection, NoPass):
+                self._connect()
+                return True
+        return False
 
     def __repr__(self) -> str:
         return f"<pass {self._number} of the server at {self.path}>"
@@ -403,7 +437,7 @@ class ConnectedPass(LockOwner, ThreadPass):
         """A pass of the same store for another thread: a new connection. It may be called in any thread. `NoPass` if there
         are as many clients as the server takes; `NoServer`, or `Disconnected` if the server was started anew since."""
         self._check_process()
-        return ConnectedPass(self._socket_path, self._timeout, self.server.run)
+        return ConnectedPass(self._socket_path, self._timeout, self.server.run, self._repeat)
 
     def close(self) -> None:
         """Closes the connection, if it is open, and so gives the pass back. The store stays with the server."""
@@ -435,6 +469,13 @@ class ConnectedPass(LockOwner, ThreadPass):
     def pin(self) -> ConnectedVersion:
         return ConnectedVersion(self)
 
+    def change(self, function: Callable[[Change], _Result], attempts: int = ATTEMPTS, *, check_kinds: bool = True,
+               tries: int = TRIES, volume: Optional[int] = None) -> _Result:
+        def run() -> _Result:
+            return super(ConnectedPass, self).change(function, attempts, check_kinds=check_kinds, tries=tries, volume=volume)
+        # A write is sent again until its time is over, so what fails before that has written nothing.
+        return self._until_answered(run)
+
     def _write(self, batch: Batch, tries: int, expected: Optional[int]) -> Tuple[int, List[int]]:
         if expected is None or self.server.volumes == 1:
             return self._write_batch(batch, expected)
@@ -452,12 +493,16 @@ class ConnectedPass(LockOwner, ThreadPass):
         parameters: JSON = {"operations": operations_of(batch), **_in_volume(volume)}
         if expected is not None:
             parameters["expected"] = expected if expected in RANGES[Kind.UINT64] else 2**64 - 1  # which no journal has
+        if self._repeat is not None:
+            parameters["token"] = uuid4().hex
+            if expected is not None:
+                parameters["run"] = self.server.run
 
         def read(ok: JSON) -> Tuple[int, List[int]]:
             nodes = read_nodes(ok["nodes"])[::-1]
             return int(ok["commit"]), [nodes.pop() if raw.kind == NEW else 0 for raw in batch._operations]
         try:
-            return self._ask("batch", parameters, read, is_write=True)
+            return self._until_answered(lambda: self._ask("batch", parameters, read, is_write=True))
         except LineTooLong:
             batch.to_bytes()  # which raises what is wrong
             raise
@@ -662,16 +707,24 @@ class ConnectedWatch(Watch):
                     user._end_watches()
 
 
-def connect(path: Union[str, bytes, "os.PathLike[Any]", None] = None, timeout: Optional[float] = TIMEOUT) -> ConnectedPass:
+def connect(path: Union[str, bytes, "os.PathLike[Any]", None] = None, timeout: Optional[float] = TIMEOUT,
+            repeat: Optional[float] = None) -> ConnectedPass:
     """Connects to a server at this socket, or at the one that `SocketPath.find` finds. The pass is used as the one that `open`
     returns; `help(bestore.connected)` says what differs.
 
     `timeout` is how many seconds connecting and each reply may take; None is without an end. After that the call raises
     `TimedOut`, and the connection is closed.
 
+    `repeat` lets writes outlive a server that ends and starts again. A write whose reply doesn't come, or that the server can't keep
+    now, is sent again for up to so many seconds, on a new connection if need be, and is made once. `change` runs its function again.
+    It isn't repeated while the pass is pinned or has watches, which a new connection lacks. Numbers for `apply_if` are those of the
+    run that `server.run` names.
+
     Raises `NoServer`; `OtherUser` if nobody has named the socket, and the server is neither the effective user's nor root's;
     `NoPass` if there are as many clients as the server takes; `NotAllowed` if the server refuses this user; `ProtocolError`,
-    `TimedOut`; a ValueError if `timeout` isn't above 0."""
+    `TimedOut`; a ValueError if `timeout` or `repeat` isn't above 0."""
     if timeout is not None and not timeout > 0:
         raise ValueError(f"a timeout of {timeout} seconds")
-    return ConnectedPass(SocketPath.find(path), timeout)
+    if repeat is not None and not repeat > 0:
+        raise ValueError(f"writes can't be repeated for {repeat} seconds")
+    return ConnectedPass(SocketPath.find(path), timeout, repeat=repeat)

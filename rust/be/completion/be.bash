@@ -36,6 +36,10 @@ _be_options() {
     import) printf '%s\n' --follow --xattr --one-file-system --reread --verbose --json ;;
     lsindex) printf '%s\n' --long --verbose --json ;;
     status) echo --json ;;
+    info) echo --json ;;
+    clients) echo --json ;;
+    backup) echo --json ;;
+    restore) echo --json ;;
     esac
     printf '%s\n' --socket --wait --timeout --help
 }
@@ -64,9 +68,10 @@ _be() {
     *)
         case $command:$cur in
         *:-*) _be_offer < <(_be_options "$command") ;;
-        :*) _be_offer < <(printf '%s\n' query addattr catattr listattr rmattr rmnode import mkindex lsindex rmindex reindex status) ;;
+        :*) _be_offer < <(printf '%s\n' query addattr catattr listattr rmattr rmnode import mkindex lsindex rmindex reindex status info clients kick backup restore dump) ;;
         query:* | addattr:* | catattr:* | rmattr:* | rmindex:* | reindex:*) _be_offer < <(_be_indices) ;;
         import:*) compopt -o dirnames ;;
+        backup:* | restore:*) compopt -o default ;;
         esac
         ;;
     esac

@@ -45,6 +45,15 @@ pub enum Command {
     Rmindex(RemoveIndex),
     Reindex(Reindex),
     Status(Status),
+    /// Print what goes on in the server: how much is written, and who keeps an old snapshot
+    Info(Activity),
+    /// List who is connected, and what each does
+    Clients(Activity),
+    Kick(Kick),
+    Backup(Backup),
+    /// Print a snapshot of the server as JSON: a line about it, and the batches that make it again
+    Dump,
+    Restore(Restore),
 }
 
 /// Find nodes
@@ -245,6 +254,41 @@ pub struct Status {
     /// Print JSON
     #[arg(long)]
     pub json: bool,
+}
+
+#[derive(Debug, Args)]
+pub struct Activity {
+    /// Print JSON
+    #[arg(long)]
+    pub json: bool,
+}
+
+/// End the connection of a client
+#[derive(Debug, Args)]
+pub struct Kick {
+    /// The number of the client, by be clients
+    #[arg(value_name = "CLIENT")]
+    pub client: u64,
+}
+
+/// Write a snapshot of the server into a file that bestored can open
+#[derive(Debug, Args)]
+pub struct Backup {
+    /// Print JSON
+    #[arg(long)]
+    pub json: bool,
+    /// The file, which may not exist yet; a folder, if the server has several volumes
+    pub file: PathBuf,
+}
+
+/// Write what a backup has into a server whose store is empty
+#[derive(Debug, Args)]
+pub struct Restore {
+    /// Print JSON
+    #[arg(long)]
+    pub json: bool,
+    /// The backup, or the file of a server that has ended
+    pub file: PathBuf,
 }
 
 /// The longest time of an option, in seconds: a day.

@@ -4,6 +4,7 @@ use crate::import::follow;
 use crate::kind::shown_name;
 use crate::text::{escaped, pointed};
 use crate::typed_query::BadDate;
+use bestore::saved;
 use bestore_client::wire::Refusal;
 use bestore_client::{Error, SocketPath};
 use std::collections::BTreeMap;
@@ -39,6 +40,12 @@ pub enum Failure {
     Another(PathBuf),
     /// The output can't be written.
     Output(io::Error),
+    /// A backup can't be written or read.
+    Backup(saved::Error),
+    /// A backup has another number of volumes than the server.
+    Volumes { backup: usize, server: u32 },
+    /// A backup is restored into a store that isn't empty.
+    NotEmpty { entries: u64 },
     /// Something failed for some nodes, and was reported.
     Reported,
 }
@@ -81,6 +88,12 @@ impl Failure {
 impl From<Error> for Failure {
     fn from(error: Error) -> Self {
         Failure::Server(error)
+    }
+}
+
+impl From<saved::Error> for Failure {
+    fn from(error: saved::Error) -> Self {
+        Failure::Backup(error)
     }
 }
 
@@ -132,6 +145,18 @@ impl fmt::Display for Failure {
                 )
             }
             Failure::Output(error) => write!(f, "the output can't be written: {error}"),
+            Failure::Backup(error) => f.write_str(&escaped(&error.to_string())),
+            Failure::Volumes { backup, server } => {
+                writeln!(f, "the backup has {backup} volumes, and the server has {server}")?;
+                write!(f, "  start a server with --volumes {backup}")
+            }
+            Failure::NotEmpty { entries } => {
+                writeln!(f, "the server's store isn't empty: its journal has {entries} entries")?;
+                write!(
+                    f,
+                    "  a backup is restored into a new store; bestored --keep also opens a copy of it"
+                )
+            }
             Failure::Reported => Ok(()),
         }
     }

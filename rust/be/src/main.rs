@@ -1,7 +1,9 @@
 //! The attribute tools of BeOS, over a store that bestored shares. `docs/be.1` describes the commands.
 #![warn(rust_2018_idioms)]
 
+mod activity;
 mod attributes;
+mod backup;
 mod command_line;
 mod dates;
 mod failure;
@@ -14,7 +16,9 @@ mod output;
 mod paths;
 mod query;
 mod query_text;
+mod restore;
 mod server;
+mod state;
 mod status;
 mod text;
 mod typed_query;
@@ -54,6 +58,12 @@ fn run(command: Command, server: &ServerOptions, output: &mut Output) -> Result<
         Command::Lsindex(line) => indices::list(&mut visit()?, &line, output),
         Command::Rmindex(line) => indices::remove(&mut visit()?, &line),
         Command::Reindex(line) => indices::fill(&mut server::connect(server)?, &line, output),
+        Command::Info(line) => activity::info(&mut visit()?, &line, output),
+        Command::Clients(line) => activity::clients(&mut visit()?, &line, output),
+        Command::Kick(line) => activity::kick(&mut visit()?, &line),
+        Command::Backup(line) => backup::make(&mut server::connect(server)?, &line, output),
+        Command::Dump => backup::dump(&mut server::connect(server)?, output),
+        Command::Restore(line) => restore::restore(&mut server::connect(server)?, &line, output),
         Command::Status(line) => status::show(&mut visit()?, &line, output),
     }
 }

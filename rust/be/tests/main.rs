@@ -2,6 +2,8 @@
 
 #[macro_use]
 mod common;
+mod activity;
+mod backups;
 mod broken;
 mod follow;
 mod guide;

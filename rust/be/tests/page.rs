@@ -4,9 +4,9 @@ use crate::common::{Said, BE};
 use std::path::PathBuf;
 use std::process::Command;
 
-const COMMANDS: [&str; 12] = [
+const COMMANDS: [&str; 18] = [
     "query", "addattr", "catattr", "listattr", "rmattr", "rmnode", "import", "mkindex", "lsindex", "rmindex",
-    "reindex", "status",
+    "reindex", "status", "info", "clients", "kick", "backup", "restore", "dump",
 ];
 
 fn page() -> PathBuf {

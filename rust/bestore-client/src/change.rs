@@ -1,9 +1,10 @@
 //! Changes: reading and writing as one.
 
-use crate::wire::{kind_named, Command, Indices, Nothing, Numbers};
+use crate::wire::{self, kind_named, Command, Indices, Nothing, Numbers};
 use crate::{Client, Error, Result};
 use bestore::{Batch, Kind, Node, Operation};
 use std::collections::BTreeMap;
+use std::time::Instant;
 
 /// What the closure of [`Client::change`] reads by, and the operations that it collects.
 ///
@@ -73,15 +74,22 @@ impl Client {
     /// closure has called [`any_kind`](Change::any_kind); [`Error::Refused`].
     pub fn change<T>(&mut self, mut change: impl FnMut(&mut Change<'_>) -> Result<T>) -> Result<T> {
         let mut left = 1_000_u32;
+        let until = self.repeats_until().filter(|_| !self.is_pinned);
         loop {
-            match self.try_change(&mut change) {
+            match self.try_change(&mut change, until) {
                 Err(error) if error.is("Conflict") && left > 0 => left -= 1,
+                // A write is sent again until that time, so what fails before it has written nothing.
+                Err(error) if self.may_repeat(&error, until) => {}
                 answer => return answer,
             }
         }
     }
 
-    fn try_change<T>(&mut self, change: &mut impl FnMut(&mut Change<'_>) -> Result<T>) -> Result<T> {
+    fn try_change<T>(
+        &mut self,
+        change: &mut impl FnMut(&mut Change<'_>) -> Result<T>,
+        until: Option<Instant>,
+    ) -> Result<T> {
         let snapshot = self.pin()?;
         let mut collected = Change {
             client: self,
@@ -107,11 +115,23 @@ impl Client {
             each => Numbers::Each(each),
         };
         let written = match &value {
-            Ok(_) if !batch.is_empty() => self.write(&batch, Some(expected), volume).map(drop),
-            _ => Ok(()),
+            Ok(_) if !batch.is_empty() => {
+                let write = wire::Write {
+                    operations: batch.into(),
+                    expected: Some(expected),
+                    volume,
+                    ..wire::Write::default()
+                };
+                self.write_until(write, until).map(Some)
+            }
+            _ => Ok(None),
         };
-        self.unpin_quietly()?;
-        value.and_then(|value| written.map(|()| value))
+        match self.unpin_quietly() {
+            // The connection's next call says that it has failed. What was written is written.
+            Err(error) if matches!(written, Ok(Some(_))) && error.refusal().is_none() => {}
+            unpinned => unpinned?,
+        }
+        value.and_then(|value| written.map(|_| value))
     }
 
     /// Fails if the batch sets an attribute of another kind than the index of its name takes then.

@@ -26,7 +26,14 @@ const MOST_WITHIN: Duration = Duration::from_secs(60);
 #[derive(Debug)]
 pub struct Client {
     stream: UnixStream,
-    options: Options,
+    /// The socket of the server, to connect again.
+    pub(crate) socket: Option<SocketPath>,
+    /// The server's run, once it has said it.
+    pub(crate) run: Option<String>,
+    /// Whether a snapshot is pinned, and whether there were live queries. A new connection has neither.
+    pub(crate) is_pinned: bool,
+    pub(crate) has_watches: bool,
+    pub(crate) options: Options,
     last: u64,
     received: Vec<u8>,
     /// How many of the received bytes have been looked at and have no end of a line.
@@ -130,6 +137,10 @@ impl Client {
     pub(crate) fn over(stream: UnixStream, options: Options) -> Self {
         Self {
             stream,
+            socket: None,
+            run: None,
+            is_pinned: false,
+            has_watches: false,
             options,
             last: 0,
             received: Vec::new(),
@@ -140,6 +151,15 @@ impl Client {
             features: Vec::new(),
             is_over: false,
         }
+    }
+
+    /// Goes on over the connection of another client.
+    pub(crate) fn continue_as(&mut self, other: Client) {
+        *self = Client {
+            last: self.last,
+            options: self.options,
+            ..other
+        };
     }
 
     /// Sends a command, and returns the `ok` of its reply.
@@ -160,6 +180,12 @@ impl Client {
             return Err(Error::Closed);
         }
         self.last += 1;
+        match command {
+            Command::Pin(_) => self.is_pinned = true,
+            Command::Unpin(_) => self.is_pinned = false,
+            Command::Watch(_) => self.has_watches = true,
+            _ => {}
+        }
         if let Some(wait) = wait_of(&command) {
             self.waits.insert(self.last, wait);
         }
@@ -333,7 +359,7 @@ impl Client {
             visit,
         }))?;
         self.features = hello.features.clone();
-        Ok(hello)
+        Ok(self.greeted(hello))
     }
 
     /// Whether the server has said by [`hello`](Self::hello) that it has this, such as [`wire::ORDER`].
@@ -375,12 +401,16 @@ impl Client {
         self.write(batch, Some(Numbers::One(expected)), Some(volume))
     }
 
-    pub(crate) fn write(&mut self, batch: &Batch, expected: Option<Numbers>, volume: Option<u32>) -> Result<Written> {
-        let written: wire::Written = self.call(Command::Batch(wire::Write {
+    fn write(&mut self, batch: &Batch, expected: Option<Numbers>, volume: Option<u32>) -> Result<Written> {
+        let write = wire::Write {
             operations: batch.clone().into(),
             expected,
             volume,
-        }))?;
+            ..wire::Write::default()
+        };
+        // What is pinned would be lost on a new connection.
+        let until = self.repeats_until().filter(|_| !self.is_pinned);
+        let written = self.write_until(write, until)?;
         Ok(Written {
             number: written.commit,
             nodes: written.nodes,
@@ -409,6 +439,14 @@ impl Client {
     /// As `call`.
     pub fn pin(&mut self) -> Result<wire::Next> {
         self.call(Command::Pin(Nothing {}))
+    }
+
+    /// The number of the snapshot that is pinned, otherwise of the current one, and that of the next node.
+    ///
+    /// # Errors
+    /// As `call`.
+    pub fn next_node(&mut self) -> Result<wire::Next> {
+        self.call(Command::Next(Nothing {}))
     }
 
     /// Gives the snapshot back.
@@ -521,6 +559,32 @@ impl Client {
     /// As `call`.
     pub fn status(&mut self) -> Result<wire::Status> {
         self.call(Command::Status(Nothing {}))
+    }
+
+    /// What goes on in the server.
+    ///
+    /// # Errors
+    /// As `call`.
+    pub fn info(&mut self) -> Result<wire::Info> {
+        self.call(Command::Info(Nothing {}))
+    }
+
+    /// Who is connected.
+    ///
+    /// # Errors
+    /// As `call`.
+    pub fn clients(&mut self) -> Result<Vec<wire::ClientInfo>> {
+        let read: wire::Clients = self.call(Command::Clients(Nothing {}))?;
+        Ok(read.clients)
+    }
+
+    /// Ends the connection of the client with this number, which [`clients`](Self::clients) says. What it has pinned is given back, and a
+    /// write that it has sent may still be made.
+    ///
+    /// # Errors
+    /// As `call`; `NoClient`.
+    pub fn kick(&mut self, client: u64) -> Result<()> {
+        self.call::<Nothing>(Command::Kick(wire::Kick { client })).map(drop)
     }
 
     /// What the server does in the log that machines share.

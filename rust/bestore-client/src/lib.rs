@@ -29,6 +29,7 @@ mod options;
 mod ordered;
 mod os;
 mod pushes;
+mod repeat;
 pub mod socket;
 pub mod wire;
 

@@ -30,6 +30,7 @@ const AGAIN: Duration = Duration::from_millis(10);
 pub struct Options {
     pub(crate) timeout: Option<Duration>,
     pub(crate) most_pushed: usize,
+    pub(crate) repeat: Option<Duration>,
     wait: Duration,
 }
 
@@ -38,6 +39,7 @@ impl Default for Options {
         Self {
             timeout: Some(TIMEOUT),
             most_pushed: PUSHED,
+            repeat: None,
             wait: Duration::ZERO,
         }
     }
@@ -72,6 +74,17 @@ impl Options {
         self
     }
 
+    /// Lets writes outlive a server that ends and starts again. A write whose reply doesn't come, or that the server can't keep now, is
+    /// sent again for up to this time, on a new connection if need be, and is made once: its token says which one it is. It then
+    /// returns what the first of them did. [`Client::change`] runs its closure again.
+    ///
+    /// It isn't repeated while a snapshot is pinned, but by `change`, or if there were live queries: a new connection has neither. The
+    /// number of [`Client::apply_if`] is one of [`Client::run`].
+    pub fn repeat(&mut self, time: Duration) -> &mut Self {
+        self.repeat = Some(time);
+        self
+    }
+
     /// Connects to the server at this socket: [`SocketPath::find`], or the path of one.
     ///
     /// # Errors
@@ -91,7 +104,10 @@ impl Options {
     fn connect_once(&self, socket: &SocketPath) -> Result<Client> {
         let stream = os::connect(socket.path(), self.timeout).map_err(|error| self.late_or(error))?;
         socket.check_server(&stream)?;
-        Ok(Client::over(stream, *self))
+        let mut client = Client::over(stream, *self);
+        client.socket = Some(socket.clone());
+        client.greet_if_repeating()?;
+        Ok(client)
     }
 
     /// The error of a call that the system has ended at the end of the time, otherwise that of the connection.

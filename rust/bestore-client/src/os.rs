@@ -30,6 +30,18 @@ pub fn user() -> u32 {
 /// # Errors
 /// Those of the system, if the connection isn't open.
 pub fn peer_user(stream: &UnixStream) -> io::Result<u32> {
+    Ok(credentials(stream)?.uid)
+}
+
+/// The number of the process that has connected, or that has begun to listen.
+///
+/// # Errors
+/// As [`peer_user`].
+pub fn peer_process(stream: &UnixStream) -> io::Result<u32> {
+    Ok(credentials(stream)?.pid.unsigned_abs())
+}
+
+fn credentials(stream: &UnixStream) -> io::Result<libc::ucred> {
     let mut credentials = libc::ucred { pid: 0, uid: 0, gid: 0 };
     let mut length = mem::size_of::<libc::ucred>() as libc::socklen_t;
     // SAFETY: the option writes a `ucred`, and `length` has its size.
@@ -42,7 +54,7 @@ pub fn peer_user(stream: &UnixStream) -> io::Result<u32> {
             &mut length,
         )
     })?;
-    Ok(credentials.uid)
+    Ok(credentials)
 }
 
 /// Connects to a socket. Connecting, and later each write, fails with `WouldBlock` at the end of the time.

@@ -68,6 +68,7 @@ pub enum Operation<'a> {
 #[derive(Clone, Default)]
 pub struct Batch {
     pub(crate) list: List,
+    token: Option<Box<str>>,
 }
 
 impl Batch {
@@ -128,8 +129,22 @@ impl Batch {
         self.len() >= OPERATIONS
     }
 
-    /// Removes all operations and keeps the memory.
+    /// Gives the batch a token, by which a [`Keeper`](crate::Keeper) may know it again: a text of the caller's choice. The operations
+    /// are what they were, and so are [`to_bytes`](Self::to_bytes) and `==`.
+    pub fn set_token(&mut self, token: &str) -> &mut Self {
+        self.token = Some(token.into());
+        self
+    }
+
+    /// The token, if the batch has one.
+    #[must_use]
+    pub fn token(&self) -> Option<&str> {
+        self.token.as_deref()
+    }
+
+    /// Removes all operations and the token, and keeps the memory.
     pub fn clear(&mut self) {
+        self.token = None;
         self.list.operations.clear();
         self.list.bytes.clear();
     }
@@ -199,7 +214,7 @@ pub(crate) fn narrow(length: usize) -> u32 {
 
 impl From<List> for Batch {
     fn from(list: List) -> Self {
-        Self { list }
+        Self { list, token: None }
     }
 }
 

@@ -278,7 +278,17 @@ impl Pass {
     }
 
     fn write(&self, expected: Option<u64>, batch: &Batch) -> Result<Written> {
+        self.apply_with(expected, batch, |_| ())
+    }
+
+    /// Writes as [`apply`](Self::apply), or with `expected` as [`apply_if`](Self::apply_if). `made` gets what was written once it is
+    /// in memory, before a [`Keeper`] has kept it.
+    ///
+    /// # Errors
+    /// As those calls.
+    pub fn apply_with(&self, expected: Option<u64>, batch: &Batch, made: impl FnOnce(&Written)) -> Result<Written> {
         let (written, number) = self.begin_write(expected, batch)?;
+        made(&written);
         self.end_write(number)?;
         Ok(written)
     }

@@ -1,6 +1,9 @@
 //! The answers to requests.
 
+use crate::clients::Client;
+use crate::copy::Copy;
 use crate::failure::Failure;
+use crate::info;
 use crate::outbox::Outbox;
 use crate::page::{self, commits, rows_of, Reading, Room};
 use crate::query::Queries;
@@ -8,6 +11,7 @@ use crate::reach;
 use crate::server::Shared;
 use crate::volumes;
 use crate::watcher::{self, Watch, Watches};
+use crate::writes;
 use bestore::{Error, Pass, ShelfLive, ShelfPass, ShelfSnapshot, Snapshot, Status, Updates};
 use bestore_client::wire::{self, Command};
 use serde::Serialize;
@@ -17,6 +21,9 @@ use std::time::Instant;
 
 /// The most live queries of one connection.
 pub const WATCHES: usize = 32;
+
+/// What the server knows beyond the first version of the protocol.
+const FEATURES: [&str; 7] = [wire::ORDER, "token", "run", "collect", "info", "clients", "kick"];
 
 /// How many bytes of replies are collected before they are sent.
 const COLLECTED: usize = 1 << 16;
@@ -112,6 +119,9 @@ impl<'v, 'p> View<'v, 'p> {
 #[derive(Debug)]
 pub struct Desk<'a> {
     pub shared: &'a Shared,
+    client: &'a Client,
+    /// What `state` reads if nothing is pinned.
+    copy: Option<Copy<'a>>,
     outbox: Arc<Outbox>,
     out: Vec<u8>,
     /// Whether the outbox has something left that was to be sent.
@@ -130,9 +140,11 @@ impl Drop for Desk<'_> {
 }
 
 impl<'a> Desk<'a> {
-    pub fn new(shared: &'a Shared, outbox: Arc<Outbox>) -> Self {
+    pub fn new(shared: &'a Shared, client: &'a Client, outbox: Arc<Outbox>) -> Self {
         Self {
             shared,
+            client,
+            copy: None,
             outbox,
             out: Vec::new(),
             is_left: false,
@@ -182,7 +194,10 @@ impl<'a> Desk<'a> {
 
     /// Answers a command other than `pin` and `unpin`.
     pub fn answer(&mut self, id: u64, command: Command<'_>, view: &mut View<'_, '_>) -> io::Result<()> {
-        let is_of_server = matches!(command, Command::Status(_));
+        let is_of_server = matches!(
+            command,
+            Command::Status(_) | Command::Info(_) | Command::Clients(_) | Command::Kick(_)
+        );
         match self.shared.kept.check() {
             Err(failure) if !is_of_server => self.refuse(Some(id), failure),
             _ => self.carry_out(id, command, view)?,
@@ -195,7 +210,7 @@ impl<'a> Desk<'a> {
 
     fn carry_out(&mut self, id: u64, command: Command<'_>, view: &mut View<'_, '_>) -> io::Result<()> {
         let answered = match command {
-            Command::Batch(write) => self.write(id, &write, view),
+            Command::Batch(write) => writes::write(self.shared, write, view).map(|written| self.reply(id, &written)),
             Command::Watch(watch) => match self.watch(watch, view) {
                 Ok((reply, watch)) => return self.begin(id, &reply, watch, view.since()),
                 Err(failure) => Err(failure),
@@ -208,13 +223,20 @@ impl<'a> Desk<'a> {
             Command::Hello(greeting) => self.hello(id, &greeting, view),
             Command::Status(_) => self.status(id, view),
             Command::Journal(journal) => page::journal(view, &journal).map(|page| self.reply(id, &page)),
-            Command::State(from) => state(view, &from).map(|page| self.reply(id, &page)),
+            Command::State(from) => self.state(view, &from).map(|page| self.reply(id, &page)),
+            Command::Collect(_) => self.collect(view).map(|next| self.reply(id, &next)),
             Command::Reach(reach) => {
                 // Earlier replies don't wait for a commit.
                 self.send(view.since())?;
                 let reached = reach::reach(view, &self.shared.pressure, &reach);
                 reached.map(|reached| self.reply(id, &reached))
             }
+            Command::Info(_) => info::info(self.shared, view).map(|info| self.reply(id, &info)),
+            Command::Clients(_) => {
+                self.reply(id, &self.shared.clients.shown(self.client.number));
+                Ok(())
+            }
+            Command::Kick(kick) => info::kick(self.shared, self.client, &kick).map(|done| self.reply(id, &done)),
             Command::Flush(_) => self.shared.kept.flush().map(|()| self.reply(id, &wire::Nothing {})),
             Command::Log(wanted) => {
                 // Earlier replies don't wait for an entry.
@@ -229,27 +251,6 @@ impl<'a> Desk<'a> {
         if let Err(failure) = answered {
             self.refuse(Some(id), failure);
         }
-        Ok(())
-    }
-
-    fn write(&mut self, id: u64, write: &wire::Write, view: &mut View<'_, '_>) -> Result<(), Failure> {
-        let wire::Operations { batch, count } = &write.operations;
-        if *count > batch.len() {
-            return Err(Error::BadCount { count: *count }.into());
-        }
-        self.shared.kept.check_room()?;
-        let written = match volumes::is_for_all(write, view.volumes()) {
-            true => view.read(|snapshot| volumes::write_indices(snapshot, batch)),
-            false => volumes::write(&self.shared.pressure, view, write),
-        };
-        // Some volumes may have been written before another one refused.
-        self.shared.watcher.written();
-        if written.is_err() {
-            self.shared.kept.end_if_failed();
-        }
-        let mut written = written?;
-        written.entry = self.shared.kept.entry(written.commit);
-        self.reply(id, &written);
         Ok(())
     }
 
@@ -314,7 +315,7 @@ impl<'a> Desk<'a> {
                 watches: WATCHES as u64,
             },
             volumes: view.volumes() as u32,
-            features: vec![wire::ORDER.into()],
+            features: FEATURES.iter().map(|name| name.to_string()).collect(),
         };
         self.reply(id, &hello);
         Ok(())
@@ -329,6 +330,29 @@ impl<'a> Desk<'a> {
         };
         self.reply(id, &status);
         Ok(())
+    }
+
+    /// Copies what reads see, so that `state` can read it without a snapshot.
+    fn collect(&mut self, view: &mut View<'_, '_>) -> Result<wire::Next, Failure> {
+        self.copy = None;
+        let Shared { copies, pressure, .. } = self.shared;
+        let since = view.since().unwrap_or_else(Instant::now);
+        let (copy, next) = view.read(|snapshot| {
+            let copy = copies.make(snapshot, || pressure.is_over(since))?;
+            Ok((copy, volumes::next(snapshot)?))
+        })?;
+        self.copy = Some(copy);
+        Ok(next)
+    }
+
+    /// A page of the batches that make the kept snapshot again, or the copy.
+    fn state(&self, view: &mut View<'_, '_>, from: &wire::From) -> Result<wire::State, Failure> {
+        match (view, &self.copy) {
+            (View::Kept { snapshot, state, .. }, _) => page::state(snapshot, state, from),
+            (View::Current(_), Some(copy)) => copy.page(from),
+            (View::Current(_), None) => Err(Failure::not_pinned()),
+            (View::Expired(_), _) => Err(Failure::expired()),
+        }
     }
 
     /// Asks a live query for the first time.
@@ -394,11 +418,3 @@ impl<'a> Desk<'a> {
     }
 }
 
-/// A page of the batches that make the kept snapshot again.
-fn state(view: &mut View<'_, '_>, from: &wire::From) -> Result<wire::State, Failure> {
-    match view {
-        View::Kept { snapshot, state, .. } => page::state(snapshot, state, from),
-        View::Current(_) => Err(Failure::not_pinned()),
-        View::Expired(_) => Err(Failure::expired()),
-    }
-}

@@ -1,6 +1,7 @@
 //! The connection of one client: its requests in their order, and the snapshot that it keeps.
 
 use crate::answer::{Desk, View};
+use crate::clients::{milliseconds, Client};
 use crate::failure::Failure;
 use crate::lines::{Lines, Received};
 use crate::outbox::Outbox;
@@ -32,6 +33,7 @@ enum Turn {
 /// A connection.
 #[derive(Debug)]
 pub struct Connection<'a> {
+    client: &'a Client,
     lines: Lines,
     desk: Desk<'a>,
     /// When a visitor has to go.
@@ -39,17 +41,20 @@ pub struct Connection<'a> {
 }
 
 impl<'a> Connection<'a> {
-    pub fn new(shared: &'a Shared, stream: Arc<UnixStream>, is_visitor: bool) -> Self {
+    pub fn new(shared: &'a Shared, client: &'a Client, stream: Arc<UnixStream>, is_visitor: bool) -> Self {
         let outbox = Arc::new(Outbox::new(stream.clone()));
         Self {
+            client,
             lines: Lines::new(stream),
-            desk: Desk::new(shared, outbox),
+            desk: Desk::new(shared, client, outbox),
             visit: is_visitor.then(|| Instant::now() + VISIT),
         }
     }
 
     /// Answers the client's requests until it closes the connection.
     pub fn run(&mut self, pass: &mut ShelfPass) -> io::Result<()> {
+        let passes = pass.volumes().iter().map(bestore::Pass::number);
+        self.client.takes(passes.collect::<Result<_, _>>().unwrap_or_default());
         let mut is_expired = false;
         loop {
             let turn = match is_expired {
@@ -80,7 +85,10 @@ impl<'a> Connection<'a> {
         match pinned {
             Ok((next, snapshot)) => {
                 self.desk.reply(id, &next);
-                self.serve(&mut View::kept(&snapshot)).map(Some)
+                self.client.pins(Some(snapshot.number()));
+                let turn = self.serve(&mut View::kept(&snapshot));
+                self.client.pins(None);
+                turn.map(Some)
             }
             Err(failure) => {
                 self.desk.refuse(Some(id), failure);
@@ -122,7 +130,7 @@ impl<'a> Connection<'a> {
                 (command, _) if self.visit.is_some() && waits(&command) => {
                     self.desk.refuse(Some(id), no_pass(self.desk.shared))
                 }
-                (command, _) => self.desk.answer(id, command, view)?,
+                (command, _) => answer(&mut self.desk, self.client, id, command, view)?,
             }
         }
     }
@@ -147,6 +155,29 @@ impl<'a> Connection<'a> {
         self.desk.refuse(None, Failure::new(name, message));
         Ok(Some(Turn::Close))
     }
+}
+
+/// Answers a command, and says so if that takes long.
+fn answer(
+    desk: &mut Desk<'_>,
+    client: &Client,
+    id: u64,
+    command: Command<'_>,
+    view: &mut View<'_, '_>,
+) -> io::Result<()> {
+    let (name, waits) = (command.name(), waits(&command));
+    client.begins(name);
+    let slow = desk.shared.options.slow.filter(|_| !waits);
+    let begin = slow.map(|_| Instant::now());
+    desk.answer(id, command, view)?;
+    client.ends();
+    let took = begin.map(|begin| begin.elapsed());
+    if let (Some(took), true) = (took, took >= slow) {
+        let Client { number, process, .. } = client;
+        let took = milliseconds(took);
+        eprintln!("bestored: {name} of client {number} (process {process}) took {took} ms");
+    }
+    Ok(())
 }
 
 /// Whether the command goes on for long, so that no visitor may send it.

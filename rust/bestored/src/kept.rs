@@ -4,16 +4,19 @@ use crate::disk::Disk;
 use crate::failure::Failure;
 #[cfg(feature = "log")]
 use crate::log::Log;
+use crate::notify::Notifier;
 use crate::options::Options;
 use crate::os;
 use crate::server::Shared;
+use crate::tokens::Tokens;
+use crate::volumes;
 use bestore::saved::{self, Saved, SavedShelf};
-use bestore::{Shelf, ShelfPass};
+use bestore::{Shelf, ShelfPass, Written};
 use bestore_client::wire;
 use std::error::Error;
 use std::fs::File;
 use std::io;
-use std::path::Path;
+use std::path::{Path, PathBuf};
 use std::sync::atomic::{AtomicBool, Ordering};
 use std::sync::Arc;
 
@@ -30,6 +33,7 @@ pub enum Kept {
 #[derive(Debug)]
 pub struct InFiles {
     saved: SavedShelf,
+    path: PathBuf,
     each: bool,
     disk: Disk,
     /// Whether a commit has failed, so that the server ends.
@@ -37,13 +41,29 @@ pub struct InFiles {
 }
 
 impl InFiles {
-    fn open(options: &Options, path: &Path) -> Result<Self, Box<dyn Error>> {
+    fn open(options: &Options, path: &Path, tokens: &Tokens) -> Result<Self, Box<dyn Error>> {
+        let mut saved = open_files(options, path)?;
+        add_tokens(saved.take_tokens(), tokens);
         Ok(Self {
-            saved: open_files(options, path)?,
+            saved,
+            path: path.to_owned(),
             each: options.every.is_none(),
             disk: Disk::of(path, options.spare)?,
             is_over: AtomicBool::new(false),
         })
+    }
+
+    /// How long the files of all volumes are now.
+    fn sizes(&self) -> wire::Files {
+        let mut files = wire::Files::default();
+        let length = |path: PathBuf| path.metadata().map_or(0, |found| found.len());
+        for path in saved::files_of(&self.path, self.saved.volumes().len() as u32) {
+            let mut wal = path.clone().into_os_string();
+            wal.push("-wal");
+            files.wal_bytes += length(wal.into());
+            files.bytes += length(path);
+        }
+        files
     }
 
     /// The error of the first commit that failed.
@@ -83,9 +103,15 @@ pub fn start(_: &Arc<Shared>) -> io::Result<()> {
 impl Kept {
     /// Opens the volumes of a server with this text of its run. `None`: one of the signals has come while the database of a log
     /// could not be reached.
-    pub fn open(options: &Options, run: &str, signals: &File) -> Result<Option<Self>, Box<dyn Error>> {
+    pub fn open(
+        options: &Options,
+        run: &str,
+        tokens: &Arc<Tokens>,
+        notifier: &Notifier,
+        signals: &File,
+    ) -> Result<Option<Self>, Box<dyn Error>> {
         if options.log.is_some() {
-            return Self::open_log(options, run, signals);
+            return Self::open_log(options, run, tokens, notifier, signals);
         }
         let path = match &options.keep {
             None => {
@@ -94,17 +120,23 @@ impl Kept {
             }
             Some(path) => path,
         };
-        Ok(Some(Kept::File(Box::new(InFiles::open(options, path)?))))
+        Ok(Some(Kept::File(Box::new(InFiles::open(options, path, tokens)?))))
     }
 
     #[cfg(feature = "log")]
-    fn open_log(options: &Options, run: &str, signals: &File) -> Result<Option<Self>, Box<dyn Error>> {
-        let log = Log::open(options, run, signals)?;
+    fn open_log(
+        options: &Options,
+        run: &str,
+        tokens: &Arc<Tokens>,
+        notifier: &Notifier,
+        signals: &File,
+    ) -> Result<Option<Self>, Box<dyn Error>> {
+        let log = Log::open(options, run, tokens, notifier, signals)?;
         Ok(log.map(|log| Kept::Log(Box::new(log))))
     }
 
     #[cfg(not(feature = "log"))]
-    fn open_log(_: &Options, _: &str, _: &File) -> Result<Option<Self>, Box<dyn Error>> {
+    fn open_log(_: &Options, _: &str, _: &Arc<Tokens>, _: &Notifier, _: &File) -> Result<Option<Self>, Box<dyn Error>> {
         Err("this program is built without the feature log".into())
     }
 
@@ -145,6 +177,23 @@ impl Kept {
         match trouble {
             Some(trouble) => Err(Failure::new("Stopped", format!("nothing was written: {trouble}"))),
             None => Ok(()),
+        }
+    }
+
+    /// How long the files are, if there are any.
+    pub fn files(&self) -> Option<wire::Files> {
+        match self {
+            Kept::File(files) => Some(files.sizes()),
+            _ => None,
+        }
+    }
+
+    /// What the server does in the log, if there is one.
+    pub fn role(&self) -> Option<wire::Role> {
+        match self {
+            #[cfg(feature = "log")]
+            Kept::Log(log) => Some(log.role()),
+            _ => None,
         }
     }
 
@@ -232,6 +281,22 @@ impl Kept {
 
 fn not_kept() -> Failure {
     Failure::new("NotKept", "the server keeps no file")
+}
+
+/// Adds the tokens that the files of the volumes have.
+fn add_tokens(found: Vec<Vec<saved::Token>>, tokens: &Tokens) {
+    let count = found.len();
+    tokens.make_room(count);
+    for (volume, of_volume) in (0..).zip(found) {
+        for token in of_volume {
+            let written = Written {
+                number: token.commit,
+                nodes: token.nodes,
+            };
+            let volume = (count > 1).then_some(volume);
+            tokens.add(token.text.into(), volumes::shown(volume, &written));
+        }
+    }
 }
 
 /// Opens the file of one store, or the folder of several volumes.

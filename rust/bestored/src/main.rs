@@ -4,13 +4,18 @@
 
 mod answer;
 mod background;
+mod clients;
 mod connection;
+mod copy;
 mod disk;
 mod failure;
+mod info;
 mod kept;
 mod lines;
 #[cfg(feature = "log")]
 mod log;
+mod meter;
+mod notify;
 mod options;
 mod os;
 mod outbox;
@@ -20,18 +25,23 @@ mod query;
 mod reach;
 mod server;
 mod socket;
+mod tokens;
 mod volumes;
 mod watcher;
+mod writes;
 
 use background::{Side, Starter};
 use kept::Kept;
+use meter::Meter;
+use notify::Notifier;
 use options::Options;
 use pressure::Pressure;
 use server::Shared;
 use socket::Place;
 use std::error::Error;
 use std::process::ExitCode;
-use std::sync::Mutex;
+use std::sync::{Arc, Mutex};
+use tokens::Tokens;
 
 fn main() -> ExitCode {
     start(Options::read()).unwrap_or_else(|error| {
@@ -67,7 +77,9 @@ fn place(options: &Options) -> Result<Place, Box<dyn Error>> {
 fn serve(options: Options, place: Place, starter: Option<Starter>) -> Result<(), Box<dyn Error>> {
     let signals = os::ending_signals()?;
     let run = server::run_text()?;
-    let kept = match Kept::open(&options, &run, &signals)? {
+    let notifier = Notifier::of_environment();
+    let tokens = Arc::new(Tokens::new(options.volumes.unwrap_or(1) as usize));
+    let kept = match Kept::open(&options, &run, &tokens, &notifier, &signals)? {
         Some(kept) => kept,
         None => return Ok(()),
     };
@@ -75,12 +87,16 @@ fn serve(options: Options, place: Place, starter: Option<Starter>) -> Result<(),
     visits.set_retry(pressure::retry());
     let shared = Shared {
         kept,
+        tokens,
         watcher: Default::default(),
         pressure: Pressure::new(options.hold),
         clients: Default::default(),
+        meter: Meter::new(),
+        copies: Default::default(),
+        is_full: Mutex::default(),
         visits: Mutex::new(visits),
         run,
         options,
     };
-    server::run(place, starter, &signals, shared, own)
+    server::run(place, starter, notifier, &signals, shared, own)
 }

@@ -44,6 +44,8 @@ pub struct Options {
     pub passes: u64,
     pub commits: u64,
     pub hold: Duration,
+    /// A request that takes longer is reported.
+    pub slow: Option<Duration>,
 }
 
 fn command() -> Command {
@@ -105,6 +107,13 @@ fn command() -> Command {
         .arg(number("pages", "N", 8..=16_384, "4096").help("Pages of 4 KiB, of each volume"))
         .arg(number("passes", "N", 1..=61, "61").help("Clients at the same time"))
         .arg(number("commits", "N", 1..=u32::MAX.into(), "4294967295").help("Entries of the journal, of each volume"))
+        .arg(
+            Arg::new("slow")
+                .long("slow")
+                .value_name("MS")
+                .value_parser(value_parser!(u64).range(1..=3_600_000))
+                .help("Says on standard error which requests take longer than this"),
+        )
         .arg(number("hold", "SECONDS", 1..=86_400, "60").help("How long a client may keep a snapshot"))
 }
 
@@ -131,6 +140,7 @@ impl Options {
             passes: number("passes").min(most),
             commits: number("commits"),
             hold: Duration::from_secs(number("hold")),
+            slow: read.get_one("slow").copied().map(Duration::from_millis),
         }
     }
 
@@ -166,6 +176,8 @@ mod tests {
             ["--every", "5"],
             ["--spare", "5"],
             ["--hold", "0"],
+            ["--slow", "0"],
+            ["--slow", "3600001"],
             ["--volumes", "0"],
             ["--volumes", "65"],
         ] {

@@ -2,12 +2,13 @@
 #![allow(unsafe_code)]
 #![deny(unsafe_op_in_unsafe_fn)]
 
-use std::ffi::CStr;
+use std::ffi::{CStr, OsStr};
 use std::fs::{File, OpenOptions};
 use std::io;
 use std::mem::{self, MaybeUninit};
+use std::os::unix::ffi::OsStrExt;
 use std::os::unix::io::{AsRawFd, FromRawFd, RawFd};
-use std::os::unix::net::{UnixListener, UnixStream};
+use std::os::unix::net::{UnixDatagram, UnixListener, UnixStream};
 use std::ptr;
 use std::time::Duration;
 
@@ -179,6 +180,45 @@ pub fn try_lock(file: &File) -> io::Result<()> {
     check(unsafe { libc::flock(file.as_raw_fd(), libc::LOCK_EX | libc::LOCK_NB) }).map(drop)
 }
 
+/// Sends a datagram to a Unix socket: at a path, or with an abstract name after an `@`.
+pub fn send_datagram(socket: &OsStr, bytes: &[u8]) -> io::Result<()> {
+    let from = UnixDatagram::unbound()?;
+    if !socket.as_bytes().starts_with(b"@") {
+        return from.send_to(bytes, socket).map(drop);
+    }
+    // SAFETY: all of its fields may be zero.
+    let mut address: libc::sockaddr_un = unsafe { mem::zeroed() };
+    address.sun_family = libc::AF_UNIX as libc::sa_family_t;
+    let name = &socket.as_bytes()[1..];
+    if name.len() >= address.sun_path.len() {
+        return Err(io::Error::new(
+            io::ErrorKind::InvalidInput,
+            "the name of the socket is too long",
+        ));
+    }
+    // An abstract name begins with a zero byte, and ends where the address does.
+    for (to, byte) in address.sun_path[1..].iter_mut().zip(name) {
+        *to = *byte as libc::c_char;
+    }
+    let length = mem::size_of::<libc::sa_family_t>() + socket.len();
+    let address: *const libc::sockaddr_un = &address;
+    // SAFETY: the pointers and lengths are those of the slice and of the address, which lives until the call returns.
+    let sent = unsafe {
+        libc::sendto(
+            from.as_raw_fd(),
+            bytes.as_ptr().cast(),
+            bytes.len(),
+            libc::MSG_NOSIGNAL,
+            address.cast(),
+            length as libc::socklen_t,
+        )
+    };
+    match sent {
+        0.. => Ok(()),
+        _ => Err(io::Error::last_os_error()),
+    }
+}
+
 /// The socket that systemd has passed to the process with this number, as its variables say. To be called once.
 pub fn passed_socket() -> io::Result<Option<UnixListener>> {
     let number = |name| std::env::var(name).ok().and_then(|text| text.parse::<u32>().ok());
@@ -215,4 +255,44 @@ fn option(fd: RawFd, option: libc::c_int) -> io::Result<libc::c_int> {
         )
     })?;
     Ok(value)
+}
+
+#[cfg(test)]
+mod tests {
+    use super::*;
+
+    /// A socket with an abstract name, which the system chooses.
+    fn abstract_socket() -> (UnixDatagram, Vec<u8>) {
+        let socket = UnixDatagram::unbound().unwrap();
+        // SAFETY: all of its fields may be zero.
+        let mut address: libc::sockaddr_un = unsafe { mem::zeroed() };
+        address.sun_family = libc::AF_UNIX as libc::sa_family_t;
+        let family = mem::size_of::<libc::sa_family_t>();
+        let mut length = mem::size_of::<libc::sockaddr_un>() as libc::socklen_t;
+        let pointer: *mut libc::sockaddr_un = &mut address;
+        // SAFETY: the pointers are those of the address, and the lengths are at most its own.
+        unsafe {
+            check(libc::bind(
+                socket.as_raw_fd(),
+                pointer.cast(),
+                family as libc::socklen_t,
+            ))
+            .unwrap();
+            check(libc::getsockname(socket.as_raw_fd(), pointer.cast(), &mut length)).unwrap();
+        }
+        let name = &address.sun_path[1..length as usize - family];
+        (socket, name.iter().map(|byte| *byte as u8).collect())
+    }
+
+    #[test]
+    fn datagrams_reach_abstract_names() {
+        let (socket, name) = abstract_socket();
+        let at = [b"@", &name[..]].concat();
+        send_datagram(OsStr::from_bytes(&at), b"hello").unwrap();
+        let mut bytes = [0; 9];
+        assert_eq!(socket.recv(&mut bytes).unwrap(), 5);
+        assert_eq!(&bytes[..5], b"hello");
+        send_datagram(OsStr::from_bytes(&[at, b"x".to_vec()].concat()), b"hello").unwrap_err();
+        send_datagram(OsStr::new(&format!("@{}", "a".repeat(108))), b"hello").unwrap_err();
+    }
 }

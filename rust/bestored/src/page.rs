@@ -26,7 +26,7 @@ impl Room {
     }
 
     /// Takes room for an item. Returns whether there is room for another one.
-    fn take(&mut self, bytes: usize) -> bool {
+    pub fn take(&mut self, bytes: usize) -> bool {
         self.bytes = self.bytes.saturating_sub(bytes);
         self.bytes > 0
     }

@@ -52,15 +52,18 @@ impl Pressure {
         last != 0 && self.now().saturating_sub(last) <= 2 * LOOK.as_millis() as u64
     }
 
-    /// Writes the batch. While snapshots of others keep the pages that it needs, it waits for them.
-    pub fn write(&self, pass: &Pass, expected: Option<u64>, batch: &Batch) -> Result<Written> {
+    /// Writes the batch. While snapshots of others keep the pages that it needs, it waits for them. `made` gets what was written once
+    /// it is in memory.
+    pub fn write(
+        &self,
+        pass: &Pass,
+        expected: Option<u64>,
+        batch: &Batch,
+        mut made: impl FnMut(&Written),
+    ) -> Result<Written> {
         let (mut until, mut is_kept) = (None, true);
         loop {
-            let written = match expected {
-                None => pass.apply(batch),
-                Some(expected) => pass.apply_if(expected, batch),
-            };
-            match written {
+            match pass.apply_with(expected, batch, &mut made) {
                 Err(Error::Full { oldest }) => {
                     let until = *until.get_or_insert_with(|| Instant::now() + WAIT);
                     if !is_kept || Instant::now() > until {

@@ -1,25 +1,28 @@
 //! The server: a thread and a pass for each client.
 
 use crate::background::Starter;
+use crate::clients::{Client, Clients};
 use crate::connection::Connection;
+use crate::copy::Copies;
 use crate::failure::Failure;
 use crate::kept::{self, Kept};
+use crate::meter::Meter;
+use crate::notify::Notifier;
 use crate::options::Options;
 use crate::os;
 use crate::pressure::{self, Pressure};
 use crate::socket::{Place, Socket};
+use crate::tokens::Tokens;
 use crate::watcher::Watcher;
 use bestore::{Error, ShelfPass};
-use bestore_client::socket::{peer_user, user};
+use bestore_client::socket::{peer_process, peer_user, user};
 use bestore_client::wire::{Command, Greeting, Request};
-use std::collections::BTreeMap;
 use std::fs::File;
 use std::io::{self, ErrorKind};
-use std::net::Shutdown;
 use std::os::unix::io::AsRawFd;
 use std::os::unix::net::{UnixListener, UnixStream};
 use std::path::PathBuf;
-use std::sync::{Arc, Condvar, Mutex, MutexGuard, PoisonError, TryLockError};
+use std::sync::{Arc, Mutex, MutexGuard, PoisonError, TryLockError};
 use std::thread;
 use std::time::{Duration, Instant, SystemTime};
 
@@ -38,86 +41,47 @@ const AGAIN: Duration = Duration::from_millis(5);
 /// The most bytes of a first request by which a client asks for that place.
 const GREETING: usize = 256;
 
-/// How long at the end clients may take to read their last replies.
-const LAST: Duration = Duration::from_secs(5);
+/// How often at most is said that there is no place.
+const SAID: Duration = Duration::from_secs(10);
 
 /// What all connections share.
 #[derive(Debug)]
 pub struct Shared {
     pub options: Options,
     pub kept: Kept,
+    pub tokens: Arc<Tokens>,
     pub watcher: Watcher,
     pub pressure: Pressure,
     pub clients: Clients,
+    pub meter: Meter,
+    pub copies: Copies,
+    /// When was said last that there is no place.
+    pub is_full: Mutex<Option<Instant>>,
     /// The pass of clients that find none: each has it for a moment.
     pub visits: Mutex<ShelfPass>,
     /// Another text for each run.
     pub run: String,
 }
 
-/// The connections by their numbers.
-#[derive(Debug, Default)]
-pub struct Clients {
-    connected: Mutex<(u64, BTreeMap<u64, Arc<UnixStream>>)>,
-    left: Condvar,
-}
-
-impl Clients {
-    fn lock(&self) -> MutexGuard<'_, (u64, BTreeMap<u64, Arc<UnixStream>>)> {
-        self.connected.lock().unwrap_or_else(PoisonError::into_inner)
-    }
-
-    pub fn count(&self) -> usize {
-        self.lock().1.len()
-    }
-
-    fn enter(&self, stream: Arc<UnixStream>) -> u64 {
-        let mut connected = self.lock();
-        connected.0 += 1;
-        let number = connected.0;
-        connected.1.insert(number, stream);
-        number
-    }
-
-    fn leave(&self, number: u64) {
-        self.lock().1.remove(&number);
-        self.left.notify_all();
-    }
-
-    /// Lets the clients end: what they have sent is answered, and they get some time to read it.
-    fn end(&self) {
-        for how in [Shutdown::Read, Shutdown::Both] {
-            for stream in self.lock().1.values() {
-                // A client that has gone needs no end.
-                let _ = stream.shutdown(how);
-            }
-            let until = Instant::now() + LAST;
-            let mut connected = self.lock();
-            while !connected.1.is_empty() && Instant::now() < until {
-                let left = until.saturating_duration_since(Instant::now());
-                let waited = self.left.wait_timeout(connected, left);
-                connected = waited.unwrap_or_else(PoisonError::into_inner).0;
-            }
-        }
-    }
-}
-
 /// Listens, and serves clients until a signal ends the program.
 pub fn run(
     place: Place,
     starter: Option<Starter>,
+    mut notifier: Notifier,
     signals: &File,
     shared: Shared,
     own: ShelfPass,
 ) -> Result<(), Box<dyn std::error::Error>> {
     let shared = Arc::new(shared);
     kept::start(&shared)?;
-    let socket = listen(place, starter)?;
+    let socket = listen(place, starter, &shared.run)?;
     let watching = {
         let shared = shared.clone();
         thread::spawn(move || shared.watcher.run(own, &shared.pressure, &shared.kept))
     };
-    accept(&socket.listener, signals, &shared);
+    notifier.ready();
+    accept(&socket.listener, &mut notifier, signals, &shared);
+    notifier.ends();
     drop(socket);
     shared.clients.end();
     shared.watcher.end();
@@ -128,19 +92,23 @@ pub fn run(
 }
 
 /// Listens, and says so to who has started the server.
-fn listen(place: Place, starter: Option<Starter>) -> io::Result<Socket> {
+fn listen(place: Place, starter: Option<Starter>, run: &str) -> io::Result<Socket> {
     let path = place.path().map(PathBuf::from);
     let socket = place.listen()?;
-    if let (Some(starter), Some(path)) = (starter, path) {
-        starter.listens_at(&path)?;
+    if let (Some(starter), Some(path)) = (starter, &path) {
+        starter.listens_at(path)?;
+    }
+    match path {
+        Some(path) => eprintln!("bestored: run {run} listens at {}", path.display()),
+        None => eprintln!("bestored: run {run} listens at the socket of systemd"),
     }
     Ok(socket)
 }
 
-fn accept(listener: &UnixListener, signals: &File, shared: &Arc<Shared>) {
+fn accept(listener: &UnixListener, notifier: &mut Notifier, signals: &File, shared: &Arc<Shared>) {
     let waited_for = [listener.as_raw_fd(), signals.as_raw_fd()];
     loop {
-        match os::wait_readable(waited_for, None) {
+        match os::wait_readable(waited_for, notifier.lives()) {
             Ok([_, true]) => break,
             Ok([true, _]) => {}
             Ok(_) => continue,
@@ -172,54 +140,73 @@ fn take_client(listener: &UnixListener, shared: &Arc<Shared>) -> bool {
 fn welcome(shared: &Arc<Shared>, stream: Arc<UnixStream>) {
     match peer_user(&stream) {
         Ok(client) if client == user() || client == 0 => {}
-        _ => return refuse(&stream, &Failure::new("NotAllowed", "the server is another user's")),
+        other => {
+            let other = other.map_or_else(|error| error.to_string(), |user| format!("user {user}"));
+            let process = peer_process(&stream).unwrap_or(0);
+            eprintln!("bestored: process {process} of {other} is refused: the server is another user's");
+            return refuse(&stream, &Failure::new("NotAllowed", "the server is another user's"));
+        }
     }
     let clients = shared.clients.count();
     if clients >= shared.options.passes as usize + WAITING {
-        return refuse(&stream, &no_pass(shared));
+        return refuse_for_now(shared, &stream);
     }
-    let number = shared.clients.enter(stream.clone());
-    let of_thread = shared.clone();
-    let started = thread::Builder::new().name(format!("client-{number}")).spawn(move || {
-        let _leaving = Leaving {
+    let client = shared.clients.enter(stream.clone());
+    let (of_thread, entered) = (shared.clone(), client.clone());
+    let thread = thread::Builder::new().name(format!("client-{}", client.number));
+    let started = thread.spawn(move || {
+        let leaving = Leaving {
             shared: &of_thread,
-            number,
+            client: entered,
         };
-        serve(&of_thread, stream);
+        serve(&of_thread, &leaving.client, stream);
     });
     if let Err(error) = started {
         eprintln!("bestored: no thread for a client: {error}");
-        shared.clients.leave(number);
+        shared.clients.leave(&client);
     }
+}
+
+/// Refuses a client for which there is no place, and says so now and then.
+fn refuse_for_now(shared: &Shared, stream: &UnixStream) {
+    let failure = no_pass(shared);
+    let mut said = shared.is_full.lock().unwrap_or_else(PoisonError::into_inner);
+    if said.map_or(true, |said| said.elapsed() >= SAID) {
+        *said = Some(Instant::now());
+        let process = peer_process(stream).unwrap_or(0);
+        eprintln!("bestored: process {process} is refused: {}", failure.0.message);
+    }
+    drop(said);
+    refuse(stream, &failure);
 }
 
 /// The end of a connection, also by a panic.
 struct Leaving<'a> {
     shared: &'a Shared,
-    number: u64,
+    client: Arc<Client>,
 }
 
 impl Drop for Leaving<'_> {
     fn drop(&mut self) {
-        self.shared.clients.leave(self.number);
+        self.shared.clients.leave(&self.client);
     }
 }
 
-fn serve(shared: &Shared, stream: Arc<UnixStream>) {
+fn serve(shared: &Shared, client: &Client, stream: Arc<UnixStream>) {
     match take_pass(shared) {
-        Ok(mut pass) => talk(shared, stream, &mut pass, false),
+        Ok(mut pass) => talk(shared, client, stream, &mut pass, false),
         Err(Error::NoPass) if is_visit(&stream) => match take_visit(shared) {
-            Some(mut pass) => talk(shared, stream, &mut pass, true),
-            None => refuse(&stream, &no_pass(shared)),
+            Some(mut pass) => talk(shared, client, stream, &mut pass, true),
+            None => refuse_for_now(shared, &stream),
         },
-        Err(Error::NoPass) => refuse(&stream, &no_pass(shared)),
+        Err(Error::NoPass) => refuse_for_now(shared, &stream),
         Err(error) => refuse(&stream, &error.into()),
     }
 }
 
-fn talk(shared: &Shared, stream: Arc<UnixStream>, pass: &mut ShelfPass, is_visit: bool) {
+fn talk(shared: &Shared, client: &Client, stream: Arc<UnixStream>, pass: &mut ShelfPass, is_visit: bool) {
     // An error of the connection is its end, and nobody is left to report it to.
-    let _ = Connection::new(shared, stream, is_visit).run(pass);
+    let _ = Connection::new(shared, client, stream, is_visit).run(pass);
 }
 
 /// Whether the first request that the client has sent says that it asks a few things and goes.

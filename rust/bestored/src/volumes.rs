@@ -4,7 +4,7 @@ use crate::answer::View;
 use crate::failure::Failure;
 use crate::page::commits;
 use crate::pressure::Pressure;
-use bestore::{Batch, Error, Operation, ShelfSnapshot, Status};
+use bestore::{Batch, Error, Node, Operation, ShelfSnapshot, Status, Written};
 use bestore_client::wire::{self, Numbers};
 
 fn is_of_indices(operation: &Operation<'_>) -> bool {
@@ -17,33 +17,46 @@ pub fn is_for_all(write: &wire::Write, volumes: usize) -> bool {
     volumes > 1 && write.volume.is_none() && operations.len() > 0 && operations.all(|one| is_of_indices(&one))
 }
 
-/// Writes the batch in one volume.
-pub fn write(pressure: &Pressure, view: &View<'_, '_>, write: &wire::Write) -> Result<wire::Written, Failure> {
+/// Writes the batch in one volume. `made` gets what was written once it is in memory.
+pub fn write(
+    pressure: &Pressure,
+    view: &View<'_, '_>,
+    write: &wire::Write,
+    mut made: impl FnMut(wire::Written),
+) -> Result<wire::Written, Failure> {
     let batch = &write.operations.batch;
     let volumes = view.volumes();
     if volumes == 1 && write.volume.unwrap_or(0) == 0 {
         let expected = expected(write, 0, 1)?;
-        let written = pressure.write(view.pass(0)?, expected, batch)?;
-        return Ok(wire::Written {
-            commit: written.number,
-            nodes: written.nodes,
-            ..wire::Written::default()
-        });
+        let written = pressure.write(view.pass(0)?, expected, batch, |written| made(shown(None, written)))?;
+        return Ok(shown(None, &written));
     }
     if write.volume.is_none() {
         batch.check_no_index(volumes)?;
     }
     let (volume, within) = place(view, write)?;
     let expected = expected(write, volume, volumes)?;
-    let written = pressure.write(view.pass(volume)?, expected, &within);
-    let written = written.map_err(|error| error.in_volume(volume))?;
-    let nodes = written.nodes.into_iter();
-    Ok(wire::Written {
-        volume: Some(volume),
+    let made = |written: &Written| made(shown(Some(volume), written));
+    let written = pressure.write(view.pass(volume)?, expected, &within, made);
+    Ok(shown(Some(volume), &written.map_err(|error| error.in_volume(volume))?))
+}
+
+/// What was written, of this volume if there are several.
+pub fn shown(volume: Option<u32>, written: &Written) -> wire::Written {
+    let node = |number: &u64| match volume {
+        None => *number,
+        Some(volume) => Node {
+            volume,
+            number: *number,
+        }
+        .into(),
+    };
+    wire::Written {
+        volume,
         commit: written.number,
-        nodes: nodes.map(|number| bestore::Node { volume, number }.into()).collect(),
+        nodes: written.nodes.iter().map(node).collect(),
         ..wire::Written::default()
-    })
+    }
 }
 
 /// The volume of the batch, and the batch with the numbers in it.

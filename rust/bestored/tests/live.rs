@@ -308,9 +308,8 @@ fn what_is_pushed_is_in_the_file() {
         for _ in 0..20 {
             let operations = Batch::new().new_node().clone().into();
             let write = wire::Write {
-                volume: None,
                 operations,
-                expected: None,
+                ..Default::default()
             };
             writing.send(wire::Command::Batch(write)).unwrap();
         }

@@ -4,6 +4,7 @@ use crate::common::postgres::{Database, Postgres};
 use crate::common::proxy::{Lost, Proxy};
 use crate::common::writers::{check_history, state_of, Writers};
 use crate::common::{command, wait_until, wait_within, Folder, Random, Server};
+use crate::repeats::make;
 use crate::slow;
 use bestore::Batch;
 use bestore_client::wire::{Command, LogStatus, Nothing, Write, Written};
@@ -744,4 +745,36 @@ fn a_server_without_a_log_says_so() {
     assert!(error.is("NoLog"));
     let written = server.talk().ask(r#"{"id":1,"batch":{"operations":[["new"]]}}"#);
     assert_eq!(written, r#"{"id":1,"ok":{"commit":1,"nodes":[1]}}"#);
+}
+
+#[test]
+fn a_token_goes_from_one_leader_to_the_next() {
+    let database = match database() {
+        Some(database) => database,
+        None => return,
+    };
+    let first = Member::start(&database, "--log");
+    let mut client = first.client();
+    let written = make(&mut client, "a").unwrap();
+    client.call::<Nothing>(Command::Compact(Nothing {})).unwrap();
+    let later = make(&mut client, "b").unwrap();
+    // One has "a" in its state, and one has followed both.
+    let following = Member::start(&database, "--follow");
+    let check = |member: &Member| {
+        let mut client = member.client();
+        client.wait_for_entry(later.entry.unwrap(), SOON).unwrap();
+        for (token, written) in [("a", &written), ("b", &later)] {
+            let again = make(&mut client, token).unwrap();
+            assert_eq!((&again.nodes, again.repeated), (&written.nodes, true));
+        }
+    };
+    check(&following);
+    first.server.kill();
+    wait_until("the other one leads", || following.leads());
+    check(&following);
+    assert!(following.said().contains("this server leads the log, in term 2"));
+    let role = following.client().info().unwrap().log.unwrap();
+    assert_eq!((&*role.role, role.term, role.lag), ("leader", Some(2), 0));
+    let third = make(&mut following.client(), "c").unwrap();
+    assert_eq!(third.nodes, [3]);
 }

@@ -1,6 +1,7 @@
 //! The tests of the server. They are one program, so that it is linked once, and so that tests that wait run beside others.
 
 mod alike;
+mod activity;
 mod background;
 mod changes;
 mod common;
@@ -13,8 +14,10 @@ mod log;
 mod manual;
 mod memory;
 mod ordered;
+mod notify;
 mod pages;
 mod protocol;
+mod repeats;
 mod slow;
 mod socket;
 mod volumes;

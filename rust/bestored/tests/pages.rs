@@ -28,9 +28,8 @@ fn fill(client: &mut Client, nodes: u64) {
         }
         let operations = batch.into();
         let write = bestore_client::wire::Write {
-            volume: None,
             operations,
-            expected: None,
+            ..Default::default()
         };
         sent.push(client.send(Command::Batch(write)).unwrap());
         if sent.len() == 100 {

@@ -484,3 +484,60 @@ fn the_journal_and_the_state() {
         "{said}"
     );
 }
+
+#[test]
+fn a_copy_is_read_without_a_pin_and_keeps_no_pages() {
+    let (_folder, server) = start(&[]);
+    let mut talk = server.talk();
+    three(&mut talk);
+    talk.check(
+        r#""state":{}"#,
+        r#""error":{"name":"NotPinned","number":66,"message":"no snapshot is pinned"}"#,
+    );
+    talk.check(r#""collect":{}"#, r#""ok":{"commit":1,"next":4}"#);
+    talk.check(
+        r#""batch":{"operations":[["remove",3]]}"#,
+        r#""ok":{"commit":2,"nodes":[]}"#,
+    );
+    let copied = talk.ask(r#"{"id":1,"state":{}}"#);
+    assert!(
+        copied.starts_with(r#"{"id":1,"ok":{"commit":1,"next":4,"batches":[["#),
+        "{copied}"
+    );
+    assert!(copied.contains(r#"["set",3,"size",3]"#), "{copied}");
+    assert!(server
+        .talk()
+        .ask(r#"{"id":1,"status":{}}"#)
+        .contains(r#""oldest":null"#));
+    talk.check(
+        r#""state":{"from":99,"volume":1}"#,
+        r#""error":{"name":"NoVolume","message":"there is no volume 1: there are 1, counted from 0","volume":1,"volumes":1}"#,
+    );
+    // What is pinned goes before what was copied.
+    talk.check(r#""pin":{}"#, r#""ok":{"commit":2,"next":4}"#);
+    assert!(talk.ask(r#"{"id":1,"state":{}}"#).contains(r#""commit":2"#));
+    talk.check(r#""unpin":{}"#, r#""ok":{}"#);
+    talk.check(r#""collect":{}"#, r#""ok":{"commit":2,"next":4}"#);
+    assert!(!talk.ask(r#"{"id":1,"state":{}}"#).contains(r#"["set",3"#));
+}
+
+#[test]
+fn two_clients_read_copies_at_the_same_time() {
+    let (_folder, server) = start(&[]);
+    let mut talks: Vec<_> = (0..3).map(|_| server.talk()).collect();
+    let (copied, refused) = (
+        r#""ok":{"commit":0,"next":1}"#,
+        concat!(
+            r#""error":{"name":"TooManyCopies","message":"2 clients are reading copies, as many as may "#,
+            r#"at the same time","most":2}"#
+        ),
+    );
+    // A client's second copy is in the place of its first one.
+    for (talk, reply) in [(0, copied), (1, copied), (1, copied), (2, refused)] {
+        talks[talk].check(r#""collect":{}"#, reply);
+    }
+    drop(talks.remove(0));
+    wait_until("its place is free", || {
+        talks[1].ask(r#"{"id":1,"collect":{}}"#).contains("ok")
+    });
+}

@@ -1,19 +1,23 @@
 //! The protocol: requests, replies and values as JSON. `docs/SERVER.md` describes it.
 
+mod activity;
 mod operation;
 mod reply;
 mod request;
+mod token;
 mod value;
 
+pub use activity::{ClientInfo, Clients, Files, Info, Latency, OldestReader, PinnedBy, Role};
 pub use operation::{Operations, ShownOperations};
 pub use reply::{
     Attributes, Commit, Explained, HeldBy, Hello, Hits, Indices, Journal, JournalEntry, Limits, LogStatus, Next, Nodes,
     Page, Push, Refusal, Rows, State, Status, Value, VolumeStatus, Watched, Written,
 };
 pub use request::{
-    id_of, Columns, ColumnsOf, Command, From, Get, Greeting, JournalFrom, Node, NodesFrom, Nothing, Numbers, OfLog,
-    Query, QueryText, Reach, Request, Watch, Watching, Write,
+    id_of, Columns, ColumnsOf, Command, From, Get, Greeting, JournalFrom, Kick, Node, NodesFrom, Nothing, Numbers,
+    OfLog, Query, QueryText, Reach, Request, Watch, Watching, Write,
 };
+pub use token::Token;
 pub use value::{kind_name, kind_named, Json};
 
 /// The numbers of the volumes as replies have them: none if there is one volume.

@@ -69,6 +69,9 @@ replies! {
         /// The number of the entry in the log, if the server has one.
         #[serde(default, skip_serializing_if = "Option::is_none")]
         pub entry: Option<u64>,
+        /// Whether a batch with this token was written before. A snapshot with the number `commit` has it.
+        #[serde(default, skip_serializing_if = "is_false")]
+        pub repeated: bool,
     }
 
     /// Of `log`.

@@ -1,7 +1,7 @@
 //! Requests: an `id` and one command.
 
 use super::operation::asked_operations;
-use super::Operations;
+use super::{Operations, Token};
 use serde::de::value::MapAccessDeserializer;
 use serde::de::{self, Deserialize, Deserializer, IgnoredAny, MapAccess, Visitor};
 use serde::ser::{Serialize, SerializeMap, Serializer};
@@ -57,6 +57,12 @@ parameters! {
         /// The volume that is written.
         #[serde(default, deserialize_with = "given", skip_serializing_if = "Option::is_none")]
         pub volume: Option<u32>,
+        /// By which the batch can be sent again: it is written once.
+        #[serde(default, deserialize_with = "given", skip_serializing_if = "Option::is_none")]
+        pub token: Option<Token>,
+        /// The run of the server whose commit numbers `expected` has.
+        #[serde(default, deserialize_with = "given", skip_serializing_if = "Option::is_none")]
+        pub run: Option<String>,
     }
 
     /// Of `attributes`.
@@ -112,6 +118,12 @@ parameters! {
         /// The volume, if there are several.
         #[serde(default, deserialize_with = "given", skip_serializing_if = "Option::is_none")]
         pub volume: Option<u32>,
+    }
+
+    /// Of `kick`.
+    Kick {
+        /// The number of the client, as `clients` says it.
+        pub client: u64,
     }
 
     /// Of `reach`.
@@ -319,6 +331,14 @@ macro_rules! commands {
                 }
             }
 
+            /// The name of the command.
+            #[must_use]
+            pub fn name(&self) -> &'static str {
+                match self {
+                    $(Command::$variant(_) => $name,)*
+                }
+            }
+
             fn write<M: SerializeMap>(&self, to: &mut M) -> Result<(), M::Error> {
                 match self {
                     $(Command::$variant(parameters) => to.serialize_entry($name, parameters),)*
@@ -365,6 +385,8 @@ commands! {
     Journal(JournalFrom) = "journal";
     /// The batches that make the snapshot again.
     State(From) = "state";
+    /// Copies the snapshot, so that `state` reads it without a pin.
+    Collect(Nothing) = "collect";
     /// Waits for the journal.
     Reach(Reach) = "reach";
     /// Waits for the file.
@@ -373,6 +395,12 @@ commands! {
     Compact(Nothing) = "compact";
     /// What the server does in the log that machines share. Waits for an entry.
     Log(OfLog) = "log";
+    /// What goes on in the server.
+    Info(Nothing) = "info";
+    /// Who is connected.
+    Clients(Nothing) = "clients";
+    /// Ends the connection of a client.
+    Kick(Kick) = "kick";
 }
 
 /// A request.
@@ -481,6 +509,7 @@ mod tests {
             r#"{"id":3,"hello":{"protocol":1,"visit":true}}"#,
             r#"{"id":4,"batch":{"operations":[["new"]],"expected":[3,0],"volume":1}}"#,
             r#"{"id":5,"reach":{"commit":[3,0],"within":5}}"#,
+            r#"{"id":6,"batch":{"operations":[["new"]],"expected":3,"token":"ä","run":"1-2"}}"#,
             r#"{"id":3,"get":{"node":1,"name":"a\"b"}}"#,
             r#"{"id":3,"columns":{"nodes":[2,1],"names":["a","b"]}}"#,
         ] {
@@ -515,6 +544,8 @@ mod tests {
             (r#"{"id":5,"batch":{"operations":[["new"]],"expected":null}}"#, Some(5)),
             (r#"{"id":5,"batch":{"operations":[["new",7]]}}"#, Some(5)),
             (r#"{"id":5,"journal":{"limit":null}}"#, Some(5)),
+            (r#"{"id":5,"batch":{"operations":[["new"]],"token":""}}"#, Some(5)),
+            (r#"{"id":5,"batch":{"operations":[["new"]],"token":7}}"#, Some(5)),
             (r#"{"id":5,"watch":{"query":null}}"#, Some(5)),
             (r#"{"id":5,"query":{"query":"a==1","by":null}}"#, Some(5)),
             (r#"{"id":5,"query":{"query":"a==1","by":"a","descending":1}}"#, Some(5)),

@@ -46,6 +46,11 @@ pub enum Error {
         /// The file.
         path: PathBuf,
     },
+    /// A backup would replace what is at its path.
+    Exists {
+        /// The path.
+        path: PathBuf,
+    },
     /// The disk is full.
     DiskFull {
         /// The file.
@@ -74,9 +79,9 @@ pub enum Error {
     },
     /// The thread that saves could not be started.
     Thread(std::io::Error),
-    /// The folder of a shelf can't be read or made.
+    /// The folder of a shelf can't be read or made, or a file or folder of a backup not be made.
     Folder {
-        /// The folder.
+        /// The folder, or the file.
         path: PathBuf,
         /// The error.
         error: std::io::Error,
@@ -164,6 +169,11 @@ impl fmt::Display for Error {
                 path.display()
             ),
             Error::Held { path } => write!(f, "{}: the file is in use", path.display()),
+            Error::Exists { path } => write!(
+                f,
+                "{}: this file or folder exists, and isn't overwritten; remove it, or name another",
+                path.display()
+            ),
             Error::DiskFull { path } => write!(f, "{}: the disk is full", path.display()),
             Error::Differs { place, why } => {
                 write!(f, "{place}: the file has what no store did: {why}")

@@ -30,18 +30,21 @@
 //!
 //! Opening and [`Saved::compact`] write the state anew, so the file doesn't grow for ever.
 
+mod backup;
 mod error;
 mod file;
 mod queue;
 mod shelf;
 
+pub use backup::Backup;
 pub use error::{Error, Place};
-pub use shelf::SavedShelf;
+pub use file::About;
+pub use shelf::{files_of, SavedShelf};
 
-use crate::{Batch, Limits, Pass, Snapshot, Store};
+use crate::{Batch, Limits, Pass, Shelf, Snapshot, Store};
 use file::File;
 use queue::Queue;
-use std::path::Path;
+use std::path::{Path, PathBuf};
 use std::sync::Arc;
 use std::time::Duration;
 
@@ -54,6 +57,20 @@ pub type Result<T> = std::result::Result<T, Error>;
 /// As [`Options::open`].
 pub fn open(path: impl AsRef<Path>) -> Result<Saved> {
     Options::new().open(path)
+}
+
+/// A file has the tokens of at least this many of the last writes that had one.
+pub const TOKENS: usize = 65_536;
+
+/// The token of a write that the file has: see [`Batch::set_token`].
+#[derive(Clone, Debug, PartialEq, Eq)]
+pub struct Token {
+    /// The token.
+    pub text: String,
+    /// A snapshot with this number or a later one has the write.
+    pub commit: u64,
+    /// The nodes that the write made.
+    pub nodes: Vec<u64>,
 }
 
 /// The longest time for which a write waits to be saved.
@@ -94,14 +111,48 @@ impl Options {
         let mut file = File::open(path.as_ref())?;
         let store = Store::open(self.limits)?;
         let number = load(&file, &store)?;
+        let of_state = file.state()?.entries;
         let in_memory = {
             let mut own = store.own()?;
             let snapshot = own.pin()?;
             renew(&mut file, &snapshot, number)?;
             snapshot.number()
         };
+        let token = |(entry, token): (u64, file::Token)| Token {
+            text: token.text.into(),
+            // Before the entries come the batches of the state, which have no entries of their own.
+            commit: in_memory.saturating_sub(number.saturating_sub(entry.max(of_state))),
+            nodes: token.nodes,
+        };
+        let tokens = file.tokens()?.into_iter().map(token).collect();
         let queue = Queue::start(file, number, in_memory, self.every)?;
-        Ok(Saved { store, queue })
+        Ok(Saved { store, queue, tokens })
+    }
+
+    /// Makes the store again that a file has, or the volumes of a folder, and leaves the files as they are: what is written then is
+    /// kept nowhere. The limits are those of each volume.
+    ///
+    /// # Errors
+    /// Those of [`open`](Self::open) and [`open_shelf`](Self::open_shelf), but for a full disk.
+    pub fn load(&self, path: impl AsRef<Path>) -> Result<Shelf> {
+        let path = path.as_ref();
+        let is_folder = path.is_dir();
+        let count = if is_folder { shelf::count(path)? } else { 1 };
+        let load = |(volume, file): (u32, PathBuf)| {
+            let loaded = self.load_file(&file);
+            loaded.map_err(|error| if is_folder { error.of_volume(volume) } else { error })
+        };
+        let volumes = (0..).zip(files_of(path, count)).map(load).collect::<Result<Vec<_>>>()?;
+        match volumes.is_empty() {
+            false => Ok(Shelf::of_volumes(volumes)?),
+            true => Err(Error::Foreign { path: path.to_owned() }),
+        }
+    }
+
+    fn load_file(&self, path: &Path) -> Result<Store> {
+        let store = Store::open(self.limits)?;
+        load(&File::open_to_read(path)?, &store)?;
+        Ok(store)
     }
 }
 
@@ -165,6 +216,7 @@ fn renew(file: &mut File, snapshot: &Snapshot<'_>, number: u64) -> Result<()> {
 pub struct Saved {
     store: Store,
     queue: Queue,
+    tokens: Vec<Token>,
 }
 
 impl Saved {
@@ -174,6 +226,12 @@ impl Saved {
     /// As [`Store::pass`].
     pub fn pass(&self) -> crate::Result<Pass> {
         Ok(self.store.pass()?.kept_by(self.queue.keeper()))
+    }
+
+    /// Takes the tokens that the file had when it was opened, those of earlier writes first. Each is in the file from the same commit on
+    /// as its write. A second call returns none.
+    pub fn take_tokens(&mut self) -> Vec<Token> {
+        std::mem::take(&mut self.tokens)
     }
 
     /// Waits until all that was written before the call is in the file.

@@ -1,6 +1,6 @@
 //! The order of the writes, and who saves them: one of the writers that wait, or with a time a thread.
 
-use super::file::{File, Row};
+use super::file::{File, Row, Token};
 use super::{Error, Result};
 use crate::pass::Keeper;
 use crate::raw::Birthplace;
@@ -190,6 +190,10 @@ impl Keeper for Shared {
             number,
             pass,
             batch: bytes,
+            token: batch.token().map(|text| Token {
+                text: text.into(),
+                nodes: written.nodes.clone(),
+            }),
         });
         if let (Some(time), None) = (self.every, line.due) {
             line.due = Some(Instant::now() + time);

@@ -15,8 +15,17 @@ pub struct SavedShelf {
 }
 
 /// The file of a volume.
-fn path(folder: &Path, volume: u32) -> PathBuf {
+pub(super) fn path(folder: &Path, volume: u32) -> PathBuf {
     folder.join(format!("{volume}.bestore"))
+}
+
+/// The files of so many volumes at a path: the path itself, or those within the folder.
+#[must_use]
+pub fn files_of(place: &Path, volumes: u32) -> Vec<PathBuf> {
+    match place.is_dir() {
+        true => (0..volumes).map(|volume| path(place, volume)).collect(),
+        false => vec![place.to_owned()],
+    }
 }
 
 /// The volume whose file has this name.
@@ -27,7 +36,7 @@ fn volume_of(name: &std::ffi::OsStr) -> Option<u32> {
 }
 
 /// How many volumes the folder has.
-fn count(folder: &Path) -> Result<u32> {
+pub(super) fn count(folder: &Path) -> Result<u32> {
     let wrong = |error| Error::folder(folder, error);
     let mut found = Vec::new();
     for entry in fs::read_dir(folder).map_err(wrong)? {
@@ -99,6 +108,11 @@ impl SavedShelf {
     #[must_use]
     pub fn volumes(&self) -> &[Saved] {
         &self.volumes
+    }
+
+    /// Takes the tokens of each volume, as [`Saved::take_tokens`].
+    pub fn take_tokens(&mut self) -> Vec<Vec<super::Token>> {
+        self.volumes.iter_mut().map(Saved::take_tokens).collect()
     }
 
     /// Takes a pass, whose writes are saved.

@@ -1,6 +1,7 @@
 //! The tables of the log in PostgreSQL. docs/SERVER.md describes them.
 
 use super::error::{Error, Result};
+use bestore::saved::TOKENS;
 use std::fmt;
 use std::future::Future;
 use std::pin::Pin;
@@ -49,7 +50,7 @@ const TABLES: &str = "
     );
     CREATE TABLE bestore_state (place bigint PRIMARY KEY, batch bytea NOT NULL);
     CREATE TABLE bestore_entry (
-        number bigint PRIMARY KEY, term bigint NOT NULL, pass bigint NOT NULL, batch bytea NOT NULL
+        number bigint PRIMARY KEY, term bigint NOT NULL, pass bigint NOT NULL, batch bytea NOT NULL, token text
     );
 ";
 
@@ -60,11 +61,17 @@ const APPEND: &str = "
         UPDATE bestore_log SET last = last + cardinality($3::bigint[])
         WHERE term = $1 AND last = $2 RETURNING last
     ), added AS (
-        INSERT INTO bestore_entry (number, term, pass, batch)
-        SELECT $2 + row.place, $1, row.pass, row.batch
-        FROM head, unnest($3::bigint[], $4::bytea[]) WITH ORDINALITY AS row (pass, batch, place)
+        INSERT INTO bestore_entry (number, term, pass, batch, token)
+        SELECT $2 + row.place, $1, row.pass, row.batch, row.token
+        FROM head, unnest($3::bigint[], $4::bytea[], $5::text[]) WITH ORDINALITY AS row (pass, batch, token, place)
     )
     SELECT pg_notify('bestore_log', last::text) FROM head";
+
+/// Removes the entries up to `$1`, but for the last ones that have a token: so many as `$2`.
+const REMOVE: &str = "
+    DELETE FROM bestore_entry WHERE number <= $1 AND (token IS NULL OR number <= (
+        SELECT number FROM bestore_entry WHERE token IS NOT NULL ORDER BY number DESC OFFSET $2 LIMIT 1
+    ))";
 
 /// The advisory lock of a log: "best" in ASCII, and the number of its table in the database.
 const LOCK: &str = "SELECT pg_try_advisory_lock(1650815860, 'bestore_log'::regclass::oid::integer)";
@@ -115,6 +122,7 @@ pub struct Row {
     pub number: u64,
     pub pass: u64,
     pub batch: Vec<u8>,
+    pub token: Option<String>,
 }
 
 /// An entry of the log.
@@ -122,6 +130,17 @@ pub struct Row {
 pub struct Entry {
     pub number: u64,
     pub batch: Vec<u8>,
+    pub token: Option<String>,
+}
+
+impl Entry {
+    fn of(row: &SqlRow) -> Result<Self> {
+        Ok(Self {
+            number: unsigned(row, "number")?,
+            batch: row.try_get("batch")?,
+            token: row.try_get("token")?,
+        })
+    }
 }
 
 /// The next message of a connection that PostgreSQL sends without a request.
@@ -235,6 +254,19 @@ impl Database {
         }
     }
 
+    /// Adds the column of the tokens, which a log of an earlier version lacks.
+    pub async fn add_tokens(&self) -> Result<()> {
+        let sql = "SELECT EXISTS (SELECT FROM pg_attribute
+            WHERE attrelid = 'bestore_entry'::regclass AND attname = 'token' AND NOT attisdropped)";
+        match self.one(sql, &[]).await?.try_get(0)? {
+            true => Ok(()),
+            false => {
+                let add = "ALTER TABLE bestore_entry ADD COLUMN IF NOT EXISTS token text";
+                limited(self.client.batch_execute(add)).await
+            }
+        }
+    }
+
     /// Lets PostgreSQL send a message for new entries.
     pub async fn listen(&self) -> Result<()> {
         limited(self.client.batch_execute("LISTEN bestore_log")).await
@@ -276,21 +308,25 @@ impl Database {
         };
         let passes: Vec<i64> = rows.iter().map(|row| row.pass as i64).collect();
         let batches: Vec<&[u8]> = rows.iter().map(|row| &*row.batch).collect();
-        let parameters: [&(dyn ToSql + Sync); 4] = [&(term as i64), &(last as i64), &passes, &batches];
+        let tokens: Vec<Option<&str>> = rows.iter().map(|row| row.token.as_deref()).collect();
+        let parameters: [&(dyn ToSql + Sync); 5] = [&(term as i64), &(last as i64), &passes, &batches, &tokens];
         Ok(limited(self.client.query_opt(&statement, &parameters)).await?.is_some())
     }
 
     /// Some of the entries after this one, by rising numbers.
     pub async fn entries(&self, after: u64) -> Result<Vec<Entry>> {
-        let sql = "SELECT number, batch FROM bestore_entry WHERE number > $1 ORDER BY number LIMIT $2";
+        let sql = "SELECT number, batch, token FROM bestore_entry WHERE number > $1 ORDER BY number LIMIT $2";
         let rows = limited(self.client.query(sql, &[&(after as i64), &(ENTRIES as i64)])).await?;
-        let entry = |row: &SqlRow| {
-            Ok(Entry {
-                number: unsigned(row, "number")?,
-                batch: row.try_get("batch")?,
-            })
-        };
-        rows.iter().map(entry).collect()
+        rows.iter().map(Entry::of).collect()
+    }
+
+    /// Some of the entries after this one and up to `last` that have a token, by rising numbers.
+    pub async fn entries_with_token(&self, after: u64, last: u64) -> Result<Vec<Entry>> {
+        let sql = "SELECT number, batch, token FROM bestore_entry
+            WHERE token IS NOT NULL AND number > $1 AND number <= $2 ORDER BY number LIMIT $3";
+        let parameters: [&(dyn ToSql + Sync); 3] = [&(after as i64), &(last as i64), &(ENTRIES as i64)];
+        let rows = limited(self.client.query(sql, &parameters)).await?;
+        rows.iter().map(Entry::of).collect()
     }
 
     /// The head and the state, as one.
@@ -318,9 +354,8 @@ impl Database {
         for (place, part) in (0_i64..).step_by(ENTRIES).zip(batches.chunks(ENTRIES)) {
             self.client.execute(&insert, &[&place, &part]).await?;
         }
-        let delete = "DELETE FROM bestore_entry WHERE number <= $1";
         let spared = number.saturating_sub(SPARE) as i64;
-        self.client.execute(delete, &[&spared]).await?;
+        self.client.execute(REMOVE, &[&spared, &(TOKENS as i64)]).await?;
         // Last, as from here to the commit no entry can be added.
         let update = "UPDATE bestore_log SET entries = $1, next = $2 WHERE term = $3 AND entries <= $1 AND last >= $1";
         let parameters: [&(dyn ToSql + Sync); 3] = [&(number as i64), &(next as i64), &(term as i64)];

@@ -24,6 +24,16 @@ pub enum Role {
     },
 }
 
+impl Role {
+    /// Says what the server does from now on.
+    pub fn say(self, leader: &str) {
+        match self {
+            Role::Leader { term } => eprintln!("bestored: this server leads the log, in term {term}"),
+            Role::Follower => eprintln!("bestored: this server follows the log of {leader}"),
+        }
+    }
+}
+
 /// Since when the log can't be read or written, and why.
 #[derive(Clone, Debug)]
 pub struct Trouble {
@@ -46,6 +56,8 @@ pub struct State {
     pub written: u64,
     /// The number of the last entry that is in memory and in the log.
     pub saved: u64,
+    /// The number of the last entry that the log was known to have, of a follower.
+    pub last: u64,
     pub trouble: Option<Trouble>,
     waiting: Vec<Row>,
     waiting_bytes: usize,
@@ -93,11 +105,13 @@ pub struct Line {
 impl Line {
     /// For a store whose last commit has the number `commit`, and in which the log's entries up to `entry` are.
     pub fn new(role: Role, leader: String, entry: u64, commit: u64) -> Self {
+        role.say(&leader);
         let state = State {
             role,
             leader,
             written: entry,
             saved: entry,
+            last: entry,
             trouble: None,
             waiting: Vec::new(),
             waiting_bytes: 0,
@@ -266,10 +280,16 @@ impl Keeper for Line {
         let written = write()?;
         let number = self.entry(written.number);
         state.written = number;
+        let token = batch.token().map(String::from);
         match batch.clone().set_nodes(&written.nodes).to_bytes() {
             Ok(batch) => {
                 state.waiting_bytes += batch.len();
-                state.waiting.push(Row { number, pass, batch });
+                state.waiting.push(Row {
+                    number,
+                    pass,
+                    batch,
+                    token,
+                });
             }
             // What the store has accepted has bytes, if there is memory. Nothing may follow an entry that is missing.
             Err(error) => {

@@ -6,6 +6,8 @@ use super::line::{Line, Role};
 use super::{state, Access, FOR_LOCK, REST};
 use crate::pressure::Pressure;
 use crate::server::Shared;
+use crate::tokens::Tokens;
+use crate::volumes;
 use bestore::saved::Place;
 use bestore::{Batch, Pass, Written};
 use std::sync::Arc;
@@ -41,6 +43,7 @@ enum Turn {
 pub struct Member {
     access: Access,
     line: Arc<Line>,
+    tokens: Arc<Tokens>,
     database: Database,
     pass: Pass,
     /// Which log it is.
@@ -57,12 +60,13 @@ pub struct Member {
 
 impl Member {
     /// Connects, and makes the store again. To lead is refused while another server does.
-    pub async fn begin(access: Access, mut pass: Pass, leads: bool) -> Result<(Self, Arc<Line>)> {
+    pub async fn begin(access: Access, mut pass: Pass, tokens: Arc<Tokens>, leads: bool) -> Result<(Self, Arc<Line>)> {
         let mut database = Database::connect(&access.config).await?;
         if leads {
             database.make().await?;
         }
         database.check_format().await?;
+        database.add_tokens().await?;
         let role = match leads {
             true => lead_first(&database, &access).await?,
             false => Role::Follower,
@@ -70,10 +74,12 @@ impl Member {
         let state = state::load(&mut database, &mut pass).await?;
         let head = database.head().await?;
         let commit = pass.pin()?.number();
+        state::load_tokens(&database, state, commit, &tokens).await?;
         let line = Arc::new(Line::new(role, head.leader, state, commit));
         let mut member = Self {
             access,
             line: line.clone(),
+            tokens,
             database,
             pass,
             log: head.log,
@@ -175,6 +181,7 @@ impl Member {
                 self.check(&head)?;
                 self.line.change(|state| {
                     state.leader = head.leader;
+                    state.last = head.last;
                     state.trouble = None;
                 });
                 if Instant::now() >= self.may_lead && self.database.try_lock().await? {
@@ -193,9 +200,11 @@ impl Member {
         self.check(&head)?;
         self.apply_to(head.last, Some(shared)).await?;
         self.database.unlisten().await?;
+        let role = Role::Leader { term: head.term };
+        role.say(&head.leader);
         self.line.change(|state| {
             state.leader = head.leader;
-            state.role = Role::Leader { term: head.term };
+            state.role = role;
         });
         Ok(())
     }
@@ -245,8 +254,18 @@ impl Member {
         let mut repeated = batch.clone();
         repeated.set_nodes(&written.nodes);
         match repeated == batch {
-            true => Ok(()),
+            true => {
+                self.add_token(entry, &written);
+                Ok(())
+            }
             false => Err(Error::differs(place, "it makes other nodes here")),
+        }
+    }
+
+    /// Remembers the token of an entry, for a client that comes to this server with it.
+    fn add_token(&self, entry: &Entry, written: &Written) {
+        if let Some(token) = &entry.token {
+            self.tokens.add(token.as_str().into(), volumes::shown(None, written));
         }
     }
 
@@ -254,7 +273,7 @@ impl Member {
     fn apply_with(&self, pressure: &Pressure, batch: &Batch) -> bestore::Result<Written> {
         let until = Instant::now() + FOR_PAGES;
         loop {
-            match pressure.write(&self.pass, None, batch) {
+            match pressure.write(&self.pass, None, batch, |_| ()) {
                 Err(bestore::Error::Full { .. })
                     if self.pass.status()?.oldest.is_some() && Instant::now() < until && !self.line.is_closing() =>
                 {
@@ -371,7 +390,9 @@ impl Member {
             None => return Err(self.deposed(&database.head().await?)),
         };
         self.settle(&head, head.term)?;
-        self.line.change(|state| state.role = Role::Leader { term: head.term });
+        let role = Role::Leader { term: head.term };
+        role.say(&head.leader);
+        self.line.change(|state| state.role = role);
         Ok(())
     }
 

@@ -14,9 +14,11 @@ pub use error::{Error, Refused};
 
 use crate::failure::Failure;
 use crate::kept::Kept;
+use crate::notify::Notifier;
 use crate::options::Options;
 use crate::os;
 use crate::server::Shared;
+use crate::tokens::Tokens;
 use bestore::{Shelf, ShelfPass, Store};
 use bestore_client::wire;
 use database::Database;
@@ -98,7 +100,13 @@ pub struct Log {
 impl Log {
     /// Connects, again and again while the database can't be reached, and makes the store again to the end of the log. `None`: a
     /// signal has come first.
-    pub fn open(options: &Options, run: &str, signals: &File) -> Result<Option<Self>> {
+    pub fn open(
+        options: &Options,
+        run: &str,
+        tokens: &Arc<Tokens>,
+        notifier: &Notifier,
+        signals: &File,
+    ) -> Result<Option<Self>> {
         let in_log = options.log.as_ref().ok_or(Error::NoLog)?;
         let access = Access {
             config: config(&in_log.url)?,
@@ -107,8 +115,9 @@ impl Log {
         };
         let mut is_said = false;
         loop {
-            match Self::begin(options, &access, in_log.leads) {
+            match Self::begin(options, &access, tokens, in_log.leads) {
                 Err(error) if error.is_unreachable() => {
+                    notifier.waits(&error.to_string());
                     if !mem::replace(&mut is_said, true) {
                         eprintln!("bestored: {error}; it is tried again");
                     }
@@ -122,11 +131,11 @@ impl Log {
     }
 
     /// Connects once. To lead is refused while another server does.
-    fn begin(options: &Options, access: &Access, leads: bool) -> Result<Self> {
+    fn begin(options: &Options, access: &Access, tokens: &Arc<Tokens>, leads: bool) -> Result<Self> {
         let store = Store::open(options.limits())?;
         let pass = store.pass()?;
         let runtime = runtime()?;
-        let (member, line) = runtime.block_on(Member::begin(access.clone(), pass, leads))?;
+        let (member, line) = runtime.block_on(Member::begin(access.clone(), pass, tokens.clone(), leads))?;
         Ok(Self {
             shelf: Shelf::of_volumes(vec![store.clone()])?,
             store,
@@ -198,6 +207,21 @@ impl Log {
             commit: self.line.commit(state.saved),
             trouble: state.trouble.as_ref().map(|trouble| trouble.why.to_string()),
         })
+    }
+
+    /// What the server does, and how many entries it is late.
+    pub fn role(&self) -> wire::Role {
+        let state = self.line.lock();
+        let (role, term, last) = match state.role {
+            Role::Leader { term } => ("leader", Some(term), state.written),
+            Role::Follower => ("follower", None, state.last),
+        };
+        wire::Role {
+            role: role.into(),
+            term,
+            entry: state.saved,
+            lag: last.saturating_sub(state.saved),
+        }
     }
 
     /// Why the database can't be read or written, if it can't.

@@ -1,9 +1,11 @@
 //! The state: batches that make a store again, so that a start needn't repeat all entries.
 
-use super::database::Database;
+use super::database::{Database, ENTRIES};
 use super::error::{Error, Result};
+use crate::tokens::Tokens;
+use crate::volumes;
 use bestore::saved::Place;
-use bestore::{Batch, Pass};
+use bestore::{Batch, Operation, Pass, Written};
 
 /// A snapshot as it goes into the log.
 #[derive(Debug)]
@@ -39,4 +41,30 @@ pub async fn load(database: &mut Database, pass: &mut Pass) -> Result<u64> {
         return Err(Error::differs(last, "the state has another next node than it says"));
     }
     Ok(head.entries)
+}
+
+/// Adds the tokens of entries that the state contains. `entries` is the last one, and `commit` that of the state.
+pub async fn load_tokens(database: &Database, entries: u64, commit: u64, tokens: &Tokens) -> Result<()> {
+    let mut after = 0;
+    loop {
+        let found = database.entries_with_token(after, entries).await?;
+        for entry in &found {
+            after = entry.number;
+            let place = Place::Entry(entry.number);
+            let batch = Batch::from_bytes(&entry.batch).map_err(|error| Error::differs(place, error))?;
+            let made = batch.operations().filter_map(|operation| match operation {
+                Operation::NewNode { node } => Some(node),
+                _ => None,
+            });
+            let written = Written {
+                number: commit,
+                nodes: made.collect(),
+            };
+            let token = entry.token.as_deref().unwrap_or_default();
+            tokens.add(token.into(), volumes::shown(None, &written));
+        }
+        if found.len() < ENTRIES {
+            return Ok(());
+        }
+    }
 }

@@ -1,0 +1,103 @@
+"""Tests of writes that are sent again until a server answers. BESTORED names the program bestored; without it they are skipped."""
+
+import threading
+import time
+import unittest
+
+import bestore
+from bestore import connected
+from servers import BESTORED, PATIENCE, Server
+
+
+@unittest.skipUnless(BESTORED, "BESTORED names no bestored")
+class Repeats(unittest.TestCase):
+    """A server that is killed and started again while clients write."""
+
+    def setUp(self):
+        self.server = Server("--pages", 256, "--keep", "FOLDER/kept")
+        self.addCleanup(self.server.close)
+
+    def start_again(self):
+        self.server.kill()
+        self.server.start()
+
+    def connect(self, repeat=PATIENCE):
+        return self.server.connect(repeat=repeat)
+
+    def test_each_write_is_made_once(self):
+        """Four threads write by `apply` and by `change`, and the server is killed six times."""
+        writes, done = 24, []
+
+        def write(number):
+            with self.connect() as store:
+                for count in range(writes):
+                    if count % 2:
+                        store.apply(bestore.Batch().new_node())
+                    else:
+                        store.change(lambda change: change.new())
+                    done.append(number)
+
+        with self.connect() as store:
+            threads = [threading.Thread(target=write, args=[number]) for number in range(4)]
+            for thread in threads:
+                thread.start()
+            for _ in range(6):
+                before, until = len(done), time.monotonic() + PATIENCE
+                while len(done) == before < 4 * writes and time.monotonic() < until:
+                    time.sleep(0.001)
+                self.start_again()
+            for thread in threads:
+                thread.join(PATIENCE)
+            self.assertEqual(len(done), 4 * writes)
+            made = store.new_node()
+            self.assertEqual(made, 4 * writes + 1)
+
+    def test_numbers_of_an_earlier_run(self):
+        """A change whose server was started again between its pin and its commit runs again."""
+        runs = []
+
+        def change_it(change):
+            runs.append(change.number)
+            node = change.new()
+            if len(runs) == 1:
+                self.start_again()
+            return node
+
+        with self.connect() as store:
+            self.assertEqual(store.change(change_it), 1)
+            self.assertEqual(len(runs), 2)
+            self.assertEqual(store.new_node(), 2)
+
+    def test_what_would_be_lost_is_not(self):
+        """A pin and a watch end with the connection, so such a pass isn't connected again."""
+        with self.connect() as pinned, self.connect() as watching, self.connect() as other:
+            version, watch = pinned.pin(), watching.watch()
+            self.start_again()
+            for store in pinned, watching:
+                with self.assertRaises(connected.Disconnected):
+                    store.new_node()
+            self.assertEqual(other.new_node(), 1)
+            del version, watch
+
+    def test_given_up(self):
+        """A server that stays away."""
+        store = self.connect(repeat=0.2)
+        self.server.kill()
+        with self.assertRaises(connected.Disconnected):
+            store.new_node()
+
+    def test_without_it(self):
+        """Nobody has asked for it."""
+        store = self.server.connect()
+        self.start_again()
+        with self.assertRaises(connected.Disconnected):
+            store.new_node()
+
+    def test_times(self):
+        for repeat in 0, -1:
+            with self.assertRaisesRegex(ValueError, "can't be repeated"):
+                bestore.connect(self.server.path, repeat=repeat)
+
+
+if __name__ == "__main__":
+    unittest.main()

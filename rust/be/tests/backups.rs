@@ -1,0 +1,196 @@
+//! Backups of servers, also while others write; what is restored from them; and what is refused.
+
+use crate::common::{Said, Server};
+use bestore::saved::Options;
+use bestore::{Batch, ShelfPass};
+use bestore_client::Client;
+use serde_json::Value;
+use std::fs;
+use std::os::unix::fs::PermissionsExt;
+use std::path::{Path, PathBuf};
+use std::sync::atomic::{AtomicBool, AtomicU64, Ordering::SeqCst};
+use std::thread;
+
+/// How many clients write, each in a node of its own.
+const WRITERS: u64 = 4;
+
+/// How many backups are made meanwhile.
+const BACKUPS: u64 = 5;
+
+fn refused(said: &Said, why: &str) {
+    assert_eq!((said.status, said.out.as_str()), (1, ""), "{said:?}");
+    assert!(said.error.starts_with("be: ") && said.error.contains(why), "{said:?}");
+}
+
+/// The path of a file in the server's folder.
+fn file(server: &Server, name: &str) -> PathBuf {
+    server.socket().with_file_name(name)
+}
+
+fn text(path: &Path) -> &str {
+    path.to_str().unwrap()
+}
+
+/// Makes a backup, and returns what is said of it.
+fn back_up(server: &Server, path: &Path) -> Value {
+    serde_json::from_str(&server.done(&["backup", "--json", text(path)])).unwrap()
+}
+
+/// The line about the snapshot, and the lines that make it.
+fn dump(server: &Server) -> (Value, String) {
+    let said = server.done(&["dump"]);
+    let (about, batches) = said.split_once('\n').unwrap();
+    (serde_json::from_str(about).unwrap(), batches.into())
+}
+
+fn load(path: &Path) -> ShelfPass {
+    Options::new().load(path).unwrap().pass().unwrap()
+}
+
+#[test]
+fn a_backup_is_a_file_that_a_server_opens_and_another_restores() {
+    let server = server!(Server::with_three());
+    let path = file(&server, "backup");
+    let (about, batches) = dump(&server);
+    assert_eq!(back_up(&server, &path), about);
+    assert_eq!(about["batches"], batches.lines().count());
+    assert_eq!(fs::metadata(&path).unwrap().permissions().mode() & 0o7777, 0o600);
+
+    let copy = file(&server, "copy");
+    fs::copy(&path, &copy).unwrap();
+    let opened = server!(Server::start_with(&["--keep", text(&copy)]));
+    let (of_copy, batches_of_copy) = dump(&opened);
+    assert_eq!(batches_of_copy, batches);
+    assert_ne!(of_copy["run"], about["run"]);
+    // New nodes get the same numbers as they would have got there.
+    assert_eq!(opened.done(&["addattr", "--new", "name", "d"]), "4\n");
+
+    let restored = server!(Server::start());
+    let said = restored.done(&["restore", text(&path)]);
+    assert!(said.starts_with(&format!("{}: commit ", text(&path))), "{said}");
+    let (of_restored, batches_of_restored) = dump(&restored);
+    assert_eq!(batches_of_restored, batches);
+    assert_ne!(of_restored["run"], about["run"]);
+    refused(
+        &restored.be(&["restore", text(&path)]),
+        "the server's store isn't empty",
+    );
+}
+
+#[test]
+fn what_is_there_is_not_replaced() {
+    let server = server!(Server::with_three());
+    let names = || {
+        let names = fs::read_dir(server.socket().parent().unwrap()).unwrap();
+        let mut names: Vec<_> = names.map(|entry| entry.unwrap().file_name()).collect();
+        names.sort();
+        names
+    };
+    let path = file(&server, "there");
+    fs::write(&path, "mine").unwrap();
+    let before = names();
+    refused(&server.be(&["backup", text(&path)]), "exists, and isn't overwritten");
+    refused(&server.be(&["backup", "no/such/folder"]), "No such file");
+    assert_eq!(fs::read_to_string(&path).unwrap(), "mine");
+    assert_eq!(names(), before);
+}
+
+#[test]
+fn what_is_no_backup_is_not_restored() {
+    let server = server!(Server::start());
+    let path = file(&server, "other");
+    fs::write(&path, "no database").unwrap();
+    refused(&server.be(&["restore", text(&path)]), "the file is of another program");
+    refused(&server.be(&["restore", text(&file(&server, "none"))]), "none: ");
+    fs::write(&path, "").unwrap();
+    refused(&server.be(&["restore", text(&path)]), "the file is of another program");
+    assert_eq!(Client::connect(server.socket()).unwrap().status().unwrap().entries, 0);
+}
+
+#[test]
+fn several_volumes_are_a_folder() {
+    let options = ["--volumes", "3", "--pages", "256"];
+    let server = server!(Server::start_with(&options));
+    server.done(&["mkindex", "name"]);
+    let mut client = Client::connect(server.socket()).unwrap();
+    for volume in 0..3 {
+        client.apply_in(volume, Batch::new().new_node()).unwrap();
+        let node = u64::from(volume) * 100_000_000_000_000 + 1;
+        client.apply(Batch::new().set(node, "name", "a")).unwrap();
+    }
+    let path = file(&server, "backup");
+    let about = back_up(&server, &path);
+    assert_eq!(about["commits"], serde_json::json!([3, 3, 3]));
+    assert_eq!(load(&path).pin().unwrap().query("name==a").unwrap().len(), 3);
+    refused(&server.be(&["backup", text(&path)]), "exists, and isn't overwritten");
+
+    let restored = server!(Server::start_with(&options));
+    restored.done(&["restore", text(&path)]);
+    assert_eq!(dump(&restored).1, dump(&server).1);
+    let other = server!(Server::start());
+    refused(&other.be(&["restore", text(&path)]), "start a server with --volumes 3");
+}
+
+/// What the clients that write know: how many of each one's writes were answered.
+#[derive(Default)]
+struct Writers {
+    answered: [AtomicU64; WRITERS as usize],
+    is_over: AtomicBool,
+}
+
+impl Writers {
+    /// Makes the nodes of the writers. Returns the commit number before the first write.
+    fn begin(client: &mut Client) -> u64 {
+        let mut batch = Batch::new();
+        for node in 1..=WRITERS {
+            batch.new_node().set(node, "count", 0_u64);
+        }
+        client.apply(&batch).unwrap().number
+    }
+
+    /// Counts in the writer's node, one more with each write.
+    fn write(&self, socket: &Path, node: u64) {
+        let mut client = Client::connect(socket).unwrap();
+        let answered = &self.answered[node as usize - 1];
+        while !self.is_over.load(SeqCst) {
+            let count = answered.load(SeqCst) + 1;
+            client.apply(Batch::new().set(node, "count", count)).unwrap();
+            answered.store(count, SeqCst);
+        }
+    }
+
+    /// Makes a backup while they write: it is the state of the commit that it says, and has all that was answered before.
+    fn check_backup(&self, server: &Server, path: &Path, begin: u64) {
+        let before: Vec<_> = self.answered.iter().map(|count| count.load(SeqCst)).collect();
+        let about = back_up(server, path);
+        let mut pass = load(path);
+        let snapshot = pass.pin().unwrap();
+        let counts = (1..=WRITERS).map(|node| snapshot.get(node, "count").unwrap().unwrap().as_u64().unwrap());
+        let counts: Vec<_> = counts.collect();
+        // Each write is one commit and counts one more.
+        assert_eq!(about["commit"], begin + counts.iter().sum::<u64>());
+        assert!(counts.iter().zip(&before).all(|(count, before)| count >= before));
+    }
+}
+
+fn back_up_under_writers(options: &[&str]) {
+    let server = server!(Server::start_with(options));
+    let begin = Writers::begin(&mut Client::connect(server.socket()).unwrap());
+    let writers = Writers::default();
+    thread::scope(|scope| {
+        for node in 1..=WRITERS {
+            let (writers, socket) = (&writers, server.socket());
+            scope.spawn(move || writers.write(&socket, node));
+        }
+        for number in 0..BACKUPS {
+            writers.check_backup(&server, &file(&server, &format!("backup{number}")), begin);
+        }
+        writers.is_over.store(true, SeqCst);
+    });
+}
+
+#[test]
+fn a_backup_is_the_state_of_one_commit_while_others_write() {
+    back_up_under_writers(&["--keep", "kept"]);
+    back_up_under_writers(&["--pages", "1024"]);
+}

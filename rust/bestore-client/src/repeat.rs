@@ -1,0 +1,100 @@
+//! Writes that are sent again on a new connection until one of them is answered.
+
+use crate::wire::{self, Command, Hello, Token};
+use crate::{Client, Error, Result};
+use std::process;
+use std::sync::atomic::{AtomicU64, Ordering};
+use std::thread;
+use std::time::{Duration, Instant, SystemTime};
+
+/// How often a write that the server can't keep now is sent again.
+const AGAIN: Duration = Duration::from_millis(50);
+
+/// A token that no other write has: of this machine's time, process and count.
+fn new_token() -> Option<Token> {
+    static LAST: AtomicU64 = AtomicU64::new(0);
+    let time = SystemTime::UNIX_EPOCH.elapsed().unwrap_or_default().as_nanos();
+    let number = LAST.fetch_add(1, Ordering::Relaxed);
+    Token::new(format!("{time:x}-{:x}-{number:x}", process::id()))
+}
+
+/// Whether the same write may succeed later.
+fn is_passing(error: &Error) -> bool {
+    match error {
+        Error::Io(_) | Error::Closed | Error::TimedOut(_) => true,
+        error => ["NotSaved", "Stopped", "NoPass"].iter().any(|name| error.is(name)),
+    }
+}
+
+impl Client {
+    /// Which run of the server the client has last connected to, if [`hello`](Self::hello) was called. Commit numbers begin anew
+    /// with each run.
+    #[must_use]
+    pub fn run(&self) -> Option<&str> {
+        self.run.as_deref()
+    }
+
+    /// When writes that begin now are given up, if they are repeated at all.
+    pub(crate) fn repeats_until(&self) -> Option<Instant> {
+        self.options.repeat.map(|time| Instant::now() + time)
+    }
+
+    /// Whether the call may be made again after this error, before that time: on this connection, or on a new one that this makes. A
+    /// client with live queries stays as it is, since these would be lost.
+    pub(crate) fn may_repeat(&mut self, error: &Error, until: Option<Instant>) -> bool {
+        let until = match until {
+            Some(until) if is_passing(error) && !self.has_watches && Instant::now() < until => until,
+            _ => return false,
+        };
+        thread::sleep(AGAIN.min(until.saturating_duration_since(Instant::now())));
+        error.refusal().is_some() && !error.is("NoPass") || self.connect_again(until)
+    }
+
+    /// Connects to the same socket. Returns whether it did before that time.
+    fn connect_again(&mut self, until: Instant) -> bool {
+        while Instant::now() < until {
+            let mut options = self.options;
+            options.wait(until.saturating_duration_since(Instant::now()));
+            let connected = match &self.socket {
+                Some(socket) => options.connect(socket.clone()),
+                None => return false,
+            };
+            match connected {
+                Ok(client) => {
+                    self.continue_as(client);
+                    return true;
+                }
+                Err(error) if is_passing(&error) => thread::sleep(AGAIN),
+                Err(_) => return false,
+            }
+        }
+        false
+    }
+
+    /// Greets a server that the client has just connected to, if its run has to be known.
+    pub(crate) fn greet_if_repeating(&mut self) -> Result<()> {
+        match self.options.repeat {
+            None => Ok(()),
+            Some(_) => self.hello().map(drop),
+        }
+    }
+
+    pub(crate) fn greeted(&mut self, hello: Hello) -> Hello {
+        self.run = Some(hello.run.clone());
+        hello
+    }
+
+    /// Writes once: with a token, if it may have to be sent again.
+    pub(crate) fn write_until(&mut self, mut write: wire::Write, until: Option<Instant>) -> Result<wire::Written> {
+        if until.is_some() {
+            write.token = new_token();
+            write.run = write.expected.as_ref().and(self.run.clone());
+        }
+        loop {
+            match self.call(Command::Batch(write.clone())) {
+                Err(error) if self.may_repeat(&error, until) => {}
+                answer => return answer,
+            }
+        }
+    }
+}

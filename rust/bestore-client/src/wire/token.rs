@@ -1,0 +1,54 @@
+//! Tokens of batches.
+
+use serde::de::{self, Deserialize, Deserializer};
+use serde::Serialize;
+
+/// The most bytes of a token.
+const MOST: usize = 64;
+
+/// A text of 1 to 64 bytes by which a batch can be sent again. The client chooses it, and another one for each batch.
+#[derive(Clone, Debug, PartialEq, Eq, Serialize)]
+#[serde(transparent)]
+pub struct Token(String);
+
+impl Token {
+    /// Makes a token of the text. `None`: it has no bytes, or more than 64.
+    #[must_use]
+    pub fn new(text: impl Into<String>) -> Option<Self> {
+        let text = text.into();
+        (1..=MOST).contains(&text.len()).then_some(Self(text))
+    }
+
+    /// The text.
+    #[must_use]
+    pub fn as_str(&self) -> &str {
+        &self.0
+    }
+}
+
+impl<'de> Deserialize<'de> for Token {
+    fn deserialize<D: Deserializer<'de>>(from: D) -> Result<Self, D::Error> {
+        let text = String::deserialize(from)?;
+        let length = text.len();
+        Self::new(text)
+            .ok_or_else(|| de::Error::custom(format!("a token has 1 to {MOST} bytes; this one has {length}")))
+    }
+}
+
+#[cfg(test)]
+mod tests {
+    use super::*;
+
+    #[test]
+    fn a_token_has_1_to_64_bytes() {
+        for (length, is_good) in [(0, false), (1, true), (64, true), (65, false)] {
+            assert_eq!(Token::new("a".repeat(length)).is_some(), is_good, "{length}");
+            let line = format!("\"{}\"", "a".repeat(length));
+            assert_eq!(serde_json::from_str::<Token>(&line).is_ok(), is_good, "{length}");
+        }
+        let error = serde_json::from_str::<Token>(&format!("\"{}\"", "ä".repeat(33))).unwrap_err();
+        assert!(error
+            .to_string()
+            .starts_with("a token has 1 to 64 bytes; this one has 66"));
+    }
+}

@@ -1,0 +1,188 @@
+#!/usr/bin/env python3
+"""Backups of a server that eight processes write to: is each the state of one commit, and what do the writers notice?
+
+usage: backups.py FOLDER    the folder with bestored and be, such as rust/target/release
+
+It makes a store of 60,000 nodes in five volumes, in a new folder, measures how long writes take, and measures again while `be backup`
+runs 50 times. Each backup is opened: in each volume the counters, of which each write moves one, have to give the commit number, and
+none may be lower than what was replied to before the backup began. PYTHONPATH names the folder of the package bestore. It exits with 1 if a backup is wrong, or
+if the 99th percentile of the writes grows to more than three times what it was.
+"""
+from __future__ import annotations
+
+import json
+import multiprocessing
+import shutil
+import subprocess
+import sys
+import tempfile
+import time
+from multiprocessing.sharedctypes import Synchronized
+from pathlib import Path
+from typing import Any, List, NamedTuple, cast
+
+import bestore
+from bestore import Batch, saved
+
+NODES = 60_000
+WRITERS = 8
+BACKUPS = 50
+ALONE = 10.0
+"""How many seconds the writers write before the backups begin."""
+MOST_GROWTH = 3.0
+PAGES = 16_384
+VOLUMES = 5
+STEP = 16
+"""How many nodes a batch makes."""
+
+
+def node_in(volume: int, number: int) -> int:
+    """The node with this number in the volume."""
+    return volume * 10**14 + number
+
+
+def counted_by(writer: int) -> int:
+    """The node of a writer, from 0 on. Writers take turns among the volumes."""
+    return node_in(writer % VOLUMES, writer // VOLUMES + 1)
+
+
+def counter() -> Synchronized[int]:
+    """A number that processes share."""
+    return cast("Synchronized[int]", multiprocessing.Value("Q", 0))
+
+
+class Shared(NamedTuple):
+    """What the writers share with this process."""
+
+    answered: List[Synchronized[int]]
+    is_over: Synchronized[int]
+    times: "multiprocessing.Queue[List[float]]"
+
+
+def write(socket: str, shared: Shared, writer: int) -> None:
+    """Counts in the writer's node, one more with each write, and says how long each took."""
+    answered, node = shared.answered[writer], counted_by(writer)
+    times: List[float] = []
+    with bestore.connect(socket) as store:
+        while not shared.is_over.value:
+            count = answered.value + 1
+            begin = time.perf_counter()
+            store.set(node, "count", count)
+            times.append(time.perf_counter() - begin)
+            answered.value = count
+    shared.times.put(times)
+
+
+def percentile(times: List[float], part: float) -> float:
+    """In milliseconds."""
+    return sorted(times)[int(len(times) * part)] * 1000
+
+
+def fill(socket: str) -> List[int]:
+    """Makes the nodes. Returns the commit number of each volume."""
+    with bestore.connect(socket) as store:
+        store.make_index("name", bestore.Kind.STRING)
+        for number in range(NODES // STEP):
+            volume, first = number % VOLUMES, number // VOLUMES * STEP + 1
+            batch = Batch()
+            for node in range(first, first + STEP):
+                batch.new_node()
+                batch.set(node_in(volume, node), "name", f"file {node}")
+                batch.set(node_in(volume, node), "count", 0)
+                batch.set(node_in(volume, node), "text", "some words " * 3)
+            store.apply(batch, volume=volume)
+        with store.pin() as version:
+            return list(version.numbers)
+
+
+class Writing:
+    """Writers that run within a `with`. `times` has how long their writes took."""
+
+    def __init__(self, socket: str, answered: List[Synchronized[int]]) -> None:
+        self.shared = Shared(answered, counter(), multiprocessing.Queue())
+        self._processes = [
+            multiprocessing.Process(target=write, args=(socket, self.shared, writer)) for writer in range(WRITERS)]
+        self.times: List[float] = []
+
+    def __enter__(self) -> Writing:
+        for process in self._processes:
+            process.start()
+        return self
+
+    def __exit__(self, *error: object) -> None:
+        self.shared.is_over.value = 1
+        for _ in self._processes:
+            self.times += self.shared.times.get(timeout=60)
+        for process in self._processes:
+            process.join(60)
+
+
+def check(path: Path, about: Any, begin: List[int], before: List[int]) -> None:
+    """Fails unless the backup is the state of its commit, in each volume, and has what was replied to before."""
+    with saved.open_shelf(path, pages=PAGES) as store, store.pin() as version:
+        found = version.column(map(counted_by, range(WRITERS)), "count")
+        counts = [int(value) for value in found if isinstance(value, int)]
+        if any(count < answered for count, answered in zip(counts, before)):
+            raise SystemExit(f"{path}: {counts}, of {before} that were replied to")
+        for volume, commit in enumerate(about["commits"]):
+            made = sum(counts[volume::VOLUMES])
+            if made != commit - begin[volume]:
+                raise SystemExit(f"{path}: {made} writes to volume {volume}, and commit {commit} after {begin[volume]}")
+        nodes = sum(1 for _ in version)
+        if nodes != NODES:
+            raise SystemExit(f"{path}: it has {nodes} nodes")
+
+
+def back_up(programs: Path, socket: str, path: Path) -> Any:
+    """Makes a backup, and returns what is said of it."""
+    said = subprocess.run(
+        [programs / "be", "--socket", socket, "backup", "--json", path], check=True, stdout=subprocess.PIPE)
+    return json.loads(said.stdout)
+
+
+def measure(programs: Path, folder: Path, socket: str) -> float:
+    """Prints the figures, and returns how much the writes' 99th percentile grows."""
+    begin = fill(socket)
+    answered = [counter() for _ in range(WRITERS)]
+    with Writing(socket, answered) as alone:
+        time.sleep(ALONE)
+    seconds = []
+    with Writing(socket, answered) as beside:
+        for number in range(BACKUPS):
+            before = [count.value for count in answered]
+            path, started = folder / f"backup{number}", time.perf_counter()
+            about = back_up(programs, socket, path)
+            seconds.append(time.perf_counter() - started)
+            check(path, about, begin, before)
+            shutil.rmtree(path)
+    for what, writing in [("alone", alone), ("beside backups", beside)]:
+        middle, high = (percentile(writing.times, part) for part in (0.5, 0.99))
+        print(f"{what}: {len(writing.times)} writes, p50 {middle:.2f} ms, p99 {high:.2f} ms")
+    print(f"{BACKUPS} backups of {NODES} nodes: {min(seconds):.2f} to {max(seconds):.2f} s each")
+    return percentile(beside.times, 0.99) / percentile(alone.times, 0.99)
+
+
+def main() -> None:
+    if len(sys.argv) != 2 or sys.argv[1].startswith("-"):
+        raise SystemExit(__doc__)
+    programs = Path(sys.argv[1]).resolve()
+    with tempfile.TemporaryDirectory() as name:
+        folder = Path(name)
+        socket = str(folder / "socket")
+        server = subprocess.Popen(
+            [programs / "bestored", "--socket", socket, "--keep", folder / "kept", "--pages", str(PAGES), "--volumes",
+             str(VOLUMES)])
+        try:
+            while not (folder / "socket").exists() and server.poll() is None:
+                time.sleep(0.05)
+            growth = measure(programs, folder, socket)
+        finally:
+            server.terminate()
+            server.wait(60)
+    print(f"the writes' p99 is {growth:.2f} times what it was")
+    if growth > MOST_GROWTH:
+        raise SystemExit(1)
+
+
+if __name__ == "__main__":
+    main()

@@ -1,0 +1,99 @@
+//! What the service manager gets to know: that the server is ready, that it lives, and that it ends. See sd_notify(3).
+
+use crate::os;
+use std::env;
+use std::ffi::OsString;
+use std::time::{Duration, Instant};
+
+/// How much longer the start may take from a message on, while the server waits for a database.
+const EXTENSION: Duration = Duration::from_secs(30);
+
+/// Who is told, if anybody is.
+#[derive(Debug)]
+pub struct Notifier {
+    socket: Option<OsString>,
+    /// How often the watchdog gets to know that the server lives.
+    every: Option<Duration>,
+    last: Instant,
+}
+
+/// How often a watchdog that waits so many µs gets a message. `process` is the one that it watches, if it says so.
+fn interval(wait: Option<&str>, process: Option<&str>, own: u32) -> Option<Duration> {
+    let wait: u64 = wait?.parse().ok()?;
+    let is_own = process.map_or(true, |process| process.parse() == Ok(own));
+    (is_own && wait > 0).then(|| Duration::from_micros(wait) / 3)
+}
+
+impl Notifier {
+    /// As the environment of the process says.
+    pub fn of_environment() -> Self {
+        let text = |name| env::var(name).ok();
+        let (wait, process) = (text("WATCHDOG_USEC"), text("WATCHDOG_PID"));
+        let socket = env::var_os("NOTIFY_SOCKET").filter(|socket| !socket.is_empty());
+        Self {
+            every: socket
+                .as_ref()
+                .and_then(|_| interval(wait.as_deref(), process.as_deref(), std::process::id())),
+            socket,
+            last: Instant::now(),
+        }
+    }
+
+    fn send(&self, text: &str) {
+        if let Some(socket) = &self.socket {
+            if let Err(error) = os::send_datagram(socket, text.as_bytes()) {
+                eprintln!("bestored: the service manager at NOTIFY_SOCKET can't be reached: {error}");
+            }
+        }
+    }
+
+    /// The server listens.
+    pub fn ready(&self) {
+        self.send("READY=1\nSTATUS=listens");
+    }
+
+    /// The server waits for something before it can listen.
+    #[cfg_attr(not(feature = "log"), allow(dead_code))]
+    pub fn waits(&self, why: &str) {
+        let more = EXTENSION.as_micros();
+        let why = why.lines().next().unwrap_or_default();
+        self.send(&format!("EXTEND_TIMEOUT_USEC={more}\nSTATUS={why}"));
+    }
+
+    /// The server lives. Returns when this is to be said again.
+    pub fn lives(&mut self) -> Option<Duration> {
+        let every = self.every?;
+        if self.last.elapsed() >= every {
+            self.last = Instant::now();
+            self.send("WATCHDOG=1");
+        }
+        Some(every.saturating_sub(self.last.elapsed()))
+    }
+
+    /// The server ends.
+    pub fn ends(&self) {
+        self.send("STOPPING=1");
+    }
+}
+
+#[cfg(test)]
+mod tests {
+    use super::*;
+
+    #[test]
+    fn a_watchdog_is_told_if_it_watches_this_process() {
+        let third = Some(Duration::from_millis(100));
+        assert_eq!(interval(Some("300000"), None, 7), third);
+        assert_eq!(interval(Some("300000"), Some("7"), 7), third);
+        for (wait, process) in [
+            (None, None),
+            (Some("0"), None),
+            (Some("-1"), None),
+            (Some("a"), None),
+            (Some("300000"), Some("8")),
+            (Some("300000"), Some("")),
+        ] {
+            assert_eq!(interval(wait, process, 7), None, "{wait:?} {process:?}");
+        }
+    }
+}

@@ -1,0 +1,179 @@
+//! The tokens of writes: a batch that comes again with its token isn't written again, and gets the first reply.
+
+use bestore::saved::TOKENS;
+use bestore_client::wire::Written;
+use std::collections::{HashMap, VecDeque};
+use std::sync::{Arc, Condvar, Mutex, MutexGuard, PoisonError};
+
+/// What is known of the write with a token.
+#[derive(Debug)]
+enum Known {
+    /// A connection writes it now.
+    Writing,
+    /// It is in memory, and may be on its way into the file or the log.
+    Made(Written),
+}
+
+#[derive(Debug, Default)]
+struct Table {
+    known: HashMap<Arc<str>, Known>,
+    /// The tokens of what was made, in that order.
+    made: VecDeque<Arc<str>>,
+    most: usize,
+}
+
+/// The tokens of the last writes that had one, 65,536 of each volume.
+#[derive(Debug)]
+pub struct Tokens {
+    table: Mutex<Table>,
+    changed: Condvar,
+}
+
+/// How a write with a token begins.
+#[derive(Debug)]
+pub enum Begun<'a> {
+    /// It is to be made.
+    First(Writing<'a>),
+    /// It was made before.
+    Repeated(Written),
+}
+
+/// A write that is being made. If it is dropped before that, the token is as good as new.
+#[derive(Debug)]
+pub struct Writing<'a> {
+    tokens: &'a Tokens,
+    token: Arc<str>,
+    is_made: bool,
+}
+
+impl Tokens {
+    /// For a server with so many volumes.
+    pub fn new(volumes: usize) -> Self {
+        let tokens = Self {
+            table: Mutex::default(),
+            changed: Condvar::new(),
+        };
+        tokens.make_room(volumes);
+        tokens
+    }
+
+    /// Remembers as many tokens as a server with so many volumes does.
+    pub fn make_room(&self, volumes: usize) {
+        self.lock().most = TOKENS * volumes.max(1);
+    }
+
+    fn lock(&self) -> MutexGuard<'_, Table> {
+        self.table.lock().unwrap_or_else(PoisonError::into_inner)
+    }
+
+    /// Begins the write with this token. While another connection makes it, this waits for its outcome.
+    pub fn begin(&self, token: &str) -> Begun<'_> {
+        let mut table = self.lock();
+        loop {
+            match table.known.get(token) {
+                Some(Known::Made(written)) => return Begun::Repeated(written.clone()),
+                Some(Known::Writing) => table = self.changed.wait(table).unwrap_or_else(PoisonError::into_inner),
+                None => break,
+            }
+        }
+        let token: Arc<str> = token.into();
+        table.known.insert(token.clone(), Known::Writing);
+        Begun::First(Writing {
+            tokens: self,
+            token,
+            is_made: false,
+        })
+    }
+
+    /// Adds a write that was made: by an earlier run, or by another server.
+    pub fn add(&self, token: Arc<str>, written: Written) {
+        let mut table = self.lock();
+        if let Some(Known::Made(_)) = table.known.insert(token.clone(), Known::Made(written)) {
+            return;
+        }
+        table.made.push_back(token);
+        if table.made.len() > table.most {
+            if let Some(oldest) = table.made.pop_front() {
+                table.known.remove(&oldest);
+            }
+        }
+        self.changed.notify_all();
+    }
+}
+
+impl Writing<'_> {
+    /// It is in memory.
+    pub fn made(&mut self, written: Written) {
+        self.is_made = true;
+        self.tokens.add(self.token.clone(), written);
+    }
+}
+
+impl Drop for Writing<'_> {
+    fn drop(&mut self) {
+        if !self.is_made {
+            self.tokens.lock().known.remove(&self.token);
+            self.tokens.changed.notify_all();
+        }
+    }
+}
+
+#[cfg(test)]
+mod tests {
+    use super::*;
+    use std::thread;
+
+    fn written(commit: u64) -> Written {
+        Written {
+            commit,
+            ..Written::default()
+        }
+    }
+
+    fn commit_of(tokens: &Tokens, token: &str) -> Option<u64> {
+        match tokens.begin(token) {
+            Begun::First(_) => None,
+            Begun::Repeated(written) => Some(written.commit),
+        }
+    }
+
+    #[test]
+    fn what_was_made_is_known_and_what_was_not_is_new() {
+        let tokens = Tokens::new(1);
+        assert_eq!(commit_of(&tokens, "a"), None);
+        assert_eq!(commit_of(&tokens, "a"), None);
+        match tokens.begin("a") {
+            Begun::First(mut writing) => writing.made(written(7)),
+            Begun::Repeated(_) => panic!("it is new"),
+        }
+        assert_eq!(commit_of(&tokens, "a"), Some(7));
+        assert_eq!(commit_of(&tokens, "b"), None);
+    }
+
+    #[test]
+    fn the_last_65536_are_known() {
+        let tokens = Tokens::new(1);
+        for number in 0..=65_536 {
+            tokens.add(number.to_string().into(), written(number));
+        }
+        assert_eq!(commit_of(&tokens, "0"), None);
+        assert_eq!(commit_of(&tokens, "1"), Some(1));
+        assert_eq!(commit_of(&tokens, "65536"), Some(65_536));
+    }
+
+    #[test]
+    fn who_repeats_early_waits_for_the_outcome() {
+        let tokens = &Tokens::new(1);
+        thread::scope(|scope| {
+            let writing = tokens.begin("a");
+            let repeating: Vec<_> = (0..4).map(|_| scope.spawn(|| commit_of(tokens, "a"))).collect();
+            match writing {
+                Begun::First(mut writing) => writing.made(written(7)),
+                Begun::Repeated(_) => panic!("it is new"),
+            }
+            for one in repeating {
+                assert_eq!(one.join().unwrap(), Some(7));
+            }
+        });
+    }
+}

@@ -1,0 +1,92 @@
+//! Writes: batches that clients send, and those that they send again.
+
+use crate::answer::View;
+use crate::failure::Failure;
+use crate::server::Shared;
+use crate::tokens::Begun;
+use crate::volumes;
+use bestore::Error;
+use bestore_client::wire::{self, Numbers, Token};
+
+/// Writes a batch, unless one with its token was written before.
+pub fn write(shared: &Shared, mut write: wire::Write, view: &mut View<'_, '_>) -> Result<wire::Written, Failure> {
+    let wire::Operations { batch, count } = &mut write.operations;
+    if *count > batch.len() {
+        return Err(Error::BadCount { count: *count }.into());
+    }
+    let mut written = match write.token.take() {
+        None => write_now(shared, &write, view, |_| ())?,
+        Some(token) => {
+            batch.set_token(token.as_str());
+            write_once(shared, &token, &write, view)?
+        }
+    };
+    written.entry = shared.kept.entry(written.commit);
+    Ok(written)
+}
+
+fn write_once(
+    shared: &Shared,
+    token: &Token,
+    write: &wire::Write,
+    view: &mut View<'_, '_>,
+) -> Result<wire::Written, Failure> {
+    if volumes::is_for_all(write, view.volumes()) {
+        let why = "a batch that is written in each volume takes no token; it can be sent again without one";
+        return Err(Failure::bad_request(why));
+    }
+    match shared.tokens.begin(token.as_str()) {
+        Begun::First(mut first) => write_now(shared, write, view, |made| first.made(made)),
+        Begun::Repeated(written) => {
+            // It may be in memory alone.
+            shared.kept.flush_if_each()?;
+            Ok(wire::Written {
+                repeated: true,
+                ..written
+            })
+        }
+    }
+}
+
+/// Writes a batch. `made` gets what was written once it is in memory, unless it is written in each volume.
+fn write_now(
+    shared: &Shared,
+    write: &wire::Write,
+    view: &mut View<'_, '_>,
+    made: impl FnMut(wire::Written),
+) -> Result<wire::Written, Failure> {
+    let measured = shared.meter.begin();
+    check_run(shared, write, view)?;
+    shared.kept.check_room()?;
+    let written = match volumes::is_for_all(write, view.volumes()) {
+        true => view.read(|snapshot| volumes::write_indices(snapshot, &write.operations.batch)),
+        false => volumes::write(&shared.pressure, view, write, made),
+    };
+    // Some volumes may have been written before another one refused.
+    shared.watcher.written();
+    match &written {
+        Ok(_) => measured.is_done(),
+        Err(_) => shared.kept.end_if_failed(),
+    }
+    written
+}
+
+/// Refuses a batch that is for another run of the server.
+fn check_run(shared: &Shared, write: &wire::Write, view: &View<'_, '_>) -> Result<(), Failure> {
+    match &write.run {
+        Some(run) if *run != shared.run => {}
+        _ => return Ok(()),
+    }
+    let expected = match &write.expected {
+        Some(Numbers::One(number)) => *number,
+        Some(Numbers::Each(numbers)) => numbers.iter().fold(0, |sum: u64, number| sum.saturating_add(*number)),
+        None => 0,
+    };
+    let found: u64 = view.status()?.iter().map(|status| status.entries).sum();
+    let failure = Failure::new(
+        "Conflict",
+        "the server was started again, and commit numbers begin anew",
+    );
+    let failure = failure.numbered(76).with("expected", expected).with("found", found);
+    Err(failure.with("run", shared.run.clone()))
+}

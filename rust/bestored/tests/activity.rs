@@ -1,0 +1,161 @@
+//! What goes on in a server: `info`, `clients`, `kick`, and what it says on standard error.
+
+use crate::common::{command, wait_until, Folder, Server};
+use bestore::Batch;
+use bestore_client::{Client, Error};
+use std::fs::{self, File};
+use std::path::PathBuf;
+use std::process;
+
+/// A server that says what it says into a file.
+struct Saying {
+    _folder: Folder,
+    server: Server,
+    said: PathBuf,
+}
+
+impl Saying {
+    fn start(options: &[&str]) -> Self {
+        let folder = Folder::new();
+        let (socket, said) = (folder.join("socket"), folder.join("said"));
+        let mut command = command(&socket, options);
+        command.stderr(File::create(&said).unwrap());
+        let server = Server::run(command, &socket);
+        assert!(server.answers());
+        Self {
+            _folder: folder,
+            server,
+            said,
+        }
+    }
+
+    /// Waits until there is a line with this text.
+    #[track_caller]
+    fn says(&self, text: &str) {
+        wait_until(text, || fs::read_to_string(&self.said).unwrap().contains(text));
+    }
+}
+
+fn make(client: &mut Client, count: u64) {
+    for _ in 0..count {
+        client.apply(Batch::new().new_node()).unwrap();
+    }
+}
+
+#[test]
+fn what_is_written_is_counted() {
+    let folder = Folder::new();
+    let keep = folder.join("kept");
+    let server = Server::start(&folder, &["--keep", keep.to_str().unwrap()]);
+    let mut client = server.client();
+    let before = client.info().unwrap();
+    assert_eq!(
+        (before.writes, before.writing, before.latency, before.oldest),
+        (0, 0, None, None)
+    );
+    make(&mut client, 20);
+    assert!(client.apply(Batch::new().remove_node(99)).is_err());
+    let after = client.info().unwrap();
+    assert_eq!(
+        (after.writes, after.writing, &after.run),
+        (20, 0, &client.hello().unwrap().run)
+    );
+    assert_eq!(after.requests, before.requests + 22);
+    assert_eq!(after.pages, before.pages);
+    let files = after.files.unwrap();
+    assert!(files.bytes > 0 && files.wal_bytes > 0 && after.log.is_none());
+}
+
+#[test]
+fn a_rate_is_of_the_last_seconds() {
+    let folder = Folder::new();
+    let server = Server::start(&folder, &[]);
+    let mut client = server.client();
+    make(&mut client, 200);
+    let info = client.info().unwrap();
+    let latency = info.latency.unwrap();
+    assert!(latency.p50 <= latency.p99 && latency.p99 <= latency.most);
+    assert!(info.seconds >= 9 || info.writes_per_second * (info.seconds + 1) >= 200 - info.seconds);
+    assert_eq!(info.files, None);
+}
+
+#[test]
+fn who_keeps_a_snapshot_is_named_and_can_be_ended() {
+    let folder = Folder::new();
+    let server = Server::start(&folder, &["--volumes", "2"]);
+    let (mut holder, mut client) = (server.client(), server.client());
+    let pinned = holder.pin().unwrap();
+    make(&mut client, 3);
+    let info = client.info().unwrap();
+    let oldest = info.oldest.unwrap();
+    assert_eq!((oldest.process, oldest.commit), (Some(process::id()), 0));
+    assert!(oldest.milliseconds.is_some() && oldest.volume.is_some());
+
+    let clients = client.clients().unwrap();
+    let [held, own] = [&clients[clients.len() - 2], &clients[clients.len() - 1]];
+    assert_eq!(oldest.client, Some(held.client));
+    assert_eq!(held.pinned.as_ref().unwrap().commit, pinned.commit);
+    assert_eq!((held.process, held.requests, held.own), (process::id(), 0, false));
+    assert_eq!(
+        (own.own, own.command.as_deref(), &own.pinned),
+        (true, Some("clients"), &None)
+    );
+
+    client.kick(held.client).unwrap();
+    assert!(matches!(holder.unpin(), Err(Error::Closed)));
+    wait_until("the snapshot is given back", || client.info().unwrap().oldest.is_none());
+    let gone = client.kick(held.client).unwrap_err();
+    assert!(gone.is("NoClient"), "{gone}");
+}
+
+#[test]
+fn a_client_that_waits_is_shown_and_ended_too() {
+    let folder = Folder::new();
+    let server = Server::start(&folder, &[]);
+    let (mut waiting, mut client) = (server.talk(), server.client());
+    waiting.send(b"{\"id\":1,\"reach\":{\"commit\":5,\"within\":60000}}\n");
+    let mut found = None;
+    wait_until("it waits", || {
+        let mut clients = client.clients().unwrap().into_iter();
+        found = clients.find(|client| client.command.as_deref() == Some("reach"));
+        found.is_some()
+    });
+    client.kick(found.unwrap().client).unwrap();
+    assert_eq!(waiting.line(), "");
+}
+
+#[test]
+fn the_server_says_when_it_starts_refuses_and_is_slow() {
+    let saying = Saying::start(&["--passes", "1", "--slow", "1"]);
+    let mut client = saying.server.patient_client();
+    let run = client.hello().unwrap().run;
+    saying.says(&format!(
+        "bestored: run {run} listens at {}",
+        saying.server.socket().display()
+    ));
+
+    let refused = saying.server.client().status().unwrap_err();
+    assert!(refused.is("NoPass"));
+    saying.says(&format!(
+        "bestored: process {} is refused: 1 clients are connected",
+        process::id()
+    ));
+
+    client
+        .apply(Batch::new().make_index("size", bestore::Kind::Int64))
+        .unwrap();
+    for first in (1..2_000).step_by(32) {
+        let mut batch = Batch::new();
+        for node in first..first + 32 {
+            batch.new_node().set(node, "size", 1_i64);
+        }
+        client.apply(&batch).unwrap();
+    }
+    let text = format!(" (process {}) took ", process::id());
+    wait_until("a query is slow", || {
+        client.query("size==1").unwrap();
+        let said = fs::read_to_string(&saying.said).unwrap();
+        said.lines()
+            .any(|line| line.starts_with("bestored: query of client ") && line.contains(&text))
+    });
+}
