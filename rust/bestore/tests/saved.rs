@@ -415,7 +415,10 @@ fn a_file_that_differs_is_refused_with_the_entry() {
 fn numbered(path: &Path, entries: i64) {
     three(path);
     saved::open(path).unwrap().close().unwrap();
-    sql(path, &format!("UPDATE about SET number = {entries} WHERE what = 'entries'"));
+    sql(
+        path,
+        &format!("UPDATE about SET number = {entries} WHERE what = 'entries'"),
+    );
 }
 
 #[test]
