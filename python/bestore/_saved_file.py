@@ -17,6 +17,8 @@ APPLICATION = 0x62657374
 FORMAT = 1
 """The version of the format."""
 
+_LAST_NUMBER = 2**63 - 1  # of an entry: SQLite's integers end there
+
 # The WAL is written from its start again after 1,000 pages, 4.1 MB, so the limit cuts off only what a large commit has left. The
 # last two take the lock.
 _SETTINGS = (
@@ -145,6 +147,15 @@ class File:
         if not (isinstance(entries, int) and isinstance(next_node, int) and entries >= 0 and next_node >= 0):
             raise Differs(self.path, "the file doesn't say what its state contains")
         return About(entries, next_node)
+
+    def commits_within(self, commits: int) -> int:
+        """How many of these transactions a store of this file may accept, so that each entry has a number. Counts those that
+        make the state. 0 if no number is left and the state has nothing."""
+        left = _LAST_NUMBER - self.about().entries
+        if left >= commits:
+            return commits
+        with self._translated():
+            return min(commits, left + int(self._number("SELECT count(*) FROM state")))
 
     def state(self) -> Iterator[Tuple[int, bytes]]:
         """Each batch of the state, in their order, with its index."""

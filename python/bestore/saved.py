@@ -38,7 +38,7 @@ from ._saved_errors import (
 from ._saved_file import File, Row
 from ._saved_line import Line, Turn
 from ._saved_rows import Repeater
-from .errors import BadLimits, Error
+from .errors import BadLimits, CommitsSpent, Error
 from .operations import Batch
 from .store import PASSES
 
@@ -324,6 +324,10 @@ def open(path: Union[str, bytes, "os.PathLike[Any]"], pages: int = 4096, passes:
         own = opened.enter_context(_local.open(pages, passes + 1, commits))
         file = File(os.fsdecode(path))
         opened.callback(file.close)
+        most = file.commits_within(commits)
+        if most < commits:
+            own.close()
+            own = opened.enter_context(_few_commits(file, pages, passes + 1, most))
         last = _load(file, own)
         has_entries = last != file.about().entries
         saver = _Saver(file, own, last, every)
@@ -334,6 +338,14 @@ def open(path: Union[str, bytes, "os.PathLike[Any]"], pages: int = 4096, passes:
         store = Saved(saver)
         opened.pop_all()
     return store
+
+
+def _few_commits(file: File, pages: int, passes: int, commits: int) -> _local.LocalPass:
+    """A store for a file with few numbers left for entries. `TooLarge` if it couldn't accept even one transaction."""
+    if commits == 0:
+        spent = CommitsSpent()
+        raise refused(file.path, spent, entry=file.about().entries) from spent
+    return _local.open(pages, passes, commits)
 
 
 class SavedShelf(_shelf.Shelf):

@@ -411,6 +411,55 @@ fn a_file_that_differs_is_refused_with_the_entry() {
     assert_eq!(place_after("negative", negative), Place::State(0));
 }
 
+/// Makes a file whose last entry has this number, and whose state has an index and three nodes.
+fn numbered(path: &Path, entries: i64) {
+    three(path);
+    saved::open(path).unwrap().close().unwrap();
+    sql(
+        path,
+        &format!("UPDATE about SET number = {entries} WHERE what = 'entries'"),
+    );
+}
+
+#[test]
+fn writes_end_with_the_last_number_of_an_entry() {
+    let folder = Folder::new("numbers");
+    numbered(&folder.file(), i64::MAX - 2);
+    let saved = saved::open(folder.file()).unwrap();
+    let pass = saved.pass().unwrap();
+    for number in [i64::MAX - 1, i64::MAX] {
+        let written = pass.apply(Batch::new().new_node()).unwrap();
+        assert_eq!(saved.number_in_file(written.number), number as u64);
+    }
+    assert!(matches!(pass.new_node(), Err(Error::CommitsSpent)));
+    drop(pass);
+    saved.close().unwrap();
+    for _ in 0..3 {
+        let saved = saved::open(folder.file()).unwrap();
+        let mut pass = saved.pass().unwrap();
+        assert_eq!(pass.pin().unwrap().nodes().count(), 5);
+        assert!(matches!(pass.new_node(), Err(Error::CommitsSpent)));
+        drop(pass);
+        saved.compact().unwrap();
+        saved.close().unwrap();
+    }
+}
+
+#[test]
+fn an_empty_file_with_no_number_left_is_refused() {
+    let folder = Folder::new("no number");
+    saved::open(folder.file()).unwrap().close().unwrap();
+    let last = format!("UPDATE about SET number = {} WHERE what = 'entries'", i64::MAX);
+    sql(&folder.file(), &last);
+    match refusal(&folder.file()) {
+        SavedError::TooLarge { place, error } => {
+            assert_eq!(place, Place::Entry(i64::MAX as u64));
+            assert!(matches!(error, Error::CommitsSpent));
+        }
+        other => panic!("{other}"),
+    }
+}
+
 #[test]
 fn a_store_that_is_too_small_is_an_error_of_its_own() {
     let folder = Folder::new("small");

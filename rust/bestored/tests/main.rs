@@ -1,7 +1,7 @@
 //! The tests of the server. They are one program, so that it is linked once, and so that tests that wait run beside others.
 
-mod alike;
 mod activity;
+mod alike;
 mod background;
 mod changes;
 mod common;
@@ -13,8 +13,8 @@ mod live;
 mod log;
 mod manual;
 mod memory;
-mod ordered;
 mod notify;
+mod ordered;
 mod pages;
 mod protocol;
 mod repeats;

@@ -1,7 +1,7 @@
 //! The file: a database of SQLite with the last state and the entries since. docs/KEPT.md describes the format.
 
 use super::{Error, Place, Result};
-use crate::Batch;
+use crate::{Batch, Limits};
 use rusqlite::{Connection, OpenFlags};
 use std::collections::VecDeque;
 use std::fs::OpenOptions;
@@ -31,6 +31,9 @@ const TABLES: &str = "
     CREATE TABLE state (place INTEGER PRIMARY KEY, batch BLOB NOT NULL);
     CREATE TABLE entry (number INTEGER PRIMARY KEY, pass INTEGER NOT NULL, batch BLOB NOT NULL);
 ";
+
+/// The greatest number that an entry can have, as SQLite's integers end there.
+const LAST_NUMBER: u64 = i64::MAX as u64;
 
 /// Earlier versions made files without it.
 const TOKENS: &str =
@@ -244,6 +247,28 @@ impl File {
         })
     }
 
+    /// The limits for a store of this file: it may not accept more transactions than there are numbers left for entries.
+    ///
+    /// # Errors
+    /// [`Error::TooLarge`] if no number is left and the state has nothing.
+    pub(super) fn limits_within(&self, limits: Limits) -> Result<Limits> {
+        let entries = self.state()?.entries;
+        let left = LAST_NUMBER - entries;
+        if left >= limits.commits {
+            return Ok(limits);
+        }
+        let batches = self
+            .connection
+            .query_row("SELECT count(*) FROM state", [], |row| row.get::<_, u64>(0));
+        match self.sqlite(batches)? + left {
+            0 => Err(Error::refused(Place::Entry(entries), crate::Error::CommitsSpent)),
+            most => Ok(Limits {
+                commits: limits.commits.min(most),
+                ..limits
+            }),
+        }
+    }
+
     /// Hands each batch of the state to the closure, in their order, with its index.
     pub(super) fn each_state(&self, take: impl FnMut(u64, &[u8]) -> Result<()>) -> Result<()> {
         self.each("SELECT place, batch FROM state ORDER BY place", take)
@@ -310,7 +335,7 @@ impl File {
         if self.with_token.len() < MOST_TOKENS + TOKENS_AT_ONCE {
             return Ok(());
         }
-        let last = self.with_token.drain(..TOKENS_AT_ONCE).last().unwrap_or(0);
+        let last = self.with_token.drain(..TOKENS_AT_ONCE).next_back().unwrap_or(0);
         let mut delete = self.connection.prepare_cached("DELETE FROM token WHERE number <= ?")?;
         delete.execute([last as i64]).map(drop)
     }

@@ -109,7 +109,7 @@ impl Options {
     /// [`Error::Sqlite`], [`Error::Store`].
     pub fn open(&self, path: impl AsRef<Path>) -> Result<Saved> {
         let mut file = File::open(path.as_ref())?;
-        let store = Store::open(self.limits)?;
+        let store = Store::open(file.limits_within(self.limits)?)?;
         let number = load(&file, &store)?;
         let of_state = file.state()?.entries;
         let in_memory = {

@@ -6,7 +6,7 @@
 
 mod database;
 mod error;
-mod line;
+pub(crate) mod line;
 mod member;
 mod state;
 

@@ -1,0 +1,66 @@
+/* What the fuzz targets in C share: how an input is taken apart, and how a run ends that shows a fault.
+ *
+ * The library carries no marks of the coverage, so a target shows libFuzzer by `saw` what came of a call. An input that shows
+ * something new is kept, as one that takes a new branch in the helpers is. */
+#ifndef FUZZ_H
+#define FUZZ_H
+
+#include "bestore.h"
+#include <errno.h>
+#include <stdio.h>
+#include <stdlib.h>
+#include <string.h>
+
+/* Ends the run with the place if the condition doesn't hold. */
+#define CHECK(condition)                                                          \
+    do {                                                                          \
+        if (!(condition)) {                                                       \
+            fprintf(stderr, "%s:%d: %s doesn't hold\n", __FILE__, __LINE__, #condition); \
+            abort();                                                              \
+        }                                                                         \
+    } while (0)
+
+int LLVMFuzzerTestOneInput(const uint8_t *input, size_t length);
+
+/* libFuzzer counts these as it counts branches, and clears them before each input. */
+__attribute__((used, section("__libfuzzer_extra_counters"))) static uint8_t seen[1 << 12];
+
+/* Says that a call came to something: which call it was, and a number for what came of it. */
+static inline void saw(unsigned call, uint64_t what)
+{
+    seen[(call * 128u + (unsigned)(what % 128u)) % sizeof seen] = 1;
+}
+
+/* How many bits a number has: a coarse size for `saw`. */
+static inline uint64_t size_of(uint64_t number)
+{
+    uint64_t bits = 0;
+    for (; number != 0; number >>= 1)
+        bits++;
+    return bits;
+}
+
+/* What is left of an input. At its end all that is taken is 0. */
+typedef struct fuzz_input {
+    const uint8_t *bytes;
+    size_t length;
+} fuzz_input;
+
+static inline uint64_t take(fuzz_input *input, size_t length)
+{
+    uint64_t number = 0;
+    for (size_t i = 0; i < length && input->length > 0; i++, input->bytes++, input->length--)
+        number |= (uint64_t)input->bytes[0] << 8 * i;
+    return number;
+}
+
+/* A copy in memory of just this size, so that a read beyond its end is found. */
+static inline char *copy_of(const void *bytes, size_t length)
+{
+    char *copy = malloc(length > 0 ? length : 1);
+    CHECK(copy != NULL);
+    memcpy(copy, bytes, length);
+    return copy;
+}
+
+#endif

@@ -1,0 +1,167 @@
+/* A query's text: what the library parses and what the helpers read of it are the same, and its canonical text stands for itself. */
+#include "fuzz.h"
+
+enum { PREPARED, QUERIED, COMPARED, FOUND };
+
+/* The most bytes of a canonical text that is read. */
+#define ROOM (1 << 16)
+
+static bes_pass pass = BES_PASS_INIT;
+
+/* A pinned store in which some comparisons find some nodes. */
+static void open_store(void)
+{
+    uint64_t node = 0, number = 0;
+    CHECK(bes_open(256, 1, 1000, &pass) == BES_OK);
+    CHECK(bes_make_index(&pass, "a", BES_STRING_TYPE) == BES_OK && bes_make_index(&pass, "size", BES_INT64_TYPE) == BES_OK);
+    for (int64_t i = 0; i < 20; i++) {
+        char text[8];
+        snprintf(text, sizeof text, "a%d*b", (int)i);
+        CHECK(bes_new_node(&pass, &node) == BES_OK && bes_set_int64(&pass, node, "size", i - 5) == BES_OK);
+        CHECK(bes_set_text(&pass, node, "a", text) == BES_OK && bes_set_uint32(&pass, node, "b", (uint32_t)i) == BES_OK);
+    }
+    CHECK(bes_pin(&pass, &number) == BES_OK);
+}
+
+static bool has_place(uint32_t error)
+{
+    return error == BES_SYNTAX || error == BES_BAD_PATTERN;
+}
+
+static bool is_of_text(uint32_t error)
+{
+    return has_place(error) || error == BES_NOT_UTF8 || error == BES_TOO_LONG || error == BES_TOO_MANY || error == BES_TOO_DEEP;
+}
+
+/* The canonical text of a prepared query, in memory of just its size. */
+static char *canonical_of(bes_prepared *prepared, size_t *length)
+{
+    static uint8_t text[ROOM];
+    uint64_t count = 0, again = 0;
+    CHECK(bes_prepared_text(prepared, text, sizeof text, &count) == BES_OK && count > 0 && count <= sizeof text);
+    text[count / 2] ^= 1;
+    CHECK(bes_prepared_text(prepared, text, count / 2, &again) == BES_OK && again == count);
+    text[count / 2] ^= 1;
+    *length = (size_t)count;
+    return copy_of(text, *length);
+}
+
+/* The helper reads any bytes to their end, and no further. Returns how many comparisons it finds. */
+static size_t count_comparisons(const char *text, size_t length)
+{
+    bes_comparison found;
+    size_t at = 0, count = 0;
+    for (size_t before = 0; bes_next_comparison(text, length, &at, &found); before = at, count++) {
+        CHECK(at > before && at <= length && found.at + found.length == at);
+        CHECK(found.name_at >= found.at && found.name_at + found.name_length <= length);
+        CHECK(found.value_at >= found.name_at && found.value_at + found.value_length <= length);
+        saw(COMPARED, found.kind);
+    }
+    return count;
+}
+
+static uint32_t opposite(uint32_t kind)
+{
+    static const uint32_t kinds[] = {BES_ITEM_NE, BES_ITEM_EQ, BES_ITEM_GE, BES_ITEM_GT, BES_ITEM_LE, BES_ITEM_LT};
+    return kinds[kind - BES_ITEM_EQ];
+}
+
+/* Two texts without their backslashes are the same. */
+static bool is_same(const char *mine, size_t length, const char *theirs, size_t their_length)
+{
+    static char plain[ROOM], other[ROOM];
+    size_t count = bes_plain(mine, length, plain, sizeof plain);
+    return count == bes_plain(theirs, their_length, other, sizeof other) && memcmp(plain, other, count) == 0;
+}
+
+/* A query and its canonical text have the same comparisons in the same order; a ! turns their operators. */
+static void compare(const char *text, size_t length, const char *canonical, size_t canonical_length)
+{
+    bes_comparison mine, theirs;
+    size_t at = 0, other_at = 0;
+    while (bes_next_comparison(text, length, &at, &mine)) {
+        CHECK(bes_next_comparison(canonical, canonical_length, &other_at, &theirs));
+        CHECK(theirs.kind == mine.kind || theirs.kind == opposite(mine.kind));
+        CHECK(is_same(text + mine.name_at, mine.name_length, canonical + theirs.name_at, theirs.name_length));
+    }
+    CHECK(!bes_next_comparison(canonical, canonical_length, &other_at, &theirs));
+}
+
+/* A canonical text that isn't too long is a query, whose canonical text it is. */
+static void is_canonical(const char *canonical, size_t length)
+{
+    bes_prepared prepared = BES_PREPARED_INIT;
+    uint64_t place = 7;
+    size_t again_length = 0;
+    uint32_t error = bes_prepare((const uint8_t *)canonical, length, &prepared, &place);
+    CHECK(error == (length > 4096 ? BES_TOO_LONG : BES_OK) && place == 0);
+    if (error == BES_OK) {
+        char *again = canonical_of(&prepared, &again_length);
+        CHECK(again_length == length && memcmp(again, canonical, length) == 0);
+        free(again);
+        CHECK(bes_release(&prepared) == BES_OK);
+    }
+}
+
+/* A query asked by its text finds what it finds prepared, and nothing is written beyond the room. */
+static void ask(const char *text, size_t length, bes_prepared *prepared)
+{
+    uint64_t nodes[21], again[21], count = 0, prepared_count = 0;
+    size_t at = 0;
+    uint32_t error;
+    memset(nodes, 0x5a, sizeof nodes);
+    memset(again, 0x5a, sizeof again);
+    error = bes_query(&pass, (const uint8_t *)text, length, nodes, 20, &count);
+    CHECK(bes_query_prepared(&pass, prepared, again, 20, &prepared_count) == error && count == prepared_count);
+    CHECK(error == BES_OK || error == BES_NOT_COVERED);
+    CHECK(memcmp(nodes, again, sizeof nodes) == 0 && count <= 20);
+    for (size_t i = (size_t)count; i < 21; i++)
+        CHECK(nodes[i] == 0x5a5a5a5a5a5a5a5a);
+    CHECK(bes_uncovered(&pass, text, length, &at) == BES_OK && (error == BES_OK || at < length));
+    saw(QUERIED, error);
+    saw(FOUND, count);
+}
+
+static void is_prepared(const char *text, size_t length, bes_prepared *prepared)
+{
+    size_t canonical_length = 0;
+    char *canonical = canonical_of(prepared, &canonical_length);
+    CHECK(count_comparisons(text, length) == count_comparisons(canonical, canonical_length));
+    compare(text, length, canonical, canonical_length);
+    is_canonical(canonical, canonical_length);
+    ask(text, length, prepared);
+    free(canonical);
+}
+
+/* A text that is refused is refused alike by each call, at one place. */
+static void is_refused(const char *text, size_t length, uint32_t error, uint64_t place)
+{
+    uint64_t node = 7, count = 0;
+    uint8_t bytes[8] = {7};
+    CHECK(is_of_text(error) && (has_place(error) ? place <= length : place == 0));
+    CHECK(bes_query(&pass, (const uint8_t *)text, length, &node, 1, &count) == error && count == place && node == 7);
+    CHECK(bes_explain(&pass, (const uint8_t *)text, length, bytes, sizeof bytes, &count) == error && count == place && bytes[0] == 7);
+    count_comparisons(text, length);
+    saw(FOUND, 64 + size_of(place));
+}
+
+int LLVMFuzzerTestOneInput(const uint8_t *input, size_t length)
+{
+    bes_prepared prepared = BES_PREPARED_INIT;
+    char *text = copy_of(input, length);
+    uint64_t place = 7;
+    uint32_t error;
+    if (!pass.live)
+        open_store();
+    error = bes_prepare((const uint8_t *)text, length, &prepared, &place);
+    saw(PREPARED, error);
+    if (error == BES_OK) {
+        CHECK(place == 0);
+        is_prepared(text, length, &prepared);
+        CHECK(bes_release(&prepared) == BES_OK);
+    } else {
+        is_refused(text, length, error, place);
+    }
+    free(text);
+    return 0;
+}

@@ -1,0 +1,102 @@
+/* Any bytes as a name or a value of a query: the helpers make of them what the library takes and reads as itself, and write nothing
+ * beyond their room. The first two bytes say how much room there is. */
+#include "fuzz.h"
+
+enum { CHARACTERS, NUMBER, PATTERN };
+
+/* The text of a value in a query whose only comparison it is, without its backslashes. */
+static size_t plain_value(const char *query, size_t length, char *plain, size_t room)
+{
+    bes_prepared prepared = BES_PREPARED_INIT;
+    bes_comparison found;
+    char canonical[4096];
+    uint64_t place = 7, count = 0;
+    size_t at = 0;
+    CHECK(bes_prepare((const uint8_t *)query, length, &prepared, &place) == BES_OK);
+    CHECK(bes_prepared_text(&prepared, (uint8_t *)canonical, sizeof canonical, &count) == BES_OK && count <= sizeof canonical);
+    CHECK(bes_next_comparison(canonical, (size_t)count, &at, &found) && at == count && found.kind == BES_ITEM_GE);
+    CHECK(bes_release(&prepared) == BES_OK);
+    return bes_plain(canonical + found.value_at, found.value_length, plain, room);
+}
+
+/* An escaped text stands for itself in each of the ways to write it. */
+static void stands_for_itself(const char *text, const char *escaped)
+{
+    static const char *const forms[] = {"a>=\"%s\"", "a>='%s'", "a>=%s"};
+    char query[1024], plain[512];
+    for (size_t i = *text == 0 ? 1 : 3; i > 0; i--) {
+        int length = snprintf(query, sizeof query, forms[i - 1], escaped);
+        CHECK(length > 0 && (size_t)length < sizeof query);
+        CHECK(plain_value(query, (size_t)length, plain, sizeof plain) == strlen(text));
+        CHECK(memcmp(plain, text, strlen(text)) == 0);
+    }
+}
+
+/* A helper that writes into too little room writes the front of the text, a zero byte, and no more. */
+static void is_cut(size_t (*helper)(const char *, char *, size_t), const char *text, size_t room)
+{
+    char whole[1100], cut[1101];
+    size_t length = helper(text, whole, sizeof whole);
+    CHECK(length < sizeof whole && strlen(whole) == length);
+    memset(cut, 0x5a, sizeof cut);
+    CHECK(helper(text, cut, room) == length && cut[room] == 0x5a);
+    if (room > 0) {
+        size_t kept = length < room ? length : room - 1;
+        CHECK(cut[kept] == 0 && memcmp(cut, whole, kept) == 0);
+    }
+}
+
+/* A text in either case is a pattern that the library takes. */
+static void is_pattern(const char *text)
+{
+    bes_prepared prepared = BES_PREPARED_INIT;
+    char pattern[1100], query[1200];
+    uint64_t place = 7;
+    bes_any_case(text, pattern, sizeof pattern);
+    snprintf(query, sizeof query, "a==\"%s\"", pattern);
+    CHECK(bes_prepare_text(query, &prepared, &place) == BES_OK && bes_release(&prepared) == BES_OK);
+    saw(PATTERN, size_of(strlen(pattern)));
+}
+
+static bool is_digit(char c)
+{
+    return c >= '0' && c <= '9';
+}
+
+/* What spells a number has an optional - and up to 20 digits, and is printed by the C library as the same number. */
+static void spells(const char *text)
+{
+    char *end;
+    const char *digits = text + (text[0] == '-');
+    if (strchr(text, '\\') != NULL)
+        return;
+    saw(NUMBER, bes_spells_number(text, strlen(text)));
+    if (!is_digit(digits[0]) || strspn(digits, "0123456789") != strlen(digits) || strlen(digits) > 20) {
+        CHECK(!bes_spells_number(text, strlen(text)));
+        return;
+    }
+    errno = 0;
+    if (text[0] == '-')
+        (void)strtoll(text, &end, 10);
+    else
+        (void)strtoull(text, &end, 10);
+    CHECK(*end == 0 && bes_spells_number(text, strlen(text)) == (errno == 0));
+}
+
+int LLVMFuzzerTestOneInput(const uint8_t *bytes, size_t length)
+{
+    fuzz_input input = {bytes, length};
+    size_t room = (size_t)take(&input, 2) % 1100, count;
+    char *text = copy_of(input.bytes, input.length), valid[256], again[256], escaped[520];
+    count = bes_to_utf8(text, input.length, valid, sizeof valid);
+    CHECK(count == strlen(valid) && bes_to_utf8(valid, count, again, sizeof again) == count && strcmp(valid, again) == 0);
+    saw(CHARACTERS, size_of(count));
+    CHECK(bes_escape(valid, escaped, sizeof escaped) == strlen(escaped));
+    stands_for_itself(valid, escaped);
+    is_cut(bes_escape, valid, room);
+    is_cut(bes_any_case, valid, room);
+    is_pattern(valid);
+    spells(valid);
+    free(text);
+    return 0;
+}

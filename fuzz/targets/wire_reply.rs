@@ -1,0 +1,72 @@
+//! A line that a server sends: what is read of it is written as a line from which the same is read. The first byte says as which reply
+//! it is read.
+#![no_main]
+
+use bestore_client::wire::{self, Json};
+use serde::de::DeserializeOwned;
+use serde::Serialize;
+use std::fmt::Debug;
+
+bestore_fuzz::target!(|input| {
+    let Some((which, line)) = input.split_first() else {
+        return;
+    };
+    READERS[usize::from(*which) % READERS.len()](line);
+});
+
+/// A reader for each reply. Their order is that of the first bytes in the corpus, so a new one goes to the end.
+const READERS: [fn(&[u8]); 18] = [
+    goes_there_and_back::<wire::Hello>,
+    goes_there_and_back::<wire::Written>,
+    goes_there_and_back::<wire::LogStatus>,
+    goes_there_and_back::<wire::Next>,
+    goes_there_and_back::<wire::Hits>,
+    goes_there_and_back::<wire::Value>,
+    goes_there_and_back::<wire::Rows>,
+    goes_there_and_back::<wire::Attributes>,
+    goes_there_and_back::<wire::Indices>,
+    goes_there_and_back::<wire::Nodes>,
+    goes_there_and_back::<wire::Explained>,
+    goes_there_and_back::<wire::Watched>,
+    goes_there_and_back::<wire::Status>,
+    goes_there_and_back::<wire::Journal>,
+    goes_there_and_back::<wire::State>,
+    goes_there_and_back::<wire::Push>,
+    refuses,
+    has_length,
+];
+
+fn goes_there_and_back<T: DeserializeOwned + Serialize + PartialEq + Debug>(line: &[u8]) {
+    let Ok(read) = serde_json::from_slice::<T>(line) else {
+        return;
+    };
+    let line = serde_json::to_string(&read).expect("a reply that was read can be written");
+    assert!(!line.contains('\n'), "{line}");
+    let again: T = serde_json::from_str(&line).expect("a reply that was written can be read");
+    // A journal may have entries of more than 64 operations, of which 64 are kept: what is kept is the same from then on.
+    let written = serde_json::to_string(&again).expect("a reply that was read can be written");
+    assert_eq!(line, written);
+}
+
+/// A refusal is shown whatever it says, also if the caret's place is beyond the query's end.
+fn refuses(line: &[u8]) {
+    goes_there_and_back::<wire::Refusal>(line);
+    if let Ok(mut refusal) = serde_json::from_slice::<wire::Refusal>(line) {
+        refusal.query = Some(refusal.message.clone());
+        assert!(refusal.to_string().starts_with(&refusal.name));
+    }
+}
+
+/// A value takes no more bytes than a page of a reply counts for it.
+fn has_length(line: &[u8]) {
+    goes_there_and_back::<Json>(line);
+    if let Ok(value) = serde_json::from_slice::<Json>(line) {
+        let written = serde_json::to_string(&value).expect("a value that was read can be written");
+        assert!(
+            value.length() >= written.len(),
+            "{written} has {}, and {} were counted",
+            written.len(),
+            value.length()
+        );
+    }
+}

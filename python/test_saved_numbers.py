@@ -1,0 +1,45 @@
+"""Tests of kept files whose entries have the greatest numbers that there are."""
+
+import bestore
+from bestore import saved
+from test_saved import Files, sql, three
+
+LAST = 2**63 - 1
+
+
+class Numbers(Files):
+    def has_entries(self, number: int) -> None:
+        """Says in the file that its state contains the entries up to this number."""
+        sql(self.path, f"UPDATE about SET number = {number} WHERE what = 'entries'")
+
+    def test_writes_end(self) -> None:
+        three(self.path)
+        saved.open(self.path, 64).close()
+        self.has_entries(LAST - 2)
+        with saved.open(self.path, 64) as store:
+            for number in (LAST - 1, LAST):
+                self.assertEqual(store.number_in_file(store.apply(bestore.Batch().new_node())[0]), number)
+            self.assertRaises(bestore.CommitsSpent, store.new_node)
+        for _ in range(3):
+            with saved.open(self.path, 64) as store:
+                with store.pin() as version:
+                    self.assertEqual(version.nodes(), [1, 2, 3, 4, 5])
+                self.assertRaises(bestore.CommitsSpent, store.new_node)
+                store.compact()
+
+    def test_limit_of_the_caller(self) -> None:
+        """A smaller limit stays."""
+        three(self.path)
+        saved.open(self.path, 64).close()
+        self.has_entries(LAST - 2)
+        with saved.open(self.path, 64, commits=2) as store:
+            store.new_node()
+            self.assertRaises(bestore.CommitsSpent, store.new_node)
+
+    def test_nothing_left(self) -> None:
+        saved.open(self.path, 64).close()
+        self.has_entries(LAST)
+        refused = self.refusal()
+        self.assertIsInstance(refused, saved.TooLarge)
+        self.assertEqual(refused.place, f"entry {LAST}")
+        self.assertIsInstance(refused.__cause__, bestore.CommitsSpent)

@@ -1,0 +1,145 @@
+//! Parts of a server within the program that asks them, without a socket's file or a database: for the fuzz targets.
+
+use crate::connection::Connection;
+use crate::kept::Kept;
+#[cfg(feature = "log")]
+use crate::log::line::{Line, Role};
+use crate::options::Options;
+use crate::share;
+use crate::tokens::Tokens;
+use bestore::Shelf;
+#[cfg(feature = "log")]
+use bestore::{Batch, Keeper, Store, Written};
+use std::error::Error;
+use std::io::{self, Read, Write};
+use std::net::Shutdown;
+use std::os::unix::net::UnixStream;
+use std::sync::Arc;
+#[cfg(feature = "log")]
+use std::sync::{Mutex, PoisonError};
+use std::thread;
+use std::time::Duration;
+
+/// Small limits, so that a store is opened soon and fills up.
+fn options(volumes: u32) -> Options {
+    Options {
+        socket: None,
+        background: false,
+        keep: None,
+        every: None,
+        spare: 0,
+        log: None,
+        volumes: Some(volumes),
+        pages: 256,
+        passes: 1,
+        commits: 1000,
+        hold: Duration::from_secs(86_400),
+        slow: None,
+    }
+}
+
+/// What a server with as many empty volumes replies to a client that sends these lines and goes.
+///
+/// # Errors
+/// There is no memory, no thread or no socket.
+pub fn replies_to(lines: &[u8], volumes: u32) -> Result<Vec<u8>, Box<dyn Error>> {
+    let options = options(volumes);
+    let kept = Kept::Memory(Shelf::open(volumes, options.limits())?);
+    let mut pass = kept.pass()?;
+    let tokens = Arc::new(Tokens::new(volumes as usize));
+    let shared = share(kept, tokens, "in process".into(), options)?;
+    let (stream, server) = UnixStream::pair()?;
+    let server = Arc::new(server);
+    Ok(thread::scope(|scope| {
+        let replies = scope.spawn(move || talk(stream, lines));
+        let client = shared.clients.enter(server.clone());
+        let served = Connection::new(&shared, &client, server.clone(), false).run(&mut pass);
+        shared.clients.leave(&client);
+        server.shutdown(Shutdown::Both)?;
+        served?;
+        replies.join().unwrap_or_else(|fault| std::panic::resume_unwind(fault))
+    })?)
+}
+
+/// Sends the lines, which the socket has room for, and reads what comes.
+fn talk(mut client: UnixStream, lines: &[u8]) -> io::Result<Vec<u8>> {
+    client.write_all(lines)?;
+    client.shutdown(Shutdown::Write)?;
+    let mut replies = Vec::new();
+    client.read_to_end(&mut replies)?;
+    Ok(replies)
+}
+
+/// The entries that a leader's writes add to the log, each with its number and its batch as bytes. The leader's store is empty, and
+/// the log has this many entries already.
+///
+/// # Errors
+/// There is no memory.
+#[cfg(feature = "log")]
+pub fn entries_of(batches: &[Batch], entries: u64) -> bestore::Result<Vec<(u64, Vec<u8>)>> {
+    let options = options(1);
+    let store = Store::open(options.limits())?;
+    let log = Arc::new(Log {
+        line: Line::new(Role::Leader { term: 1 }, String::new(), entries, 0),
+        entries: Mutex::default(),
+    });
+    let pass = store.pass()?.kept_by(log.clone());
+    for batch in batches {
+        // What the store refuses isn't in the log.
+        let _ = pass.apply(batch);
+    }
+    drop(pass);
+    let entries = log.entries.lock().unwrap_or_else(PoisonError::into_inner);
+    Ok(entries.clone())
+}
+
+/// A log that has each entry at once.
+#[cfg(feature = "log")]
+#[derive(Debug)]
+struct Log {
+    line: Line,
+    entries: Mutex<Vec<(u64, Vec<u8>)>>,
+}
+
+#[cfg(feature = "log")]
+impl Keeper for Log {
+    fn keep(
+        &self,
+        pass: u64,
+        batch: &Batch,
+        write: &mut dyn FnMut() -> bestore::Result<Written>,
+    ) -> bestore::Result<(Written, u64)> {
+        let kept = self.line.keep(pass, batch, write)?;
+        let rows = self.line.take().into_iter().map(|row| (row.number, row.batch));
+        let mut entries = self.entries.lock().unwrap_or_else(PoisonError::into_inner);
+        entries.extend(rows);
+        self.line.saved(kept.1);
+        Ok(kept)
+    }
+
+    fn wait(&self, number: u64) -> bestore::Result<()> {
+        self.line.wait(number)
+    }
+}
+
+#[cfg(test)]
+mod tests {
+    use super::*;
+
+    #[test]
+    fn each_line_has_a_reply() {
+        let lines = b"{\"id\":1,\"next\":{}}\nnonsense\n{\"id\":2,\"indices\":{}}\n{\"id\":3";
+        let replies = String::from_utf8(replies_to(lines, 2).unwrap()).unwrap();
+        let begins: Vec<&str> = replies.lines().filter_map(|line| line.split(',').next()).collect();
+        assert_eq!(begins, ["{\"id\":1", "{\"id\":null", "{\"id\":2"]);
+    }
+
+    #[cfg(feature = "log")]
+    #[test]
+    fn what_is_refused_is_not_in_the_log() {
+        let made = Batch::new().new_node().clone();
+        let entries = entries_of(&[made.clone(), Batch::new().remove_node(9).clone(), made], 6).unwrap();
+        let numbers: Vec<u64> = entries.iter().map(|(number, _)| *number).collect();
+        assert_eq!(numbers, [7, 8]);
+    }
+}

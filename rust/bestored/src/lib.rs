@@ -1,0 +1,112 @@
+//! bestored: one store of attributes for the programs of a user. `docs/SERVER.md` describes it and its protocol.
+//!
+//! This is the program as a library, so that a fuzz target can link it. It promises no programs anything.
+#![warn(missing_debug_implementations, rust_2018_idioms)]
+#![deny(unsafe_code)]
+
+mod answer;
+mod background;
+mod clients;
+mod connection;
+mod copy;
+mod disk;
+mod failure;
+pub mod in_process;
+mod info;
+mod kept;
+mod lines;
+#[cfg(feature = "log")]
+mod log;
+mod meter;
+mod notify;
+mod options;
+mod os;
+mod outbox;
+mod page;
+mod pressure;
+mod query;
+mod reach;
+mod server;
+mod socket;
+mod tokens;
+mod volumes;
+mod watcher;
+mod writes;
+
+use background::{Side, Starter};
+use kept::Kept;
+use meter::Meter;
+use notify::Notifier;
+use options::Options;
+use pressure::Pressure;
+use server::Shared;
+use socket::Place;
+use std::error::Error;
+use std::process::ExitCode;
+use std::sync::{Arc, Mutex};
+use tokens::Tokens;
+
+/// Runs the program, by its command line.
+pub fn main() -> ExitCode {
+    start(Options::read()).unwrap_or_else(|error| {
+        eprintln!("bestored: {error}");
+        ExitCode::FAILURE
+    })
+}
+
+fn start(options: Options) -> Result<ExitCode, Box<dyn Error>> {
+    let place = place(&options)?;
+    let starter = match options.background {
+        false => None,
+        true => match background::begin()? {
+            Side::Starter(status) => return Ok(status),
+            Side::Server(starter) => Some(starter),
+        },
+    };
+    serve(options, place, starter)?;
+    Ok(ExitCode::SUCCESS)
+}
+
+/// Where the server is going to listen.
+fn place(options: &Options) -> Result<Place, Box<dyn Error>> {
+    match os::passed_socket()? {
+        None => Ok(Place::find(&options.socket())?),
+        Some(_) if options.socket.is_some() => Err("--socket is given, and systemd has passed a socket".into()),
+        Some(_) if options.background => Err("--background is given, and systemd has passed a socket".into()),
+        Some(listener) => Ok(Place::Passed(listener)),
+    }
+}
+
+/// Opens the store, and serves clients until a signal ends the program.
+fn serve(options: Options, place: Place, starter: Option<Starter>) -> Result<(), Box<dyn Error>> {
+    let signals = os::ending_signals()?;
+    let run = server::run_text()?;
+    let notifier = Notifier::of_environment();
+    let tokens = Arc::new(Tokens::new(options.volumes.unwrap_or(1) as usize));
+    let kept = match Kept::open(&options, &run, &tokens, &notifier, &signals)? {
+        Some(kept) => kept,
+        None => return Ok(()),
+    };
+    let own = kept.pass()?;
+    let shared = share(kept, tokens, run, options)?;
+    server::run(place, starter, notifier, &signals, shared, own)
+}
+
+/// What the connections of a server with this store share.
+fn share(kept: Kept, tokens: Arc<Tokens>, run: String, options: Options) -> bestore::Result<Shared> {
+    let mut visits = kept.pass()?;
+    visits.set_retry(pressure::retry());
+    Ok(Shared {
+        kept,
+        tokens,
+        watcher: Default::default(),
+        pressure: Pressure::new(options.hold),
+        clients: Default::default(),
+        meter: Meter::new(),
+        copies: Default::default(),
+        is_full: Mutex::default(),
+        visits: Mutex::new(visits),
+        run,
+        options,
+    })
+}
