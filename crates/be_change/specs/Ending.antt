@@ -1,0 +1,61 @@
+-- Which pass a change is of, how it begins, and how it ends.
+use Rattle.std.specs.Prelude.{◌≡◌, ◌⊎◌, ◌≤◌, ℕ, Bool, true, false, List, [], length}
+use Rattle.std.specs.declared.result.Result.{Result}
+use Rattle.std.specs.declared.result.Result.TheVariants.{Ok, Err}
+use Rattle.be_table.specs.declared.pass.Knowledge.{Knowledge}
+use Rattle.be_value.specs.declared.refusals.Refusal.{Refusal}
+use Rattle.be_volume.specs.declared.ops.Done.{Done}
+use Rattle.be_store.specs.Conditional.{AcceptsAt, IsConflict, IsLastUnapplied}
+use Rattle.be_store.specs.History.{Pins, Unpins}
+use Rattle.be_store.specs.Passes.{HasRead, IsPinnedTo, volume_pinned}
+use Rattle.be_store.specs.declared.conditional.ApplyIfError.TheVariants.{Refused}
+use Rattle.be_change.specs.Changing.{Changing, Reads, outcomes}
+use Rattle.be_change.specs.declared.ending.Ended.{Ended}
+use Rattle.be_change.specs.declared.ending.Ended.TheVariants.{Accepted, Again}
+use Rattle.be_change.specs.declared.ending.Kinds.{Kinds}
+use Rattle.be_change.specs.declared.ending.Kinds.TheVariants.{Checked, Unchecked}
+
+abbrev pub are_checked : Kinds → Bool
+are_checked Checked = true
+are_checked Unchecked = false
+
+-- the pass is pinned to the change's snapshot, and the change reads what the pass reads
+abbrev pub IsChangeOf : Changing → Knowledge → Type 0
+IsChangeOf change a = IsPinnedTo a change.number × Reads change (volume_pinned a)
+
+-- A change that has collected nothing, and that checks kinds as this says. Its pass has read at the
+-- pin that it had; or it wasn't pinned, and is now.
+pub record Begins (change : Changing) (checks : Bool) (a c : Knowledge) : Type 0 where
+  pub of : IsChangeOf change c
+  pub empty : change.ops ≡ []
+  pub checks_are : change.checks ≡ checks
+  pub pass : ((change.pins ≡ false) × HasRead a c)
+      ⊎ ((change.pins ≡ true) × (b : Knowledge) × Pins a b change.number × HasRead b c)
+
+-- A change that wasn't begun leaves the pass pinned or not, as it was. It may have pinned it, and
+-- unpinned it again.
+abbrev pub IsNotBegun : Knowledge → Knowledge → Type 0
+IsNotBegun a d = HasRead a d
+    ⊎ ((n : ℕ) × (b c : Knowledge) × Pins a b n × HasRead b c × Unpins c d)
+
+-- What was written, with this commit number: nothing, if nothing was collected. Otherwise it is
+-- exactly the collected operations, on exactly what was read, as the next entry after the snapshot.
+-- Their outcomes are those that the change had given, so new nodes have the numbers that it gave.
+abbrev pub Wrote : Changing → (a c : Knowledge) → ℕ → Type 0
+Wrote change a c n = ((change.ops ≡ []) × (c ≡ a) × (n ≡ change.number))
+    ⊎ ((1 ≤ length change.ops) × (dones : List Done)
+    × AcceptsAt a c change.number change.ops n dones
+    × (IsChangeOf change a → dones ≡ outcomes change.first change.ops))
+
+-- How a change ends, that is tried up to so many times while another pass holds the lock, before
+-- its pin is released. If it has to be made again, another write came between, and nothing is
+-- written; nor is anything if it is refused.
+abbrev pub Ends : ℕ → Changing → (a c : Knowledge) → Result Ended Refusal → Type 0
+Ends tries change a c (Ok (Accepted n)) = Wrote change a c n
+Ends tries change a c (Ok Again) = (found : ℕ) × IsConflict a c change.number found
+Ends tries change a c (Err e) = IsLastUnapplied tries a c change.number change.ops (Refused e)
+
+-- a pin that the change made is released, and another stays
+abbrev pub Releases : Bool → Knowledge → Knowledge → Type 0
+Releases true c d = Unpins c d
+Releases false c d = d ≡ c

@@ -1,0 +1,4 @@
+pub mod Changing
+pub mod Collecting
+pub mod Ending
+pub mod Left

@@ -1,0 +1,223 @@
+//! A change: the snapshot on which it is made, and the operations that it collects.
+ghost use Rattle.std.specs.Prelude.{◌≡◌, ◌⊎◌, ◌≤◌, ◌<◌, ◌+◌, ◌^◌, [], ◌∷◌, ◌++◌, true, IfOk, IfErr};
+ghost use Rattle.std.specs.Prelude.{OnOk, length, unwrap_or};
+ghost use Rattle.be_value.specs.Value.{kind_of};
+ghost use Rattle.be_volume.specs.Reading.{attribute, index_kind};
+ghost use Rattle.be_volume.specs.Volume.{State};
+ghost use Rattle.be_volume.specs.declared.ops.Done.TheVariants.{Node};
+ghost use Rattle.be_volume.specs.declared.ops.Op.TheVariants as ops;
+ghost use Rattle.be_change.specs.Changing.{After, Reads, outcomes, with_op};
+ghost use Rattle.be_change.specs.Collecting.{HasNoRoom, IsOfRightKind, IsOfWrongKind};
+
+use crate::CollectError;
+use crate::overlay::{attribute_left, index_left, listed_kind};
+use be_value::{Kind, Name, Value};
+use be_volume::Op;
+use std::alloc::Global;
+use std::marker::Model;
+
+/// The most operations of a change, since it is written as one transaction.
+pub const MOST_OPERATIONS: usize = 64;
+
+/// What a program has read and will write: the number of a snapshot, and up to 64 operations that
+/// are to be written on it. Collecting an operation writes nothing.
+///
+/// A contract sees a `Changing`. What the operations leave of the snapshot's volume is said of all
+/// volumes that the change may read (`Reads`), and that accept the operations (`After`).
+#[derive(Drop)]
+pub struct Change {
+    number: u64,
+    first: u64,
+    /// How many nodes the operations make.
+    made: u64,
+    /// Those of the snapshot.
+    indices: Vec<(Name, Kind)>,
+    ops: Vec<Op>,
+    checks_kinds: bool,
+    pins: bool,
+}
+
+impl Model for Change {
+    ghost use Rattle.std.specs.Prelude.{◌≡◌, ◌≤◌, ◌<◌, ◌+◌, ◌^◌, count_by, length};
+    ghost use Rattle.be_change.specs.Changing.{Changing};
+    ghost use Rattle.be_change.specs.Left.{is_new};
+
+    ghost Value = { Changing };
+
+    ghost view = { λ c. record {
+      number = c.number;
+      first = c.first;
+      indices = c.indices.items;
+      ops = c.ops.items;
+      checks = c.checks_kinds;
+      pins = c.pins;
+    } };
+
+    ghost invariant = { λ c. (c.made ≡ count_by is_new c.ops.items)
+        × (length c.ops.items ≤ 64) × (c.first + 64 < 2 ^ 64) };
+}
+
+impl Change {
+    /// A change that has collected nothing. `first` is the number that its first new node gets.
+    pub(crate) fn new(
+        alloc: Global,
+        number: u64,
+        first: u64,
+        indices: Vec<(Name, Kind)>,
+        checks_kinds: bool,
+        pins: bool,
+    ) -> Change
+        requires { first + 64 < 2 ^ 64 }
+        ensures { result ≡ record {
+          number = number;
+          first = first;
+          indices = indices.items;
+          ops = [];
+          checks = checks_kinds;
+          pins = pins;
+        } }
+    {
+        Change {
+            number,
+            first,
+            made: 0,
+            indices,
+            ops: Vec::new(alloc),
+            checks_kinds,
+            pins,
+        }
+    }
+
+    /// The number of the snapshot.
+    pub fn number(&self) -> u64
+        ensures { result ≡ self.now.number }
+    {
+        self.number
+    }
+
+    /// Whether the change has pinned its pass itself.
+    pub(crate) fn pins(&self) -> bool
+        ensures { result ≡ self.now.pins }
+    {
+        self.pins
+    }
+
+    /// The operations that were collected, in their order.
+    pub fn operations(&self) -> &[Op]
+        ensures list { result.now ≡ self.now.ops }
+        ensures few { length result.now ≤ 64 }
+    {
+        self.ops.as_slice()
+    }
+
+    /// Makes a node, and returns the number that it will have. TooMany, OutOfMemory.
+    pub fn new_node(&mut self) -> Result<u64, CollectError>
+        ensures ok { OnOk result (self.new ≡ with_op self.old ops.New) }
+        ensures given { IfOk result (λ node. outcomes self.new.first self.new.ops
+            ≡ outcomes self.old.first self.old.ops ++ Node node ∷ []) }
+        ensures next { IfOk result (λ node. (base : State) → Reads self.old base
+            → After self.old base (λ s. node ≡ s.next)) }
+        ensures err { IfErr result (λ e. (self.new ≡ self.old) × HasNoRoom self.old e) }
+    {
+        let node = self.first + self.made;
+        self.collect(Op::New)?;
+        Ok(node)
+    }
+
+    /// Removes a node and all its attributes. TooMany, OutOfMemory.
+    pub fn remove_node(&mut self, node: u64) -> Result<(), CollectError>
+        ensures ok { OnOk result (self.new ≡ with_op self.old (ops.Drop node)) }
+        ensures err { IfErr result (λ e. (self.new ≡ self.old) × HasNoRoom self.old e) }
+    {
+        self.collect(Op::Drop(node))
+    }
+
+    /// Sets an attribute of a node, in place of any value that it has.
+    ///
+    /// What the collected operations leave of an attribute, if one of them touches it.
+    pub(crate) fn left(&self, node: u64, name: &Name) -> Option<Option<Value>>
+        ensures { (base : State) → Reads self.now base → After self.now base
+            (λ s. attribute s node name.now ≡ unwrap_or result (attribute base node name.now)) }
+    {
+        attribute_left(self.ops.as_slice(), self.first + self.made, node, name)
+    }
+
+    /// WrongKind if the change checks kinds, and the index of this name takes values of another
+    /// kind, as the collected operations leave it; a name without an index takes any kind. TooMany,
+    /// OutOfMemory.
+    pub fn set(&mut self, node: u64, name: Name, value: Value) -> Result<(), CollectError>
+        ensures ok { OnOk result (self.new ≡ with_op self.old (ops.Set node name value)) }
+        ensures kind { OnOk result (self.old.checks ≡ true
+            → IsOfRightKind self.old name (kind_of value)) }
+        ensures err { IfErr result (λ e. (self.new ≡ self.old)
+            × (HasNoRoom self.old e ⊎ IsOfWrongKind self.old name (kind_of value) e)) }
+    {
+        self.check_kind(&name, value.kind())?;
+        self.collect(Op::Set(node, name, value))
+    }
+
+    /// Removes an attribute of a node. TooMany, OutOfMemory.
+    pub fn unset(&mut self, node: u64, name: Name) -> Result<(), CollectError>
+        ensures ok { OnOk result (self.new ≡ with_op self.old (ops.Unset node name)) }
+        ensures err { IfErr result (λ e. (self.new ≡ self.old) × HasNoRoom self.old e) }
+    {
+        self.collect(Op::Unset(node, name))
+    }
+
+    /// Makes an index, which is empty at first. TooMany, OutOfMemory.
+    pub fn make_index(&mut self, name: Name, kind: Kind) -> Result<(), CollectError>
+        ensures ok { OnOk result (self.new ≡ with_op self.old (ops.MkIndex name kind)) }
+        ensures err { IfErr result (λ e. (self.new ≡ self.old) × HasNoRoom self.old e) }
+    {
+        self.collect(Op::MkIndex(name, kind))
+    }
+
+    /// Removes an index. TooMany, OutOfMemory.
+    pub fn remove_index(&mut self, name: Name) -> Result<(), CollectError>
+        ensures ok { OnOk result (self.new ≡ with_op self.old (ops.RmIndex name)) }
+        ensures err { IfErr result (λ e. (self.new ≡ self.old) × HasNoRoom self.old e) }
+    {
+        self.collect(Op::RmIndex(name))
+    }
+
+    /// The kind of the index of this name, as the collected operations leave it. It reads no page:
+    /// the change knows the snapshot's indices.
+    pub fn index_kind(&self, name: &Name) -> Option<Kind>
+        ensures { (base : State) → Reads self.now base
+            → After self.now base (λ s. result ≡ index_kind s name.now) }
+    {
+        match index_left(self.ops.as_slice(), name) {
+            Some(kind) => kind,
+            None => listed_kind(self.indices.as_slice(), name),
+        }
+    }
+
+    /// WrongKind if the change checks kinds, and the index of this name takes values of another.
+    fn check_kind(&self, name: &Name, kind: Kind) -> Result<(), CollectError>
+        ensures right { OnOk result (self.now.checks ≡ true
+            → IsOfRightKind self.now name.now kind) }
+        ensures wrong { IfErr result (IsOfWrongKind self.now name.now kind) }
+    {
+        if !self.checks_kinds {
+            return Ok(());
+        }
+        match self.index_kind(name) {
+            Some(index) if index != kind => Err(CollectError::WrongKind(index, kind)),
+            _ => Ok(()),
+        }
+    }
+
+    /// Adds an operation, if there is room for one more.
+    fn collect(&mut self, op: Op) -> Result<(), CollectError>
+        ensures ok { OnOk result (self.new ≡ with_op self.old op) }
+        ensures err { IfErr result (λ e. (self.new ≡ self.old) × HasNoRoom self.old e) }
+    {
+        if self.ops.len() >= MOST_OPERATIONS {
+            return Err(CollectError::TooMany);
+        }
+        let made = self.made + u64::from(matches!(op, Op::New));
+        self.ops.push(op)?;
+        self.made = made;
+        Ok(())
+    }
+}

@@ -1,0 +1,24 @@
+//! What a pass may do while it has a change.
+//!
+//! The law does nothing; its contract is the law, for the crates above.
+ghost use Rattle.std.specs.Prelude.{ℕ, List};
+ghost use Rattle.be_table.specs.Steps.{IsPass};
+ghost use Rattle.be_table.specs.declared.pass.Knowledge.{Knowledge};
+ghost use Rattle.be_volume.specs.declared.ops.Done.{Done};
+ghost use Rattle.be_volume.specs.declared.ops.Op.{Op};
+ghost use Rattle.be_store.specs.History.{Accepts, Learns};
+ghost use Rattle.be_store.specs.Passes.{HasRead};
+ghost use Rattle.be_change.specs.Changing.{Changing};
+ghost use Rattle.be_change.specs.Ending.{IsChangeOf};
+
+/// A change stays one of its pass, and reads the same volume, while the pass reads, is refused a
+/// write, or writes: none of these moves its pin.
+pub fn stays()
+    ensures read { (change : Changing) (a c : Knowledge) → HasRead a c → IsChangeOf change a
+        → IsChangeOf change c }
+    ensures learn { (change : Changing) (a c : Knowledge) → IsPass a → Learns a c
+        → IsChangeOf change a → IsChangeOf change c }
+    ensures write { (change : Changing) (a c : Knowledge) (ops : List Op) (n : ℕ)
+        (dones : List Done) → IsPass a → Accepts a c ops n dones → IsChangeOf change a
+        → IsChangeOf change c }
+{}

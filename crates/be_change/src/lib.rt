@@ -1,0 +1,13 @@
+//! Changes: a program reads a snapshot, collects operations, and writes them if no other write came
+//! between.
+#![tactic(auto)]
+
+mod changes;
+mod ending;
+mod errors;
+pub mod laws;
+mod overlay;
+
+pub use changes::{Change, MOST_OPERATIONS};
+pub use ending::{Ended, Kinds};
+pub use errors::CollectError;
