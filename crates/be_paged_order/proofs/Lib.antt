@@ -1,0 +1,4 @@
+mod Orders
+mod Readers
+mod WalkedKeys
+mod WayKeys

@@ -1,0 +1,161 @@
+-- The entries of an index that a walk over its tree passes.
+use Rattle.std.proofs.Common.{◌≡◌, ◌⊎◌, ◌<◌, ◌≤◌, ℕ, zero, suc, Bool, true, false, ◌&&◌, List, [], ◌∷◌, ◌++◌, refl, sym, ap, ◌∙◌, subst, arith, inl, inr, take, length, map, reverse, get_or}
+use Rattle.std.specs.FinMap as fin
+use Rattle.std.specs.List.{filter, Contains}
+use Rattle.std.specs.Option.{option_copied}
+use Rattle.std.specs.declared.option.Option.{Option}
+use Rattle.std.specs.declared.cmp.Ordering.TheVariants.{Less}
+use Rattle.std.proofs.lemmas.List.{append-nil}
+use Rattle.std.proofs.lemmas.List.Elements.{All-contains, All-contains_itself}
+use Rattle.be_order.proofs.PageKeys.{contains_mapped, mapped_contains}
+use Rattle.be_order.specs.Ordered.{is_after, key_cmp, nodes_of}
+use Rattle.be_order.specs.Walks.{AreFirst, HasWalked, IsEntry}
+use Rattle.be_paged_reading.specs.Catalog.{IsPairOf}
+use Rattle.be_paged_reading.specs.Entry.{Entry}
+use Rattle.be_paged_reading.specs.Page.{Contents, IsNamedAt}
+use Rattle.be_paged_reading.specs.Version.{Spells}
+use Rattle.be_paged_reading.proofs.Asking.RangeNodes.{node_of_key}
+use Rattle.be_paged_reading.proofs.Asking.SourceKeys.{key_finds}
+use Rattle.be_paged_reading.proofs.CatalogPairs.Finding.{found_pair}
+use Rattle.be_paged_reading.proofs.IndexEntries.Indexing.{named_found}
+use Rattle.be_plan.specs.Narrow.{Within}
+use Rattle.be_plan.proofs.Ways.{and_first, and_second}
+use Rattle.be_tree_reading.specs.Key.{IsRising}
+use Rattle.be_tree_reading.specs.Pair.{Pair}
+use Rattle.be_tree_reading.specs.Range.{is_from, number_of, pairs_from}
+use Rattle.be_tree_reading.specs.Tree.{pairs}
+use Rattle.be_tree_reading.specs.Way.{is_until, numbers_in, pairs_until, walk, walk_of}
+use Rattle.be_tree_reading.specs.declared.way.Way.{Way}
+use Rattle.be_volume.specs.Keys.{IsKey}
+use Rattle.be_volume.specs.Sound.{IsSound}
+use Rattle.be_volume.specs.Volume.{State}
+use Rattle.be_paged_order.specs.Ways.{IsWayOf, lies_on}
+use Rattle.be_paged_order.proofs.Orders.{IsFirstOr, InOrder, entry, few_taken, first_or, from_filter, from_taken, from_turned, in_filter, in_turned, keys_ordered, ordered_filtered, ordered_taken, ordered_turned, rising_ordered}
+
+both : (a b : Bool) → a ≡ true → b ≡ true → (a && b) ≡ true
+both true b h k = k
+both false b h k = cc
+
+numbers_are : (xs : List Pair) → numbers_in xs ≡ nodes_of (map entry xs)
+numbers_are [] = refl
+numbers_are (x ∷ xs) = ap (λ l. number_of x.key ∷ l) (numbers_are xs)
+
+-- a walk over no index
+pub none_walked : (Is : List ℕ → ℕ → Type 0) (descending : Bool) (cursor : Option (List ℕ)) (most : ℕ) (before : List ℕ) → ((k : List ℕ) (n : ℕ) → Is k n → ⊥) → HasWalked Is descending cursor most before before
+none_walked Is descending cursor most before none = record {
+  entries = [];
+  first = record {
+    rising = keys_ordered descending [] tt;
+    few = omega arith;
+    only = λ k n h. absurd (omega (arith, h.1));
+    all = λ k n is after. absurd (none k n is);
+  };
+  added = sym (append-nil before);
+}
+
+module _ (strict : Bool) (low : List ℕ) (high : Option (List ℕ)) (ps : List Pair) where
+  walk_ordered : (back : Bool) → IsRising ps → InOrder back (walk back strict low high ps)
+  walk_ordered false rising = ordered_filtered false (λ x. is_until high false x.key) (pairs_from ps low strict) (ordered_filtered false (λ x. is_from low strict x.key) ps (rising_ordered ps rising))
+  walk_ordered true rising =
+      ordered_turned (pairs_from (pairs_until ps high strict) low false)
+      (ordered_filtered false (λ x. is_from low false x.key) (pairs_until ps high strict) (ordered_filtered false (λ x. is_until high strict x.key) ps (rising_ordered ps rising)))
+
+  from_walk : (back : Bool) (x : Pair) → Contains (walk back strict low high ps) x → Contains ps x × (lies_on back strict low high x.key ≡ true)
+  from_walk false x h =
+      let outer = from_filter (λ (y : Pair). is_until high false y.key) (pairs_from ps low strict) x h in
+      let inner = from_filter (λ (y : Pair). is_from low strict y.key) ps x outer.0 in
+      (inner.0, both _ _ inner.1 outer.1)
+  from_walk true x h =
+      let outer = from_filter (λ (y : Pair). is_from low false y.key) (pairs_until ps high strict) x (from_turned (pairs_from (pairs_until ps high strict) low false) x h) in
+      let inner = from_filter (λ (y : Pair). is_until high strict y.key) ps x outer.0 in
+      (inner.0, both _ _ inner.1 outer.1)
+
+  in_walk : (back : Bool) (x : Pair) → Contains ps x → lies_on back strict low high x.key ≡ true → Contains (walk back strict low high ps) x
+  in_walk false x there h =
+      in_filter (λ (y : Pair). is_until high false y.key) (pairs_from ps low strict) x (in_filter (λ (y : Pair). is_from low strict y.key) ps x there (and_first _ _ h)) (and_second _ _ h)
+  in_walk true x there h =
+      in_turned (pairs_from (pairs_until ps high strict) low false) x
+      (in_filter (λ (y : Pair). is_from low false y.key) (pairs_until ps high strict) x (in_filter (λ (y : Pair). is_until high strict y.key) ps x there (and_first _ _ h)) (and_second _ _ h))
+
+module _ (w : ℕ → ℕ → ℕ) (c : Contents) (s : State) (name : List ℕ) (i : ℕ) (e : Entry) (spells : Spells w c s) (at : IsNamedAt c.entries name i) (sound : IsSound s)
+    (rising : IsRising (pairs w (get_or c.entries i e).root)) (low : List ℕ) (high : Option (List ℕ)) where
+  abbrev all : List Pair
+  all = pairs w (get_or c.entries i e).root
+
+  is_entry : (x : Pair) → Contains all x → Within low high x.key → IsEntry s name low high x.key (number_of x.key)
+  is_entry x there within =
+      let found = named_found w c.entries (fin.entries s.indices) name i spells.indices at in
+      let p : IsPairOf found.index x = All-contains (IsPairOf found.index) all x (found.entry e).keys.only there in
+      let in_map = fin.get-entries s.indices name ∙ found.found in
+      let fits = (sound.pairs name found.index p.node p.value in_map p.there).node_fits in
+      record {
+        is_key = record { index = found.index; node = p.node; value = p.value; there = in_map; paired = p.there; is = p.is };
+        within = within;
+        node_is = sym (ap number_of p.is ∙ node_of_key p.value p.node fits);
+      }
+
+  has_entry : (k : List ℕ) (n : ℕ) → IsEntry s name low high k n → (x : Pair) × Contains all x × (x.key ≡ k) × (number_of k ≡ n)
+  has_entry k n h =
+      let q = h.is_key in
+      let x = found_pair (Contains all) k all (All-contains_itself all) (key_finds w c s name i spells e at k q) in
+      let fits = (sound.pairs name q.index q.node q.value q.there q.paired).node_fits in
+      (x.0, x.1, x.2, ap number_of q.is ∙ node_of_key q.value q.node fits ∙ h.node_is)
+
+  module _ (descending : Bool) (cursor : Option (List ℕ)) (way : Way) (is : IsWayOf low high descending cursor way) (most : ℕ) where
+    abbrev walked : List Pair
+    walked = walk_of way all
+
+    walked_ordered : InOrder descending walked
+    walked_ordered = subst (λ b. InOrder b walked) is.back_is (walk_ordered way.strict way.low.now (option_copied way.high) all way.back rising)
+
+    only : (k : List ℕ) (n : ℕ) → Contains (map entry (take most walked)) (k, n) → IsEntry s name low high k n × (is_after descending cursor k ≡ true)
+    only k n h =
+        let from = mapped_contains entry (take most walked) (k, n) h in
+        let x = from.0 in
+        let on = from_walk way.strict way.low.now (option_copied way.high) all way.back x (from_taken most walked x from.1) in
+        let lies = is.only x.key on.1 in
+        let keys : x.key ≡ k = ap (λ (p : List ℕ × ℕ). p.0) from.2 in
+        let nodes : number_of x.key ≡ n = ap (λ (p : List ℕ × ℕ). p.1) from.2 in
+        (subst (λ (q : List ℕ). IsEntry s name low high q n) keys (subst (λ (m : ℕ). IsEntry s name low high x.key m) nodes (is_entry x on.0 lies.0)), ap (is_after descending cursor) (sym keys) ∙ lies.1)
+
+    reached : (k : List ℕ) (n : ℕ) → IsEntry s name low high k n → is_after descending cursor k ≡ true →
+        Contains (map entry (take most walked)) (k, n) ⊎ ((length (map entry (take most walked)) ≡ most) × ((x : List ℕ) (m : ℕ) → Contains (map entry (take most walked)) (x, m) → key_cmp descending x k ≡ Less))
+    reached k n h after =
+        let has = has_entry k n h in
+        let x = has.0 in
+        let lies : lies_on way.back way.strict way.low.now (option_copied way.high) x.key ≡ true = ap (lies_on way.back way.strict way.low.now (option_copied way.high)) has.2 ∙ is.all k h.within after in
+        let there = in_walk way.strict way.low.now (option_copied way.high) all way.back x has.1 lies in
+        let pair : entry x ≡ (k, n) = λ j. (has.2 j, (ap number_of has.2 ∙ has.3) j) in
+        elim (first_or descending most walked x walked_ordered there) [
+          | inl first ↦ inl (subst (Contains (map entry (take most walked))) pair (contains_mapped entry (take most walked) x first))
+          | inr full ↦ inr (
+            map_length (take most walked) ∙ full.0,
+            λ y m there_y.
+                let from = mapped_contains entry (take most walked) (y, m) there_y in
+                let keys : from.0.key ≡ y = ap (λ (p : List ℕ × ℕ). p.0) from.2 in
+                subst (λ (q : List ℕ). key_cmp descending q k ≡ Less) keys (subst (λ (q : List ℕ). key_cmp descending from.0.key q ≡ Less) has.2 (full.1 from.0 from.1)),
+          )
+        ]
+      where
+        map_length : (xs : List Pair) → length (map entry xs) ≡ length xs
+        map_length [] = refl
+        map_length (x ∷ xs) = ap suc (map_length xs)
+
+    few : (xs : List Pair) → length xs ≤ most → length (map entry xs) ≤ most
+    few xs h = omega (arith, h, mapped xs)
+      where
+        mapped : (xs : List Pair) → length (map entry xs) ≡ length xs
+        mapped [] = refl
+        mapped (x ∷ xs) = ap suc (mapped xs)
+
+    pub has_walked : (before after : List ℕ) → after ≡ before ++ numbers_in (take most walked) → HasWalked (IsEntry s name low high) descending cursor most before after
+    has_walked before after added = record {
+      entries = map entry (take most walked);
+      first = record {
+        rising = keys_ordered descending (take most walked) (ordered_taken descending most walked walked_ordered);
+        few = few (take most walked) (few_taken most walked);
+        only = only;
+        all = reached;
+      };
+      added = added ∙ ap (λ l. before ++ l) (numbers_are (take most walked));
+    }

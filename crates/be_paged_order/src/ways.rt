@@ -1,0 +1,89 @@
+//! Where a walk over an index begins and ends.
+ghost use Rattle.std.specs.Prelude.{◌≡◌, Some, true, false};
+ghost use Rattle.std.specs.Option.{option_copied};
+ghost use Rattle.std.specs.Ordering.{is_ge};
+ghost use Rattle.be_volume.specs.Maps.{name_cmp};
+ghost use Rattle.be_order.specs.Ordered.{cursor_bytes};
+ghost use Rattle.be_paged_order.specs.Ways.{IsWayOf, is_up_to};
+
+use arrayvec::ArrayVec;
+use be_tree_reading::Way;
+
+/// Whether the first key is the second or comes after it.
+fn is_at_or_after(a: &[u8], b: &[u8]) -> bool
+    ensures { result ≡ is_ge (name_cmp a.now b.now) }
+{
+    a.cmp(&b).is_ge()
+}
+
+/// Whether the key is at most the bound, if there is one.
+fn is_up_to(high: Option<&[u8]>, key: &[u8]) -> bool
+    ensures { result ≡ is_up_to (option_copied high.entry) key.now }
+{
+    match high {
+        Some(high) => is_at_or_after(high, key),
+        None => true,
+    }
+}
+
+/// The way up from the cursor, or over the whole range if that comes after the cursor.
+fn way_up<'a>(low: &'a [u8], high: Option<&'a [u8]>, cursor: &'a [u8]) -> Way<'a>
+    ensures { IsWayOf low.now (option_copied high.entry) false (Some cursor.now) result }
+{
+    if is_at_or_after(cursor, low) {
+        return Way {
+            low: cursor,
+            high,
+            strict: true,
+            back: false,
+        };
+    }
+    Way {
+        low,
+        high,
+        strict: false,
+        back: false,
+    }
+}
+
+/// The way down from the cursor, or over the whole range if that comes after the cursor.
+fn way_down<'a>(low: &'a [u8], high: Option<&'a [u8]>, cursor: &'a [u8]) -> Way<'a>
+    ensures { IsWayOf low.now (option_copied high.entry) true (Some cursor.now) result }
+{
+    if is_up_to(high, cursor) {
+        return Way {
+            low,
+            high: Some(cursor),
+            strict: true,
+            back: true,
+        };
+    }
+    Way {
+        low,
+        high,
+        strict: false,
+        back: true,
+    }
+}
+
+/// The way over the keys of a range that come after the cursor, up or down.
+pub(crate) fn way_of<'a>(
+    low: &'a [u8],
+    high: Option<&'a [u8]>,
+    descending: bool,
+    cursor: &'a Option<ArrayVec<u8, 264>>,
+) -> Way<'a>
+    ensures { IsWayOf low.now (option_copied high.entry) descending (cursor_bytes cursor.now)
+        result }
+{
+    match cursor {
+        Some(cursor) if descending => way_down(low, high, cursor.as_slice()),
+        Some(cursor) => way_up(low, high, cursor.as_slice()),
+        None => Way {
+            low,
+            high,
+            strict: false,
+            back: descending,
+        },
+    }
+}
