@@ -473,7 +473,7 @@ class Refused(Files):
             ("UPDATE entry SET batch = substr(batch, 1, 9) WHERE number = 4", 4, None, "cut off"),
             ("UPDATE entry SET batch = 'text' WHERE number = 4", 4, None, "another beginning"),
             ("UPDATE entry SET batch = 5 WHERE number = 1", 1, None, "another beginning"),
-            ("INSERT INTO entry SELECT 5, pass, batch FROM entry WHERE number = 1", 5, None, "the index exists"),
+            ("INSERT INTO entry SELECT 5, pass, batch FROM entry WHERE number = 1", 5, None, "there is already an index of this name"),
             ("INSERT INTO state VALUES (0, x'00')", None, 0, "another beginning"),
             ("UPDATE about SET number = 5 WHERE what = 'next'", None, None, "next node"),
             ("UPDATE about SET number = -1 WHERE what = 'entries'", None, None, "doesn't say"),

@@ -4,6 +4,7 @@ from __future__ import annotations
 
 from typing import TYPE_CHECKING, Optional
 
+from ._surface import ErrorClass
 from .errors import CommitsSpent, Error, Full, NoMemory
 
 if TYPE_CHECKING:
@@ -60,6 +61,8 @@ class Newer(SavedError):
 class Held(SavedError):
     """Another process has the file, or another store of this one."""
 
+    error_class = ErrorClass.RETRY
+
     @property
     def summary(self) -> str:
         return "the file is in use"
@@ -67,6 +70,8 @@ class Held(SavedError):
 
 class DiskFull(SavedError):
     """The disk is full."""
+
+    error_class = ErrorClass.FULL
 
     @property
     def summary(self) -> str:
@@ -101,6 +106,8 @@ class Fewer(SavedError):
 class SqliteError(SavedError):
     """Another error of SQLite, which is the `__cause__`."""
 
+    error_class = ErrorClass.GONE
+
     @property
     def summary(self) -> str:
         return str(self.__cause__)
@@ -132,13 +139,19 @@ class _AtPlace(SavedError):
 class Differs(_AtPlace):
     """The file has what no store did. An error of the store or of the batch is the `__cause__`."""
 
+    error_class = ErrorClass.GONE
+
 
 class TooLarge(_AtPlace):
     """What the file has doesn't fit the limits of the store, whose error is the `__cause__`."""
 
+    error_class = ErrorClass.FULL
+
 
 class NotSaved(SavedError):
     """The write is in memory, and may be in the file or not. The error of the commit is the `__cause__`."""
+
+    error_class = ErrorClass.GONE
 
     def __init__(self, path: str, number: Optional[int]) -> None:
         super().__init__(path, number)
@@ -154,6 +167,8 @@ class NotSaved(SavedError):
 class Stopped(SavedError):
     """Nothing is saved any more, and nothing was written. The error of the commit that failed is the `__cause__`, or
     there is none if the file was closed."""
+
+    error_class = ErrorClass.GONE
 
     @property
     def summary(self) -> str:

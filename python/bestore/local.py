@@ -10,7 +10,8 @@ from typing import Any, Callable, Dict, Iterator, List, Optional, Set, Tuple, Ty
 from . import _native
 from ._library import Usage, calls, check
 from .commits import Commits
-from .errors import BadLimits, ErrorNumber, NotCovered, NoVolume, OtherStore, Refusal, encoded_query, refusal
+from ._surface import ErrorNumber
+from .errors import BadLimits, NotCovered, NoVolume, OtherStore, Refusal, encoded_query, refusal
 from .handles import CURSOR, PASS, WITNESS, HandleOwner
 from .operations import Batch
 from .queries import Prepared, encode_items

@@ -17,6 +17,7 @@ Value = Union[str, bytes, int]
 class Kind(enum.IntEnum):
     """The kinds of values, by the type codes of BeOS."""
 
+    # surface.toml: kinds
     STRING = 0x43535452
     INT32 = 0x4C4F4E47
     INT64 = 0x4C4C4E47
@@ -24,6 +25,7 @@ class Kind(enum.IntEnum):
     RAW = 0x52415754
     UINT32 = 0x554C4E47
     UINT64 = 0x554C4C47
+    # surface.toml: end
 
     def __repr__(self) -> str:
         return f"bestore.{self.name}"

@@ -5,7 +5,7 @@ use crate::kind::shown_name;
 use crate::text::{escaped, pointed};
 use crate::typed_query::BadDate;
 use bestore_client::wire::Refusal;
-use bestore_client::{Error, SocketPath};
+use bestore_client::{Error, ErrorName, SocketPath};
 use std::collections::BTreeMap;
 use std::io::Write as _;
 use std::path::{Path, PathBuf};
@@ -59,7 +59,7 @@ impl Failure {
     pub fn is_of_connection(&self) -> bool {
         match self {
             Failure::NoServer(..) | Failure::Server(Error::Io(_) | Error::Closed | Error::TimedOut(_)) => true,
-            Failure::Server(error) => error.is("NoPass"),
+            Failure::Server(error) => error.is(ErrorName::NoPass),
             _ => false,
         }
     }
@@ -167,16 +167,10 @@ pub fn complain(text: &str) {
     let _ = writeln!(io::stderr(), "be: {text}");
 }
 
-/// The message of an error, with what goes with it.
+/// The message of an error.
 pub fn message(error: &Error) -> String {
-    let refusal = match error {
-        Error::Refused(refusal) => refusal,
-        other => return escaped(&other.to_string()),
-    };
-    let shown = refusal.details.iter().filter(|(name, _)| *name != "operation");
-    let details: Vec<_> = shown.map(|(name, value)| format!("{name} {value}")).collect();
-    match details.is_empty() {
-        true => escaped(&refusal.message),
-        false => escaped(&format!("{} ({})", refusal.message, details.join(", "))),
+    match error {
+        Error::Refused(refusal) => escaped(&refusal.message),
+        other => escaped(&other.to_string()),
     }
 }

@@ -122,7 +122,10 @@ fn attributes_are_listed_and_removed() {
         (1, "be: node 1: no attribute size\n")
     );
     let said = server.be(&["listattr", "99"]);
-    assert_eq!((said.status, said.error.as_str()), (1, "be: node 99: no such node\n"));
+    assert_eq!(
+        (said.status, said.error.as_str()),
+        (1, "be: node 99: there is no such node\n")
+    );
 }
 
 #[test]
@@ -148,12 +151,12 @@ fn nodes_are_removed_with_their_attributes() {
     let server = server!(Server::with_three());
     server.done(&["rmnode", "1"]);
     assert_eq!(server.done(&["query", "name==*"]), "2\n3\n");
-    refused(&server, &["listattr", "1"], "be: node 1: no such node\n");
+    refused(&server, &["listattr", "1"], "be: node 1: there is no such node\n");
     // One that is gone, or given twice, doesn't keep the others.
     refused(
         &server,
         &["rmnode", "2", "1", "2"],
-        "be: node 1: no such node\nbe: node 2: no such node\n",
+        "be: node 1: there is no such node\nbe: node 2: there is no such node\n",
     );
     assert_eq!(server.done(&["query", "name==*"]), "3\n");
     // Numbers are not used again.
@@ -336,7 +339,7 @@ fn exit_statuses_are_those_of_the_page() {
     }
     assert_eq!((none(&["--help"]).status, none(&["--version"]).status), (0, 0));
     let server = server!(Server::start());
-    refused(&server, &["rmattr", "name", "7"], "be: node 7: no such node\n");
+    refused(&server, &["rmattr", "name", "7"], "be: node 7: there is no such node\n");
 }
 
 #[test]

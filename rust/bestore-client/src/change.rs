@@ -1,6 +1,6 @@
 //! Changes: reading and writing as one.
 
-use crate::wire::{kind_named, Command, Indices, Nothing, Numbers};
+use crate::wire::{kind_named, Command, ErrorName, Indices, Nothing, Numbers};
 use crate::{Client, Error, Result};
 use bestore::{Batch, Kind, Node, Operation};
 use std::collections::BTreeMap;
@@ -75,7 +75,7 @@ impl Client {
         let mut left = 1_000_u32;
         loop {
             match self.try_change(&mut change) {
-                Err(error) if error.is("Conflict") && left > 0 => left -= 1,
+                Err(error) if error.is(ErrorName::Conflict) && left > 0 => left -= 1,
                 answer => return answer,
             }
         }
@@ -148,7 +148,7 @@ impl Client {
     /// Unpins. That the closure has done so, or that the server took the snapshot back, is no error.
     fn unpin_quietly(&mut self) -> Result<()> {
         match self.unpin() {
-            Err(error) if error.is("NotPinned") => Ok(()),
+            Err(error) if error.is(ErrorName::NotPinned) => Ok(()),
             answer => answer,
         }
     }

@@ -1,7 +1,7 @@
 //! Why a call failed.
 
-use crate::wire::Refusal;
-use bestore::Kind;
+use crate::wire::{ErrorName, Refusal};
+use bestore::{Class, Kind};
 use std::path::PathBuf;
 use std::time::Duration;
 use std::{fmt, io};
@@ -53,10 +53,26 @@ impl Error {
         }
     }
 
-    /// Whether the server refused with this error, such as `Conflict`.
+    /// Whether the server refused with this error.
+    ///
+    /// ```
+    /// use bestore_client::wire::{ErrorName, Refusal};
+    /// let error = bestore_client::Error::Refused(Refusal::new(ErrorName::Conflict, ""));
+    /// assert!(error.is(ErrorName::Conflict) && error.class() == bestore::Class::Retry);
+    /// ```
     #[must_use]
-    pub fn is(&self, name: &str) -> bool {
+    pub fn is(&self, name: ErrorName) -> bool {
         self.refusal().map_or(false, |refusal| refusal.name == name)
+    }
+
+    /// What a program can do about the error.
+    #[must_use]
+    pub fn class(&self) -> Class {
+        match self {
+            Error::Refused(refusal) => refusal.class(),
+            Error::Io(_) | Error::Closed | Error::BadLine(_) | Error::TimedOut(_) => Class::Gone,
+            Error::OtherUser { .. } | Error::KindMismatch { .. } => Class::Mine,
+        }
     }
 }
 

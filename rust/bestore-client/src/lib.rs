@@ -36,3 +36,4 @@ pub use client::{Client, Query};
 pub use error::{Error, Result};
 pub use options::Options;
 pub use socket::SocketPath;
+pub use wire::ErrorName;

@@ -66,9 +66,11 @@
 mod batch;
 mod bytes;
 mod change;
+mod class;
 mod error;
 mod hints;
 mod journal;
+mod kind;
 mod pass;
 mod predicate;
 mod prepared;
@@ -83,9 +85,11 @@ mod value;
 
 pub use batch::{Batch, Operation, Operations};
 pub use change::Change;
+pub use class::Class;
 pub use error::{Error, QueryError, QueryFault, Result};
 pub use hints::{hints, Hint};
 pub use journal::{Entries, Entry};
+pub use kind::Kind;
 pub use pass::{Keeper, Oldest, Pass, Retry, Status, Witness, Written};
 pub use predicate::{attribute, Attribute, Operand, Predicate};
 pub use prepared::{Live, Prepared, Updates};
@@ -95,7 +99,7 @@ pub use shelf::{
 pub use snapshot::{Nodes, Snapshot, State};
 pub use store::{Limits, Store};
 pub use text::{any_case, caret, escape};
-pub use value::{Kind, Value};
+pub use value::Value;
 
 /// The version of the library that runs: major, minor and patch.
 #[must_use]

@@ -8,8 +8,8 @@ use crate::options::Options;
 use crate::os;
 use crate::server::Shared;
 use bestore::saved::{self, Saved, SavedShelf};
-use bestore::{Shelf, ShelfPass};
-use bestore_client::wire;
+use bestore::{Class, Shelf, ShelfPass};
+use bestore_client::wire::{self, ErrorName};
 use std::error::Error;
 use std::fs::File;
 use std::io;
@@ -129,9 +129,10 @@ impl Kept {
     /// Refuses what would be read or written once a commit has failed.
     pub fn check(&self) -> Result<(), Failure> {
         match self {
-            Kept::File(files) if files.is_over.load(Ordering::Relaxed) => {
-                Err(Failure::new("Stopped", "a commit has failed, and the server ends"))
-            }
+            Kept::File(files) if files.is_over.load(Ordering::Relaxed) => Err(Failure::new(
+                ErrorName::Stopped,
+                "a commit has failed, and the server ends",
+            )),
             _ => Ok(()),
         }
     }
@@ -143,7 +144,9 @@ impl Kept {
             _ => None,
         };
         match trouble {
-            Some(trouble) => Err(Failure::new("Stopped", format!("nothing was written: {trouble}"))),
+            Some(trouble) => {
+                Err(Failure::new(ErrorName::Stopped, format!("nothing was written: {trouble}")).of_class(Class::Full))
+            }
             None => Ok(()),
         }
     }
@@ -214,7 +217,7 @@ impl Kept {
             Kept::Log(log) => log.status(wanted),
             _ => {
                 let _ = wanted;
-                Err(Failure::new("NoLog", "the server is in no log"))
+                Err(Failure::named(ErrorName::NoLog))
             }
         }
     }
@@ -231,7 +234,7 @@ impl Kept {
 }
 
 fn not_kept() -> Failure {
-    Failure::new("NotKept", "the server keeps no file")
+    Failure::named(ErrorName::NotKept)
 }
 
 /// Opens the file of one store, or the folder of several volumes.

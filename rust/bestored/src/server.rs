@@ -11,7 +11,7 @@ use crate::socket::{Place, Socket};
 use crate::watcher::Watcher;
 use bestore::{Error, ShelfPass};
 use bestore_client::socket::{peer_user, user};
-use bestore_client::wire::{Command, Greeting, Request};
+use bestore_client::wire::{Command, ErrorName, Greeting, Request};
 use std::collections::BTreeMap;
 use std::fs::File;
 use std::io::{self, ErrorKind};
@@ -172,7 +172,7 @@ fn take_client(listener: &UnixListener, shared: &Arc<Shared>) -> bool {
 fn welcome(shared: &Arc<Shared>, stream: Arc<UnixStream>) {
     match peer_user(&stream) {
         Ok(client) if client == user() || client == 0 => {}
-        _ => return refuse(&stream, &Failure::new("NotAllowed", "the server is another user's")),
+        _ => return refuse(&stream, &Failure::named(ErrorName::NotAllowed)),
     }
     let clients = shared.clients.count();
     if clients >= shared.options.passes as usize + WAITING {
@@ -264,8 +264,8 @@ fn take_visit(shared: &Shared) -> Option<MutexGuard<'_, ShelfPass>> {
 /// All passes of clients are taken.
 pub fn no_pass(shared: &Shared) -> Failure {
     let clients = shared.options.passes;
-    let message = format!("{clients} clients are connected");
-    Failure::new("NoPass", message).numbered(68).with("clients", clients)
+    let message = format!("every place for a client is taken ({clients}); try again once one is free");
+    Failure::new(ErrorName::NoPass, message).with("clients", clients)
 }
 
 /// Says why there is no connection, if the client takes it at once.

@@ -1,10 +1,12 @@
 //! The protocol: requests, replies and values as JSON. `docs/SERVER.md` describes it.
 
+mod error_name;
 mod operation;
 mod reply;
 mod request;
 mod value;
 
+pub use error_name::ErrorName;
 pub use operation::{Operations, ShownOperations};
 pub use reply::{
     Attributes, Commit, Explained, HeldBy, Hello, Hits, Indices, Journal, JournalEntry, Limits, LogStatus, Next, Nodes,

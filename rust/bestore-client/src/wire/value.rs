@@ -12,6 +12,7 @@ use std::str::FromStr;
 #[must_use]
 pub const fn kind_name(kind: Kind) -> &'static str {
     match kind {
+        // surface.toml: names of kinds
         Kind::Text => "text",
         Kind::Int32 => "int32",
         Kind::Int64 => "int64",
@@ -19,6 +20,7 @@ pub const fn kind_name(kind: Kind) -> &'static str {
         Kind::Raw => "raw",
         Kind::Uint32 => "uint32",
         Kind::Uint64 => "uint64",
+        // surface.toml: end
     }
 }
 
