@@ -369,10 +369,10 @@ class WhatIsMissing(unittest.TestCase):
         with bestore.open(64, 1, 100) as store:
             store.new_node()
             for value, kind, said in [
-                (True, None, "True is no value of an attribute: write int(True), which is 1, or a text"),
-                (False, bestore.INT32, "False is no value of an attribute: write int(False), which is 0, or a text"),
-                (1.5, None, "1.5 is no value of an attribute: that is a str, bytes or an int"),
-                (None, bestore.STRING, "None is no value of an attribute: that is a str, bytes or an int"),
+                (True, None, "True isn't a value of an attribute: write int(True), which is 1, or a text"),
+                (False, bestore.INT32, "False isn't a value of an attribute: write int(False), which is 0, or a text"),
+                (1.5, None, "1.5 isn't a value of an attribute: that is a str, bytes or an int"),
+                (None, bestore.STRING, "None isn't a value of an attribute: that is a str, bytes or an int"),
                 ("5", bestore.INT32, "'5' can't be of the kind INT32: a str is STRING or MIME"),
                 (b"5", bestore.STRING, "b'5' can't be of the kind STRING: bytes are RAW"),
                 (5, bestore.MIME, "5 can't be of the kind MIME: an int is INT64, INT32, UINT32 or UINT64"),
@@ -383,11 +383,11 @@ class WhatIsMissing(unittest.TestCase):
             said = f"no kind has this type code; the kinds are {kinds}"
             self.refused(bestore.NoKind, said, lambda: store.set(1, "a", "5", 7))
             self.refused(bestore.NoKind, said.replace(";", " (operation 0, counted from 0);"), lambda: store.make_index("a", 7))
-            self.refused(TypeError, "'1' is no node: a node is an int", lambda: store.set("1", "a", 5))
+            self.refused(TypeError, "'1' isn't a node: a node is an int", lambda: store.set("1", "a", 5))
             with store.pin() as version:
                 for read in (lambda: version.attributes("1"), lambda: version.get("1", "a"), lambda: version.column(["1"], "a"),
                              lambda: version["1"]["a"]):
-                    self.refused(TypeError, "'1' is no node: a node is an int", read)
+                    self.refused(TypeError, "'1' isn't a node: a node is an int", read)
                 self.assertEqual(version.attributes(1), {})
 
 

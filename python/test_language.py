@@ -195,7 +195,7 @@ class Hints(unittest.TestCase):
                     with bestore.prepare(text) as prepared:
                         self.assertEqual(version.hints(prepared), hints)
                 first, second = version.hints("size>1.5 || n==-1")
-                self.assertEqual(str(first), 'never true: "size" is INT64, and "1.5" is no whole number')
+                self.assertEqual(str(first), 'never true: "size" is INT64, and "1.5" isn\'t a whole number')
                 self.assertEqual(str(second), 'never true: "n" is UINT32, and "-1" is out of the range of UINT32')
                 self.assertEqual(first[:4], ("size", "1.5", bestore.INT64, 0))
                 with bestore.prepare_items(bestore.Name("size"), "x", bestore.Operator.EQ) as prepared:

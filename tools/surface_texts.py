@@ -144,6 +144,10 @@ def rust_kind_names(surface: Surface) -> str:
     return lines(f'        Kind::{it.rust} => "{it.name}",' for it in surface.kinds)
 
 
+def rust_kind_list(surface: Surface) -> str:
+    return f'    "{", ".join(it.name for it in surface.kinds)}"\n'
+
+
 def rust_error_names(surface: Surface) -> str:
     def row(it: Fault | ServerFault) -> str:
         number = f"Some({it.number})" if isinstance(it, Fault) else "None"
@@ -321,6 +325,7 @@ REGIONS: dict[tuple[str, str], Callable[[Surface], str]] = {
     ("rust/bestore/src/class.rs", "errors"): rust_meanings,
     ("rust/bestore/src/kind.rs", "kinds"): rust_kinds,
     ("rust/bestore-client/src/wire/value.rs", "names of kinds"): rust_kind_names,
+    ("rust/bestore-client/src/wire/value.rs", "list of kinds"): rust_kind_list,
     ("rust/bestore-client/src/wire/error_name.rs", "errors"): rust_error_names,
     ("python/bestore/errors.py", "exceptions"): python_exceptions,
     ("python/bestore/_connected_errors.py", "exceptions"): python_server_exceptions,

@@ -40,7 +40,7 @@ class Foreign(SavedError):
 
     @property
     def summary(self) -> str:
-        return "the file is of another program"
+        return "the file belongs to another program; name another one"
 
 
 class Newer(SavedError):
@@ -55,7 +55,7 @@ class Newer(SavedError):
 
     @property
     def summary(self) -> str:
-        return f"the file has format {self.version}, and format {self.known} is the latest known here"
+        return f"the file has format {self.version}, and format {self.known} is the latest known here; use a newer version of bestore"
 
 
 class Held(SavedError):
@@ -65,7 +65,7 @@ class Held(SavedError):
 
     @property
     def summary(self) -> str:
-        return "the file is in use"
+        return "the file is open in another process or store; close it there first"
 
 
 class DiskFull(SavedError):
@@ -83,7 +83,7 @@ class NoFile(SavedError):
 
     @property
     def summary(self) -> str:
-        return "the file of this volume is missing"
+        return "the file of this volume is missing, and a later volume has one; put it back"
 
 
 class Fewer(SavedError):
@@ -196,4 +196,4 @@ def refused(path: str, error: Error, entry: Optional[int] = None, batch: Optiona
     """The error of the file for one of a store that repeats what the file has."""
     if isinstance(error, (Full, CommitsSpent, NoMemory)):
         return TooLarge(path, f"the file doesn't fit the limits of the store: {error}", entry, batch)
-    return Differs(path, f"the file has what no store did: {error}", entry, batch)
+    return Differs(path, f"the file has something that no store wrote: {error}", entry, batch)

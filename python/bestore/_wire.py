@@ -39,7 +39,7 @@ def decode_line(line: bytes) -> JSON:
     except RecursionError:
         raise ValueError("it is too deep") from None
     if not isinstance(found, dict):
-        raise ValueError("it is no object")
+        raise ValueError("it isn't an object of JSON")
     return found
 
 

@@ -267,7 +267,7 @@ class LocalPass(HandleOwner, Pass):
 
     def join(self, witness: Witness) -> int:
         if not isinstance(witness, Witness):
-            raise TypeError(f"{witness!r} is no witness")
+            raise TypeError(f"{witness!r} isn't a witness: a pass makes one by `witness()`")
         if not isinstance(witness, LocalWitness) or witness._store is not self._store:
             raise OtherStore()
         seen = ctypes.c_uint64()

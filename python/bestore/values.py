@@ -115,11 +115,11 @@ def encode_value(value: Value, kind: Optional[int] = None) -> Encoded:
 def _number(value: SupportsIndex) -> int:
     """The number that a value is. A TypeError if it is none. A bool would be read back as 0 or 1, so it has to be said."""
     if isinstance(value, bool):
-        raise TypeError(f"{value} is no value of an attribute: write int({value}), which is {int(value)}, or a text")
+        raise TypeError(f"{value} isn't a value of an attribute: write int({value}), which is {int(value)}, or a text")
     try:
         return plain(value)
     except TypeError:
-        raise TypeError(f"{reprlib.repr(value)} is no value of an attribute: that is a str, bytes or an int") from None
+        raise TypeError(f"{reprlib.repr(value)} isn't a value of an attribute: that is a str, bytes or an int") from None
 
 
 def _fitting(value: Value, kind: Optional[int], called: str, kinds: Tuple[Kind, ...]) -> Kind:

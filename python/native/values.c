@@ -51,7 +51,7 @@ bool read_node_in_range(PyObject *object, uint64_t *node)
         return true;
     if (PyErr_Occurred() && PyErr_ExceptionMatches(PyExc_TypeError)) {
         PyErr_Clear();
-        PyErr_Format(PyExc_TypeError, "%R is no node: a node is an int", object);
+        PyErr_Format(PyExc_TypeError, "%R isn't a node: a node is an int", object);
     }
     return false;
 }
@@ -75,7 +75,7 @@ bool read_text(PyObject *object, const uint8_t **bytes, size_t *length)
             refused(BES_NOT_UTF8);
         } else if (!PyUnicode_Check(object)) {
             PyErr_Clear();
-            PyErr_Format(PyExc_TypeError, "%R is no str", object);
+            PyErr_Format(PyExc_TypeError, "%R isn't a str", object);
         }
         return false;
     }

@@ -115,13 +115,13 @@ impl fmt::Display for Failure {
                 escaped(&bad.why.to_string()),
                 pointed(&bad.typed, bad.offset)
             ),
-            Failure::Value(kind) => write!(f, "the value is no {kind}"),
+            Failure::Value(kind) => f.write_str(&value_fault(kind)),
             Failure::File(path, error) => write!(f, "{}: {error}", shown(path)),
             Failure::NotImported(path) => {
                 writeln!(f, "{}: the file has no node", shown(path))?;
                 write!(f, "  be import FOLDER makes one for each file of a folder")
             }
-            Failure::LongPath(path) => write!(f, "{}: the path has more than 255 bytes", shown(path)),
+            Failure::LongPath(path) => write!(f, "{}: a path has up to 255 bytes, and this one has more", shown(path)),
             Failure::Watch(folder, error) => f.write_str(&follow::shown(folder, error)),
             Failure::Gone(folder) => write!(f, "{} is gone, and nothing was removed from the store", shown(folder)),
             Failure::Another(folder) => {
@@ -160,6 +160,14 @@ impl fmt::Display for QueryRefused {
 
 fn shown(path: &Path) -> String {
     escaped(&path.to_string_lossy())
+}
+
+/// Why bytes are no value of a type.
+fn value_fault(kind: &str) -> String {
+    match kind {
+        "string" | "mime" => format!("the value isn't valid UTF-8, as a {kind} is; the type raw takes any bytes"),
+        _ => format!("the value doesn't fit the type {kind}, which takes the digits of a whole number in its range"),
+    }
 }
 
 /// Prints on standard error. There is nothing to be done if that fails.

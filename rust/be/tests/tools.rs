@@ -75,11 +75,23 @@ fn values_that_do_not_fit_are_refused() {
     let server = server!(Server::start());
     server.done(&["addattr", "--new", "t", "a"]);
     let said = server.be(&["addattr", "-t", "int32", "n", "2147483648", "1"]);
-    assert_eq!((said.status, said.error.as_str()), (2, "be: the value is no int32\n"));
+    assert_eq!(
+        (said.status, said.error.as_str()),
+        (
+            2,
+            "be: the value doesn't fit the type int32, which takes the digits of a whole number in its range\n"
+        )
+    );
     let mut command = server.command(&["addattr", "t"]);
     command.arg(std::ffi::OsStr::from_bytes(b"\xff")).arg("1");
     let said: Said = command.output().unwrap().into();
-    assert_eq!((said.status, said.error.as_str()), (2, "be: the value is no string\n"));
+    assert_eq!(
+        (said.status, said.error.as_str()),
+        (
+            2,
+            "be: the value isn't valid UTF-8, as a string is; the type raw takes any bytes\n"
+        )
+    );
     let said = server.fed(&["addattr", "-f", "-", "t", "1"], &[b'a'; 1 << 20]);
     assert_eq!(said.status, 1, "{said:?}");
     let said = server.fed(&["addattr", "-f", "-", "t", "1"], b"a\0b");

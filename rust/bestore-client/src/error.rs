@@ -19,7 +19,7 @@ pub enum Error {
     Io(io::Error),
     /// The server closed the connection. Whether a write was made is not known.
     Closed,
-    /// The server sent what is no line of the protocol.
+    /// The server sent a line that isn't of the protocol.
     BadLine(String),
     /// The server didn't reply within this time, and the connection is closed. Whether a write was made is not known.
     TimedOut(Duration),
@@ -88,7 +88,7 @@ impl fmt::Display for Error {
             Error::Refused(refusal) => refusal.fmt(f),
             Error::Io(error) => write!(f, "the connection to the server: {error}"),
             Error::Closed => f.write_str("the server closed the connection"),
-            Error::BadLine(why) => write!(f, "the server sent what is no line of the protocol: {why}"),
+            Error::BadLine(why) => write!(f, "the server sent a line that isn't of the protocol: {why}"),
             Error::TimedOut(time) => write!(
                 f,
                 "the server didn't reply within {time:?}; whether a write was made is not known"

@@ -329,6 +329,6 @@ fn comparisons_that_are_never_true_are_found() {
     let snapshot = pass.pin().unwrap();
     let hints = snapshot.hints("name==a || !(size<=1.5)").unwrap();
     let said: Vec<String> = hints.iter().map(|hint| hint.to_string()).collect();
-    assert_eq!(said, [r#"never true: "size" is i64, and "1.5" is no whole number"#]);
+    assert_eq!(said, [r#"never true: "size" is i64, and "1.5" isn't a whole number"#]);
     assert_eq!((hints[0].offset, hints[0].is_number), (13, false));
 }

@@ -137,7 +137,7 @@ fn of_many_servers_at_once_one_starts() {
 fn other_files_and_folders_are_left_alone() {
     let folder = Folder::new();
     fs::write(folder.join("file"), "text").unwrap();
-    refused(command(&folder.join("file"), &[]), "no socket");
+    refused(command(&folder.join("file"), &[]), "isn't a socket; remove it");
     assert_eq!(fs::read(folder.join("file")).unwrap(), b"text");
     refused(command(&folder.join("none/none/socket"), &[]), "No such file");
     refused(command(&folder.join(&"a".repeat(200)), &[]), "");
@@ -348,5 +348,8 @@ fn a_kept_store_is_written_every_so_often_or_by_flush() {
     assert!(said.ends_with(r#""nodes":[1]}}"#), "{said}");
     thread::sleep(Duration::from_millis(1));
     let other = Folder::new();
-    refused(command(&other.join("socket"), &options), "the file is in use");
+    refused(
+        command(&other.join("socket"), &options),
+        "the file is open in another process or store; close it there first",
+    );
 }

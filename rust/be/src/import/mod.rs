@@ -207,7 +207,9 @@ fn make_indices(client: &mut Client) -> Result<BTreeMap<String, Kind>, Failure> 
     }
     let all = kinds(server::indices(client)?);
     for (name, _) in INDICES.iter().filter(|(name, _)| !all.contains_key(*name)) {
-        complain(&format!("warning: not each volume has the index {name} with one type"));
+        complain(&format!(
+            "warning: the volumes have the index {name} with different types, or some lack it"
+        ));
     }
     Ok(all)
 }
