@@ -28,6 +28,7 @@ pub const fn kind_name(kind: Kind) -> &'static str {
 pub(super) const NO_KIND: &str = concat!(
     "no kind has this name; they are ",
     // surface.toml: list of kinds
+    "text, int32, int64, mime, raw, uint32, uint64"
     "text, int32, int64, mime, raw, uint32, uint64" // surface.toml: end
 );
 
