@@ -22,20 +22,19 @@ HEADER = "include/bestore.h"
 BINDINGS = "rust/bestore-sys/src/lib.rs"
 ABI = "c/abi/libbestore.so.0.c"
 MANUAL = "docs/bestore.3"
-END = "surface.toml: end"
+END = re.compile(r"^[^\w\n]*surface\.toml: end[^\w\n]*$", re.M)
 
 
 def with_region(path: str, text: str, name: str, body: str) -> str:
     """The text of a file with what is between the marks of a region replaced."""
-    mark = re.compile(rf"^[^\n]*surface\.toml: {re.escape(name)}(?![\w ]*\w)[^\n]*\n", re.M)
-    begins = list(mark.finditer(text))
+    begins = list(re.finditer(rf"^[^\w\n]*surface\.toml: {re.escape(name)}[^\w\n]*\n", text, re.M))
     if len(begins) != 1:
         raise Wrong(f"{path}: the line \"surface.toml: {name}\" has to be there once, and is there {len(begins)} times")
     begin = begins[0].end()
-    end = text.find(END, begin)
-    if end < 0 or "surface.toml: " in text[begin:end]:
-        raise Wrong(f"{path}: the region \"surface.toml: {name}\" has no line \"{END}\" after it")
-    return text[:begin] + body + text[text.rindex("\n", 0, end) + 1:]
+    end = END.search(text, begin)
+    if end is None or "surface.toml: " in text[begin:end.start()]:
+        raise Wrong(f"{path}: after \"surface.toml: {name}\" a line with only \"surface.toml: end\" has to follow")
+    return text[:begin] + body + text[end.start():]
 
 
 def prototypes(header: str) -> dict[str, str]:

@@ -145,7 +145,8 @@ def rust_kind_names(surface: Surface) -> str:
 
 
 def rust_kind_list(surface: Surface) -> str:
-    return f'    "{", ".join(it.name for it in surface.kinds)}"\n'
+    names = ", ".join(it.name for it in surface.kinds)
+    return f'pub(super) const NO_KIND: &str = "no kind has this name; they are {names}";\n'
 
 
 def rust_error_names(surface: Surface) -> str:

@@ -25,12 +25,9 @@ pub const fn kind_name(kind: Kind) -> &'static str {
 }
 
 /// What is said of another name.
-pub(super) const NO_KIND: &str = concat!(
-    "no kind has this name; they are ",
-    // surface.toml: list of kinds
-    "text, int32, int64, mime, raw, uint32, uint64"
-    "text, int32, int64, mime, raw, uint32, uint64" // surface.toml: end
-);
+// surface.toml: list of kinds
+pub(super) const NO_KIND: &str = "no kind has this name; they are text, int32, int64, mime, raw, uint32, uint64";
+// surface.toml: end
 
 /// The kind with this name.
 #[must_use]
