@@ -29,14 +29,21 @@ static void close_three(bes_pass *passes)
 
 static void names(void)
 {
-    for (uint32_t error = 0; error <= 80; error++) {
-        bool is_known = error <= BES_BAD_RPN || (error >= BES_CLOSED && error <= BES_NO_ROOM);
-        CHECK((strcmp(bes_error_name(error), "BES_?") != 0) == is_known && strncmp(bes_error_name(error), "BES_", 4) == 0);
-        CHECK((strcmp(bes_strerror(error), "unknown error") != 0) == is_known);
+    const char *unknown = bes_strerror(63);
+    for (uint32_t error = 1; error <= 200; error++) {
+        bool is_known = strcmp(bes_error_name(error), "BES_?") != 0;
+        CHECK(is_known || error < BES_BUSY || (error > BES_BAD_RPN && error < BES_CLOSED) || error > BES_NO_ROOM);
+        CHECK(strncmp(bes_error_name(error), "BES_", 4) == 0 && (strcmp(bes_strerror(error), unknown) != 0) == is_known);
+        CHECK(bes_class(error) >= BES_CLASS_RETRY && bes_class(error) <= BES_CLASS_GONE);
     }
+    CHECK(strcmp(bes_error_name(63), "BES_?") == 0 && bes_class(63) == BES_CLASS_MINE);
+    CHECK(bes_class(BES_OK) == BES_CLASS_NONE && bes_class(BES_BUSY) == BES_CLASS_RETRY);
+    CHECK(bes_class(BES_SYNTAX) == BES_CLASS_MINE && bes_class(BES_FULL) == BES_CLASS_FULL);
+    CHECK(bes_class(BES_CLOSED) == BES_CLASS_GONE && bes_class(BES_CONFLICT) == BES_CLASS_RETRY);
     CHECK(strcmp(bes_error_name(BES_BAD_RPN), "BES_BAD_RPN") == 0 && strcmp(bes_error_name(BES_BUSY), "BES_BUSY") == 0);
     CHECK(strcmp(bes_error_name(BES_CLOSED), "BES_CLOSED") == 0 && strcmp(bes_error_name(BES_NO_ITEM), "BES_NO_ITEM") == 0);
-    CHECK(strcmp(bes_strerror(BES_CONFLICT), "the journal has another length") == 0);
+    CHECK(strcmp(bes_strerror(BES_CONFLICT), "the journal has another length than the write expects; "
+                                               "read again, and write on what you read then") == 0);
 }
 
 static void own_number(void)

@@ -249,6 +249,8 @@ static void texts()
     CHECK(caret("gr\xc3\xb6\xc3\x9f""e==[", 9) == "gr\xc3\xb6\xc3\x9f""e==[\n       ^" && caret("a\nb<", 4) == "b<\n  ^" && caret("", 3) == "\n^");
     CHECK(to_utf8("a\xff") == "a?" && to_utf8("\xc3\xa9\xc3\xa9", 3) == "\xc3\xa9" && to_utf8("").empty());
     CHECK(std::string(Refusal(BES_BUSY).name()) == "BES_BUSY");
+    CHECK(Refusal(BES_BUSY).error_class() == ErrorClass::retry && Refusal(BES_CLOSED).error_class() == ErrorClass::gone);
+    CHECK(Refusal(BES_FULL).error_class() == ErrorClass::full && Refusal(63).error_class() == ErrorClass::mine);
 }
 
 // Each letter that has another case finds that, and only that.

@@ -47,8 +47,9 @@ does.
 
 
 def read(*path):
+    """A file without the marks of what is written from surface.toml."""
     with open(os.path.join(HERE, "..", *path), encoding="utf-8") as file:
-        return file.read()
+        return re.sub(r"^ *(?:/\*|//) surface\.toml: .*\n", "", file.read(), flags=re.MULTILINE)
 
 
 HEADER = read("include", "bestore.h")
@@ -148,8 +149,8 @@ def helpers(title, header):
 
 def errors():
     numbered = between("/* What calls return", "/* The kinds of values")
-    listed = re.findall(r"^    (BES_\w+) = \d+,? +/\* (.*?) \*/$", numbered, re.MULTILINE)
-    told = "".join(f".It Dv {name}\n{plain(meaning)}\n" for name, meaning in listed)
+    listed = re.findall(r"^    (BES_\w+) = \d+,? +/\* (.*?) \*/$", numbered, re.MULTILINE | re.DOTALL)
+    told = "".join(f".It Dv {name}\n{plain(re.sub(chr(10) + ' +[*] ', ' ', meaning))}\n" for name, meaning in listed)
     return f".Sh RETURN VALUES\n.Dv BES_OK ,\nor an error:\n.Bl -tag -width indent -compact\n{told}.El\n"
 
 

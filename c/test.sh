@@ -168,7 +168,7 @@ if timeout -k 10 900 "$work/mailbox" "$work/many.mbox" 'MAIL:from=="ann*"' >"$wo
     echo "mailbox: more mails were read than a store takes" >&2
     exit 1
 fi
-mails=$(sed -n 's/^the store takes no more after \(.*\) mails: no page is free$/\1/p' "$work/warned")
+mails=$(sed -n 's/^the store takes no more after \(.*\) mails: no page is free;.*$/\1/p' "$work/warned")
 [ "${mails:-0}" -gt 100 ] && grep -q "^MAIL:from==\"ann\*\": $mails$" "$work/said" ||
     { cat "$work/said" "$work/warned" >&2; echo "mailbox: no end at a full store" >&2; exit 1; }
 echo "examples in C: ok"

@@ -83,49 +83,65 @@ typedef struct bes_witness {
 
 /* What calls return. */
 enum {
+    /* surface.toml: errors */
     BES_OK = 0,
-    BES_BUSY = 1,             /* another pass is writing: call again */
+    BES_BUSY = 1,             /* another pass is writing; call again once it has finished */
     BES_NO_NODE = 2,          /* there is no such node */
     BES_NO_ATTRIBUTE = 3,     /* the node has no attribute of this name */
-    BES_TOO_MANY_ATTRS = 4,   /* the node has 64 attributes */
-    BES_INDEX_EXISTS = 5,     /* there is an index of this name */
+    BES_TOO_MANY_ATTRS = 4,   /* the node has 64 attributes, the most it can have; remove one
+                               * first */
+    BES_INDEX_EXISTS = 5,     /* there is already an index of this name */
     BES_NO_INDEX = 6,         /* there is no index of this name */
-    BES_TOO_MANY_INDICES = 7, /* the store has 32 indices */
-    BES_NOT_INDEXABLE = 8,    /* no index may have this kind: BES_MIME_STRING_TYPE, BES_RAW_TYPE */
-    BES_COMMITS_SPENT = 9,    /* the journal is at the limit that bes_open set, and stays there */
-    BES_NO_MEMORY = 10,       /* malloc returned NULL: the call may be made again */
-    BES_FULL = 11,            /* no page is free: bes_apply says what to do */
-    BES_SYNTAX = 12,          /* the query isn't in the grammar */
-    BES_BAD_PATTERN = 13,     /* a pattern of the query is malformed */
+    BES_TOO_MANY_INDICES = 7, /* the store has 32 indices, the most it can have; remove one first */
+    BES_NOT_INDEXABLE = 8,    /* an index can't have this kind; it can have a kind of texts or
+                               * integers, but not of MIME types or raw bytes */
+    BES_COMMITS_SPENT = 9,    /* the journal is at the limit that the store was opened with;
+                               * carry the state on into a new store */
+    BES_NO_MEMORY = 10,       /* out of memory; free some and call again */
+    BES_FULL = 11,            /* no page is free; unpin old snapshots, remove nodes, or open a
+                               * store with more pages */
+    BES_SYNTAX = 12,          /* this query isn't valid here; it needs comparisons such as
+                               * size>=5, joined by && or || */
+    BES_BAD_PATTERN = 13,     /* this pattern isn't valid here; a set such as [a-d] ends with ],
+                               * isn't empty, and its ranges rise */
     BES_TOO_LONG = 14,        /* the query has more than 4,096 bytes */
-    BES_TOO_DEEP = 15,        /* more than 64 parentheses and ! are open */
+    BES_TOO_DEEP = 15,        /* the query has more than 64 parentheses and ! inside one another */
     BES_TOO_MANY = 16,        /* the query has more than 256 comparisons */
-    BES_NOT_COVERED = 17,     /* the query rests on no index of the snapshot */
-    BES_NAME_LENGTH = 18,     /* a name doesn't have 1 to 63 bytes */
+    BES_NOT_COVERED = 17,     /* no index can answer the query; compare a name that has an index,
+                               * on both sides of each || */
+    BES_NAME_LENGTH = 18,     /* a name is empty or has more than 63 bytes */
     BES_DATA_LENGTH = 19,     /* a value has more than 255 bytes */
-    BES_HAS_NUL = 20,         /* a name or a text contains a zero byte */
-    BES_BAD_LIMITS = 21,      /* a limit of bes_open is out of its range */
-    BES_BAD_RPN = 22,         /* the items build no query */
-    BES_CLOSED = 64,          /* the handle is closed */
-    BES_OPEN = 65,            /* the handle that is to be opened is open */
-    BES_NOT_PINNED = 66,      /* the call reads, and the pass isn't pinned */
-    BES_PINNED = 67,          /* the pass is pinned already */
-    BES_NO_PASS = 68,         /* each pass of the store is in use, or waits with another handle */
-    BES_BAD_COUNT = 69,       /* a batch doesn't have 1 to 64 operations */
-    BES_NOT_UTF8 = 70,        /* bytes that should be a text aren't UTF-8 */
-    BES_NO_OPERATION = 71,    /* there is no operation of this number */
-    BES_NO_KIND = 72,         /* there is no kind of this type code */
-    BES_NO_VALUE = 73,        /* the number doesn't fit the kind */
-    BES_BAD_PART = 74,        /* a name or value isn't within the bytes */
-    BES_NO_ITEM = 75,         /* there is no item of this number */
-    BES_CONFLICT = 76,        /* the journal has another length than bes_apply_if expects */
-    BES_IN_USE = 77,          /* another handle of the store is open */
-    BES_BAD_CURSOR = 78,      /* the cursor isn't one of an index of this kind */
-    BES_NO_ROOM = 79          /* there is no room for a node */
+    BES_HAS_NUL = 20,         /* a name or a text has a zero byte; only a raw value may have one */
+    BES_BAD_LIMITS = 21,      /* a limit of the store is out of its range; it has 8 to 16,384
+                               * pages, 1 to 64 passes and 1 to 4,294,967,295 commits */
+    BES_BAD_RPN = 22,         /* the items build no query; each operator takes the items before
+                               * it, and one query is left at the end */
+    BES_CLOSED = 64,          /* the handle is closed; use an open one */
+    BES_OPEN = 65,            /* the handle that is to be opened is open; close it first, or open
+                               * another */
+    BES_NOT_PINNED = 66,      /* no snapshot is pinned; pin one before you read */
+    BES_PINNED = 67,          /* a snapshot is pinned already; unpin it first */
+    BES_NO_PASS = 68,         /* every pass of the store is in use; close one, or open the store
+                               * with more */
+    BES_BAD_COUNT = 69,       /* a batch has 1 to 64 operations */
+    BES_NOT_UTF8 = 70,        /* the text isn't valid UTF-8 */
+    BES_NO_OPERATION = 71,    /* there is no operation of this number; they are 0 to 5 */
+    BES_NO_KIND = 72,         /* no kind has this type code */
+    BES_NO_VALUE = 73,        /* the number doesn't fit its kind; use a kind that holds it */
+    BES_BAD_PART = 74,        /* a name or a value isn't within the bytes that go with the list */
+    BES_NO_ITEM = 75,         /* there is no item of this number; they are 0 to 15 */
+    BES_CONFLICT = 76,        /* the journal has another length than the write expects; read
+                               * again, and write on what you read then */
+    BES_IN_USE = 77,          /* another handle of the store is open; close it first */
+    BES_BAD_CURSOR = 78,      /* the cursor doesn't fit the index; go on from a cursor of the
+                               * same index, or begin without one */
+    BES_NO_ROOM = 79          /* a page has at least one node; ask for 1 or more */
+    /* surface.toml: end */
 };
 
 /* The kinds of values, by the type codes of BeOS. */
 enum {
+    /* surface.toml: kinds */
     BES_STRING_TYPE = 0x43535452,      /* 'CSTR': up to 255 bytes of UTF-8 */
     BES_INT32_TYPE = 0x4c4f4e47,       /* 'LONG' */
     BES_INT64_TYPE = 0x4c4c4e47,       /* 'LLNG' */
@@ -133,16 +149,34 @@ enum {
     BES_RAW_TYPE = 0x52415754,         /* 'RAWT': up to 255 bytes that no index holds */
     BES_UINT32_TYPE = 0x554c4e47,      /* 'ULNG' */
     BES_UINT64_TYPE = 0x554c4c47       /* 'ULLG' */
+    /* surface.toml: end */
+};
+
+/* What a program can do about an error, as bes_class returns it. */
+enum {
+    /* surface.toml: classes */
+    BES_CLASS_NONE = 0,  /* of BES_OK */
+    BES_CLASS_RETRY = 1, /* another pass, client or write was in the way: call again, after a
+                          * conflict with what is read anew */
+    BES_CLASS_MINE = 2,  /* the call isn't valid here: it fails again until the program or its
+                          * input changes */
+    BES_CLASS_FULL = 3,  /* there is no room: free some, or open a larger store */
+    BES_CLASS_GONE = 4   /* the handle, snapshot, connection or file that the call went through
+                          * is lost: open it again */
+    /* surface.toml: end */
 };
 
 /* What an operation does. An index holds an attribute only if it was set after the index was made, and has the index's kind. */
 enum {
-    BES_NEW_NODE = 0,     /* makes a node, with the next number; the first is 1, and no number is used again */
+    /* surface.toml: operations */
+    BES_NEW_NODE = 0,     /* makes a node, with the next number; the first is 1, and no number is
+                           * used again */
     BES_REMOVE_NODE = 1,  /* removes the node and all its attributes */
     BES_SET = 2,          /* sets the node's attribute of this name */
     BES_UNSET = 3,        /* removes the node's attribute of this name */
     BES_MAKE_INDEX = 4,   /* makes an index of this name, for values of the kind of the type code */
     BES_REMOVE_INDEX = 5  /* removes the index of this name */
+    /* surface.toml: end */
 };
 
 /* An operation. Its name, and the bytes of its value, are parts of the bytes that go with all operations of a batch. A field that
@@ -160,6 +194,7 @@ typedef struct bes_operation {
 
 /* What an item of a predicate does. A predicate is items in reverse Polish order. */
 enum {
+    /* surface.toml: items */
     BES_ITEM_ATTRIBUTE = 0, /* an attribute, by the bytes of its name */
     BES_ITEM_TEXT = 1,      /* a text */
     BES_ITEM_INT64 = 2,     /* a number; (uint64_t)n */
@@ -176,6 +211,7 @@ enum {
     BES_ITEM_AND = 13,      /* 13 and 14 take two queries, and 15 takes one */
     BES_ITEM_OR = 14,
     BES_ITEM_NOT = 15
+    /* surface.toml: end */
 };
 
 /* An item of a predicate. Its bytes are a part of those that go with all items. A field that it doesn't use is as in an

@@ -15,49 +15,150 @@
 extern "C" {
 #endif
 
-/* What an error means, in English. */
+/* What is known of an error. */
+typedef struct bes_meaning_ {
+    uint32_t error;
+    uint32_t error_class;
+    const char *name;
+    const char *text;
+} bes_meaning_;
+
+static const bes_meaning_ bes_meanings_[] = {
+    /* surface.toml: meanings */
+    { BES_OK, BES_CLASS_NONE, "BES_OK", "no error" },
+    { BES_BUSY, BES_CLASS_RETRY, "BES_BUSY",
+      "another pass is writing; "
+      "call again once it has finished" },
+    { BES_NO_NODE, BES_CLASS_MINE, "BES_NO_NODE",
+      "there is no such node" },
+    { BES_NO_ATTRIBUTE, BES_CLASS_MINE, "BES_NO_ATTRIBUTE",
+      "the node has no attribute of this name" },
+    { BES_TOO_MANY_ATTRS, BES_CLASS_FULL, "BES_TOO_MANY_ATTRS",
+      "the node has 64 attributes, the most it can have; "
+      "remove one first" },
+    { BES_INDEX_EXISTS, BES_CLASS_MINE, "BES_INDEX_EXISTS",
+      "there is already an index of this name" },
+    { BES_NO_INDEX, BES_CLASS_MINE, "BES_NO_INDEX",
+      "there is no index of this name" },
+    { BES_TOO_MANY_INDICES, BES_CLASS_FULL, "BES_TOO_MANY_INDICES",
+      "the store has 32 indices, the most it can have; "
+      "remove one first" },
+    { BES_NOT_INDEXABLE, BES_CLASS_MINE, "BES_NOT_INDEXABLE",
+      "an index can't have this kind; "
+      "it can have a kind of texts or integers, but not of MIME types or raw bytes" },
+    { BES_COMMITS_SPENT, BES_CLASS_FULL, "BES_COMMITS_SPENT",
+      "the journal is at the limit that the store was opened with; "
+      "carry the state on into a new store" },
+    { BES_NO_MEMORY, BES_CLASS_FULL, "BES_NO_MEMORY",
+      "out of memory; "
+      "free some and call again" },
+    { BES_FULL, BES_CLASS_FULL, "BES_FULL",
+      "no page is free; "
+      "unpin old snapshots, remove nodes, or open a store with more pages" },
+    { BES_SYNTAX, BES_CLASS_MINE, "BES_SYNTAX",
+      "this query isn't valid here; "
+      "it needs comparisons such as size>=5, joined by && or ||" },
+    { BES_BAD_PATTERN, BES_CLASS_MINE, "BES_BAD_PATTERN",
+      "this pattern isn't valid here; "
+      "a set such as [a-d] ends with ], isn't empty, and its ranges rise" },
+    { BES_TOO_LONG, BES_CLASS_MINE, "BES_TOO_LONG",
+      "the query has more than 4,096 bytes" },
+    { BES_TOO_DEEP, BES_CLASS_MINE, "BES_TOO_DEEP",
+      "the query has more than 64 parentheses and ! inside one another" },
+    { BES_TOO_MANY, BES_CLASS_MINE, "BES_TOO_MANY",
+      "the query has more than 256 comparisons" },
+    { BES_NOT_COVERED, BES_CLASS_MINE, "BES_NOT_COVERED",
+      "no index can answer the query; "
+      "compare a name that has an index, on both sides of each ||" },
+    { BES_NAME_LENGTH, BES_CLASS_MINE, "BES_NAME_LENGTH",
+      "a name is empty or has more than 63 bytes" },
+    { BES_DATA_LENGTH, BES_CLASS_MINE, "BES_DATA_LENGTH",
+      "a value has more than 255 bytes" },
+    { BES_HAS_NUL, BES_CLASS_MINE, "BES_HAS_NUL",
+      "a name or a text has a zero byte; "
+      "only a raw value may have one" },
+    { BES_BAD_LIMITS, BES_CLASS_MINE, "BES_BAD_LIMITS",
+      "a limit of the store is out of its range; "
+      "it has 8 to 16,384 pages, 1 to 64 passes and 1 to 4,294,967,295 commits" },
+    { BES_BAD_RPN, BES_CLASS_MINE, "BES_BAD_RPN",
+      "the items build no query; "
+      "each operator takes the items before it, and one query is left at the end" },
+    { BES_CLOSED, BES_CLASS_GONE, "BES_CLOSED",
+      "the handle is closed; "
+      "use an open one" },
+    { BES_OPEN, BES_CLASS_MINE, "BES_OPEN",
+      "the handle that is to be opened is open; "
+      "close it first, or open another" },
+    { BES_NOT_PINNED, BES_CLASS_MINE, "BES_NOT_PINNED",
+      "no snapshot is pinned; "
+      "pin one before you read" },
+    { BES_PINNED, BES_CLASS_MINE, "BES_PINNED",
+      "a snapshot is pinned already; "
+      "unpin it first" },
+    { BES_NO_PASS, BES_CLASS_FULL, "BES_NO_PASS",
+      "every pass of the store is in use; "
+      "close one, or open the store with more" },
+    { BES_BAD_COUNT, BES_CLASS_MINE, "BES_BAD_COUNT",
+      "a batch has 1 to 64 operations" },
+    { BES_NOT_UTF8, BES_CLASS_MINE, "BES_NOT_UTF8",
+      "the text isn't valid UTF-8" },
+    { BES_NO_OPERATION, BES_CLASS_MINE, "BES_NO_OPERATION",
+      "there is no operation of this number; "
+      "they are 0 to 5" },
+    { BES_NO_KIND, BES_CLASS_MINE, "BES_NO_KIND",
+      "no kind has this type code" },
+    { BES_NO_VALUE, BES_CLASS_MINE, "BES_NO_VALUE",
+      "the number doesn't fit its kind; "
+      "use a kind that holds it" },
+    { BES_BAD_PART, BES_CLASS_MINE, "BES_BAD_PART",
+      "a name or a value isn't within the bytes that go with the list" },
+    { BES_NO_ITEM, BES_CLASS_MINE, "BES_NO_ITEM",
+      "there is no item of this number; "
+      "they are 0 to 15" },
+    { BES_CONFLICT, BES_CLASS_RETRY, "BES_CONFLICT",
+      "the journal has another length than the write expects; "
+      "read again, and write on what you read then" },
+    { BES_IN_USE, BES_CLASS_RETRY, "BES_IN_USE",
+      "another handle of the store is open; "
+      "close it first" },
+    { BES_BAD_CURSOR, BES_CLASS_MINE, "BES_BAD_CURSOR",
+      "the cursor doesn't fit the index; "
+      "go on from a cursor of the same index, or begin without one" },
+    { BES_NO_ROOM, BES_CLASS_MINE, "BES_NO_ROOM",
+      "a page has at least one node; "
+      "ask for 1 or more" },
+    /* surface.toml: end */
+};
+
+/* What is known of an error, or NULL. */
+static inline const bes_meaning_ *bes_meaning_of_(uint32_t error)
+{
+    for (size_t i = 0; i < sizeof bes_meanings_ / sizeof *bes_meanings_; i++)
+        if (bes_meanings_[i].error == error)
+            return &bes_meanings_[i];
+    return NULL;
+}
+
+/* What was wrong at an error, and what would be right, in English. */
 static inline const char *bes_strerror(uint32_t error)
 {
-    static const char *const of_store[] = {
-        "done", "another pass is writing", "no such node", "no such attribute", "too many attributes", "the index exists",
-        "no such index", "too many indices", "no index may have this kind", "the journal is at its limit", "out of memory",
-        "no page is free", "the query leaves the grammar", "a pattern is malformed", "the query is too long",
-        "the query is too deep", "too many comparisons", "no index serves the query", "a name has not 1 to 63 bytes",
-        "a value has more than 255 bytes", "a text has a zero byte", "a limit is out of its range",
-        "the items build no query"
-    };
-    static const char *const of_calls[] = {
-        "the handle is closed", "the handle is open", "the pass isn't pinned", "the pass is pinned", "each pass is in use",
-        "a write has not 1 to 64 operations", "the bytes are no UTF-8", "no such operation", "no such kind",
-        "the number doesn't fit the kind", "a part isn't within the bytes", "no such item", "the journal has another length",
-        "another handle is open", "the cursor doesn't fit the index", "a page has at least one node"
-    };
-    if (error < sizeof of_store / sizeof *of_store)
-        return of_store[error];
-    if (error >= BES_CLOSED && error - BES_CLOSED < sizeof of_calls / sizeof *of_calls)
-        return of_calls[error - BES_CLOSED];
-    return "unknown error";
+    const bes_meaning_ *meaning = bes_meaning_of_(error);
+    return meaning != NULL ? meaning->text : "an error of a later version of the library";
 }
 
 /* The name of an error, as "BES_BUSY". An unknown number is "BES_?". */
 static inline const char *bes_error_name(uint32_t error)
 {
-    static const char *const of_store[] = {
-        "BES_OK", "BES_BUSY", "BES_NO_NODE", "BES_NO_ATTRIBUTE", "BES_TOO_MANY_ATTRS", "BES_INDEX_EXISTS", "BES_NO_INDEX",
-        "BES_TOO_MANY_INDICES", "BES_NOT_INDEXABLE", "BES_COMMITS_SPENT", "BES_NO_MEMORY", "BES_FULL", "BES_SYNTAX",
-        "BES_BAD_PATTERN", "BES_TOO_LONG", "BES_TOO_DEEP", "BES_TOO_MANY", "BES_NOT_COVERED", "BES_NAME_LENGTH",
-        "BES_DATA_LENGTH", "BES_HAS_NUL", "BES_BAD_LIMITS", "BES_BAD_RPN"
-    };
-    static const char *const of_calls[] = {
-        "BES_CLOSED", "BES_OPEN", "BES_NOT_PINNED", "BES_PINNED", "BES_NO_PASS", "BES_BAD_COUNT", "BES_NOT_UTF8",
-        "BES_NO_OPERATION", "BES_NO_KIND", "BES_NO_VALUE", "BES_BAD_PART", "BES_NO_ITEM", "BES_CONFLICT", "BES_IN_USE",
-        "BES_BAD_CURSOR", "BES_NO_ROOM"
-    };
-    if (error < sizeof of_store / sizeof *of_store)
-        return of_store[error];
-    if (error >= BES_CLOSED && error - BES_CLOSED < sizeof of_calls / sizeof *of_calls)
-        return of_calls[error - BES_CLOSED];
-    return "BES_?";
+    const bes_meaning_ *meaning = bes_meaning_of_(error);
+    return meaning != NULL ? meaning->name : "BES_?";
+}
+
+/* What a program can do about an error: BES_CLASS_RETRY, BES_CLASS_MINE, BES_CLASS_FULL or BES_CLASS_GONE. That of BES_OK is
+ * BES_CLASS_NONE. An unknown number is BES_CLASS_MINE, since nothing says that the same call may succeed later. */
+static inline uint32_t bes_class(uint32_t error)
+{
+    const bes_meaning_ *meaning = bes_meaning_of_(error);
+    return meaning != NULL ? meaning->error_class : (uint32_t)BES_CLASS_MINE;
 }
 
 /* Clears a handle in a forked child and frees nothing. The memory that the parent's store has there stays until the child ends or
@@ -406,12 +507,49 @@ static inline void bes_put_number_(bes_sink_ *sink, uint64_t number, size_t leng
 /* Whether values of this type code are integers. */
 static inline bool bes_is_number_code(uint32_t code)
 {
-    return code == BES_INT32_TYPE || code == BES_INT64_TYPE || code == BES_UINT32_TYPE || code == BES_UINT64_TYPE;
+    switch (code) {
+    /* surface.toml: kinds of numbers */
+    case BES_INT32_TYPE:
+    case BES_INT64_TYPE:
+    case BES_UINT32_TYPE:
+    case BES_UINT64_TYPE:
+    /* surface.toml: end */
+        return true;
+    default:
+        return false;
+    }
+}
+
+/* Whether values of this type code are integers with a sign. */
+static inline bool bes_is_signed_(uint32_t code)
+{
+    switch (code) {
+    /* surface.toml: kinds with a sign */
+    case BES_INT32_TYPE:
+    case BES_INT64_TYPE:
+    /* surface.toml: end */
+        return true;
+    default:
+        return false;
+    }
 }
 
 static inline bool bes_is_code_(uint32_t code)
 {
-    return bes_is_number_code(code) || code == BES_STRING_TYPE || code == BES_MIME_STRING_TYPE || code == BES_RAW_TYPE;
+    switch (code) {
+    /* surface.toml: kinds */
+    case BES_STRING_TYPE:
+    case BES_INT32_TYPE:
+    case BES_INT64_TYPE:
+    case BES_MIME_STRING_TYPE:
+    case BES_RAW_TYPE:
+    case BES_UINT32_TYPE:
+    case BES_UINT64_TYPE:
+    /* surface.toml: end */
+        return true;
+    default:
+        return false;
+    }
 }
 
 /* Why the format of bes_batch_to_bytes doesn't hold an operation, or BES_OK. */

@@ -201,7 +201,7 @@ static inline uint32_t bes_pairs(bes_pass *pass, const char *name, uint64_t *cou
     items[0].length = index->name_length;
     memcpy(bytes + 1, name, index->name_length);
     if (bes_is_number_code(index->code)) {
-        bool is_signed = index->code == BES_INT32_TYPE || index->code == BES_INT64_TYPE;
+        bool is_signed = bes_is_signed_(index->code);
         items[1].kind = is_signed ? BES_ITEM_INT64 : BES_ITEM_UINT64;
         items[1].number = is_signed ? (uint64_t)1 << 63 : 0;
         items[2].kind = BES_ITEM_GE;

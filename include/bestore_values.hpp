@@ -55,6 +55,15 @@ inline bool has_place(std::uint32_t error, Place place)
 
 } // namespace detail
 
+// What a program can do about an error, as bestore.h has it.
+enum class ErrorClass : std::uint32_t {
+    none = BES_CLASS_NONE,
+    retry = BES_CLASS_RETRY,
+    mine = BES_CLASS_MINE,
+    full = BES_CLASS_FULL,
+    gone = BES_CLASS_GONE
+};
+
 // An error of a call, which has changed nothing.
 class Refusal : public std::runtime_error {
 public:
@@ -63,11 +72,14 @@ public:
     {
     }
 
-    // The error as bestore.h lists it, BES_BUSY to BES_IN_USE.
+    // The error as bestore.h lists it.
     std::uint32_t number() const noexcept { return number_; }
 
     // Its name there, as "BES_BUSY".
     const char *name() const noexcept { return bes_error_name(number_); }
+
+    // What a program can do about it.
+    ErrorClass error_class() const noexcept { return static_cast<ErrorClass>(bes_class(number_)); }
 
     // Of BES_BUSY: the pass that is writing.
     std::optional<std::uint64_t> pass_number() const noexcept { return carried_if(number_ == BES_BUSY); }
@@ -106,6 +118,7 @@ private:
 
 // The kinds of values.
 enum class Kind : std::uint32_t {
+    // surface.toml: kinds
     string = BES_STRING_TYPE,
     int32 = BES_INT32_TYPE,
     int64 = BES_INT64_TYPE,
@@ -113,12 +126,14 @@ enum class Kind : std::uint32_t {
     raw = BES_RAW_TYPE,
     uint32 = BES_UINT32_TYPE,
     uint64 = BES_UINT64_TYPE
+    // surface.toml: end
 };
 
 // The name of a kind, as "int64".
 inline const char *kind_name(Kind kind)
 {
     switch (kind) {
+    // surface.toml: names of kinds
     case Kind::string:
         return "string";
     case Kind::int32:
@@ -133,6 +148,7 @@ inline const char *kind_name(Kind kind)
         return "uint32";
     case Kind::uint64:
         return "uint64";
+    // surface.toml: end
     }
     return "?";
 }

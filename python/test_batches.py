@@ -75,11 +75,11 @@ class Bytes(unittest.TestCase):
     def test_broken(self):
         whole = bestore.Batch([bestore.SetAttribute(1, "ab", 5, bestore.INT32)]).to_bytes()
         for data, offset, reason in [
-            (b"", 0, "another beginning"), (b"BEC" + whole[3:], 0, "another beginning"),
+            (b"", 0, "don't begin with BEB"), (b"BEC" + whole[3:], 0, "don't begin with BEB"),
             (b"BEB\x02" + whole[4:], 3, "another version"), (whole[:4], 4, "is cut off"),
-            (whole[:4] + b"\0", 4, "0 operations"), (whole[:4] + b"\x41" + whole[5:], 4, "65 operations"),
-            (whole[:5] + b"\6" + whole[6:], 5, "the unknown operation 6"),
-            (whole[:17] + b"\0" + whole[18:], 17, "the unknown type code"),
+            (whole[:4] + b"\0", 4, "this one 0"), (whole[:4] + b"\x41" + whole[5:], 4, "this one 65"),
+            (whole[:5] + b"\6" + whole[6:], 5, "no operation has the number 6"),
+            (whole[:17] + b"\0" + whole[18:], 17, "no kind has the type code"),
             (whole[:9], 6, "a node is cut off"), (whole[:16], 15, "a name is cut off"), (whole[:-1], 21, "a number is cut off"),
             (whole + b"\0", len(whole), "more bytes"),
         ]:

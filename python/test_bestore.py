@@ -309,11 +309,11 @@ class WrongUse(unittest.TestCase):
             with self.assertRaises(bestore.QuerySyntax) as syntax:
                 call("k <")
             self.assertEqual((syntax.exception.query, syntax.exception.offset), ("k <", 3))
-            self.assertEqual(str(syntax.exception), "the query leaves the grammar\n  k <\n     ^")
+            self.assertEqual(str(syntax.exception), "this query isn't valid here; it needs comparisons such as size>=5, joined by && or ||\n  k <\n     ^")
             with self.assertRaises(bestore.BadPattern) as pattern:
                 call("größe == [é")
             self.assertEqual((pattern.exception.offset, pattern.exception.column), (11, 9))
-            self.assertEqual(str(pattern.exception), "a pattern is malformed\n  größe == [é\n           ^")
+            self.assertEqual(str(pattern.exception), "this pattern isn't valid here; a set such as [a-d] ends with ], isn't empty, and its ranges rise\n  größe == [é\n           ^")
         version.unpin()
         with self.assertRaises(bestore.Refusal) as fault:
             version.query("k == 1")
@@ -362,17 +362,17 @@ class WhatIsMissing(unittest.TestCase):
             fault = self.refused(bestore.NoNode, "one of the nodes 1, 9 isn't there", lambda: store.apply(batch))
             self.assertEqual((fault.node, pickle.loads(pickle.dumps(fault)).nodes), (None, (1, 9)))
             batch = bestore.Batch().new_node().unset(1, "a").unset(1, "b")
-            self.refused(bestore.NoAttribute, "no such attribute", lambda: store.apply(batch))
+            self.refused(bestore.NoAttribute, "the node has no attribute of this name", lambda: store.apply(batch))
 
     def test_values(self):
-        kinds = "STRING, INT32, INT64, MIME, RAW, UINT32 and UINT64"
+        kinds = "STRING, INT32, INT64, MIME, RAW, UINT32, UINT64"
         with bestore.open(64, 1, 100) as store:
             store.new_node()
             for value, kind, said in [
-                (True, None, "True is no value of an attribute: write int(True), which is 1, or a text"),
-                (False, bestore.INT32, "False is no value of an attribute: write int(False), which is 0, or a text"),
-                (1.5, None, "1.5 is no value of an attribute: that is a str, bytes or an int"),
-                (None, bestore.STRING, "None is no value of an attribute: that is a str, bytes or an int"),
+                (True, None, "True isn't a value of an attribute: write int(True), which is 1, or a text"),
+                (False, bestore.INT32, "False isn't a value of an attribute: write int(False), which is 0, or a text"),
+                (1.5, None, "1.5 isn't a value of an attribute: that is a str, bytes or an int"),
+                (None, bestore.STRING, "None isn't a value of an attribute: that is a str, bytes or an int"),
                 ("5", bestore.INT32, "'5' can't be of the kind INT32: a str is STRING or MIME"),
                 (b"5", bestore.STRING, "b'5' can't be of the kind STRING: bytes are RAW"),
                 (5, bestore.MIME, "5 can't be of the kind MIME: an int is INT64, INT32, UINT32 or UINT64"),
@@ -380,14 +380,14 @@ class WhatIsMissing(unittest.TestCase):
                 for write in (lambda: store.set(1, "a", value, kind), lambda: bestore.Batch().set(1, "a", value, kind),
                               lambda: store.change(lambda change: change.set(1, "a", value, kind))):
                     self.refused(TypeError, said, write)
-            said = f"no such kind: there are {kinds}"
+            said = f"no kind has this type code; the kinds are {kinds}"
             self.refused(bestore.NoKind, said, lambda: store.set(1, "a", "5", 7))
-            self.refused(bestore.NoKind, f"{said} (operation 0, counted from 0)", lambda: store.make_index("a", 7))
-            self.refused(TypeError, "'1' is no node: a node is an int", lambda: store.set("1", "a", 5))
+            self.refused(bestore.NoKind, said.replace(";", " (operation 0, counted from 0);"), lambda: store.make_index("a", 7))
+            self.refused(TypeError, "'1' isn't a node: a node is an int", lambda: store.set("1", "a", 5))
             with store.pin() as version:
                 for read in (lambda: version.attributes("1"), lambda: version.get("1", "a"), lambda: version.column(["1"], "a"),
                              lambda: version["1"]["a"]):
-                    self.refused(TypeError, "'1' is no node: a node is an int", read)
+                    self.refused(TypeError, "'1' isn't a node: a node is an int", read)
                 self.assertEqual(version.attributes(1), {})
 
 

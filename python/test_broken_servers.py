@@ -119,7 +119,7 @@ class Broken(unittest.TestCase):
                      b'{"id":2,"ok":{"commit":1e999,"nodes":[1]}}\n', b'{"watch":"a"}\n', b'{"id":null}\n', b"{" * (3 << 20)):
             fault = self.fault(bestore.Pass.new_node, [junk])
             self.assertEqual((type(fault), fault.may_be_done), (bestore.ProtocolError, True), junk[:40])
-            self.assertIn("no line of the protocol", str(fault))
+            self.assertIn("isn't of the protocol", str(fault))
 
     def test_values(self):
         for value in ("1.5", "[]", "{}", "true", '{"int32":"x"}', '{"date":1}', '{"raw":"A"}', '{"int32":1,"int64":1}'):
@@ -157,6 +157,21 @@ class Broken(unittest.TestCase):
                         store.flush()
                     self.assertEqual(str(fault.exception), f"{fake.path}: {said}")
                     self.assertEqual(store.new_node(), 1)
+
+    def test_classes_of_the_server(self):
+        for refused, error, error_class in [
+            ({"name": "Busy", "number": 1}, bestore.Busy, "RETRY"), ({"name": "Expired"}, bestore.Expired, "GONE"),
+            ({"name": "TooManyWatches"}, bestore.TooManyWatches, "FULL"), ({"name": "NotLeader"}, bestore.NotLeader, "GONE"),
+            ({"name": "Stopped"}, saved.Stopped, "GONE"), ({"name": "Stopped", "class": "full"}, saved.Stopped, "FULL"),
+            ({"name": "Later"}, bestore.ServerRefusal, "MINE"), ({"name": "Later", "class": "retry"}, bestore.ServerRefusal, "RETRY"),
+            ({"name": "Full", "number": 11, "class": "of later"}, bestore.Full, "FULL"),
+            ({"name": "NotReached", "expected": 2, "found": 1}, bestore.NotReached, "RETRY"),
+        ]:
+            answer = {"id": 2, "error": {**refused, "message": "why"}}
+            with Fake([json.dumps(answer).encode() + b"\n"]) as fake, bestore.connect(fake.path) as store:
+                with self.assertRaises(error) as fault:
+                    store.flush()
+                self.assertEqual(fault.exception.error_class, bestore.ErrorClass[error_class], refused)
 
     def test_pages(self):
         with Fake([line(2, {"commit": 0, "next": 1})], [line(3, {"commit": 0, "count": 5, "nodes": [1, 2], "more": 4})],

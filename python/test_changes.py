@@ -91,7 +91,7 @@ class Changes(unittest.TestCase):
                 store.change(disturbed, attempts=5)
             conflict = fault.exception.__cause__
             self.assertEqual((fault.exception.attempts, conflict.expected, conflict.found), (5, 6, 7))
-            self.assertEqual(str(fault.exception), "other writes came between at each of 5 attempts")
+            self.assertEqual(str(fault.exception), "other writes came between at each of 5 attempts; try again, or allow more")
             with store.pin() as version:
                 self.assertEqual(version.get(node, "count"), 0)
 
@@ -152,7 +152,8 @@ class Conditions(unittest.TestCase):
             with self.assertRaises(bestore.Conflict) as conflict:
                 store.apply_if(1, batch)
             self.assertEqual((conflict.exception.expected, conflict.exception.found, conflict.exception.number), (1, 2, 76))
-            self.assertEqual(str(conflict.exception), "the journal has another length: 2 entries, and not 1")
+            self.assertEqual(str(conflict.exception), "the journal has another length than the write expects (2 entries, and not 1); "
+                             "read again, and write on what you read then")
             self.assertEqual((store.apply_if(2, batch), store.status().entries), ((3, [3]), 3))
             for number in (-1, 2**64 + 3, 3 - 2**64):
                 with self.assertRaises(bestore.Conflict) as conflict:

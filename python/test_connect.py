@@ -129,7 +129,7 @@ class Connecting(WithServer):
                 bestore.connect(path)
             self.assertEqual(fault.exception.path, path)
             self.assertIsInstance(fault.exception, ConnectionError)
-            self.assertTrue(str(fault.exception).startswith(f"{path}: no server: "), fault.exception)
+            self.assertTrue(str(fault.exception).startswith(f"{path}: no server can be reached: "), fault.exception)
         for timeout in (0, -1, float("nan")):
             with self.assertRaises(ValueError):
                 bestore.connect(self.server.path, timeout)
@@ -163,7 +163,7 @@ class Connecting(WithServer):
             with self.assertRaises(error) as fault:
                 call()
             self.assertEqual(fault.exception.path, self.server.path)
-        self.assertEqual(str(bestore.Unavailable("p", "meet")), "p: `meet` can't be called through a server")
+        self.assertEqual(str(bestore.Unavailable("p", "meet")), "p: `meet` can't be called through a server; only a store of this process has it")
 
     def test_copies_of_a_child_keep_no_pass(self):
         """The server sees that a pass is closed, though a forked child had a copy of its socket."""

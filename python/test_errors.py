@@ -7,8 +7,10 @@ import re
 import unittest
 
 import bestore
-from bestore import errors
+from bestore import errors, saved
 
+SYNTAX = "this query isn't valid here; it needs comparisons such as size>=5, joined by && or ||"
+PATTERN = "this pattern isn't valid here; a set such as [a-d] ends with ], isn't empty, and its ranges rise"
 INCLUDE = os.path.join(os.path.dirname(os.path.abspath(__file__)), "..", "include")
 
 
@@ -28,9 +30,12 @@ class Numbers(unittest.TestCase):
         names = dict(re.findall(r"BES_(\w+) = (\d+)", enumerated[:enumerated.index("}")]))
         self.assertEqual({name: int(number) for name, number in names.items()}, {it.name: it.value for it in bestore.ErrorNumber})
         self.assertEqual(sorted(errors.Refusal._classes), sorted(number for number in bestore.ErrorNumber if number != 0))
-        texts = text[text.index("bes_strerror(uint32_t"):]
-        meanings = [it for it in re.findall(r'"([^"]+)"', texts[:texts.index("unknown")]) if it != "done"]
-        self.assertEqual(meanings, [errors.refusal(number).meaning for number in sorted(errors.Refusal._classes)])
+        rows = re.findall(r'\{ BES_(\w+), BES_CLASS_(\w+), "\w+",\s+((?:"[^"]+"\s*)+)\}', text)
+        self.assertEqual([name for name, _, _ in rows], [it.name for it in bestore.ErrorNumber])
+        for name, named_class, quoted in rows[1:]:
+            error = errors.refusal(bestore.ErrorNumber[name])
+            said = f"{error.meaning}; {error.advice}" if error.advice else error.meaning
+            self.assertEqual(("".join(re.findall('"([^"]+)"', quoted)), named_class), (said, error.error_class.name))
 
     def test_version_of_the_header(self):
         self.assertEqual(re.findall(r'#define BES_VERSION "(.+)"', header()), [bestore.__version__])
@@ -44,13 +49,22 @@ class Errors(unittest.TestCase):
         self.assertEqual(errors.refusal(22, 2, listed="item").item, 2)
         self.assertIsNone(errors.refusal(1).pass_number)
         fault = errors.refusal(13, 4, listed="item")
-        self.assertEqual((fault.item, fault.offset, str(fault)), (4, None, "a pattern is malformed (item 4, counted from 0)"))
+        self.assertEqual((fault.item, fault.offset, str(fault)), (4, None, PATTERN.replace("here", "here (item 4, counted from 0)")))
         fault = errors.refusal(18, 5, listed="operation")
         self.assertEqual((fault.item, fault.operation), (None, 5))
-        self.assertEqual(str(fault), "a name has not 1 to 63 bytes (operation 5, counted from 0)")
+        self.assertEqual(str(fault), "a name is empty or has more than 63 bytes (operation 5, counted from 0)")
         self.assertIsNone(errors.refusal(69, 0, listed="operation").operation)
         self.assertIsNone(errors.refusal(14, 0, "a==1").offset)
-        self.assertEqual((errors.refusal(99).number, str(errors.refusal(99))), (99, "unknown error"))
+        self.assertEqual((errors.refusal(99).number, str(errors.refusal(99))), (99, "the library has an error that this package doesn't know"))
+
+    def test_classes(self):
+        for number, error_class in [(1, "RETRY"), (2, "MINE"), (11, "FULL"), (64, "GONE"), (76, "RETRY"), (99, "MINE")]:
+            self.assertEqual(errors.refusal(number).error_class, bestore.ErrorClass[error_class])
+        self.assertEqual(bestore.Forked().error_class, bestore.ErrorClass.GONE)
+        self.assertEqual(bestore.TooManyAttempts(5).error_class, bestore.ErrorClass.RETRY)
+        self.assertEqual(saved.DiskFull("path").error_class, bestore.ErrorClass.FULL)
+        self.assertEqual(bestore.NoServer("path", "why").error_class, bestore.ErrorClass.GONE)
+        self.assertEqual(bestore.WrongKind("a", "INT32", "INT64").error_class, bestore.ErrorClass.MINE)
 
     def test_caught_by_what_they_are(self):
         for kind, number in [(KeyError, 2), (KeyError, 3), (MemoryError, 10), (ValueError, 19), (bestore.Full, 11)]:
@@ -91,10 +105,10 @@ class Carets(unittest.TestCase):
             ("e\u0301==[", 5, "  e\u0301==[\n     ^"),
         ]:
             fault = errors.refusal(12, offset, text)
-            self.assertEqual((fault.offset, str(fault)), (offset, f"the query leaves the grammar\n{shown}"))
+            self.assertEqual((fault.offset, str(fault)), (offset, f"{SYNTAX}\n{shown}"))
         self.assertEqual([errors.refusal(12, offset, "é é").column for offset in (0, 2, 3, 5, None)], [0, 1, 2, 3, None])
         self.assertEqual((errors.refusal(12, None, "size <").shown(), str(errors.refusal(12, None, "size <"))), (
-            None, "the query leaves the grammar"))
+            None, SYNTAX))
 
     def test_of_a_wide_query(self):
         """What is shown is never wider than asked for, and the caret is under the same character."""

@@ -123,7 +123,7 @@ class Covered(unittest.TestCase):
                         self.assertEqual(self.not_covered(ask, prepared), (offset, missing, text))
             with self.assertRaises(bestore.QueryError) as fault:
                 version.query("k==a || größe==5")
-            self.assertEqual(str(fault.exception), 'no index serves the query: "größe" has no index; indices: "k"\n'
+            self.assertEqual(str(fault.exception), 'no index can answer the query: "größe" has none; names with an index: "k"\n'
                              "  k==a || größe==5\n          ^")
             small = bestore.Name("z"), 5, bestore.Operator.LT
             with self.assertRaises(bestore.NotCovered) as fault:
@@ -133,7 +133,7 @@ class Covered(unittest.TestCase):
                 self.assertEqual(self.not_covered(version.query_prepared, prepared), (0, "z", '"z"<"5"'))
         with bestore.open(64, 1, 10) as store, store.pin() as version, self.assertRaises(bestore.NotCovered) as fault:
             version.query("a==1")
-        self.assertEqual(fault.exception.summary, 'no index serves the query: "a" has no index; there are no indices')
+        self.assertEqual(fault.exception.summary, 'no index can answer the query: "a" has none; there are no indices')
 
 
 class Counts(unittest.TestCase):
@@ -195,7 +195,7 @@ class Hints(unittest.TestCase):
                     with bestore.prepare(text) as prepared:
                         self.assertEqual(version.hints(prepared), hints)
                 first, second = version.hints("size>1.5 || n==-1")
-                self.assertEqual(str(first), 'never true: "size" is INT64, and "1.5" is no whole number')
+                self.assertEqual(str(first), 'never true: "size" is INT64, and "1.5" isn\'t a whole number')
                 self.assertEqual(str(second), 'never true: "n" is UINT32, and "-1" is out of the range of UINT32')
                 self.assertEqual(first[:4], ("size", "1.5", bestore.INT64, 0))
                 with bestore.prepare_items(bestore.Name("size"), "x", bestore.Operator.EQ) as prepared:
@@ -228,7 +228,7 @@ class NoTexts(unittest.TestCase):
                     ask("é==\udcff")
                 self.assertEqual((fault.exception.number, fault.exception.offset, fault.exception.column), (70, 4, 3))
                 self.assertIsInstance(fault.exception, bestore.NotUTF8)
-                self.assertEqual(str(fault.exception), "the query's text has no UTF-8\n  é== \n     ^")
+                self.assertEqual(str(fault.exception), "the query has half of a surrogate pair here, which isn't valid UTF-8\n  é== \n     ^")
             with self.assertRaises(bestore.NotUTF8):
                 version.query_items(bestore.Name("k"), "\udcff", bestore.Operator.EQ)
 

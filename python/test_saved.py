@@ -439,7 +439,7 @@ class Refused(Files):
                 before = file.read()
             refused = self.refusal(path)
             self.assertIsInstance(refused, saved.Foreign)
-            self.assertEqual((refused.path, str(refused)), (path, f"{path}: the file is of another program"))
+            self.assertEqual((refused.path, str(refused)), (path, f"{path}: the file belongs to another program; name another one"))
             with open(path, "rb") as file:
                 self.assertEqual(file.read(), before)
 
@@ -471,10 +471,10 @@ class Refused(Files):
         for change, entry, batch, reason in [
             (made, 3, None, "other nodes"), ("DELETE FROM entry WHERE number = 2", 2, None, "missing"),
             ("UPDATE entry SET batch = substr(batch, 1, 9) WHERE number = 4", 4, None, "cut off"),
-            ("UPDATE entry SET batch = 'text' WHERE number = 4", 4, None, "another beginning"),
-            ("UPDATE entry SET batch = 5 WHERE number = 1", 1, None, "another beginning"),
-            ("INSERT INTO entry SELECT 5, pass, batch FROM entry WHERE number = 1", 5, None, "the index exists"),
-            ("INSERT INTO state VALUES (0, x'00')", None, 0, "another beginning"),
+            ("UPDATE entry SET batch = 'text' WHERE number = 4", 4, None, "don't begin with BEB"),
+            ("UPDATE entry SET batch = 5 WHERE number = 1", 1, None, "don't begin with BEB"),
+            ("INSERT INTO entry SELECT 5, pass, batch FROM entry WHERE number = 1", 5, None, "there is already an index of this name"),
+            ("INSERT INTO state VALUES (0, x'00')", None, 0, "don't begin with BEB"),
             ("UPDATE about SET number = 5 WHERE what = 'next'", None, None, "next node"),
             ("UPDATE about SET number = -1 WHERE what = 'entries'", None, None, "doesn't say"),
             ("UPDATE about SET number = 'x' WHERE what = 'next'", None, None, "doesn't say"),
@@ -721,7 +721,7 @@ class Processes(Files):
         child = run("hold", self.path)
         self.assertEqual(child.stdout.readline(), "flushed\n")
         held = self.refusal()
-        self.assertEqual((type(held), str(held)), (saved.Held, f"{self.path}: the file is in use"))
+        self.assertEqual((type(held), str(held)), (saved.Held, f"{self.path}: the file is open in another process or store; close it there first"))
         child.kill()
         self.assertEqual(self.ended(child), (-signal.SIGKILL, []))
         with saved.open(self.path, 64) as store, store.pin() as version:

@@ -194,6 +194,10 @@ CALL(bes_join, bes_pass *, bes_witness *, uint64_t *)
 CALL(bes_dismiss, bes_witness *)
 CALL(bes_move_witness, bes_witness *, bes_witness *)
 CALL(bes_finish, bes_pass *, uint8_t *, size_t, uint64_t *)
+NUMBER(BES_CLASS_RETRY, 1)
+NUMBER(BES_CLASS_MINE, 2)
+NUMBER(BES_CLASS_FULL, 3)
+NUMBER(BES_CLASS_GONE, 4)
 
 /* After version 0.3.0. */
 CALL(bes_ordered, bes_pass *, bes_prepared *, const bes_name *, uint32_t, bes_cursor *, uint64_t *, size_t, uint64_t *,

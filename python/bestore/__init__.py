@@ -28,17 +28,26 @@ The package has its shared object inside. In the repository it is the one in c/,
 
 from ._library import VERSION as __version__
 from ._connected_errors import (
-    BrokenConnection, Disconnected, Expired, LineTooLong, NoServer, NotAllowed, NotKept, NoWatch, OtherUser, ProtocolError,
-    ServerError, ServerRefusal, TimedOut, TooManyWatches, Unavailable,
+    # surface.toml: exceptions of a server
+    BadRequest, Expired, NoClient, NoLog, NoWatch, NotAllowed, NotKept, NotLeader, PushesLost,
+    TooManyCopies, TooManyWatches, Unexpected,
+    # surface.toml: end
+    BrokenConnection, Disconnected, LineTooLong, NoServer, OtherUser, ProtocolError, ServerError,
+    ServerRefusal, TimedOut, Unavailable,
 )
+from ._surface import ErrorClass, ErrorNumber
 from .change import Change, ChangedAttributes
 from .connected import connect
 from .errors import (
-    BadBytes, BadCount, BadCursor, BadItems, BadLimits, BadPart, BadPattern, Busy, Closed, CommitsSpent, Conflict, DataLength,
-    Error, ErrorNumber, Forked, Full, HasNul, InUse, IndexExists, NameLength, Nested, NoAttribute, NoIndex, NoItem, NoKind,
-    NoMemory, NoNode, NoOperation, NoPass, NoRoom, NotCovered, NotIndexable, NotPinned, NotReached, NotUTF8, NoValue, NoVolume, Opened,
-    OtherStore, OtherVolume, PartialIndex, Pinned, QueryError, QueryNotUTF8, QuerySyntax, Refusal, TooDeep, TooLong, TooMany, TooManyAttempts, TooManyAttributes,
-    TooManyIndices, WrongKind,
+    # surface.toml: exceptions
+    BadCount, BadCursor, BadItems, BadLimits, BadPart, BadPattern, Busy, Closed, CommitsSpent,
+    Conflict, DataLength, Full, HasNul, InUse, IndexExists, NameLength, NoAttribute, NoIndex,
+    NoItem, NoKind, NoMemory, NoNode, NoOperation, NoPass, NoRoom, NoValue, NotCovered,
+    NotIndexable, NotPinned, NotUTF8, Opened, Pinned, QuerySyntax, TooDeep, TooLong, TooMany,
+    TooManyAttributes, TooManyIndices,
+    # surface.toml: end
+    BadBytes, Error, Forked, Nested, NotReached, NoVolume, OtherStore, OtherVolume, PartialIndex,
+    QueryError, QueryNotUTF8, Refusal, TooManyAttempts, WrongKind,
 )
 from .language import Comparison, Hint, any_case, escape
 from .local import open
@@ -59,18 +68,24 @@ STRING, INT32, INT64, MIME, RAW, UINT32, UINT64 = (
     Kind.STRING, Kind.INT32, Kind.INT64, Kind.MIME, Kind.RAW, Kind.UINT32, Kind.UINT64)
 
 __all__ = [
-    "Attributes", "BadBytes", "BadCount", "BadCursor", "BadItems", "BadLimits", "BadPart", "BadPattern", "Batch",
-    "BrokenConnection", "Busy", "Change", "ChangedAttributes", "Changes", "Closed", "CommitsSpent", "Comparison", "Conflict", "Cursor",
-    "DataLength", "Disconnected", "Entry", "Error", "ErrorNumber", "Expired", "Forked", "Full", "HasNul", "Held",
-    "Hint", "INT32", "INT64", "InUse", "IndexExists", "Int32", "Int64", "Integer", "Item", "Kind", "LineTooLong", "MIME",
-    "MOST_OPERATIONS", "MakeIndex", "Name", "NameLength", "Nested", "NewNode", "NoAttribute", "NoIndex", "NoItem",
-    "NoKind", "NoMemory", "NoNode", "NoOperation", "NoPass", "NoRoom", "NoServer", "NoValue", "NoVolume", "NoWatch", "NotAllowed",
-    "NotCovered", "NotIndexable", "NotKept", "NotPinned", "NotReached", "NotUTF8", "Opened", "Operation", "Operator", "Order", "OtherStore",
-    "OtherUser", "OtherVolume",
-    "Page", "PartialIndex", "Pass", "Pinned", "Prepared", "ProtocolError", "QueryError", "QueryNotUTF8", "QuerySyntax", "RAW",
-    "Refusal", "RemoveIndex", "RemoveNode", "STRING", "ServerError", "ServerRefusal", "SetAttribute", "Shelf",
-    "ShelfVersion", "Status", "TimedOut", "TooDeep", "TooLong", "TooMany", "TooManyAttempts", "TooManyAttributes",
-    "TooManyIndices", "TooManyWatches", "Typed", "UINT32", "UINT64", "UInt32", "UInt64", "Unavailable",
-    "UnsetAttribute", "Value", "Version", "Watch", "Witness", "WrongKind", "any_case", "connect", "escape", "node_in", "number_of", "open",
-    "open_shelf", "prepare", "prepare_items", "volume_of",
+    # surface.toml: names
+    "BadCount", "BadCursor", "BadItems", "BadLimits", "BadPart", "BadPattern", "BadRequest", "Busy",
+    "Closed", "CommitsSpent", "Conflict", "DataLength", "Expired", "Full", "HasNul", "InUse",
+    "IndexExists", "NameLength", "NoAttribute", "NoClient", "NoIndex", "NoItem", "NoKind", "NoLog",
+    "NoMemory", "NoNode", "NoOperation", "NoPass", "NoRoom", "NoValue", "NoWatch", "NotAllowed",
+    "NotCovered", "NotIndexable", "NotKept", "NotLeader", "NotPinned", "NotUTF8", "Opened",
+    "Pinned", "PushesLost", "QuerySyntax", "TooDeep", "TooLong", "TooMany", "TooManyAttributes",
+    "TooManyCopies", "TooManyIndices", "TooManyWatches", "Unexpected",
+    # surface.toml: end
+    "Attributes", "BadBytes", "Batch", "BrokenConnection", "Change", "ChangedAttributes", "Changes",
+    "Comparison", "Cursor", "Disconnected", "Entry", "Error", "ErrorClass", "ErrorNumber", "Forked", "Held",
+    "Hint", "INT32", "INT64", "Int32", "Int64", "Integer", "Item", "Kind", "LineTooLong", "MIME",
+    "MOST_OPERATIONS", "MakeIndex", "Name", "Nested", "NewNode", "NoServer", "NoVolume",
+    "NotReached", "Operation", "Operator", "Order", "OtherStore", "OtherUser", "OtherVolume", "PartialIndex",
+    "Page", "Pass", "Prepared", "ProtocolError", "QueryError", "QueryNotUTF8", "RAW", "Refusal",
+    "RemoveIndex", "RemoveNode", "STRING", "ServerError", "ServerRefusal", "SetAttribute", "Shelf",
+    "ShelfVersion", "Status", "TimedOut", "TooManyAttempts", "Typed", "UINT32", "UINT64", "UInt32",
+    "UInt64", "Unavailable", "UnsetAttribute", "Value", "Version", "Watch", "Witness", "WrongKind",
+    "any_case", "connect", "escape", "node_in", "number_of", "open", "open_shelf", "prepare",
+    "prepare_items", "volume_of",
 ]

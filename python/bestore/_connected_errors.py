@@ -5,7 +5,8 @@ from __future__ import annotations
 from typing import Callable, Dict, List, Optional, Tuple
 
 from . import _saved_errors
-from .errors import BadCursor, NotReached, Error, ErrorNumber, NoVolume, OtherVolume, PartialIndex, Refusal, refusal
+from ._surface import SERVER_MEANINGS, ErrorClass, ErrorNumber
+from .errors import BadCursor, Error, NotReached, NoVolume, OtherVolume, PartialIndex, Refusal, refusal
 
 
 class ServerError(Error):
@@ -28,13 +29,15 @@ class ServerError(Error):
 class NoServer(ServerError, ConnectionError):
     """No server can be reached at the socket. The error of the system is the `__cause__`."""
 
+    error_class = ErrorClass.GONE
+
     def __init__(self, path: str, reason: str) -> None:
         super().__init__(path, reason)
         self.reason = reason
 
     @property
     def summary(self) -> str:
-        return f"no server: {self.reason}"
+        return f"no server can be reached: {self.reason}; start it by `bestored --background`"
 
 
 class OtherUser(ServerError, PermissionError):
@@ -56,6 +59,8 @@ class OtherUser(ServerError, PermissionError):
 class BrokenConnection(ServerError):
     """The connection failed, and is closed. Each later call on its pass is `Disconnected`."""
 
+    error_class = ErrorClass.GONE
+
     def __init__(self, path: str, reason: str, may_be_done: bool = False) -> None:
         super().__init__(path, reason, may_be_done)
         self.reason = reason
@@ -76,7 +81,7 @@ class TimedOut(BrokenConnection, TimeoutError):
 
 
 class ProtocolError(BrokenConnection):
-    """The server sent what is no line of the protocol, or speaks another version of it."""
+    """The server sent a line that isn't of the protocol, or speaks another version of it."""
 
 
 class LineTooLong(ServerError):
@@ -89,7 +94,7 @@ class LineTooLong(ServerError):
 
     @property
     def summary(self) -> str:
-        return f"a request of {self.length} bytes is too long"
+        return f"a request has up to 1 MiB, and this one has {self.length} bytes; write or ask less at a time"
 
 
 class Unavailable(ServerError):
@@ -102,21 +107,27 @@ class Unavailable(ServerError):
 
     @property
     def summary(self) -> str:
-        return f"`{self.call}` can't be called through a server"
+        return f"`{self.call}` can't be called through a server; only a store of this process has it"
 
 
 class ServerRefusal(ServerError):
     """The server refused a request for a reason of its own, and did nothing."""
 
-    def __init__(self, path: str, name: str, message: str) -> None:
+    def __init__(self, path: str, name: str, message: str, error_class: Optional[ErrorClass] = None) -> None:
         super().__init__(path, name, message)
         self.name = name
         """The error's name in the protocol."""
         self.message = message
+        self.error_class = error_class or _class_of(name)
 
     @property
     def summary(self) -> str:
         return self.message
+
+
+# surface.toml: exceptions
+class BadRequest(ServerRefusal):
+    """"""
 
 
 class Expired(ServerRefusal):
@@ -131,15 +142,56 @@ class TooManyWatches(ServerRefusal):
     """The connection has as many watches as it may have."""
 
 
+class TooManyCopies(ServerRefusal):
+    """As many clients as may are reading copies of snapshots."""
+
+
+class NoClient(ServerRefusal):
+    """Nobody with this number is connected."""
+
+
 class NotKept(ServerRefusal):
     """The server keeps no file."""
+
+
+class NoLog(ServerRefusal):
+    """The server is in no log."""
+
+
+class NotLeader(ServerRefusal):
+    """The server follows another one, to which the write has to go."""
 
 
 class NotAllowed(ServerRefusal):
     """The server is another user's."""
 
 
-_REFUSALS = {kind.__name__: kind for kind in (Expired, NoWatch, TooManyWatches, NotKept, NotAllowed)}
+class PushesLost(ServerRefusal):
+    """The pushes of a watch waited too long and are lost."""
+
+
+class Unexpected(ServerRefusal):
+    """The server has an error that it doesn't name."""
+
+
+_REFUSALS = {kind.__name__: kind for kind in (
+    BadRequest, Expired, NoClient, NoLog, NoWatch, NotAllowed, NotKept, NotLeader, PushesLost,
+    TooManyCopies, TooManyWatches, Unexpected,
+)}
+# surface.toml: end
+
+
+def _class_of(name: str) -> ErrorClass:
+    """The class of a server's own error. Of an unknown one nothing says that the same request may succeed later."""
+    known = SERVER_MEANINGS.get(name)
+    return ErrorClass.MINE if known is None else known.error_class
+
+
+def _said_class(details: Dict[str, object]) -> Optional[ErrorClass]:
+    """The class that a server says, if it says one that is known here."""
+    said = details.get("class")
+    return next((it for it in ErrorClass if it.value == said), None)
+
 
 # What goes with an error of the library, by its number, and what the call takes a list of.
 _CARRIED: Dict[int, Tuple[str, Optional[str]]] = {
@@ -175,6 +227,7 @@ def _of_library(number: int, details: Dict[str, object], query: Optional[str]) -
     carried = details.get(key)
     refused = refusal(number, carried if isinstance(carried, int) else None, query, listed)
     refused.volume = _number(details, "volume")
+    refused.error_class = _said_class(details) or refused.error_class
     if isinstance(refused, BadCursor):
         refused.reason = str(details.get("message"))
     return refused
@@ -189,9 +242,9 @@ def error_of(path: str, details: Dict[str, object], query: Optional[str] = None)
         return _OF_VOLUMES[name](details)
     if name == "Protocol":
         return ProtocolError(path, f"{message}; it knows {details.get('known')}")
-    refused = _REFUSALS.get(name, ServerRefusal)(path, name, message)
+    refused = _REFUSALS.get(name, ServerRefusal)(path, name, message, _said_class(details))
     if name not in ("NotSaved", "Stopped"):
         return refused
     error = _saved_errors.NotSaved(path, None) if name == "NotSaved" else _saved_errors.Stopped(path)
-    error.__cause__ = refused
+    error.__cause__, error.error_class = refused, refused.error_class
     return error

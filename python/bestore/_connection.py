@@ -139,7 +139,7 @@ class Connection:
         elif isinstance(error, OSError):
             reason = f"the connection failed: {error}"
         else:
-            failed, reason = ProtocolError, f"the server sent what is no line of the protocol: {error}"
+            failed, reason = ProtocolError, f"the server sent a line that isn't of the protocol: {error}"
         self.drop(reason)
         raise failed(self.path, reason, may_be_done) from (None if reason == _CLOSED or failed is TimedOut else error)
 
@@ -215,7 +215,7 @@ class Connection:
             return
         error = line.get("error")
         if line.get("id", 0) is not None or not isinstance(error, dict):
-            raise ValueError("it is no reply to this request")
+            raise ValueError("it isn't a reply to this request")
         if error.get("name") in _CLOSING:
             raise EOFError(f"{_CLOSED}: {error.get('message')}")
         raise error_of(self.path, error, query)

@@ -2,14 +2,11 @@
 
 from __future__ import annotations
 
+from ._surface import KIND_CODES
 from .operations import MakeIndex, NewNode, Operation, RemoveIndex, RemoveNode, SetAttribute
 from .store import Entry
-from .values import Kind, Value
+from .values import Value
 
-_CODES = {
-    Kind.STRING: "CSTR", Kind.INT32: "LONG", Kind.INT64: "LLNG", Kind.MIME: "MIMS", Kind.RAW: "RAWT", Kind.UINT32: "ULNG",
-    Kind.UINT64: "ULLG",
-}
 _ESCAPES = str.maketrans({'"': '\\"', "\\": "\\\\", "\n": "\\n", "\r": "\\r"})
 
 
@@ -30,9 +27,9 @@ def _operation(operation: Operation) -> str:
         return f"drop {operation.node}"
     if isinstance(operation, SetAttribute):
         assert operation.kind is not None
-        return f"set {operation.node} {_quoted(operation.name)} {_CODES[operation.kind]} {_value(operation.value)}"
+        return f"set {operation.node} {_quoted(operation.name)} {KIND_CODES[operation.kind]} {_value(operation.value)}"
     if isinstance(operation, MakeIndex):
-        return f"mkindex {_quoted(operation.name)} {_CODES[operation.kind]}"
+        return f"mkindex {_quoted(operation.name)} {KIND_CODES[operation.kind]}"
     if isinstance(operation, RemoveIndex):
         return f"rmindex {_quoted(operation.name)}"
     return f"unset {operation.node} {_quoted(operation.name)}"

@@ -4,6 +4,7 @@ from __future__ import annotations
 
 from typing import TYPE_CHECKING, Optional
 
+from ._surface import ErrorClass
 from .errors import CommitsSpent, Error, Full, NoMemory
 
 if TYPE_CHECKING:
@@ -39,7 +40,7 @@ class Foreign(SavedError):
 
     @property
     def summary(self) -> str:
-        return "the file is of another program"
+        return "the file belongs to another program; name another one"
 
 
 class Newer(SavedError):
@@ -54,19 +55,23 @@ class Newer(SavedError):
 
     @property
     def summary(self) -> str:
-        return f"the file has format {self.version}, and format {self.known} is the latest known here"
+        return f"the file has format {self.version}, and format {self.known} is the latest known here; use a newer version of bestore"
 
 
 class Held(SavedError):
     """Another process has the file, or another store of this one."""
 
+    error_class = ErrorClass.RETRY
+
     @property
     def summary(self) -> str:
-        return "the file is in use"
+        return "the file is open in another process or store; close it there first"
 
 
 class DiskFull(SavedError):
     """The disk is full."""
+
+    error_class = ErrorClass.FULL
 
     @property
     def summary(self) -> str:
@@ -78,7 +83,7 @@ class NoFile(SavedError):
 
     @property
     def summary(self) -> str:
-        return "the file of this volume is missing"
+        return "the file of this volume is missing, and a later volume has one; put it back"
 
 
 class Fewer(SavedError):
@@ -100,6 +105,8 @@ class Fewer(SavedError):
 
 class SqliteError(SavedError):
     """Another error of SQLite, which is the `__cause__`."""
+
+    error_class = ErrorClass.GONE
 
     @property
     def summary(self) -> str:
@@ -132,13 +139,19 @@ class _AtPlace(SavedError):
 class Differs(_AtPlace):
     """The file has what no store did. An error of the store or of the batch is the `__cause__`."""
 
+    error_class = ErrorClass.GONE
+
 
 class TooLarge(_AtPlace):
     """What the file has doesn't fit the limits of the store, whose error is the `__cause__`."""
 
+    error_class = ErrorClass.FULL
+
 
 class NotSaved(SavedError):
     """The write is in memory, and may be in the file or not. The error of the commit is the `__cause__`."""
+
+    error_class = ErrorClass.GONE
 
     def __init__(self, path: str, number: Optional[int]) -> None:
         super().__init__(path, number)
@@ -154,6 +167,8 @@ class NotSaved(SavedError):
 class Stopped(SavedError):
     """Nothing is saved any more, and nothing was written. The error of the commit that failed is the `__cause__`, or
     there is none if the file was closed."""
+
+    error_class = ErrorClass.GONE
 
     @property
     def summary(self) -> str:
@@ -181,4 +196,4 @@ def refused(path: str, error: Error, entry: Optional[int] = None, batch: Optiona
     """The error of the file for one of a store that repeats what the file has."""
     if isinstance(error, (Full, CommitsSpent, NoMemory)):
         return TooLarge(path, f"the file doesn't fit the limits of the store: {error}", entry, batch)
-    return Differs(path, f"the file has what no store did: {error}", entry, batch)
+    return Differs(path, f"the file has something that no store wrote: {error}", entry, batch)

@@ -6,6 +6,7 @@ import base64
 import json
 from typing import Any, Dict, List, Optional
 
+from ._surface import KIND_NAMES
 from .errors import NoKind, NotUTF8, NoValue, decoded
 from .operations import (
     MAKE_INDEX, NEW, REMOVE, SET, UNSET, Batch, MakeIndex, NewNode, Operation, RemoveIndex, RemoveNode, SetAttribute,
@@ -21,11 +22,7 @@ MOST_BYTES_OF_A_REPLY = 2 << 20
 
 JSON = Dict[str, Any]  # an object of JSON
 
-_NAMES = {
-    Kind.STRING: "text", Kind.INT32: "int32", Kind.INT64: "int64", Kind.MIME: "mime", Kind.RAW: "raw", Kind.UINT32: "uint32",
-    Kind.UINT64: "uint64",
-}
-_KINDS = {name: kind for kind, name in _NAMES.items()}
+_KINDS = {name: KIND_OF[code] for code, name in KIND_NAMES.items()}
 _encode = json.JSONEncoder(ensure_ascii=False, separators=(",", ":")).encode
 _decode = json.JSONDecoder().decode
 
@@ -42,7 +39,7 @@ def decode_line(line: bytes) -> JSON:
     except RecursionError:
         raise ValueError("it is too deep") from None
     if not isinstance(found, dict):
-        raise ValueError("it is no object")
+        raise ValueError("it isn't an object of JSON")
     return found
 
 
@@ -55,7 +52,7 @@ def _value(code: int, number: int, value: bytes) -> object:
         return decoded_value
     if isinstance(decoded_value, bytes):
         return {"raw": base64.b64encode(decoded_value).decode()}
-    return {_NAMES[kind]: decoded_value}
+    return {KIND_NAMES[kind]: decoded_value}
 
 
 def _kind(code: int) -> Kind:
@@ -74,7 +71,7 @@ def _operation(kind: int, code: int, node: int, number: int, name: bytes, value:
     if kind == UNSET:
         return ["unset", node, decoded(name)]
     if kind == MAKE_INDEX:
-        return ["index", decoded(name), _NAMES[_kind(code)]]
+        return ["index", decoded(name), KIND_NAMES[_kind(code)]]
     return ["unindex", decoded(name)]
 
 

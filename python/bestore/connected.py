@@ -202,7 +202,7 @@ class ConnectedVersion(QueriedVersion):
         def read(ok: JSON) -> List[List[Optional[Value]]]:
             rows = [read_row(row) for row in ok["rows"]]
             if not 1 <= len(rows) <= len(nodes) or any(len(row) != len(names) for row in rows):
-                raise ValueError("it has not the rows of these nodes")
+                raise ValueError("it doesn't have the rows of these nodes")
             return rows
         try:
             return self._ask("columns", {"nodes": nodes, "names": names}, read)
@@ -247,7 +247,7 @@ def _asked_node(node: int) -> int:
 def _asked_name(name: str) -> str:
     """A name as a request has it. `NotUTF8` if it has half of a surrogate pair."""
     if not isinstance(name, str):
-        raise TypeError(f"{name!r} is no name: a name is a str")
+        raise TypeError(f"{name!r} isn't a name: a name is a str")
     encoded(name)
     return name
 

@@ -2,64 +2,26 @@
 
 from __future__ import annotations
 
-import enum
 import unicodedata
 from typing import ClassVar, Dict, Iterable, Optional, Sequence, Tuple, Type
 
-
-class ErrorNumber(enum.IntEnum):
-    """What a call of the library returns, by the names of bestore.h without their BES_."""
-
-    OK = 0
-    BUSY = 1
-    NO_NODE = 2
-    NO_ATTRIBUTE = 3
-    TOO_MANY_ATTRS = 4
-    INDEX_EXISTS = 5
-    NO_INDEX = 6
-    TOO_MANY_INDICES = 7
-    NOT_INDEXABLE = 8
-    COMMITS_SPENT = 9
-    NO_MEMORY = 10
-    FULL = 11
-    SYNTAX = 12
-    BAD_PATTERN = 13
-    TOO_LONG = 14
-    TOO_DEEP = 15
-    TOO_MANY = 16
-    NOT_COVERED = 17
-    NAME_LENGTH = 18
-    DATA_LENGTH = 19
-    HAS_NUL = 20
-    BAD_LIMITS = 21
-    BAD_RPN = 22
-    CLOSED = 64
-    OPEN = 65
-    NOT_PINNED = 66
-    PINNED = 67
-    NO_PASS = 68
-    BAD_COUNT = 69
-    NOT_UTF8 = 70
-    NO_OPERATION = 71
-    NO_KIND = 72
-    NO_VALUE = 73
-    BAD_PART = 74
-    NO_ITEM = 75
-    CONFLICT = 76
-    IN_USE = 77
-    BAD_CURSOR = 78
-    NO_ROOM = 79
+from ._surface import KIND_MEMBERS, MEANINGS, ErrorClass, ErrorNumber
 
 
 class Error(Exception):
     """Every exception that the package defines is one of these."""
 
+    error_class: ErrorClass = ErrorClass.MINE
+    """What a program can do about it."""
+
 
 class Forked(Error):
     """The handle was made before this process was forked: it belongs to the parent, and is dead here."""
 
+    error_class = ErrorClass.GONE
+
     def __str__(self) -> str:
-        return "the handle belongs to the process that this one was forked from"
+        return "the handle belongs to the process that this one was forked from; open a store here"
 
 
 class Nested(Error):
@@ -73,13 +35,15 @@ class TooManyAttempts(Error):
     """Other writes came between the snapshot and the commit of a change at every attempt. Nothing was written. The last
     `Conflict` is its `__cause__`."""
 
+    error_class = ErrorClass.RETRY
+
     def __init__(self, attempts: int) -> None:
         super().__init__(attempts)
         self.attempts = attempts
         """How many attempts were made."""
 
     def __str__(self) -> str:
-        return f"other writes came between at each of {self.attempts} attempts"
+        return f"other writes came between at each of {self.attempts} attempts; try again, or allow more"
 
 
 class WrongKind(Error, TypeError):
@@ -111,8 +75,8 @@ class NoVolume(Error):
 
     def __str__(self) -> str:
         if self.volume is None:
-            return f"there are {self.volumes} volumes, and the call says none"
-        return f"there is no volume {self.volume}: there are {self.volumes}, counted from 0"
+            return f"the call has to say which of the {self.volumes} volumes, counted from 0"
+        return f"there is no volume {self.volume}; there are {self.volumes}, counted from 0"
 
 
 class OtherVolume(Error, ValueError):
@@ -126,7 +90,8 @@ class OtherVolume(Error, ValueError):
         """The operation, from 0."""
 
     def __str__(self) -> str:
-        return f"a node isn't in volume {self.volume}, which is written (operation {self.operation}, counted from 0)"
+        return (f"a node is in another volume than {self.volume}, which is written (operation {self.operation}, counted from 0); "
+                "a batch has nodes of one volume")
 
 
 class PartialIndex(Error, ValueError):
@@ -138,18 +103,21 @@ class PartialIndex(Error, ValueError):
         """The first operation that makes or removes an index, from 0."""
 
     def __str__(self) -> str:
-        return f"an index is made in all volumes, in a batch of its own (operation {self.operation}, counted from 0)"
+        return (f"an index is made in all volumes (operation {self.operation}, counted from 0); it needs a batch without "
+                "other operations")
 
 
 class OtherStore(Error):
     """The witness is of a pass of another store."""
 
     def __str__(self) -> str:
-        return "the witness is of another store"
+        return "the witness is of another store; join one of this store"
 
 
 class NotReached(Error):
     """The journals were shorter than expected at the end of the time."""
+
+    error_class = ErrorClass.RETRY
 
     def __init__(self, expected: Sequence[int], found: Sequence[int]) -> None:
         super().__init__(expected, found)
@@ -159,7 +127,7 @@ class NotReached(Error):
         """How many it had."""
 
     def __str__(self) -> str:
-        return f"the journals have {list(self.found)} entries, and not {list(self.expected)} yet"
+        return f"the journals have {list(self.found)} entries, and not {list(self.expected)} yet; ask again"
 
 
 class BadBytes(Error, ValueError):
@@ -172,7 +140,7 @@ class BadBytes(Error, ValueError):
         self.reason = reason
 
     def __str__(self) -> str:
-        return f"no batch: {self.reason} at byte {self.offset}"
+        return f"the bytes aren't those of a batch: {self.reason} at byte {self.offset}"
 
 
 class Refusal(Error):
@@ -180,14 +148,18 @@ class Refusal(Error):
 
     number: int = 0
     """The error's number, one of `ErrorNumber`."""
-    meaning: str = "unknown error"
+    meaning: str = "the library has an error that this package doesn't know"
+    """What was wrong."""
+    advice: str = ""
+    """What would be right, or an empty text."""
 
     _classes: ClassVar[Dict[int, Type[Refusal]]] = {}
 
-    def __init_subclass__(cls, number: Optional[ErrorNumber] = None, meaning: str = "") -> None:
+    def __init_subclass__(cls, number: Optional[ErrorNumber] = None) -> None:
         super().__init_subclass__()
         if number is not None:
-            cls.number, cls.meaning = number, meaning
+            cls.number = number
+            cls.error_class, cls.meaning, cls.advice = MEANINGS[number]
             Refusal._classes[number] = cls
 
     def __init__(self, carried: Optional[int] = None, query: Optional[str] = None, listed: Optional[str] = None) -> None:
@@ -212,9 +184,14 @@ class Refusal(Error):
         """Keeps what goes with the error. `listed` says what the call takes a list of: "item" or "operation"."""
 
     @property
-    def summary(self) -> str:
-        """What went wrong, in one line."""
+    def _what(self) -> str:
+        """What was wrong, with what is known of it."""
         return self.meaning
+
+    @property
+    def summary(self) -> str:
+        """What was wrong, and what would be right, in one line."""
+        return f"{self._what}; {self.advice}" if self.advice else self._what
 
     @property
     def _shown(self) -> str:
@@ -244,15 +221,10 @@ class _OfList(Refusal):
 
     @property
     def _what(self) -> str:
-        """The summary without the place."""
-        return self.meaning
-
-    @property
-    def summary(self) -> str:
         for listed, place in (("operation", self.operation), ("item", self.item)):
             if place is not None:
-                return f"{self._what} ({listed} {place}, counted from 0)"
-        return self._what
+                return f"{self.meaning} ({listed} {place}, counted from 0)"
+        return self.meaning
 
 
 def columns_of(text: str) -> int:
@@ -306,12 +278,48 @@ class _AtPlace(QueryError, _OfList):
             self.offset = carried
 
 
-class Busy(Refusal, number=ErrorNumber.BUSY, meaning="another pass is writing"):
+# surface.toml: exceptions
+class TooManyAttributes(Refusal, number=ErrorNumber.TOO_MANY_ATTRS): ...
+class IndexExists(Refusal, number=ErrorNumber.INDEX_EXISTS): ...
+class TooManyIndices(Refusal, number=ErrorNumber.TOO_MANY_INDICES): ...
+class NotIndexable(Refusal, number=ErrorNumber.NOT_INDEXABLE): ...
+class CommitsSpent(Refusal, number=ErrorNumber.COMMITS_SPENT): ...
+class NoMemory(Refusal, MemoryError, number=ErrorNumber.NO_MEMORY): ...
+class QuerySyntax(_AtPlace, number=ErrorNumber.SYNTAX): ...
+class BadPattern(_AtPlace, number=ErrorNumber.BAD_PATTERN): ...
+class TooLong(QueryError, number=ErrorNumber.TOO_LONG): ...
+class TooDeep(QueryError, number=ErrorNumber.TOO_DEEP): ...
+class TooMany(QueryError, number=ErrorNumber.TOO_MANY): ...
+class NameLength(_OfList, ValueError, number=ErrorNumber.NAME_LENGTH): ...
+class DataLength(_OfList, ValueError, number=ErrorNumber.DATA_LENGTH): ...
+class HasNul(_OfList, ValueError, number=ErrorNumber.HAS_NUL): ...
+class BadLimits(Refusal, ValueError, number=ErrorNumber.BAD_LIMITS): ...
+class BadItems(_AtPlace, number=ErrorNumber.BAD_RPN): ...
+class Closed(Refusal, number=ErrorNumber.CLOSED): ...
+class Opened(Refusal, number=ErrorNumber.OPEN): ...
+class NotPinned(Refusal, number=ErrorNumber.NOT_PINNED): ...
+class Pinned(Refusal, number=ErrorNumber.PINNED): ...
+class NoPass(Refusal, number=ErrorNumber.NO_PASS): ...
+class BadCount(Refusal, ValueError, number=ErrorNumber.BAD_COUNT): ...
+class NotUTF8(_OfList, ValueError, number=ErrorNumber.NOT_UTF8): ...
+class NoOperation(_OfList, ValueError, number=ErrorNumber.NO_OPERATION): ...
+class NoValue(_OfList, ValueError, number=ErrorNumber.NO_VALUE): ...
+class BadPart(_OfList, ValueError, number=ErrorNumber.BAD_PART): ...
+class NoItem(_OfList, QueryError, ValueError, number=ErrorNumber.NO_ITEM): ...
+class InUse(Refusal, number=ErrorNumber.IN_USE): ...
+# surface.toml: end
+
+
+class Busy(Refusal, number=ErrorNumber.BUSY):
     def _carry(self, carried: Optional[int], listed: Optional[str]) -> None:
         self.pass_number = carried
 
+    @property
+    def _what(self) -> str:
+        return self.meaning if self.pass_number is None else f"{self.meaning} (pass {self.pass_number})"
 
-class NoNode(Refusal, KeyError, number=ErrorNumber.NO_NODE, meaning="no such node"):
+
+class NoNode(Refusal, KeyError, number=ErrorNumber.NO_NODE):
     nodes: Tuple[int, ...] = ()
     """The node that isn't there. Of a write that names several it has all of them."""
 
@@ -329,13 +337,13 @@ class NoNode(Refusal, KeyError, number=ErrorNumber.NO_NODE, meaning="no such nod
         return self.nodes[0] if len(self.nodes) == 1 else None
 
     @property
-    def summary(self) -> str:
+    def _what(self) -> str:
         if self.node is not None:
             return f"there is no node {self.node}"
         return f"one of the nodes {', '.join(map(str, self.nodes))} isn't there" if self.nodes else self.meaning
 
 
-class NoAttribute(Refusal, KeyError, number=ErrorNumber.NO_ATTRIBUTE, meaning="no such attribute"):
+class NoAttribute(Refusal, KeyError, number=ErrorNumber.NO_ATTRIBUTE):
     node: Optional[int] = None
     """The node that lacks it, if that is known."""
     name: Optional[str] = None
@@ -346,47 +354,38 @@ class NoAttribute(Refusal, KeyError, number=ErrorNumber.NO_ATTRIBUTE, meaning="n
         self.node, self.name = node, name
 
     @property
-    def summary(self) -> str:
+    def _what(self) -> str:
         return self.meaning if self.name is None else f'node {self.node} has no attribute "{self.name}"'
 
 
-class TooManyAttributes(Refusal, number=ErrorNumber.TOO_MANY_ATTRS, meaning="too many attributes"): ...
-class IndexExists(Refusal, number=ErrorNumber.INDEX_EXISTS, meaning="the index exists"): ...
-
-
-class NoIndex(Refusal, number=ErrorNumber.NO_INDEX, meaning="no such index"):
+class NoIndex(Refusal, number=ErrorNumber.NO_INDEX):
     name: Optional[str] = None
     """The name that has no index, if that is known."""
     indices: Tuple[str, ...] = ()
     """The names that have one, if `name` is known."""
 
     @property
-    def summary(self) -> str:
+    def _what(self) -> str:
         if self.name is None:
             return self.meaning
         names = ", ".join(f'"{name}"' for name in self.indices)
         return f'there is no index "{self.name}"; ' + (f"indices: {names}" if names else "there are no indices")
 
 
-class TooManyIndices(Refusal, number=ErrorNumber.TOO_MANY_INDICES, meaning="too many indices"): ...
-class NotIndexable(Refusal, number=ErrorNumber.NOT_INDEXABLE, meaning="no index may have this kind"): ...
-class CommitsSpent(Refusal, number=ErrorNumber.COMMITS_SPENT, meaning="the journal is at its limit"): ...
-class NoMemory(Refusal, MemoryError, number=ErrorNumber.NO_MEMORY, meaning="out of memory"): ...
 
 
-class Full(Refusal, number=ErrorNumber.FULL, meaning="no page is free"):
+class Full(Refusal, number=ErrorNumber.FULL):
     def _carry(self, carried: Optional[int], listed: Optional[str]) -> None:
         self.least = carried
 
+    @property
+    def _what(self) -> str:
+        if self.least is None:
+            return self.meaning
+        return f"{self.meaning} (the oldest snapshot that may be read is {self.least})"
 
-class QuerySyntax(_AtPlace, number=ErrorNumber.SYNTAX, meaning="the query leaves the grammar"): ...
-class BadPattern(_AtPlace, number=ErrorNumber.BAD_PATTERN, meaning="a pattern is malformed"): ...
-class TooLong(QueryError, number=ErrorNumber.TOO_LONG, meaning="the query is too long"): ...
-class TooDeep(QueryError, number=ErrorNumber.TOO_DEEP, meaning="the query is too deep"): ...
-class TooMany(QueryError, number=ErrorNumber.TOO_MANY, meaning="too many comparisons"): ...
 
-
-class NotCovered(QueryError, number=ErrorNumber.NOT_COVERED, meaning="no index serves the query"):
+class NotCovered(QueryError, number=ErrorNumber.NOT_COVERED):
     """`offset` or `item` is the place of the first comparison whose name has no index."""
 
     missing: Optional[str] = None
@@ -397,62 +396,42 @@ class NotCovered(QueryError, number=ErrorNumber.NOT_COVERED, meaning="no index s
     @property
     def summary(self) -> str:
         if self.missing is None:
-            return self.meaning
+            return super().summary
         names = ", ".join(f'"{name}"' for name in self.indices)
-        return f'{self.meaning}: "{self.missing}" has no index; ' + (f"indices: {names}" if names else "there are no indices")
+        return f'{self.meaning}: "{self.missing}" has none; ' + (f"names with an index: {names}" if names else "there are no indices")
 
 
-class NameLength(_OfList, ValueError, number=ErrorNumber.NAME_LENGTH, meaning="a name has not 1 to 63 bytes"): ...
-class DataLength(_OfList, ValueError, number=ErrorNumber.DATA_LENGTH, meaning="a value has more than 255 bytes"): ...
-class HasNul(_OfList, ValueError, number=ErrorNumber.HAS_NUL, meaning="a text has a zero byte"): ...
-class BadLimits(Refusal, ValueError, number=ErrorNumber.BAD_LIMITS, meaning="a limit is out of its range"): ...
-class BadItems(_AtPlace, number=ErrorNumber.BAD_RPN, meaning="the items build no query"): ...
-class Closed(Refusal, number=ErrorNumber.CLOSED, meaning="the handle is closed"): ...
-class Opened(Refusal, number=ErrorNumber.OPEN, meaning="the handle is open"): ...
-class NotPinned(Refusal, number=ErrorNumber.NOT_PINNED, meaning="the pass isn't pinned"): ...
-class Pinned(Refusal, number=ErrorNumber.PINNED, meaning="the pass is pinned"): ...
-class NoPass(Refusal, number=ErrorNumber.NO_PASS, meaning="each pass is in use"): ...
-class BadCount(Refusal, ValueError, number=ErrorNumber.BAD_COUNT, meaning="a write has not 1 to 64 operations"): ...
-class NotUTF8(_OfList, ValueError, number=ErrorNumber.NOT_UTF8, meaning="the bytes are no UTF-8"): ...
-class NoOperation(_OfList, ValueError, number=ErrorNumber.NO_OPERATION, meaning="no such operation"): ...
-
-class NoKind(_OfList, ValueError, number=ErrorNumber.NO_KIND, meaning="no such kind"):
+class NoKind(_OfList, ValueError, number=ErrorNumber.NO_KIND):
     @property
-    def _what(self) -> str:
-        return f"{self.meaning}: there are STRING, INT32, INT64, MIME, RAW, UINT32 and UINT64"
-
-
-class NoValue(_OfList, ValueError, number=ErrorNumber.NO_VALUE, meaning="the number doesn't fit the kind"): ...
-class BadPart(_OfList, ValueError, number=ErrorNumber.BAD_PART, meaning="a part isn't within the bytes"): ...
-class NoItem(_OfList, QueryError, ValueError, number=ErrorNumber.NO_ITEM, meaning="no such item"): ...
-class InUse(Refusal, number=ErrorNumber.IN_USE, meaning="another handle is open"): ...
+    def summary(self) -> str:
+        return f"{self._what}; the kinds are {', '.join(KIND_MEMBERS)}"
 
 
 class QueryNotUTF8(_AtPlace, NotUTF8):
     """The text of a query has half of a surrogate pair, so it has no bytes in UTF-8."""
 
-    meaning = "the query's text has no UTF-8"
+    meaning = "the query has half of a surrogate pair here, which isn't valid UTF-8"
 
 
-class BadCursor(Refusal, ValueError, number=ErrorNumber.BAD_CURSOR, meaning="the cursor doesn't fit the index"):
+class BadCursor(Refusal, ValueError, number=ErrorNumber.BAD_CURSOR):
     reason: Optional[str] = None
     """Why no page can begin there, if that is known."""
 
     @property
     def summary(self) -> str:
-        return self.meaning if self.reason is None else self.reason
+        return super().summary if self.reason is None else self.reason
 
 
-class NoRoom(Refusal, ValueError, number=ErrorNumber.NO_ROOM, meaning="a page has at least one node"):
+class NoRoom(Refusal, ValueError, number=ErrorNumber.NO_ROOM):
     limit: Optional[int] = None
     """How many nodes were asked for."""
 
     @property
-    def summary(self) -> str:
+    def _what(self) -> str:
         return self.meaning if self.limit is None else f"{self.meaning}, and {self.limit} are asked for"
 
 
-class Conflict(Refusal, number=ErrorNumber.CONFLICT, meaning="the journal has another length"):
+class Conflict(Refusal, number=ErrorNumber.CONFLICT):
     expected: Optional[int] = None
     """How many entries the journal should have had."""
     found: Optional[int] = None
@@ -462,8 +441,8 @@ class Conflict(Refusal, number=ErrorNumber.CONFLICT, meaning="the journal has an
         self.found = carried
 
     @property
-    def summary(self) -> str:
-        return f"{self.meaning}: {self.found} entries, and not {self.expected}"
+    def _what(self) -> str:
+        return f"{self.meaning} ({self.found} entries, and not {self.expected})"
 
 
 def no_index(name: str, indices: Iterable[str]) -> NoIndex:

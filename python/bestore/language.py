@@ -97,7 +97,7 @@ class Hint(NamedTuple):
     """Whether the value is a whole number, but out of the kind's range."""
 
     def __str__(self) -> str:
-        why = f"is out of the range of {self.kind.name}" if self.is_number else "is no whole number"
+        why = f"is out of the range of {self.kind.name}" if self.is_number else "isn't a whole number"
         return f'never true: "{self.name}" is {self.kind.name}, and "{self.value}" {why}'
 
 

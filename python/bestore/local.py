@@ -11,8 +11,9 @@ from typing import Any, Callable, Dict, Iterator, List, Optional, Set, Tuple, Ty
 from . import _native
 from ._library import Usage, calls, check
 from .commits import Commits
+from ._surface import ErrorNumber
 from .errors import (
-    BadCursor, BadLimits, ErrorNumber, NoIndex, NotCovered, NoVolume, OtherStore, Refusal, encoded, encoded_query, no_index, refusal)
+    BadCursor, BadLimits, NoIndex, NotCovered, NoVolume, OtherStore, Refusal, encoded, encoded_query, no_index, refusal)
 from .handles import CURSOR, PASS, WITNESS, HandleOwner
 from .operations import Batch
 from .pages import Cursor, Order, Page
@@ -303,7 +304,7 @@ class LocalPass(HandleOwner, Pass):
 
     def join(self, witness: Witness) -> int:
         if not isinstance(witness, Witness):
-            raise TypeError(f"{witness!r} is no witness")
+            raise TypeError(f"{witness!r} isn't a witness: a pass makes one by `witness()`")
         if not isinstance(witness, LocalWitness) or witness._store is not self._store:
             raise OtherStore()
         seen = ctypes.c_uint64()

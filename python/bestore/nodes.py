@@ -59,7 +59,7 @@ def node_number(node: SupportsIndex) -> int:
     try:
         return plain(node)
     except TypeError:
-        raise TypeError(f"{node!r} is no node: a node is an int") from None
+        raise TypeError(f"{node!r} isn't a node: a node is an int") from None
 
 
 def name_missing(error: Union[NoNode, NoAttribute], batch: Batch) -> None:

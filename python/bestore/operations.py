@@ -219,31 +219,31 @@ class _Reader:
 
     def read_beginning(self) -> None:
         if self._data[:3] != BEGINNING[:3]:
-            raise BadBytes(0, "another beginning")
+            raise BadBytes(0, "they don't begin with BEB")
         if self._data[3:4] != BEGINNING[3:]:
-            raise BadBytes(3, "another version of the format")
+            raise BadBytes(3, "the format has another version than 1")
         self._at = len(BEGINNING)
 
     def read_count(self) -> int:
         count = self._number(1, "the number of operations")
         if not 1 <= count <= MOST_OPERATIONS:
-            raise BadBytes(self._at - 1, f"{count} operations")
+            raise BadBytes(self._at - 1, f"a batch has 1 to 64 operations, and this one {count}")
         return count
 
     def read_operation(self, batch: Batch) -> None:
         """Reads an operation, and adds it to the batch."""
         kind = self._number(1, "an operation")
         if kind > REMOVE_INDEX:
-            raise BadBytes(self._at - 1, f"the unknown operation {kind}")
+            raise BadBytes(self._at - 1, f"no operation has the number {kind}")
         node = self._number(8, "a node") if kind in _WITH_NODE else 0
         name = self._counted("a name") if kind in _WITH_NAME else b""
         code = self._number(4, "a type code") if kind in _WITH_CODE else 0
         if kind in _WITH_CODE and code not in KIND_OF:
-            raise BadBytes(self._at - 4, f"the unknown type code {code:#x}")
+            raise BadBytes(self._at - 4, f"no kind has the type code {code:#x}")
         number = self._number(8, "a number") if kind == SET and code in RANGES else 0
         value = self._counted("a value") if kind == SET and code not in RANGES else b""
         batch._add_encoded(kind, node, name, code, number, value)
 
     def read_end(self) -> None:
         if self._at < len(self._data):
-            raise BadBytes(self._at, "more bytes")
+            raise BadBytes(self._at, "the batch ends, and more bytes follow")

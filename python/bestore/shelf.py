@@ -355,7 +355,7 @@ class Shelf(ThreadPass):
     def join(self, witness: Witness) -> int:
         """Joins a witness of the shelf, volume by volume. Returns how many entries both have seen together."""
         if not isinstance(witness, Witness):
-            raise TypeError(f"{witness!r} is no witness")
+            raise TypeError(f"{witness!r} isn't a witness: a pass makes one by `witness()`")
         if not isinstance(witness, ShelfWitness) or len(witness._witnesses) != len(self._passes):
             raise OtherStore()
         return sum(user.join(it) for user, it in zip(self._passes, witness._witnesses))

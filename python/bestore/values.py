@@ -17,6 +17,7 @@ Value = Union[str, bytes, int]
 class Kind(enum.IntEnum):
     """The kinds of values, by the type codes of BeOS."""
 
+    # surface.toml: kinds
     STRING = 0x43535452
     INT32 = 0x4C4F4E47
     INT64 = 0x4C4C4E47
@@ -24,6 +25,7 @@ class Kind(enum.IntEnum):
     RAW = 0x52415754
     UINT32 = 0x554C4E47
     UINT64 = 0x554C4C47
+    # surface.toml: end
 
     def __repr__(self) -> str:
         return f"bestore.{self.name}"
@@ -113,11 +115,11 @@ def encode_value(value: Value, kind: Optional[int] = None) -> Encoded:
 def _number(value: SupportsIndex) -> int:
     """The number that a value is. A TypeError if it is none. A bool would be read back as 0 or 1, so it has to be said."""
     if isinstance(value, bool):
-        raise TypeError(f"{value} is no value of an attribute: write int({value}), which is {int(value)}, or a text")
+        raise TypeError(f"{value} isn't a value of an attribute: write int({value}), which is {int(value)}, or a text")
     try:
         return plain(value)
     except TypeError:
-        raise TypeError(f"{reprlib.repr(value)} is no value of an attribute: that is a str, bytes or an int") from None
+        raise TypeError(f"{reprlib.repr(value)} isn't a value of an attribute: that is a str, bytes or an int") from None
 
 
 def _fitting(value: Value, kind: Optional[int], called: str, kinds: Tuple[Kind, ...]) -> Kind:

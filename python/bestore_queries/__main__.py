@@ -33,7 +33,7 @@ def source_of(options: argparse.Namespace) -> Source:
     if options.folder is None:
         return ServerSource(options.socket)
     if not os.path.isdir(options.folder):
-        raise CannotStart(f"{options.folder} is no folder")
+        raise CannotStart(f"{options.folder} isn't a folder")
     return FolderSource(os.path.abspath(options.folder))
 
 

@@ -127,7 +127,7 @@ class HitList(tk.Frame):
         self.selection.forget(node)
         cell = self.editor.cell
         if cell is not None and cell.node == node:
-            self._actions.warn(f"What you were editing is no hit any more. You had typed: {self.editor.text}")
+            self._actions.warn(f"What you were editing isn't a hit any more. You had typed: {self.editor.text}")
             self.editor.end()
 
     def paint(self) -> None:

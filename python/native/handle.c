@@ -125,7 +125,7 @@ Handle *handle_of(PyObject *object, enum Sort sort)
     static const char *const names[] = { "handle", "pass", "prepared query", "cursor", "witness" };
     if (PyObject_TypeCheck(object, handle_type) && ((Handle *)object)->sort == sort)
         return (Handle *)object;
-    PyErr_Format(PyExc_TypeError, "%R is no %s", object, names[sort]);
+    PyErr_Format(PyExc_TypeError, "%R isn't a %s", object, names[sort]);
     return NULL;
 }
 

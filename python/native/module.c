@@ -58,7 +58,7 @@ static PyObject *know(PyObject *module, PyObject *arguments, PyObject *names)
     for (size_t at = 0; at < sizeof places / sizeof *places; at++)
         if (given[at] != NULL)
             keep(places[at], given[at]);
-    for (Py_ssize_t at = 0; given[7] != NULL && at < 7; at++) {
+    for (Py_ssize_t at = 0; given[7] != NULL && at < KINDS; at++) {
         PyObject *kind = PySequence_GetItem(given[7], at);
         if (kind == NULL)
             return NULL;

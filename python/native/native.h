@@ -56,6 +56,10 @@ typedef struct Library {
 
 extern Library library;
 
+/* surface.toml: kinds */
+enum { KINDS = 7 };
+/* surface.toml: end */
+
 /* What the module knows of the package: it is handed over once, by `know`. */
 typedef struct Known {
     PyObject *refusal;       /* makes the error of a number */
@@ -65,7 +69,7 @@ typedef struct Known {
     PyObject *typed;         /* a class of pairs */
     PyObject *batch;         /* the class */
     PyObject *user;          /* the class of passes whose writes need nothing besides */
-    PyObject *kinds[7];      /* by the order of kind_index */
+    PyObject *kinds[KINDS];  /* by the order of kind_index */
 } Known;
 
 extern Known known;
@@ -145,7 +149,6 @@ bool read_number(PyObject *object, uint64_t *number);
 bool read_node_in_range(PyObject *object, uint64_t *node);
 bool read_node(PyObject *object, uint64_t *node);
 bool read_text(PyObject *object, const uint8_t **bytes, size_t *length);
-bool is_number_kind(uint32_t code);
 PyObject *value_object(uint32_t code, uint64_t number, const uint8_t *bytes, size_t length);
 PyObject *kind_object(uint32_t code);
 PyObject *typed_object(uint32_t code, uint64_t number, const uint8_t *bytes, size_t length);

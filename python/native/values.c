@@ -51,7 +51,7 @@ bool read_node_in_range(PyObject *object, uint64_t *node)
         return true;
     if (PyErr_Occurred() && PyErr_ExceptionMatches(PyExc_TypeError)) {
         PyErr_Clear();
-        PyErr_Format(PyExc_TypeError, "%R is no node: a node is an int", object);
+        PyErr_Format(PyExc_TypeError, "%R isn't a node: a node is an int", object);
     }
     return false;
 }
@@ -75,7 +75,7 @@ bool read_text(PyObject *object, const uint8_t **bytes, size_t *length)
             refused(BES_NOT_UTF8);
         } else if (!PyUnicode_Check(object)) {
             PyErr_Clear();
-            PyErr_Format(PyExc_TypeError, "%R is no str", object);
+            PyErr_Format(PyExc_TypeError, "%R isn't a str", object);
         }
         return false;
     }
@@ -87,6 +87,7 @@ bool read_text(PyObject *object, const uint8_t **bytes, size_t *length)
 static int kind_index(uint32_t code)
 {
     switch (code) {
+    /* surface.toml: kinds */
     case BES_STRING_TYPE: return 0;
     case BES_INT32_TYPE: return 1;
     case BES_INT64_TYPE: return 2;
@@ -94,13 +95,9 @@ static int kind_index(uint32_t code)
     case BES_RAW_TYPE: return 4;
     case BES_UINT32_TYPE: return 5;
     case BES_UINT64_TYPE: return 6;
+    /* surface.toml: end */
     default: return -1;
     }
-}
-
-bool is_number_kind(uint32_t code)
-{
-    return code == BES_INT32_TYPE || code == BES_INT64_TYPE || code == BES_UINT32_TYPE || code == BES_UINT64_TYPE;
 }
 
 PyObject *kind_object(uint32_t code)

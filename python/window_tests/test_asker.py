@@ -170,7 +170,7 @@ class Asking(unittest.TestCase):
             (Write(node, "BEOS:TYPE", "", "x"), "another program has removed it meanwhile"),
             (Write(node, "BEOS:TYPE", "", None), None), (Write(999, "BEOS:TYPE", "x", None), "it is gone"),
             (Write(node, "size", "much", 1), "“much” isn't a whole number"),
-            (Write(node, "n" * 64, "x", None), "a name has not 1 to 63 bytes"),
+            (Write(node, "n" * 64, "x", None), "a name is empty or has more than 63 bytes"),
         ]:
             self.others.clear()
             self.asker.send(write)

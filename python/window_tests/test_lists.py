@@ -185,7 +185,7 @@ class SavedFile(unittest.TestCase):
         """A file that can't be read is named with the place, and isn't written over."""
         os.makedirs(os.path.dirname(self.path))
         for text, reason in [
-            (b"{", "line 1, column 2"), (b"[]", "no list of queries"), (b'{"queries":[{"name":1,"query":"x"}]}', "is no text"),
+            (b"{", "line 1, column 2"), (b"[]", "no list of queries"), (b'{"queries":[{"name":1,"query":"x"}]}', "isn't a text"),
             (b'{"queries":[{}]}', "no list of queries"), (b"\xff", "no list of queries"), (b"[" * 100000, "no list of queries"),
         ]:
             with open(self.path, "wb") as file:

@@ -39,7 +39,7 @@ class CommandLine(unittest.TestCase):
 
 class OnItsDisplay(OnDisplay):
     def test_no_folder(self) -> None:
-        self.assertEqual(run("--folder", "/none"), (1, "bestore-queries: /none is no folder\n"))
+        self.assertEqual(run("--folder", "/none"), (1, "bestore-queries: /none isn't a folder\n"))
 
     def test_no_size(self) -> None:
         status, said = run("--folder", "/", "--geometry", "wide")

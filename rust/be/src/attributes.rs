@@ -9,7 +9,7 @@ use crate::server::{self, all_done, pinned, report};
 use crate::text::{escaped, hexadecimal};
 use bestore::{Batch, Value};
 use bestore_client::wire::Json;
-use bestore_client::Client;
+use bestore_client::{Client, ErrorName};
 use serde::Serialize;
 use std::collections::BTreeMap;
 use std::fs::File;
@@ -193,7 +193,7 @@ pub fn list(client: &mut Client, line: &ListAttributes, output: &mut Output) -> 
     let nodes = nodes_of(client, &line.nodes)?;
     let read = pinned(client, |client| {
         let read = nodes.iter().map(|node| match client.attributes(*node) {
-            Err(error) if error.is("NoNode") => Ok((*node, None)),
+            Err(error) if error.is(ErrorName::NoNode) => Ok((*node, None)),
             answer => Ok((*node, Some(answer?))),
         });
         read.collect::<Result<Vec<_>, Failure>>()
@@ -210,7 +210,7 @@ pub fn list(client: &mut Client, line: &ListAttributes, output: &mut Output) -> 
             }
             Some(attributes) => list_node(line, node, &attributes, output)?,
             None => {
-                report(node, "no such node");
+                report(node, ErrorName::NoNode.text());
                 all = false;
             }
         }

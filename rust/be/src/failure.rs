@@ -6,7 +6,7 @@ use crate::text::{escaped, pointed};
 use crate::typed_query::BadDate;
 use bestore::saved;
 use bestore_client::wire::Refusal;
-use bestore_client::{Error, SocketPath};
+use bestore_client::{Error, ErrorName, SocketPath};
 use std::collections::BTreeMap;
 use std::io::Write as _;
 use std::path::{Path, PathBuf};
@@ -66,7 +66,7 @@ impl Failure {
     pub fn is_of_connection(&self) -> bool {
         match self {
             Failure::NoServer(..) | Failure::Server(Error::Io(_) | Error::Closed | Error::TimedOut(_)) => true,
-            Failure::Server(error) => error.is("NoPass"),
+            Failure::Server(error) => error.is(ErrorName::NoPass),
             _ => false,
         }
     }
@@ -128,13 +128,13 @@ impl fmt::Display for Failure {
                 escaped(&bad.why.to_string()),
                 pointed(&bad.typed, bad.offset)
             ),
-            Failure::Value(kind) => write!(f, "the value is no {kind}"),
+            Failure::Value(kind) => f.write_str(&value_fault(kind)),
             Failure::File(path, error) => write!(f, "{}: {error}", shown(path)),
             Failure::NotImported(path) => {
                 writeln!(f, "{}: the file has no node", shown(path))?;
                 write!(f, "  be import FOLDER makes one for each file of a folder")
             }
-            Failure::LongPath(path) => write!(f, "{}: the path has more than 255 bytes", shown(path)),
+            Failure::LongPath(path) => write!(f, "{}: a path has up to 255 bytes, and this one has more", shown(path)),
             Failure::Watch(folder, error) => f.write_str(&follow::shown(folder, error)),
             Failure::Gone(folder) => write!(f, "{} is gone, and nothing was removed from the store", shown(folder)),
             Failure::Another(folder) => {
@@ -189,21 +189,23 @@ fn shown(path: &Path) -> String {
     escaped(&path.to_string_lossy())
 }
 
+/// Why bytes are no value of a type.
+fn value_fault(kind: &str) -> String {
+    match kind {
+        "string" | "mime" => format!("the value isn't valid UTF-8, as a {kind} is; the type raw takes any bytes"),
+        _ => format!("the value doesn't fit the type {kind}, which takes the digits of a whole number in its range"),
+    }
+}
+
 /// Prints on standard error. There is nothing to be done if that fails.
 pub fn complain(text: &str) {
     let _ = writeln!(io::stderr(), "be: {text}");
 }
 
-/// The message of an error, with what goes with it.
+/// The message of an error.
 pub fn message(error: &Error) -> String {
-    let refusal = match error {
-        Error::Refused(refusal) => refusal,
-        other => return escaped(&other.to_string()),
-    };
-    let shown = refusal.details.iter().filter(|(name, _)| *name != "operation");
-    let details: Vec<_> = shown.map(|(name, value)| format!("{name} {value}")).collect();
-    match details.is_empty() {
-        true => escaped(&refusal.message),
-        false => escaped(&format!("{} ({})", refusal.message, details.join(", "))),
+    match error {
+        Error::Refused(refusal) => escaped(&refusal.message),
+        other => escaped(&other.to_string()),
     }
 }

@@ -6,7 +6,7 @@ use crate::import::stat::Stat;
 use crate::server::pinned;
 use bestore::Value;
 use bestore_client::wire::Json;
-use bestore_client::{Client, Query};
+use bestore_client::{Client, ErrorName, Query};
 use std::collections::HashMap;
 use std::ffi::OsString;
 use std::fs;
@@ -60,7 +60,7 @@ fn node_of(client: &mut Client, path: &Path) -> Result<u64, Failure> {
     let text = format!("name==\"{name}\" && {STAT}==\"{identity}:*\"");
     let found = pinned(client, |client| match client.query(&text) {
         // Without the index of names nothing was imported.
-        Err(error) if error.is("NotCovered") => Ok(Vec::new()),
+        Err(error) if error.is(ErrorName::NotCovered) => Ok(Vec::new()),
         answer => {
             let nodes = answer?;
             let mut paths = Paths::default();
@@ -118,7 +118,7 @@ impl Paths {
     /// The path of a node in the store, if it is a file's.
     pub fn of(&mut self, client: &mut Client, node: u64) -> Result<Option<PathBuf>, Failure> {
         self.found(node, |node| match client.attributes(node) {
-            Err(error) if error.is("NoNode") => Ok(None),
+            Err(error) if error.is(ErrorName::NoNode) => Ok(None),
             answer => {
                 let attributes = answer?;
                 Ok(Step::read(|name| attributes.get(name)))

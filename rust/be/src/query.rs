@@ -12,7 +12,7 @@ use crate::text::{escaped, pointed};
 use crate::typed_query::TypedQuery;
 use bestore::Value;
 use bestore_client::wire::{self, kind_named, Command, Hits, Json, Push};
-use bestore_client::{Client, Error};
+use bestore_client::{Client, Error, ErrorName};
 use serde::Serialize;
 use std::path::PathBuf;
 use std::time::Duration;
@@ -52,8 +52,8 @@ fn warn(client: &mut Client, query: &TypedQuery) -> Result<(), Failure> {
 
 /// Adds to an error of a query what helps to see why.
 fn refused(client: &mut Client, query: &TypedQuery, refusal: wire::Refusal) -> Failure {
-    let lacks_index = matches!(refusal.name.as_str(), "NotCovered" | "NoIndex");
-    if !lacks_index && !matches!(refusal.name.as_str(), "Syntax" | "BadPattern") {
+    let lacks_index = matches!(refusal.name, ErrorName::NotCovered | ErrorName::NoIndex);
+    if !lacks_index && !matches!(refusal.name, ErrorName::Syntax | ErrorName::BadPattern) {
         return Failure::Server(Error::Refused(refusal));
     }
     let indices = if lacks_index {
@@ -210,7 +210,7 @@ fn show_change(client: &mut Client, push: &Push, line: &Line, output: &mut Outpu
 fn columns_of(client: &mut Client, nodes: &[u64], columns: &[String]) -> Result<Vec<Row>, Failure> {
     let row = |node: &u64| {
         let mut attributes = match client.attributes(*node) {
-            Err(error) if error.is("NoNode") => Default::default(),
+            Err(error) if error.is(ErrorName::NoNode) => Default::default(),
             answer => answer?,
         };
         let mut value = |name: &String| attributes.remove(name).map(|value: Value| Json(value));

@@ -4,7 +4,7 @@ use crate::command_line::ServerOptions;
 use crate::failure::{complain, message, Failure};
 use bestore::Batch;
 use bestore_client::wire::{Command, Indices, Next, Nothing};
-use bestore_client::{Client, Error, Options, SocketPath};
+use bestore_client::{Client, Error, ErrorName, Options, SocketPath};
 use std::collections::BTreeMap;
 
 /// How often a write is tried again if another client is writing.
@@ -27,7 +27,7 @@ pub fn connect(line: &ServerOptions) -> Result<Client, Failure> {
 /// one more client.
 pub fn visit(line: &ServerOptions) -> Result<Client, Failure> {
     match connect(line) {
-        Err(Failure::Server(error)) if error.is("NoPass") => {
+        Err(Failure::Server(error)) if error.is(ErrorName::NoPass) => {
             let mut client = open(line)?;
             client.visit()?;
             Ok(client)
@@ -60,7 +60,7 @@ pub fn apply(client: &mut Client, batch: &Batch) -> Result<(), Error> {
     let mut left = TRIES;
     loop {
         match client.apply(batch) {
-            Err(error) if error.is("Busy") && left > 0 => left -= 1,
+            Err(error) if error.is(ErrorName::Busy) && left > 0 => left -= 1,
             answer => return answer.map(drop),
         }
         std::thread::sleep(std::time::Duration::from_millis(2));
@@ -119,7 +119,7 @@ pub fn collect(client: &mut Client) -> Result<Next, Failure> {
     loop {
         left -= 1;
         match client.call(Command::Collect(Nothing {})) {
-            Err(error) if error.is("Expired") && left > 0 => {}
+            Err(error) if error.is(ErrorName::Expired) && left > 0 => {}
             answer => return Ok(answer?),
         }
     }
@@ -132,7 +132,7 @@ pub fn pinned<T>(client: &mut Client, read: impl Fn(&mut Client) -> Result<T, Fa
         left -= 1;
         client.pin()?;
         match read(client) {
-            Err(Failure::Server(error)) if error.is("Expired") && left > 0 => client.unpin()?,
+            Err(Failure::Server(error)) if error.is(ErrorName::Expired) && left > 0 => client.unpin()?,
             Err(failure) => return Err(failure),
             Ok(answer) => {
                 client.unpin()?;

@@ -75,11 +75,23 @@ fn values_that_do_not_fit_are_refused() {
     let server = server!(Server::start());
     server.done(&["addattr", "--new", "t", "a"]);
     let said = server.be(&["addattr", "-t", "int32", "n", "2147483648", "1"]);
-    assert_eq!((said.status, said.error.as_str()), (2, "be: the value is no int32\n"));
+    assert_eq!(
+        (said.status, said.error.as_str()),
+        (
+            2,
+            "be: the value doesn't fit the type int32, which takes the digits of a whole number in its range\n"
+        )
+    );
     let mut command = server.command(&["addattr", "t"]);
     command.arg(std::ffi::OsStr::from_bytes(b"\xff")).arg("1");
     let said: Said = command.output().unwrap().into();
-    assert_eq!((said.status, said.error.as_str()), (2, "be: the value is no string\n"));
+    assert_eq!(
+        (said.status, said.error.as_str()),
+        (
+            2,
+            "be: the value isn't valid UTF-8, as a string is; the type raw takes any bytes\n"
+        )
+    );
     let said = server.fed(&["addattr", "-f", "-", "t", "1"], &[b'a'; 1 << 20]);
     assert_eq!(said.status, 1, "{said:?}");
     let said = server.fed(&["addattr", "-f", "-", "t", "1"], b"a\0b");
@@ -122,7 +134,10 @@ fn attributes_are_listed_and_removed() {
         (1, "be: node 1: no attribute size\n")
     );
     let said = server.be(&["listattr", "99"]);
-    assert_eq!((said.status, said.error.as_str()), (1, "be: node 99: no such node\n"));
+    assert_eq!(
+        (said.status, said.error.as_str()),
+        (1, "be: node 99: there is no such node\n")
+    );
 }
 
 #[test]
@@ -148,12 +163,12 @@ fn nodes_are_removed_with_their_attributes() {
     let server = server!(Server::with_three());
     server.done(&["rmnode", "1"]);
     assert_eq!(server.done(&["query", "name==*"]), "2\n3\n");
-    refused(&server, &["listattr", "1"], "be: node 1: no such node\n");
+    refused(&server, &["listattr", "1"], "be: node 1: there is no such node\n");
     // One that is gone, or given twice, doesn't keep the others.
     refused(
         &server,
         &["rmnode", "2", "1", "2"],
-        "be: node 1: no such node\nbe: node 2: no such node\n",
+        "be: node 1: there is no such node\nbe: node 2: there is no such node\n",
     );
     assert_eq!(server.done(&["query", "name==*"]), "3\n");
     // Numbers are not used again.
@@ -336,7 +351,7 @@ fn exit_statuses_are_those_of_the_page() {
     }
     assert_eq!((none(&["--help"]).status, none(&["--version"]).status), (0, 0));
     let server = server!(Server::start());
-    refused(&server, &["rmattr", "name", "7"], "be: node 7: no such node\n");
+    refused(&server, &["rmattr", "name", "7"], "be: node 7: there is no such node\n");
 }
 
 #[test]

@@ -1,6 +1,6 @@
 //! Changes: reading and writing as one.
 
-use crate::wire::{self, kind_named, Command, Indices, Nothing, Numbers};
+use crate::wire::{self, kind_named, Command, ErrorName, Indices, Nothing, Numbers};
 use crate::{Client, Error, Result};
 use bestore::{Batch, Kind, Node, Operation};
 use std::collections::BTreeMap;
@@ -77,7 +77,7 @@ impl Client {
         let until = self.repeats_until().filter(|_| !self.is_pinned);
         loop {
             match self.try_change(&mut change, until) {
-                Err(error) if error.is("Conflict") && left > 0 => left -= 1,
+                Err(error) if error.is(ErrorName::Conflict) && left > 0 => left -= 1,
                 // A write is sent again until that time, so what fails before it has written nothing.
                 Err(error) if self.may_repeat(&error, until) => {}
                 answer => return answer,
@@ -168,7 +168,7 @@ impl Client {
     /// Unpins. That the closure has done so, or that the server took the snapshot back, is no error.
     fn unpin_quietly(&mut self) -> Result<()> {
         match self.unpin() {
-            Err(error) if error.is("NotPinned") => Ok(()),
+            Err(error) if error.is(ErrorName::NotPinned) => Ok(()),
             answer => answer,
         }
     }

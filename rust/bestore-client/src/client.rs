@@ -633,6 +633,7 @@ impl Client {
 #[cfg(test)]
 mod tests {
     use super::*;
+    use crate::ErrorName;
 
     /// A client, whose server sends these lines.
     fn client_of(lines: &str) -> (UnixStream, Client) {
@@ -706,7 +707,7 @@ mod tests {
             .unwrap();
         client.unpin().unwrap();
         let end = client.next_push(Duration::ZERO).unwrap().unwrap();
-        assert!(end.error.unwrap().name == "PushesLost" && end.watch == 1);
+        assert!(end.error.unwrap().name == ErrorName::PushesLost && end.watch == 1);
         assert!(client.next_push(Duration::from_millis(20)).unwrap().is_none());
     }
 
@@ -716,7 +717,10 @@ mod tests {
         let (server, mut client) = client_of(&format!("{{\"watch\":1,\"commit\":2}}\n{ending}"));
         let push = client.next_push(Duration::from_secs(9)).unwrap().unwrap();
         assert_eq!((push.watch, push.commit), (1, 2));
-        assert!(client.next_push(Duration::from_secs(9)).unwrap_err().is("Timeout"));
+        assert!(client
+            .next_push(Duration::from_secs(9))
+            .unwrap_err()
+            .is(ErrorName::Timeout));
         drop(server);
         assert!(matches!(client.next_push(Duration::from_secs(9)), Err(Error::Closed)));
     }
@@ -750,6 +754,6 @@ mod tests {
         let line = "{\"watch\":1,\"commit\":2,\"error\":{\"name\":\"NotCovered\",\"message\":\"\"}}\n";
         let (_server, mut client) = client_of(line);
         let push = client.next_push(Duration::from_secs(9)).unwrap().unwrap();
-        assert_eq!(push.error.unwrap().name, "NotCovered");
+        assert_eq!(push.error.unwrap().name, ErrorName::NotCovered);
     }
 }

@@ -1,7 +1,7 @@
 //! Why a call failed.
 
-use crate::wire::Refusal;
-use bestore::Kind;
+use crate::wire::{ErrorName, Refusal};
+use bestore::{Class, Kind};
 use std::path::PathBuf;
 use std::time::Duration;
 use std::{fmt, io};
@@ -19,7 +19,7 @@ pub enum Error {
     Io(io::Error),
     /// The server closed the connection. Whether a write was made is not known.
     Closed,
-    /// The server sent what is no line of the protocol.
+    /// The server sent a line that isn't of the protocol.
     BadLine(String),
     /// The server didn't reply within this time, and the connection is closed. Whether a write was made is not known.
     TimedOut(Duration),
@@ -53,10 +53,26 @@ impl Error {
         }
     }
 
-    /// Whether the server refused with this error, such as `Conflict`.
+    /// Whether the server refused with this error.
+    ///
+    /// ```
+    /// use bestore_client::wire::{ErrorName, Refusal};
+    /// let error = bestore_client::Error::Refused(Refusal::new(ErrorName::Conflict, ""));
+    /// assert!(error.is(ErrorName::Conflict) && error.class() == bestore::Class::Retry);
+    /// ```
     #[must_use]
-    pub fn is(&self, name: &str) -> bool {
+    pub fn is(&self, name: ErrorName) -> bool {
         self.refusal().map_or(false, |refusal| refusal.name == name)
+    }
+
+    /// What a program can do about the error.
+    #[must_use]
+    pub fn class(&self) -> Class {
+        match self {
+            Error::Refused(refusal) => refusal.class(),
+            Error::Io(_) | Error::Closed | Error::BadLine(_) | Error::TimedOut(_) => Class::Gone,
+            Error::OtherUser { .. } | Error::KindMismatch { .. } => Class::Mine,
+        }
     }
 }
 
@@ -72,7 +88,7 @@ impl fmt::Display for Error {
             Error::Refused(refusal) => refusal.fmt(f),
             Error::Io(error) => write!(f, "the connection to the server: {error}"),
             Error::Closed => f.write_str("the server closed the connection"),
-            Error::BadLine(why) => write!(f, "the server sent what is no line of the protocol: {why}"),
+            Error::BadLine(why) => write!(f, "the server sent a line that isn't of the protocol: {why}"),
             Error::TimedOut(time) => write!(
                 f,
                 "the server didn't reply within {time:?}; whether a write was made is not known"

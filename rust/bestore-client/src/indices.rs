@@ -1,6 +1,6 @@
 //! What a client does about indices by several requests.
 
-use crate::wire::{self, Command, Nothing, Refusal};
+use crate::wire::{self, Command, ErrorName, Nothing, Refusal};
 use crate::{Client, Error, Result};
 use bestore::{attribute, Hint, Kind, Node, Value};
 use std::collections::BTreeMap;
@@ -13,15 +13,13 @@ const OPERATIONS: usize = 64;
 fn local(error: bestore::Error) -> Error {
     match error {
         bestore::Error::Query(query) => Error::Refused(Refusal {
-            name: "Syntax".into(),
-            message: query.fault().to_string(),
             details: query
                 .offset()
                 .map(|at| ("offset".into(), at.into()))
                 .into_iter()
                 .collect(),
             query: Some(query.text().into()),
-            ..Refusal::default()
+            ..Refusal::new(ErrorName::Syntax, query.fault().to_string())
         }),
         error => Error::Io(io::Error::new(io::ErrorKind::Other, error)),
     }
@@ -58,15 +56,9 @@ impl Client {
     }
 
     fn index(&mut self, name: &str) -> Result<Kind> {
-        self.indices()?.remove(name).ok_or_else(|| {
-            let error = bestore::Error::NoIndex;
-            Error::Refused(Refusal {
-                name: "NoIndex".into(),
-                number: error.code(),
-                message: format!("there is no index {name:?}"),
-                ..Refusal::default()
-            })
-        })
+        self.indices()?
+            .remove(name)
+            .ok_or_else(|| Error::Refused(Refusal::new(ErrorName::NoIndex, format!("there is no index {name:?}"))))
     }
 
     /// How many pairs of a value and a node the index of this name has.

@@ -39,3 +39,4 @@ pub use error::{Error, Result};
 pub use options::Options;
 pub use ordered::{Ordered, PageOfRows};
 pub use socket::SocketPath;
+pub use wire::ErrorName;

@@ -1,6 +1,6 @@
 //! Pushed lines that nobody has asked for yet.
 
-use crate::wire::{Push, Refusal};
+use crate::wire::{ErrorName, Push, Refusal};
 use std::collections::{BTreeSet, VecDeque};
 
 /// Pushed lines with their lengths, up to a number of bytes.
@@ -61,16 +61,11 @@ impl Pushes {
             "more than {} bytes of pushes wait to be taken, and those of watch {} are lost; begin it anew",
             self.most, push.watch
         );
-        let refusal = Refusal {
-            name: "PushesLost".into(),
-            message,
-            ..Refusal::default()
-        };
         Push {
             watch: push.watch,
             commit: push.commit,
             commits: push.commits,
-            error: Some(refusal),
+            error: Some(Refusal::new(ErrorName::PushesLost, message)),
             ..Push::default()
         }
     }
@@ -99,7 +94,7 @@ mod tests {
         assert_eq!(pushes.take(), Some(push(2, 1)));
         let end = pushes.take().unwrap();
         assert_eq!((end.watch, end.commit), (1, 2));
-        assert_eq!(end.error.unwrap().name, "PushesLost");
+        assert_eq!(end.error.unwrap().name, ErrorName::PushesLost);
         assert_eq!(pushes.take(), Some(push(2, 2)));
         assert_eq!((pushes.take(), pushes.bytes), (None, 0));
         assert!(pushes.is_lost(&push(1, 4)) && !pushes.is_lost(&push(2, 4)));

@@ -1,6 +1,6 @@
 //! Writes that are sent again on a new connection until one of them is answered.
 
-use crate::wire::{self, Command, Hello, Token};
+use crate::wire::{self, Command, ErrorName, Hello, Token};
 use crate::{Client, Error, Result};
 use std::process;
 use std::sync::atomic::{AtomicU64, Ordering};
@@ -22,7 +22,9 @@ fn new_token() -> Option<Token> {
 fn is_passing(error: &Error) -> bool {
     match error {
         Error::Io(_) | Error::Closed | Error::TimedOut(_) => true,
-        error => ["NotSaved", "Stopped", "NoPass"].iter().any(|name| error.is(name)),
+        error => [ErrorName::NotSaved, ErrorName::Stopped, ErrorName::NoPass]
+            .into_iter()
+            .any(|name| error.is(name)),
     }
 }
 
@@ -47,7 +49,7 @@ impl Client {
             _ => return false,
         };
         thread::sleep(AGAIN.min(until.saturating_duration_since(Instant::now())));
-        error.refusal().is_some() && !error.is("NoPass") || self.connect_again(until)
+        error.refusal().is_some() && !error.is(ErrorName::NoPass) || self.connect_again(until)
     }
 
     /// Connects to the same socket. Returns whether it did before that time.

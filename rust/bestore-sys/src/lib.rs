@@ -23,6 +23,7 @@ macro_rules! constants {
 }
 
 constants! {
+    // surface.toml: constants
     BES_OK = 0;
     BES_BUSY = 1;
     BES_NO_NODE = 2;
@@ -63,6 +64,12 @@ constants! {
     BES_BAD_CURSOR = 78;
     BES_NO_ROOM = 79;
 
+    BES_CLASS_NONE = 0;
+    BES_CLASS_RETRY = 1;
+    BES_CLASS_MINE = 2;
+    BES_CLASS_FULL = 3;
+    BES_CLASS_GONE = 4;
+
     BES_STRING_TYPE = 0x4353_5452;
     BES_INT32_TYPE = 0x4c4f_4e47;
     BES_INT64_TYPE = 0x4c4c_4e47;
@@ -94,6 +101,7 @@ constants! {
     BES_ITEM_AND = 13;
     BES_ITEM_OR = 14;
     BES_ITEM_NOT = 15;
+    // surface.toml: end
 }
 
 macro_rules! handles {

@@ -77,7 +77,7 @@ impl Batch {
             reader.operation(&mut batch)?;
         }
         if reader.at < bytes.len() {
-            return reader.bad(0, "there are bytes after the end of the batch");
+            return reader.bad(0, "the batch ends here, and more bytes follow");
         }
         Ok(batch)
     }
@@ -139,9 +139,9 @@ impl<'a> Reader<'a> {
                 return self.bad(
                     1,
                     if is_version {
-                        "the batch is of another version of the format"
+                        "the batch is of another version of the format; version 1 can be read"
                     } else {
-                        "the bytes don't begin as a batch"
+                        "the bytes don't begin with BEB, as those of a batch do"
                     },
                 );
             }
@@ -153,14 +153,14 @@ impl<'a> Reader<'a> {
         let part = self.take(length)?;
         match std::str::from_utf8(part) {
             Ok(text) => Ok(text),
-            Err(error) => self.bad(length - error.valid_up_to(), "a text isn't UTF-8"),
+            Err(error) => self.bad(length - error.valid_up_to(), "a text isn't valid UTF-8"),
         }
     }
 
     fn operation(&mut self, batch: &mut Batch) -> Result<()> {
         let kind = u32::from(self.byte()?);
         if kind > sys::BES_REMOVE_INDEX {
-            return self.bad(1, "there is no operation of this kind");
+            return self.bad(1, "no operation has this number; they are 0 to 5");
         }
         let node = if has_node(kind) {
             u64::from_le_bytes(self.array()?)
@@ -180,7 +180,7 @@ impl<'a> Reader<'a> {
         };
         let value_kind = Kind::from_code(code);
         match value_kind {
-            None if has_code(kind) => return self.bad(4, "there is no kind with this type code"),
+            None if has_code(kind) => return self.bad(4, "no kind has this type code"),
             Some(value_kind) if kind == sys::BES_SET => {
                 let (number, value) = self.value(value_kind)?;
                 batch.add(kind, node, name, code, number, value);

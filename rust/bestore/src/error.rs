@@ -1,7 +1,8 @@
 //! Why a call did nothing.
 
-use crate::raw::{Refused, FORKED, OPERATIONS};
-use crate::{text, CursorFault, Kind};
+use crate::class::Meaning;
+use crate::raw::{Refused, FORKED};
+use crate::{text, Class, CursorFault, Kind};
 use bestore_sys as sys;
 use std::fmt;
 
@@ -53,7 +54,7 @@ pub enum Error {
     },
     /// The query is refused.
     Query(QueryError),
-    /// A name has not 1 to 63 bytes.
+    /// A name is empty or has more than 63 bytes.
     NameLength {
         /// Which operation of the batch, from 0.
         operation: Option<u64>,
@@ -76,7 +77,7 @@ pub enum Error {
     InUse,
     /// The witness is of a pass of another store.
     OtherStore,
-    /// A batch has not 1 to 64 operations.
+    /// A batch is empty or has more than 64 operations.
     BadCount {
         /// How many it has.
         count: usize,
@@ -227,6 +228,19 @@ impl Error {
         })
     }
 
+    /// What a program can do about the error.
+    #[must_use]
+    pub fn class(&self) -> Class {
+        match self {
+            Error::InVolume { error, .. } => error.class(),
+            Error::NodesSpent => Class::Full,
+            Error::Forked => Class::Gone,
+            #[cfg(feature = "saved")]
+            Error::NotSaved(_) | Error::Stopped(_) => Class::Gone,
+            other => other.code().map_or(Class::Mine, |code| Meaning::of(code).class),
+        }
+    }
+
     /// The error of an order by a name without an index, where there are these.
     pub(crate) fn no_order(name: &str, indices: Vec<(String, Kind)>) -> Self {
         Error::NoOrder {
@@ -324,94 +338,84 @@ impl From<Refused> for Error {
     }
 }
 
-fn at_operation(f: &mut fmt::Formatter<'_>, what: &str, operation: Option<u64>) -> fmt::Result {
+/// An operation of a batch, between what was wrong with it and what would be right.
+fn at_operation(f: &mut fmt::Formatter<'_>, operation: &Option<u64>) -> fmt::Result {
     match operation {
-        Some(index) => write!(f, "{what} (operation {index}, counted from 0)"),
-        None => f.write_str(what),
+        Some(index) => write!(f, " (operation {index}, counted from 0)"),
+        None => Ok(()),
     }
 }
 
-impl Error {
-    /// The text of an error that carries nothing.
-    fn plain(&self) -> &'static str {
-        match self {
-            Error::NoNode => "no such node",
-            Error::NoAttribute => "no such attribute",
-            Error::TooManyAttributes => "too many attributes",
-            Error::IndexExists => "the index exists",
-            Error::NoIndex => "no such index",
-            Error::TooManyIndices => "too many indices",
-            Error::NotIndexable => "no index may have this kind",
-            Error::CommitsSpent => "the journal is at its limit",
-            Error::OutOfMemory => "out of memory",
-            Error::BadLimits => "a limit is out of its range",
-            Error::NoPass => "each pass is in use",
-            Error::InUse => "another pass is open",
-            Error::OtherStore => "the witness is of another store",
-            Error::Forked => "the handle belongs to the parent of this process",
-            Error::NoRoom => "a page has at least one node, and none is asked for",
-            Error::NodesSpent => "the next node is too great for a volume of a shelf",
-            _ => "unknown error",
-        }
-    }
-}
-
+/// What was wrong, what is known of the place, and what would be right.
 impl fmt::Display for Error {
     fn fmt(&self, f: &mut fmt::Formatter<'_>) -> fmt::Result {
         match self {
-            Error::Busy { pass } => write!(f, "pass {pass} is writing"),
-            Error::Full { oldest } => {
-                write!(f, "no page is free; the oldest snapshot that may be read is {oldest}")
-            }
             Error::Query(error) => error.fmt(f),
-            Error::NameLength { operation } => at_operation(f, "a name has not 1 to 63 bytes", *operation),
-            Error::DataLength { operation } => at_operation(f, "a value has more than 255 bytes", *operation),
-            Error::HasNul { operation } => at_operation(f, "a text has a zero byte", *operation),
+            Error::InVolume { volume, error } => write!(f, "volume {volume}: {error}"),
             #[cfg(feature = "saved")]
-            Error::NotSaved(error) => write!(f, "the write could not be saved: {error}"),
+            Error::NotSaved(error) => write!(f, "the write is in memory, and couldn't be saved: {error}"),
             #[cfg(feature = "saved")]
-            Error::Stopped(error) => write!(f, "the store accepts no writes: {error}"),
+            Error::Stopped(error) => write!(f, "the store takes no more writes: {error}"),
             Error::Other(error) => error.fmt(f),
-            Error::Unexpected { code, .. } => write!(f, "the library returned {code}"),
-            _ => self.show_own(f),
+            Error::BadLimits => f.write_str(BAD_LIMITS),
+            Error::NoOrder { name, indices } => write!(f, "there is no index {name:?}; {}", listed(indices)),
+            Error::BadCursor(fault) => fault.fmt(f),
+            _ => match self.code() {
+                Some(code) => self.show_coded(f, code),
+                None => self.show_own(f),
+            },
         }
     }
 }
 
+/// The library has a pass more.
+const BAD_LIMITS: &str =
+    "a limit of the store is out of its range; it has 8 to 16,384 pages, 1 to 63 passes and 1 to 4,294,967,295 commits";
+
 impl Error {
-    /// Shows an error that this crate finds itself, or one that carries nothing.
+    /// Shows an error of the library.
+    fn show_coded(&self, f: &mut fmt::Formatter<'_>, code: u32) -> fmt::Result {
+        let meaning = Meaning::of(code);
+        f.write_str(meaning.what)?;
+        match self {
+            Error::Busy { pass } => write!(f, " (pass {pass})")?,
+            Error::Full { oldest } => write!(f, " (the oldest snapshot that may be read is {oldest})")?,
+            Error::NameLength { operation } | Error::DataLength { operation } | Error::HasNul { operation } => {
+                at_operation(f, operation)?;
+            }
+            Error::BadCount { count } => write!(f, ", and this one has {count}")?,
+            Error::Conflict { expected, found } => write!(f, " ({found} entries, and not {expected})")?,
+            Error::Unexpected { code, carried } => write!(f, " (number {code}, with {carried})")?,
+            _ => {}
+        }
+        meaning.show_advice(f)
+    }
+
+    /// Shows an error that this crate finds itself.
     fn show_own(&self, f: &mut fmt::Formatter<'_>) -> fmt::Result {
         match self {
-            Error::BadCount { count } => {
-                write!(f, "a batch has 1 to {OPERATIONS} operations, and this one {count}")
-            }
-            Error::Conflict { expected, found } => {
-                write!(f, "the journal has {found} entries, and the write expected {expected}")
-            }
-            Error::KindMismatch { name, index, value } => {
-                write!(
-                    f,
-                    "the index {name:?} takes values of kind {index}, and this one is {value}"
-                )
-            }
+            Error::KindMismatch { name, index, value } => write!(
+                f,
+                "the index {name:?} takes values of kind {index}, and this one is {value}; set it as {index}, or no \
+                 query finds it"
+            ),
             Error::BadBatch { offset, why } => write!(f, "{why} (byte {offset}, counted from 0)"),
             Error::NoVolume { volume, volumes } => {
-                write!(f, "there is no volume {volume}: there are {volumes}, counted from 0")
+                write!(f, "there is no volume {volume}; there are {volumes}, counted from 0")
             }
             Error::OtherVolume { volume, operation } => {
-                let what = format!("a node isn't in volume {volume}, which is written");
-                at_operation(f, &what, *operation)
+                write!(f, "a node is in another volume than {volume}, which is written")?;
+                at_operation(f, operation)?;
+                f.write_str("; a batch has nodes of one volume")
             }
             Error::PartialIndex { operation } => {
-                let what = "an index is made in all volumes, and not beside other operations";
-                at_operation(f, what, Some(*operation))
+                f.write_str("an index is made in all volumes")?;
+                at_operation(f, &Some(*operation))?;
+                f.write_str("; it needs a batch without other operations")
             }
-            Error::NoOrder { name, indices } => {
-                write!(f, "there is no index {name:?}; {}", listed(indices))
-            }
-            Error::BadCursor(fault) => write!(f, "{fault}"),
-            Error::InVolume { volume, error } => write!(f, "volume {volume}: {error}"),
-            _ => f.write_str(self.plain()),
+            Error::OtherStore => f.write_str("the witness is of another store; join one of this store"),
+            Error::NodesSpent => f.write_str("the volume has used up its node numbers; write in another one"),
+            _ => f.write_str("the handle belongs to the process that this one was forked from; open a store here"),
         }
     }
 }
@@ -444,9 +448,9 @@ impl std::error::Error for Error {
 #[non_exhaustive]
 #[derive(Clone, Copy, Debug, PartialEq, Eq, Hash)]
 pub enum QueryFault {
-    /// The text leaves the grammar.
+    /// The text isn't a query.
     Syntax,
-    /// A pattern is malformed.
+    /// A pattern isn't valid.
     BadPattern,
     /// The text has more than 4,096 bytes.
     TooLong,
@@ -488,16 +492,12 @@ impl QueryFault {
     }
 }
 
+/// What was wrong, and what would be right.
 impl fmt::Display for QueryFault {
     fn fmt(&self, f: &mut fmt::Formatter<'_>) -> fmt::Result {
-        f.write_str(match self {
-            QueryFault::Syntax => "the query leaves the grammar",
-            QueryFault::BadPattern => "a pattern is malformed",
-            QueryFault::TooLong => "the query is too long",
-            QueryFault::TooDeep => "the query is too deep",
-            QueryFault::TooMany => "too many comparisons",
-            QueryFault::NotCovered => "no index serves the query",
-        })
+        let meaning = Meaning::of(self.code());
+        f.write_str(meaning.what)?;
+        meaning.show_advice(f)
     }
 }
 
@@ -545,10 +545,12 @@ impl QueryError {
 /// What is wrong, the text, and a caret under the place. Of a long text the part round the place is shown.
 impl fmt::Display for QueryError {
     fn fmt(&self, f: &mut fmt::Formatter<'_>) -> fmt::Result {
-        self.fault.fmt(f)?;
+        let meaning = Meaning::of(self.fault.code());
+        f.write_str(meaning.what)?;
         if let Some(name) = &self.missing {
             write!(f, ": {name:?} has none")?;
         }
+        meaning.show_advice(f)?;
         write!(f, "\n{}", text::with_caret(&self.text, self.column()))
     }
 }
@@ -558,6 +560,7 @@ impl std::error::Error for QueryError {}
 #[cfg(test)]
 mod tests {
     use super::*;
+    use crate::class::MEANINGS;
     use crate::text::SHOWN;
 
     fn refused(code: u32, carried: u64) -> Refused {
@@ -568,7 +571,10 @@ mod tests {
     fn a_caret_stands_under_the_character() {
         let text = "size<5 || größe==[";
         let error = Error::of_query(refused(sys::BES_BAD_PATTERN, 19), || text.into());
-        let said = "a pattern is malformed\n  size<5 || größe==[\n                   ^";
+        let said = concat!(
+            "this pattern isn't valid here; a set such as [a-d] ends with ], isn't empty, and its ranges rise\n",
+            "  size<5 || größe==[\n                   ^"
+        );
         assert_eq!(error.to_string(), said);
     }
 
@@ -577,7 +583,7 @@ mod tests {
         let text = format!("{}[", "\n".repeat(1000));
         let error = Error::of_query(refused(sys::BES_SYNTAX, 1000), || text);
         let said = format!(
-            "the query leaves the grammar\n  {}[\n  {}^",
+            "this query isn't valid here; it needs comparisons such as size>=5, joined by && or ||\n  {}[\n  {}^",
             " ".repeat(SHOWN),
             " ".repeat(SHOWN)
         );
@@ -586,20 +592,25 @@ mod tests {
 
     #[test]
     fn each_code_leads_to_its_error_and_back() {
-        for (name, code) in sys::CONSTANTS.iter().skip(2).take(38) {
-            let error = Error::of_write(
-                match Error::of_query(refused(*code, 7), String::new) {
-                    Error::Query(error) => {
-                        assert_eq!(Error::Query(error).code(), Some(*code), "{name}");
-                        continue;
-                    }
-                    _ => refused(*code, 7),
-                },
-                65,
-                Some(6),
-            );
-            assert_eq!(error.code(), Some(*code), "{name}");
+        for Meaning { code, class, what, .. } in MEANINGS {
+            let error = match Error::of_query(refused(*code, 7), String::new) {
+                Error::Query(error) => Error::Query(error),
+                _ => Error::of_write(refused(*code, 7), 65, Some(6)),
+            };
+            assert_eq!((error.code(), error.class()), (Some(*code), *class), "{what}");
+            assert!(error.to_string().starts_with(what), "{error}");
         }
+    }
+
+    #[test]
+    fn an_error_of_this_crate_has_a_class() {
+        let volume = |error| Error::in_volume(error, 1);
+        assert_eq!(volume(Error::Busy { pass: 0 }).class(), Class::Retry);
+        assert_eq!(Error::NodesSpent.class(), Class::Full);
+        assert_eq!(Error::Forked.class(), Class::Gone);
+        assert_eq!(Error::other("mine").class(), Class::Mine);
+        let unexpected = Error::from(refused(99, 0));
+        assert_eq!((unexpected.class(), unexpected.code()), (Class::Mine, Some(99)));
     }
 
     #[test]
@@ -607,12 +618,13 @@ mod tests {
         let conflict = Error::of_write(refused(sys::BES_CONFLICT, 9), 1, Some(8));
         assert_eq!(
             conflict.to_string(),
-            "the journal has 9 entries, and the write expected 8"
+            "the journal has another length than the write expects (9 entries, and not 8); read again, and write on what you \
+             read then"
         );
         let name = Error::of_write(refused(sys::BES_NAME_LENGTH, 3), 4, None);
         assert_eq!(
             name.to_string(),
-            "a name has not 1 to 63 bytes (operation 3, counted from 0)"
+            "a name is empty or has more than 63 bytes (operation 3, counted from 0)"
         );
     }
 }

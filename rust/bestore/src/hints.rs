@@ -24,10 +24,10 @@ pub struct Hint {
 impl fmt::Display for Hint {
     fn fmt(&self, f: &mut fmt::Formatter<'_>) -> fmt::Result {
         let Self { name, value, kind, .. } = self;
-        write!(f, "never true: {name:?} is {kind}, and {value:?} is ")?;
+        write!(f, "never true: {name:?} is {kind}, and {value:?} ")?;
         f.write_str(match self.is_number {
-            true => "out of its range",
-            false => "no whole number",
+            true => "is out of its range",
+            false => "isn't a whole number",
         })
     }
 }
@@ -37,7 +37,7 @@ impl fmt::Display for Hint {
 /// ```
 /// use bestore::{hints, Kind};
 /// let found = hints("name==a* && size>1.5", |name| (name == "size").then(|| Kind::Int64))?;
-/// assert_eq!(found[0].to_string(), r#"never true: "size" is i64, and "1.5" is no whole number"#);
+/// assert_eq!(found[0].to_string(), r#"never true: "size" is i64, and "1.5" isn't a whole number"#);
 /// assert_eq!(found[0].offset, 12);
 /// # Ok::<(), bestore::Error>(())
 /// ```

@@ -66,10 +66,12 @@
 mod batch;
 mod bytes;
 mod change;
+mod class;
 mod cursor;
 mod error;
 mod hints;
 mod journal;
+mod kind;
 mod page;
 mod pass;
 mod predicate;
@@ -85,10 +87,12 @@ mod value;
 
 pub use batch::{Batch, Operation, Operations};
 pub use change::Change;
+pub use class::Class;
 pub use cursor::{Cursor, CursorFault, Order};
 pub use error::{Error, QueryError, QueryFault, Result};
 pub use hints::{hints, Hint};
 pub use journal::{Entries, Entry};
+pub use kind::Kind;
 pub use page::{Ordered, Page};
 pub use pass::{Keeper, Oldest, Pass, Retry, Status, Witness, Written};
 pub use predicate::{attribute, Attribute, Operand, Predicate};
@@ -99,7 +103,7 @@ pub use shelf::{
 pub use snapshot::{Nodes, Snapshot, State};
 pub use store::{Limits, Store};
 pub use text::{any_case, caret, escape};
-pub use value::{Kind, Value};
+pub use value::Value;
 
 /// The version of the library that runs: major, minor and patch.
 #[must_use]

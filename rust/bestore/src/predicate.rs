@@ -216,7 +216,10 @@ mod tests {
     #[test]
     fn what_is_no_query_is_refused() {
         let bad = attribute("a").lt(1) & attribute("b").eq("x[");
-        let said = "a pattern is malformed\n  x[";
+        let said = concat!(
+            "this pattern isn't valid here; a set such as [a-d] ends with ], isn't empty, and its ranges rise\n",
+            "  x["
+        );
         assert_eq!(bad.prepare().unwrap_err().to_string(), said);
         assert!(matches!(attribute("").eq(1).prepare(), Err(Error::NameLength { .. })));
         assert!(matches!(attribute("a").eq("\0").prepare(), Err(Error::HasNul { .. })));

@@ -1,98 +1,7 @@
-//! Values and their kinds.
+//! Values.
 
-use bestore_sys as sys;
+use crate::Kind;
 use std::fmt;
-
-/// The kind of a value. An index takes values of one kind alone.
-#[derive(Clone, Copy, Debug, PartialEq, Eq, Hash, PartialOrd, Ord)]
-pub enum Kind {
-    /// A text of up to 255 bytes, `B_STRING_TYPE` of BeOS.
-    Text,
-    /// `B_INT32_TYPE`.
-    Int32,
-    /// `B_INT64_TYPE`.
-    Int64,
-    /// A MIME type: a text that no index holds.
-    Mime,
-    /// Up to 255 bytes that no index holds.
-    Raw,
-    /// `B_UINT32_TYPE`.
-    Uint32,
-    /// `B_UINT64_TYPE`.
-    Uint64,
-}
-
-impl Kind {
-    /// Every kind.
-    pub const ALL: [Kind; 7] = [
-        Kind::Text,
-        Kind::Int32,
-        Kind::Int64,
-        Kind::Mime,
-        Kind::Raw,
-        Kind::Uint32,
-        Kind::Uint64,
-    ];
-
-    /// The type code of BeOS.
-    #[must_use]
-    pub const fn code(self) -> u32 {
-        match self {
-            Kind::Text => sys::BES_STRING_TYPE,
-            Kind::Int32 => sys::BES_INT32_TYPE,
-            Kind::Int64 => sys::BES_INT64_TYPE,
-            Kind::Mime => sys::BES_MIME_STRING_TYPE,
-            Kind::Raw => sys::BES_RAW_TYPE,
-            Kind::Uint32 => sys::BES_UINT32_TYPE,
-            Kind::Uint64 => sys::BES_UINT64_TYPE,
-        }
-    }
-
-    /// The kind with this type code.
-    #[must_use]
-    pub fn from_code(code: u32) -> Option<Kind> {
-        Kind::ALL.into_iter().find(|kind| kind.code() == code)
-    }
-
-    /// The four letters of the type code, as scripts and the journal's text have them.
-    #[must_use]
-    pub const fn name(self) -> &'static str {
-        match self {
-            Kind::Text => "CSTR",
-            Kind::Int32 => "LONG",
-            Kind::Int64 => "LLNG",
-            Kind::Mime => "MIMS",
-            Kind::Raw => "RAWT",
-            Kind::Uint32 => "ULNG",
-            Kind::Uint64 => "ULLG",
-        }
-    }
-
-    /// Whether an index may have this kind.
-    #[must_use]
-    pub const fn is_indexable(self) -> bool {
-        !matches!(self, Kind::Mime | Kind::Raw)
-    }
-
-    pub(crate) const fn is_number(self) -> bool {
-        matches!(self, Kind::Int32 | Kind::Int64 | Kind::Uint32 | Kind::Uint64)
-    }
-}
-
-/// The kind as its type in Rust, or `text`, `MIME type` and `raw bytes`.
-impl fmt::Display for Kind {
-    fn fmt(&self, f: &mut fmt::Formatter<'_>) -> fmt::Result {
-        f.write_str(match self {
-            Kind::Text => "text",
-            Kind::Int32 => "i32",
-            Kind::Int64 => "i64",
-            Kind::Mime => "MIME type",
-            Kind::Raw => "raw bytes",
-            Kind::Uint32 => "u32",
-            Kind::Uint64 => "u64",
-        })
-    }
-}
 
 /// A value of an attribute. Texts, integers of 32 and 64 bits, and bytes become one by `into`.
 ///
@@ -239,15 +148,6 @@ from! {
 #[cfg(test)]
 mod tests {
     use super::*;
-
-    #[test]
-    fn codes_lead_back_to_kinds() {
-        for kind in Kind::ALL {
-            assert_eq!(Kind::from_code(kind.code()), Some(kind));
-            assert_eq!(kind.code().to_be_bytes(), kind.name().as_bytes());
-        }
-        assert_eq!(Kind::from_code(0), None);
-    }
 
     #[test]
     fn numbers_are_converted_if_they_fit() {

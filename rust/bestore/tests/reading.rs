@@ -165,19 +165,28 @@ fn a_querys_error_has_its_text_and_place() {
     let bad = error("size<5 || größe==[");
     assert_eq!(bad.fault(), QueryFault::BadPattern);
     assert_eq!((bad.offset(), bad.column()), (Some(19), Some(17)));
-    let said = "a pattern is malformed\n  size<5 || größe==[\n                   ^";
+    let said = concat!(
+        "this pattern isn't valid here; a set such as [a-d] ends with ], isn't empty, and its ranges rise\n",
+        "  size<5 || größe==[\n                   ^"
+    );
     assert_eq!(bad.to_string(), said);
-    assert_eq!(error("").to_string(), "the query leaves the grammar\n  \n  ^");
+    assert_eq!(
+        error("").to_string(),
+        concat!(
+            "this query isn't valid here; it needs comparisons such as size>=5, joined by && or ||\n",
+            "  \n  ^"
+        )
+    );
     assert_eq!(error(&"x".repeat(5000)).fault(), QueryFault::TooLong);
     assert_eq!(error("name==x").fault(), QueryFault::NotCovered);
     let missing = error("size<5 || größe==x");
     assert_eq!((missing.offset(), missing.missing()), (Some(10), Some("größe")));
-    let said = "no index serves the query: \"größe\" has none\n  size<5 || größe==x\n            ^";
+    let said = concat!("no index can answer the query: \"größe\" has none; compare a name that has an index, on both sides of each ||\n", "  size<5 || größe==x\n            ^");
     assert_eq!(missing.to_string(), said);
     assert!(matches!(snapshot.explain("size<"), Err(Error::Query(_))));
     assert!(matches!(Prepared::new("size<"), Err(Error::Query(_))));
     let prepared = Prepared::new("name=x").unwrap();
-    let said = "no index serves the query: \"name\" has none\n  \"name\"==\"x\"\n  ^";
+    let said = concat!("no index can answer the query: \"name\" has none; compare a name that has an index, on both sides of each ||\n", "  \"name\"==\"x\"\n  ^");
     assert_eq!(snapshot.query_prepared(&prepared).unwrap_err().to_string(), said);
 }
 
@@ -320,6 +329,6 @@ fn comparisons_that_are_never_true_are_found() {
     let snapshot = pass.pin().unwrap();
     let hints = snapshot.hints("name==a || !(size<=1.5)").unwrap();
     let said: Vec<String> = hints.iter().map(|hint| hint.to_string()).collect();
-    assert_eq!(said, [r#"never true: "size" is i64, and "1.5" is no whole number"#]);
+    assert_eq!(said, [r#"never true: "size" is i64, and "1.5" isn't a whole number"#]);
     assert_eq!((hints[0].offset, hints[0].is_number), (13, false));
 }

@@ -102,7 +102,7 @@ fn a_change_looks_at_kinds() {
     let refused = pass
         .change(|change| change.set(1, "size", 5_i32).map(drop))
         .unwrap_err();
-    let said = "the index \"size\" takes values of kind i64, and this one is i32";
+    let said = "the index \"size\" takes values of kind i64, and this one is i32; set it as i64, or no query finds it";
     assert_eq!(refused.to_string(), said);
     pass.change(|change| {
         change.remove_index("size")?.set(1, "size", 5_i32)?;

@@ -13,7 +13,7 @@ use crate::volumes;
 use crate::watcher::{self, Watch, Watches};
 use crate::writes;
 use bestore::{Error, Pass, ShelfLive, ShelfPass, ShelfSnapshot, Snapshot, Status, Updates};
-use bestore_client::wire::{self, Command};
+use bestore_client::wire::{self, Command, ErrorName};
 use serde::Serialize;
 use std::io::{self, Write};
 use std::sync::Arc;
@@ -287,14 +287,14 @@ impl<'a> Desk<'a> {
                 let text = snapshot.explain(&query)?;
                 self.reply(id, &wire::Explained { commit, commits, text })
             }
-            _ => return Err(Failure::new("BadRequest", "the command reads nothing")),
+            _ => return Err(Failure::new(ErrorName::BadRequest, "the command reads nothing")),
         }
         Ok(())
     }
 
     fn hello(&mut self, id: u64, greeting: &wire::Greeting, view: &View<'_, '_>) -> Result<(), Failure> {
         if greeting.protocol.map_or(false, |protocol| protocol != wire::PROTOCOL) {
-            let failure = Failure::new("Protocol", "the server doesn't speak this version of the protocol");
+            let failure = Failure::named(ErrorName::Protocol);
             return Err(failure.with("known", vec![wire::PROTOCOL]));
         }
         let (major, minor, patch) = bestore::library_version();
@@ -358,8 +358,9 @@ impl<'a> Desk<'a> {
     /// Asks a live query for the first time.
     fn watch(&mut self, watch: wire::Watch<'_>, view: &mut View<'_, '_>) -> Result<(wire::Watched, Watch), Failure> {
         if self.watches.as_ref().map_or(0, |watches| watches.count()) >= WATCHES {
-            let message = format!("the connection has {WATCHES} live queries");
-            return Err(Failure::new("TooManyWatches", message));
+            let message =
+                format!("the connection has {WATCHES} live queries, the most it can have; end one by unwatch first");
+            return Err(Failure::new(ErrorName::TooManyWatches, message));
         }
         let number = self.last_watch + 1;
         let mut live = watch.query.map(|query| ShelfLive::new(&query)).transpose()?;

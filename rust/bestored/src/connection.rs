@@ -9,7 +9,7 @@ use crate::pressure;
 use crate::server::{no_pass, Shared};
 use crate::volumes;
 use bestore::ShelfPass;
-use bestore_client::wire::{id_of, Command, Nothing, Request};
+use bestore_client::wire::{id_of, Command, ErrorName, Nothing, Request};
 use std::io;
 use std::os::unix::net::UnixStream;
 use std::sync::Arc;
@@ -141,7 +141,7 @@ impl<'a> Connection<'a> {
         let looks = since.map(|_| Instant::now() + pressure::LOOK);
         let leaves = self.visit.map(|visit| visit.min(Instant::now() + IDLE));
         let until = [looks, leaves].into_iter().flatten().min();
-        let (name, message) = match self.lines.read(until)? {
+        let name = match self.lines.read(until)? {
             Received::Late if leaves.map_or(false, |leaves| leaves <= Instant::now()) => {
                 self.desk.refuse(None, no_pass(self.desk.shared));
                 self.desk.send(None)?;
@@ -149,10 +149,10 @@ impl<'a> Connection<'a> {
             }
             Received::Some | Received::Late => return Ok(None),
             Received::End => return Ok(Some(Turn::Close)),
-            Received::Half => ("Timeout", "the rest of the request didn't come"),
-            Received::TooLong => ("LineTooLong", "the request has more than 1 MiB"),
+            Received::Half => ErrorName::Timeout,
+            Received::TooLong => ErrorName::LineTooLong,
         };
-        self.desk.refuse(None, Failure::new(name, message));
+        self.desk.refuse(None, Failure::named(name));
         Ok(Some(Turn::Close))
     }
 }
@@ -192,5 +192,6 @@ fn waits(command: &Command<'_>) -> bool {
 fn bad_request(error: &serde_json::Error) -> Failure {
     let message = error.to_string();
     let why = message.split(" at line ").next().unwrap_or_default();
-    Failure::new("BadRequest", why).with("offset", error.column().saturating_sub(1))
+    Failure::new(ErrorName::BadRequest, format!("the request isn't valid here: {why}"))
+        .with("offset", error.column().saturating_sub(1))
 }

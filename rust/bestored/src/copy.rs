@@ -3,7 +3,7 @@
 use crate::failure::Failure;
 use crate::page::{self, Room};
 use bestore::{Batch, ShelfSnapshot};
-use bestore_client::wire::{self, ShownOperations};
+use bestore_client::wire::{self, ErrorName, ShownOperations};
 use std::sync::atomic::{AtomicUsize, Ordering};
 
 /// How many copies there may be at the same time, of all clients. Each takes up to as much memory as the pages of the store.
@@ -65,7 +65,7 @@ impl Copies {
             }),
             Err(_) => {
                 let message = format!("{MOST} clients are reading copies, as many as may at the same time");
-                Err(Failure::new("TooManyCopies", message).with("most", MOST))
+                Err(Failure::new(ErrorName::TooManyCopies, message).with("most", MOST))
             }
         }
     }

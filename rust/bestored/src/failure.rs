@@ -2,8 +2,8 @@
 
 #[cfg(feature = "log")]
 use crate::log::Refused;
-use bestore::{saved, Error, QueryError, QueryFault};
-use bestore_client::wire::Refusal;
+use bestore::{saved, Class, Error, QueryError};
+use bestore_client::wire::{ErrorName, Refusal};
 use serde_json::Value;
 
 /// Why a request did nothing.
@@ -11,18 +11,20 @@ use serde_json::Value;
 pub struct Failure(pub Refusal);
 
 impl Failure {
-    /// An error of the server itself.
-    pub fn new(name: &str, message: impl Into<String>) -> Self {
-        Self(Refusal {
-            name: name.into(),
-            message: message.into(),
-            ..Refusal::default()
-        })
+    /// An error with a message of its own.
+    pub fn new(name: ErrorName, message: impl Into<String>) -> Self {
+        Self(Refusal::new(name, message))
     }
 
-    /// Adds the number that `bestore.h` has for the error.
-    pub fn numbered(mut self, number: u32) -> Self {
-        self.0.number = Some(number);
+    /// An error with the message of its name.
+    pub fn named(name: ErrorName) -> Self {
+        let message = name.text();
+        Self::new(name, message)
+    }
+
+    /// Another class than that of the name.
+    pub fn of_class(mut self, class: Class) -> Self {
+        self.0.class = Some(class);
         self
     }
 
@@ -40,59 +42,50 @@ impl Failure {
     }
 
     pub fn pinned() -> Self {
-        Self::new("Pinned", "a snapshot is pinned already").numbered(67)
+        Self::named(ErrorName::Pinned)
     }
 
     pub fn not_pinned() -> Self {
-        Self::new("NotPinned", "no snapshot is pinned").numbered(66)
+        Self::named(ErrorName::NotPinned)
     }
 
     pub fn expired() -> Self {
-        Self::new("Expired", "the snapshot was kept too long, and the server took it back")
+        Self::named(ErrorName::Expired)
     }
 
     /// The server doesn't have an entry yet.
     #[cfg(feature = "log")]
     pub fn not_reached(expected: u64, found: u64) -> Self {
-        let message = format!("the server has {found} entries of the log");
-        let failure = Self::new("NotReached", message).with("expected", expected);
+        let message = format!("the server has {found} entries of the log, and not {expected} yet; ask again");
+        let failure = Self::new(ErrorName::NotReached, message).with("expected", expected);
         failure.with("found", found)
     }
 
     /// A request that has to say a volume, and doesn't.
     pub fn volume_missing(volumes: usize) -> Self {
-        let message = format!("the server has {volumes} volumes, and the request says none");
-        Self::new("NoVolume", message).with("volumes", volumes)
+        let message = format!("the request has to say which of the {volumes} volumes, counted from 0");
+        Self::new(ErrorName::NoVolume, message).with("volumes", volumes)
     }
 
     /// Commit numbers that aren't those of the volumes.
     pub fn numbers(volumes: usize) -> Self {
         match volumes {
-            1 => Self::bad_request("the server has one volume, and so one commit number"),
+            1 => Self::bad_request("the server has one volume, so a commit number is one integer and no list"),
             _ => Self::bad_request(&format!(
-                "the server has {volumes} volumes, and a list has the number of each"
+                "the server has {volumes} volumes, so commit numbers are a list with that of each"
             )),
         }
     }
 
     pub fn bad_request(why: &str) -> Self {
-        Self::new("BadRequest", why)
+        Self::new(ErrorName::BadRequest, why)
     }
 
     pub fn no_watch() -> Self {
-        Self::new("NoWatch", "the connection has no such live query")
+        Self::named(ErrorName::NoWatch)
     }
 
-    fn of_query(error: &QueryError) -> Self {
-        let name = match error.fault() {
-            QueryFault::Syntax => "Syntax",
-            QueryFault::BadPattern => "BadPattern",
-            QueryFault::TooLong => "TooLong",
-            QueryFault::TooDeep => "TooDeep",
-            QueryFault::TooMany => "TooMany",
-            QueryFault::NotCovered => "NotCovered",
-            _ => "Query",
-        };
+    fn of_query(name: ErrorName, error: &QueryError) -> Self {
         Self::new(name, error.fault().to_string())
             .with_some("offset", error.offset())
             .with_some("missing", error.missing())
@@ -110,19 +103,15 @@ impl From<Error> for Failure {
             #[cfg(feature = "log")]
             Error::Other(other) => match other.downcast_ref::<Refused>() {
                 Some(refused) => refused.clone().into(),
-                None => Failure::new("Unexpected", other.to_string()),
+                None => Failure::new(ErrorName::Unexpected, other.to_string()),
             },
-            Error::Query(query) => Failure::of_query(query),
+            Error::Query(query) => Failure::of_query(name(&error), query),
             Error::NoOrder { name, .. } => {
                 let message = format!("an order needs an index, and there is none of the name {name:?}");
-                Failure::new("NoIndex", message).with("missing", name.as_str())
+                Failure::new(ErrorName::NoIndex, message).with("missing", name.as_str())
             }
             _ => Failure::new(name(&error), error.to_string()),
         };
-        let failure = Failure(Refusal {
-            number: error.code(),
-            ..failure.0
-        });
         match error {
             Error::Busy { pass } => failure.with("pass", pass),
             Error::Full { oldest } => failure.with("oldest", oldest),
@@ -141,32 +130,18 @@ impl From<Error> for Failure {
     }
 }
 
-fn name(error: &Error) -> &'static str {
+/// The name of an error in the protocol.
+fn name(error: &Error) -> ErrorName {
     match error {
-        Error::Busy { .. } => "Busy",
-        Error::NoNode => "NoNode",
-        Error::NoAttribute => "NoAttribute",
-        Error::TooManyAttributes => "TooManyAttributes",
-        Error::IndexExists => "IndexExists",
-        Error::NoIndex => "NoIndex",
-        Error::TooManyIndices => "TooManyIndices",
-        Error::NotIndexable => "NotIndexable",
-        Error::BadCursor(_) => "BadCursor",
-        Error::CommitsSpent => "CommitsSpent",
-        Error::OutOfMemory => "OutOfMemory",
-        Error::Full { .. } => "Full",
-        Error::NameLength { .. } => "NameLength",
-        Error::DataLength { .. } => "DataLength",
-        Error::HasNul { .. } => "HasNul",
-        Error::NoPass => "NoPass",
-        Error::BadCount { .. } => "BadCount",
-        Error::Conflict { .. } => "Conflict",
-        Error::PartialIndex { .. } => "PartialIndex",
-        Error::NoVolume { .. } => "NoVolume",
-        Error::OtherVolume { .. } => "OtherVolume",
-        Error::NotSaved(_) => "NotSaved",
-        Error::Stopped(_) => "Stopped",
-        _ => "Unexpected",
+        Error::PartialIndex { .. } => ErrorName::PartialIndex,
+        Error::NoVolume { .. } => ErrorName::NoVolume,
+        Error::OtherVolume { .. } => ErrorName::OtherVolume,
+        Error::NotSaved(_) => ErrorName::NotSaved,
+        Error::Stopped(_) => ErrorName::Stopped,
+        _ => error
+            .code()
+            .and_then(ErrorName::numbered)
+            .unwrap_or(ErrorName::Unexpected),
     }
 }
 
@@ -179,8 +154,8 @@ impl From<saved::Error> for Failure {
                 let message = format!("volume {volume}: {}", refusal.message);
                 Failure(Refusal { message, ..refusal }).with("volume", volume)
             }
-            saved::Error::Stopped(_) | saved::Error::Closed => Failure::new("Stopped", error.to_string()),
-            error => Failure::new("NotSaved", error.to_string()),
+            saved::Error::Stopped(_) | saved::Error::Closed => Failure::new(ErrorName::Stopped, error.to_string()),
+            error => Failure::new(ErrorName::NotSaved, error.to_string()),
         }
     }
 }
@@ -190,9 +165,9 @@ impl From<Refused> for Failure {
     fn from(refused: Refused) -> Self {
         let message = refused.to_string();
         match refused {
-            Refused::NotLeader { leader } => Failure::new("NotLeader", message).with("leader", leader),
-            Refused::NotSaved(_) => Failure::new("NotSaved", message),
-            Refused::Stopped(_) => Failure::new("Stopped", message),
+            Refused::NotLeader { leader } => Failure::new(ErrorName::NotLeader, message).with("leader", leader),
+            Refused::NotSaved(_) => Failure::new(ErrorName::NotSaved, message),
+            Refused::Stopped(_) => Failure::new(ErrorName::Stopped, message).of_class(Class::Retry),
         }
     }
 }

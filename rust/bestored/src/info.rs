@@ -6,7 +6,7 @@ use crate::failure::Failure;
 use crate::server::Shared;
 use crate::volumes;
 use bestore::Status;
-use bestore_client::wire;
+use bestore_client::wire::{self, ErrorName};
 
 pub fn info(shared: &Shared, view: &View<'_, '_>) -> Result<wire::Info, Failure> {
     let all = view.status()?;
@@ -60,10 +60,10 @@ pub fn kick(shared: &Shared, own: &Client, kick: &wire::Kick) -> Result<wire::No
             eprintln!("bestored: client {number} (process {process}) is disconnected, as process {by} has asked");
             Ok(wire::Nothing {})
         }
-        Some(Err(error)) => Err(Failure::new("Unexpected", error.to_string())),
+        Some(Err(error)) => Err(Failure::new(ErrorName::Unexpected, error.to_string())),
         None => {
             let message = format!("no client has the number {}; the clients may have changed", kick.client);
-            Err(Failure::new("NoClient", message).with("client", kick.client))
+            Err(Failure::new(ErrorName::NoClient, message).with("client", kick.client))
         }
     }
 }

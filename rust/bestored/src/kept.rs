@@ -11,8 +11,8 @@ use crate::server::Shared;
 use crate::tokens::Tokens;
 use crate::volumes;
 use bestore::saved::{self, Saved, SavedShelf};
-use bestore::{Shelf, ShelfPass, Written};
-use bestore_client::wire;
+use bestore::{Class, Shelf, ShelfPass, Written};
+use bestore_client::wire::{self, ErrorName};
 use std::error::Error;
 use std::fs::File;
 use std::io;
@@ -161,9 +161,10 @@ impl Kept {
     /// Refuses what would be read or written once a commit has failed.
     pub fn check(&self) -> Result<(), Failure> {
         match self {
-            Kept::File(files) if files.is_over.load(Ordering::Relaxed) => {
-                Err(Failure::new("Stopped", "a commit has failed, and the server ends"))
-            }
+            Kept::File(files) if files.is_over.load(Ordering::Relaxed) => Err(Failure::new(
+                ErrorName::Stopped,
+                "a commit has failed, and the server ends",
+            )),
             _ => Ok(()),
         }
     }
@@ -175,7 +176,9 @@ impl Kept {
             _ => None,
         };
         match trouble {
-            Some(trouble) => Err(Failure::new("Stopped", format!("nothing was written: {trouble}"))),
+            Some(trouble) => {
+                Err(Failure::new(ErrorName::Stopped, format!("nothing was written: {trouble}")).of_class(Class::Full))
+            }
             None => Ok(()),
         }
     }
@@ -263,7 +266,7 @@ impl Kept {
             Kept::Log(log) => log.status(wanted),
             _ => {
                 let _ = wanted;
-                Err(Failure::new("NoLog", "the server is in no log"))
+                Err(Failure::named(ErrorName::NoLog))
             }
         }
     }
@@ -280,7 +283,7 @@ impl Kept {
 }
 
 fn not_kept() -> Failure {
-    Failure::new("NotKept", "the server keeps no file")
+    Failure::named(ErrorName::NotKept)
 }
 
 /// Adds the tokens that the files of the volumes have.

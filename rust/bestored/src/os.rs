@@ -232,7 +232,9 @@ pub fn passed_socket() -> io::Result<Option<UnixListener>> {
         Some(_) => return wrong("systemd has passed more than one socket"),
     }
     if option(PASSED, libc::SO_DOMAIN)? != libc::AF_UNIX || option(PASSED, libc::SO_ACCEPTCONN)? != 1 {
-        return wrong("systemd has passed what is no listening Unix socket");
+        return wrong(
+            "systemd has passed something other than a listening Unix socket; its unit needs ListenStream=PATH",
+        );
     }
     // SAFETY: the descriptor is open, and nothing else in the program has it.
     unsafe {

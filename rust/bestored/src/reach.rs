@@ -3,7 +3,7 @@
 use crate::answer::View;
 use crate::failure::Failure;
 use crate::pressure::Pressure;
-use bestore_client::wire::{self, Numbers};
+use bestore_client::wire::{self, ErrorName, Numbers};
 use std::thread;
 use std::time::{Duration, Instant};
 
@@ -46,7 +46,7 @@ fn numbers(commit: &Numbers, volumes: usize) -> Result<Vec<u64>, Failure> {
 }
 
 fn not_reached(wanted: &[u64], found: &[u64]) -> Failure {
-    let failure = Failure::new("NotReached", "the journal isn't as long yet");
+    let failure = Failure::named(ErrorName::NotReached);
     match (wanted, found) {
         ([wanted], [found]) => failure.with("expected", *wanted).with("found", *found),
         _ => failure.with("expected", wanted.to_vec()).with("found", found.to_vec()),

@@ -16,7 +16,7 @@ use crate::tokens::Tokens;
 use crate::watcher::Watcher;
 use bestore::{Error, ShelfPass};
 use bestore_client::socket::{peer_process, peer_user, user};
-use bestore_client::wire::{Command, Greeting, Request};
+use bestore_client::wire::{Command, ErrorName, Greeting, Request};
 use std::fs::File;
 use std::io::{self, ErrorKind};
 use std::os::unix::io::AsRawFd;
@@ -144,7 +144,7 @@ fn welcome(shared: &Arc<Shared>, stream: Arc<UnixStream>) {
             let other = other.map_or_else(|error| error.to_string(), |user| format!("user {user}"));
             let process = peer_process(&stream).unwrap_or(0);
             eprintln!("bestored: process {process} of {other} is refused: the server is another user's");
-            return refuse(&stream, &Failure::new("NotAllowed", "the server is another user's"));
+            return refuse(&stream, &Failure::named(ErrorName::NotAllowed));
         }
     }
     let clients = shared.clients.count();
@@ -251,8 +251,8 @@ fn take_visit(shared: &Shared) -> Option<MutexGuard<'_, ShelfPass>> {
 /// All passes of clients are taken.
 pub fn no_pass(shared: &Shared) -> Failure {
     let clients = shared.options.passes;
-    let message = format!("{clients} clients are connected");
-    Failure::new("NoPass", message).numbered(68).with("clients", clients)
+    let message = format!("every place for a client is taken ({clients}); try again once one is free");
+    Failure::new(ErrorName::NoPass, message).with("clients", clients)
 }
 
 /// Says why there is no connection, if the client takes it at once.

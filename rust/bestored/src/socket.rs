@@ -165,7 +165,7 @@ fn open_or_make(folder: &Path, flags: libc::c_int) -> io::Result<File> {
     let mut options = OpenOptions::new();
     options.read(true).custom_flags(libc::O_DIRECTORY | flags);
     options.open(folder).map_err(|error| match error.raw_os_error() {
-        Some(libc::ENOTDIR) => wrong(folder, "it is no folder, but a file or a link"),
+        Some(libc::ENOTDIR) => wrong(folder, "it isn't a folder, but a file or a link; name another path"),
         _ => wrong(folder, error),
     })
 }
@@ -196,7 +196,12 @@ fn look(path: &Path) -> io::Result<Found> {
     match fs::symlink_metadata(path) {
         Err(error) if error.kind() == ErrorKind::NotFound => return Ok(Found::Nothing),
         Err(error) => return Err(wrong(path, error)),
-        Ok(found) if !found.file_type().is_socket() => return Err(wrong(path, "there is a file that is no socket")),
+        Ok(found) if !found.file_type().is_socket() => {
+            return Err(wrong(
+                path,
+                "there is a file that isn't a socket; remove it, or name another path",
+            ))
+        }
         Ok(_) => {}
     }
     match UnixStream::connect(path) {

@@ -6,7 +6,7 @@ use crate::server::Shared;
 use crate::tokens::Begun;
 use crate::volumes;
 use bestore::Error;
-use bestore_client::wire::{self, Numbers, Token};
+use bestore_client::wire::{self, ErrorName, Numbers, Token};
 
 /// Writes a batch, unless one with its token was written before.
 pub fn write(shared: &Shared, mut write: wire::Write, view: &mut View<'_, '_>) -> Result<wire::Written, Failure> {
@@ -65,7 +65,7 @@ fn write_now(
     // Some volumes may have been written before another one refused.
     shared.watcher.written();
     match &written {
-        Ok(_) => measured.is_done(),
+        Ok(_) => measured.finish(),
         Err(_) => shared.kept.end_if_failed(),
     }
     written
@@ -84,9 +84,9 @@ fn check_run(shared: &Shared, write: &wire::Write, view: &View<'_, '_>) -> Resul
     };
     let found: u64 = view.status()?.iter().map(|status| status.entries).sum();
     let failure = Failure::new(
-        "Conflict",
+        ErrorName::Conflict,
         "the server was started again, and commit numbers begin anew",
     );
-    let failure = failure.numbered(76).with("expected", expected).with("found", found);
+    let failure = failure.with("expected", expected).with("found", found);
     Err(failure.with("run", shared.run.clone()))
 }

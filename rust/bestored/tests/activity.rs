@@ -2,7 +2,7 @@
 
 use crate::common::{command, wait_until, Folder, Server};
 use bestore::Batch;
-use bestore_client::{Client, Error};
+use bestore_client::{Client, Error, ErrorName};
 use std::fs::{self, File};
 use std::path::PathBuf;
 use std::process;
@@ -105,7 +105,7 @@ fn who_keeps_a_snapshot_is_named_and_can_be_ended() {
     assert!(matches!(holder.unpin(), Err(Error::Closed)));
     wait_until("the snapshot is given back", || client.info().unwrap().oldest.is_none());
     let gone = client.kick(held.client).unwrap_err();
-    assert!(gone.is("NoClient"), "{gone}");
+    assert!(gone.is(ErrorName::NoClient), "{gone}");
 }
 
 #[test]
@@ -135,7 +135,7 @@ fn the_server_says_when_it_starts_refuses_and_is_slow() {
     ));
 
     let refused = saying.server.client().status().unwrap_err();
-    assert!(refused.is("NoPass"));
+    assert!(refused.is(ErrorName::NoPass));
     saying.says(&format!(
         "bestored: process {} is refused: 1 clients are connected",
         process::id()

@@ -3,7 +3,7 @@
 
 use crate::common::{Folder, Server};
 use bestore::{attribute, Batch, Cursor, Kind, Node, Order, Page, Value};
-use bestore_client::{Client, Error};
+use bestore_client::{Client, Error, ErrorName};
 use std::time::SystemTime;
 
 const NAMES: [(&str, Kind); 5] = [
@@ -315,7 +315,7 @@ fn a_changed_cursor_is_refused() {
                 continue;
             }
             let asked = ask_after(&mut client, name, &changed);
-            assert!(asked.unwrap_err().is("BadCursor"), "{changed:?}");
+            assert!(asked.unwrap_err().is(ErrorName::BadCursor), "{changed:?}");
         }
         assert_eq!(ask_after(&mut client, name, &text).unwrap().nodes.len(), 1);
     }

@@ -51,7 +51,10 @@ fn it_listens_when_the_command_ends_and_goes_on() {
     let again = failed(&mut command(&socket, &options));
     assert!(again.ends_with("a server is listening there\n"), "{again}");
     let other = failed(&mut command(&folder.join("other"), &options));
-    assert!(other.contains("the file is in use"), "{other}");
+    assert!(
+        other.contains("the file is open in another process or store; close it there first"),
+        "{other}"
+    );
     server.end();
     assert!(!socket.exists());
     Background::start(command(&socket, &options), &socket).end();
@@ -112,7 +115,7 @@ fn a_default_folder_that_others_can_change_is_refused() {
     fs::set_permissions(&own, Permissions::from_mode(0o700)).unwrap();
     fs::rename(&own, folder.join("elsewhere")).unwrap();
     symlink(folder.join("elsewhere"), &own).unwrap();
-    assert!(refused(&folder).ends_with("it is no folder, but a file or a link\n"));
+    assert!(refused(&folder).ends_with("it isn't a folder, but a file or a link; name another path\n"));
     fs::remove_file(&own).unwrap();
     fs::create_dir(&own).unwrap();
     match Command::new("chown").arg("65534").arg(&own).status() {

@@ -51,7 +51,8 @@ fn a_change_refuses_each_kind_that_the_index_of_its_name_does_not_take() {
                     Ok(()) => assert_eq!(index, value.kind()),
                     Err(error) => {
                         let said = format!(
-                            "the index {name:?} takes values of kind {index}, and this one is {}",
+                            "the index {name:?} takes values of kind {index}, and this one is {}; set it as {index}, or no query \
+                             finds it",
                             value.kind()
                         );
                         assert_eq!(error.to_string(), said);

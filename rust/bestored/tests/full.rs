@@ -5,7 +5,7 @@ use crate::common::writers::{check_history, Writers};
 use crate::common::{command, wait_until, Folder, Server};
 use bestore::Batch;
 use bestore_client::wire::{Command, Nothing};
-use bestore_client::{Client, Error};
+use bestore_client::{Client, Error, ErrorName};
 use std::process::Stdio;
 use std::sync::atomic::{AtomicU64, AtomicUsize, Ordering::Relaxed};
 use std::thread;
@@ -120,7 +120,7 @@ impl<'a> Kept<'a> {
 }
 
 fn is_of_saving(error: &Error) -> bool {
-    error.is("NotSaved") || error.is("Stopped")
+    error.is(ErrorName::NotSaved) || error.is(ErrorName::Stopped)
 }
 
 /// Writes the state anew again and again, until saving has failed. Returns how often there was no room for it.
@@ -129,9 +129,9 @@ fn compact(client: &mut Client) -> u64 {
     loop {
         match client.call::<Nothing>(Command::Compact(Nothing {})) {
             Ok(_) => {}
-            Err(error) if error.is("Stopped") || error.refusal().is_none() => return failed,
+            Err(error) if error.is(ErrorName::Stopped) || error.refusal().is_none() => return failed,
             Err(error) => {
-                assert!(error.is("NotSaved"), "{error}");
+                assert!(error.is(ErrorName::NotSaved), "{error}");
                 failed += 1;
             }
         }
@@ -214,7 +214,7 @@ fn a_server_waits_for_room_on_its_disk() {
     for count in 2..5 {
         disk.resize(disk.used() + 900);
         let refused = set_count(&mut client, count).unwrap_err();
-        assert!(refused.is("Stopped"), "{refused}");
+        assert!(refused.is(ErrorName::Stopped), "{refused}");
         assert!(refused.to_string().contains("nothing was written"), "{refused}");
         let trouble = client.status().unwrap().trouble.unwrap();
         assert!(trouble.contains("900 KiB free"), "{trouble}");
@@ -270,7 +270,7 @@ fn a_write_that_could_not_be_kept_is_read_by_nobody() {
         kept += 1;
         refused = set_count(&mut client, kept).err();
     }
-    assert!(refused.as_ref().unwrap().is("NotSaved"), "{refused:?}");
+    assert!(refused.as_ref().unwrap().is(ErrorName::NotSaved), "{refused:?}");
     let read = reading.get(1, "count").unwrap_err();
     assert!(is_of_saving(&read) || read.refusal().is_none(), "{read}");
     assert!(!server.wait_end().success());

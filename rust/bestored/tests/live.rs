@@ -3,7 +3,7 @@
 use crate::common::{wait_until, Folder, Server, Talk, PATIENCE};
 use bestore::{Batch, Kind};
 use bestore_client::wire::{self, Push};
-use bestore_client::Client;
+use bestore_client::{Client, ErrorName};
 use std::collections::BTreeSet;
 use std::time::{Duration, Instant};
 
@@ -52,7 +52,7 @@ fn what_changes_is_pushed() {
     watching.unwatch(1).unwrap();
     sized(&mut writing, 9);
     assert_eq!(watching.next_push(Duration::from_millis(200)).unwrap(), None);
-    assert!(watching.unwatch(1).unwrap_err().is("NoWatch"));
+    assert!(watching.unwatch(1).unwrap_err().is(ErrorName::NoWatch));
     assert_eq!(watching.watch(Some("size>=9")).unwrap().watch, 2);
 }
 
@@ -115,7 +115,7 @@ fn a_refresh_leads_to_the_snapshot() {
     let (mut talk, mut writing) = (server.talk(), server.client());
     talk.check(
         r#""refresh":{"watch":1}"#,
-        r#""error":{"name":"NoWatch","message":"the connection has no such live query"}"#,
+        r#""error":{"name":"NoWatch","message":"the connection has no such live query; begin it by watch","class":"gone"}"#,
     );
     talk.check(
         r#""watch":{"query":"size>=5"}"#,
@@ -161,7 +161,10 @@ fn a_refresh_may_fail() {
     client.pin().unwrap();
     // The server may have ended the watch by then.
     let error = client.refresh(watch).unwrap_err();
-    assert!(error.is("NotCovered") || error.is("NoWatch"), "{error}");
+    assert!(
+        error.is(ErrorName::NotCovered) || error.is(ErrorName::NoWatch),
+        "{error}"
+    );
     client.unpin().unwrap();
     let commits = client.watch(None).unwrap();
     client.apply(Batch::new().remove_node(node)).unwrap();
@@ -175,7 +178,7 @@ fn a_query_that_cant_be_asked_any_more_ends() {
     watching.watch(Some("size>=5")).unwrap();
     writing.apply(Batch::new().remove_index("size")).unwrap();
     let push = next(&mut watching);
-    assert_eq!(push.error.unwrap().name, "NotCovered");
+    assert_eq!(push.error.unwrap().name, ErrorName::NotCovered);
     assert_eq!(watching.status().unwrap().watches, 0);
     writing.apply(Batch::new().make_index("size", Kind::Int64)).unwrap();
     sized(&mut writing, 9);
@@ -189,7 +192,7 @@ fn a_connection_has_32_watches() {
     for _ in 0..32 {
         client.watch(Some("size>=5")).unwrap();
     }
-    assert!(client.watch(None).unwrap_err().is("TooManyWatches"));
+    assert!(client.watch(None).unwrap_err().is(ErrorName::TooManyWatches));
     assert_eq!(client.status().unwrap().watches, 32);
     drop(client);
     wait_until("the watches are gone", || {

@@ -8,7 +8,7 @@ use crate::repeats::make;
 use crate::slow;
 use bestore::Batch;
 use bestore_client::wire::{Command, LogStatus, Nothing, Write, Written};
-use bestore_client::{Client, Error};
+use bestore_client::{Client, Error, ErrorName};
 use std::cell::RefCell;
 use std::fs::{self, File};
 use std::process;
@@ -215,7 +215,7 @@ fn followers_refuse_writes_and_wait_for_entries() {
     );
     // A write says who leads, and changes nothing.
     let refused = follower.apply(Batch::new().new_node()).unwrap_err();
-    assert!(refused.is("NotLeader"), "{refused}");
+    assert!(refused.is(ErrorName::NotLeader), "{refused}");
     let named = refused.refusal().unwrap().details["leader"]
         .as_str()
         .unwrap()
@@ -228,7 +228,7 @@ fn followers_refuse_writes_and_wait_for_entries() {
     assert!(follower
         .call::<Nothing>(Command::Compact(Nothing {}))
         .unwrap_err()
-        .is("NotLeader"));
+        .is(ErrorName::NotLeader));
     // What is waited for is seen.
     for count in 1..=50 {
         let written = leader.apply(&set_count(count)).unwrap();
@@ -241,15 +241,18 @@ fn followers_refuse_writes_and_wait_for_entries() {
     let late = follower.wait_for_entry(99, Duration::from_millis(20)).unwrap_err();
     let details = &late.refusal().unwrap().details;
     assert!(
-        late.is("NotReached") && details["expected"] == 99 && details["found"] == 51,
+        late.is(ErrorName::NotReached) && details["expected"] == 99 && details["found"] == 51,
         "{late}"
     );
     assert!(follower
         .wait_for_entry(1, Duration::from_secs(61))
         .unwrap_err()
-        .is("BadRequest"));
+        .is(ErrorName::BadRequest));
     follower.pin().unwrap();
-    assert!(follower.wait_for_entry(1, Duration::ZERO).unwrap_err().is("Pinned"));
+    assert!(follower
+        .wait_for_entry(1, Duration::ZERO)
+        .unwrap_err()
+        .is(ErrorName::Pinned));
     follower.log().unwrap();
     follower.unpin().unwrap();
     // Live queries of a follower are pushed.
@@ -306,7 +309,7 @@ fn a_wrong_outcome_is_named_with_its_entry() {
     }
     database.sql("UPDATE bestore_entry SET batch = set_byte(batch, 6, 99) WHERE number = 10");
     follower.server.signal("CONT");
-    let why = "entry 10 of the log: it has what no store did: it makes other nodes here";
+    let why = "entry 10 of the log: it has something that no store wrote: it makes other nodes here";
     let said = follower.end();
     assert!(said.contains(why), "{said}");
     let said = Member::start(&database, "--follow").end();
@@ -323,11 +326,11 @@ fn a_wrong_outcome_is_named_with_its_entry() {
         ),
         (
             "DELETE FROM bestore_entry WHERE number = 3",
-            "entry 3 of the log: it has what no store did: the entry is missing",
+            "entry 3 of the log: it has something that no store wrote: the entry is missing",
         ),
         (
             "DELETE FROM bestore_entry",
-            "entry 1 of the log: it has what no store did: the entry is missing",
+            "entry 1 of the log: it has something that no store wrote: the entry is missing",
         ),
     ] {
         database.sql(change);
@@ -451,7 +454,7 @@ fn live_queries_get_what_was_written_while_the_log_could_not_be() {
         proxy.lose(lost);
         let writing = thread::spawn(move || {
             let refused = client.apply(Batch::new().new_node()).unwrap_err();
-            assert!(refused.is("NotSaved"), "{refused}");
+            assert!(refused.is(ErrorName::NotSaved), "{refused}");
             // The live queries are asked, and wait for the log no longer.
             thread::sleep(Duration::from_millis(300));
             client
@@ -533,7 +536,7 @@ fn lead_through_a_hang(database: &Database, hang: impl FnOnce(), go_on: impl FnO
     });
     let mut refusals = errors.iter().filter(|error| error.refusal().is_some());
     assert!(
-        refusals.all(|error| error.is("NotSaved") || error.is("Stopped")),
+        refusals.all(|error| error.is(ErrorName::NotSaved) || error.is(ErrorName::Stopped)),
         "{errors:?}"
     );
     let member = leader.follow_again(database);
@@ -598,7 +601,9 @@ fn a_full_disk_of_the_database_stops_writes_until_there_is_room() {
         database.sql(fail);
     });
     assert!(
-        errors.iter().all(|error| error.is("NotSaved") || error.is("Stopped")),
+        errors
+            .iter()
+            .all(|error| error.is(ErrorName::NotSaved) || error.is(ErrorName::Stopped)),
         "{errors:?}"
     );
     assert!(
@@ -606,7 +611,7 @@ fn a_full_disk_of_the_database_stops_writes_until_there_is_room() {
         "{errors:?}"
     );
     let mut client = leader.client();
-    assert!(client.apply(&set_count(0)).unwrap_err().is("Stopped"));
+    assert!(client.apply(&set_count(0)).unwrap_err().is(ErrorName::Stopped));
     client.get(1, "count").unwrap().unwrap();
     database.sql("DROP TRIGGER fail ON bestore_entry");
     // What was written in memory gets into the log, and the leader goes on.
@@ -649,12 +654,15 @@ fn the_state_is_written_and_read() {
     database.sql("UPDATE bestore_state SET batch = 'BEC' WHERE place = 3");
     let said = Member::start(&database, "--follow").end();
     assert!(
-        said.contains("batch 2 of the state of the log: it has what no store did"),
+        said.contains("batch 2 of the state of the log: it has something that no store wrote"),
         "{said}"
     );
     database.sql("DELETE FROM bestore_state WHERE place > 1");
     let said = Member::start(&database, "--follow").end();
-    assert!(said.contains("of the log: it has what no store did"), "{said}");
+    assert!(
+        said.contains("of the log: it has something that no store wrote"),
+        "{said}"
+    );
 }
 
 #[test]
@@ -742,7 +750,7 @@ fn a_server_without_a_log_says_so() {
     let folder = Folder::new();
     let server = Server::start(&folder, &[]);
     let error: Error = server.client().log().unwrap_err();
-    assert!(error.is("NoLog"));
+    assert!(error.is(ErrorName::NoLog));
     let written = server.talk().ask(r#"{"id":1,"batch":{"operations":[["new"]]}}"#);
     assert_eq!(written, r#"{"id":1,"ok":{"commit":1,"nodes":[1]}}"#);
 }

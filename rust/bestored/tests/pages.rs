@@ -3,7 +3,7 @@
 use crate::common::{Folder, Server, PATIENCE};
 use bestore::{Batch, Kind};
 use bestore_client::wire::{Columns, ColumnsOf, Command, From, Journal, JournalFrom, Nodes, NodesFrom, Rows, State};
-use bestore_client::{Client, Query};
+use bestore_client::{Client, ErrorName, Query};
 use std::borrow::Cow;
 
 /// More than the nodes of one line.
@@ -67,7 +67,7 @@ fn many_nodes_come_in_pages() {
 
     client.apply(Batch::new().remove_index("size")).unwrap();
     let push = watching.next_push(PATIENCE).unwrap().unwrap();
-    assert_eq!(push.error.unwrap().name, "NotCovered");
+    assert_eq!(push.error.unwrap().name, ErrorName::NotCovered);
 }
 
 #[test]

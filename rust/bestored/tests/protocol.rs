@@ -36,7 +36,8 @@ fn the_example_of_the_protocol() {
         (
             r#"{"id":3,"query":{"query":"name==a"}}"#,
             concat!(
-                r#"{"id":3,"error":{"name":"NotCovered","number":17,"message":"no index serves the query","#,
+                r#"{"id":3,"error":{"name":"NotCovered","number":17,"message":"no index can answer the query; "#,
+                r#"compare a name that has an index, on both sides of each ||","class":"mine","#,
                 r#""missing":"name","offset":0}}"#
             ),
         ),
@@ -206,7 +207,8 @@ fn conflicts_and_limits() {
     talk.check(
         r#""batch":{"operations":[["new"]],"expected":7}"#,
         concat!(
-            r#""error":{"name":"Conflict","number":76,"message":"the journal has 1 entries, and the write expected 7","#,
+            r#""error":{"name":"Conflict","number":76,"message":"the journal has another length than the write expects "#,
+            r#"(1 entries, and not 7); read again, and write on what you read then","class":"retry","#,
             r#""expected":7,"found":1}"#
         ),
     );
@@ -407,7 +409,7 @@ fn a_snapshot_is_taken_back_while_its_client_waits_for_a_commit() {
     let begin = Instant::now();
     talk.check(
         r#""reach":{"commit":2,"within":60000}"#,
-        r#""error":{"name":"NotReached","message":"the journal isn't as long yet","expected":2,"found":1}"#,
+        r#""error":{"name":"NotReached","message":"the journal isn't as long yet; ask again","class":"retry","expected":2,"found":1}"#,
     );
     assert!(begin.elapsed() < Duration::from_secs(50), "{:?}", begin.elapsed());
     let said = talk.ask(r#"{"id":1,"nodes":{}}"#);

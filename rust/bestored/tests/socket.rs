@@ -2,6 +2,7 @@
 
 use crate::common::{command, wait_until, Folder, Server, Talk, PATIENCE};
 use bestore::Batch;
+use bestore_client::ErrorName;
 use std::fs::{self, Permissions};
 use std::io::Read;
 use std::os::unix::fs::PermissionsExt;
@@ -136,7 +137,7 @@ fn of_many_servers_at_once_one_starts() {
 fn other_files_and_folders_are_left_alone() {
     let folder = Folder::new();
     fs::write(folder.join("file"), "text").unwrap();
-    refused(command(&folder.join("file"), &[]), "no socket");
+    refused(command(&folder.join("file"), &[]), "isn't a socket; remove it");
     assert_eq!(fs::read(folder.join("file")).unwrap(), b"text");
     refused(command(&folder.join("none/none/socket"), &[]), "No such file");
     refused(command(&folder.join(&"a".repeat(200)), &[]), "");
@@ -225,8 +226,7 @@ fn systemd_passes_the_socket() {
 }
 
 /// What is said to a client for whom there is no place.
-const NO_PLACE: &str =
-    r#"{"id":null,"error":{"name":"NoPass","number":68,"message":"2 clients are connected","clients":2}}"#;
+const NO_PLACE: &str = r#"{"id":null,"error":{"name":"NoPass","number":68,"message":"every place for a client is taken (2); try again once one is free","class":"full","clients":2}}"#;
 
 /// A server whose two places are taken.
 fn full_server(folder: &Folder) -> (Server, [Talk; 2]) {
@@ -245,7 +245,7 @@ fn a_client_without_a_pass_is_told_so() {
     let mut three = server.talk();
     assert_eq!(three.line(), NO_PLACE);
     assert_eq!(three.line(), "");
-    assert!(server.client().hello().unwrap_err().is("NoPass"));
+    assert!(server.client().hello().unwrap_err().is(ErrorName::NoPass));
     drop(one);
     wait_until("a place is free", || server.client().hello().is_ok());
     two.check(r#""next":{}"#, r#""ok":{"commit":0,"next":1}"#);
@@ -287,8 +287,7 @@ fn idle_clients_keep_no_visitor_out() {
     for talk in &mut idle {
         talk.check(r#""next":{}"#, r#""ok":{"commit":0,"next":1}"#);
     }
-    let refused =
-        r#"{"id":null,"error":{"name":"NoPass","number":68,"message":"61 clients are connected","clients":61}}"#;
+    let refused = r#"{"id":null,"error":{"name":"NoPass","number":68,"message":"every place for a client is taken (61); try again once one is free","class":"full","clients":61}}"#;
     assert_eq!(server.talk().line(), refused);
     let visit = || {
         for _ in 0..5 {
@@ -349,5 +348,8 @@ fn a_kept_store_is_written_every_so_often_or_by_flush() {
     assert!(said.ends_with(r#""nodes":[1]}}"#), "{said}");
     thread::sleep(Duration::from_millis(1));
     let other = Folder::new();
-    refused(command(&other.join("socket"), &options), "the file is in use");
+    refused(
+        command(&other.join("socket"), &options),
+        "the file is open in another process or store; close it there first",
+    );
 }

@@ -3,7 +3,7 @@
 use crate::common::{command, wait_until, Folder, Server, PATIENCE};
 use bestore::{Batch, Kind, Node};
 use bestore_client::wire::{self, Command, Push};
-use bestore_client::{Client, Query};
+use bestore_client::{Client, ErrorName, Query};
 use std::collections::BTreeSet;
 use std::thread;
 use std::time::Duration;
@@ -274,7 +274,7 @@ fn a_volume_without_an_index_is_named() {
     let refused = client.query("name==a").unwrap_err();
     let refusal = refused.refusal().unwrap();
     assert_eq!(
-        (&refusal.name[..], refusal.number_of("volume")),
+        (refusal.name.as_str(), refusal.number_of("volume")),
         ("NotCovered", Some(0))
     );
     let indices: wire::Indices = client.call(Command::Indices(wire::Nothing {})).unwrap();
@@ -284,7 +284,7 @@ fn a_volume_without_an_index_is_named() {
     client.pin().unwrap();
     client.apply(Batch::new().remove_index("name")).unwrap();
     client.unpin().unwrap();
-    assert!(client.query("name==a").unwrap_err().is("NotCovered"));
+    assert!(client.query("name==a").unwrap_err().is(ErrorName::NotCovered));
 }
 
 /// What is pushed, added up, is the answer of all volumes while several clients write.

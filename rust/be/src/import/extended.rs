@@ -7,6 +7,7 @@ use super::summary::Summary;
 use super::Import;
 use crate::failure::Failure;
 use bestore::Value;
+use bestore_client::ErrorName;
 use std::collections::BTreeMap;
 use std::fs;
 use std::io;
@@ -24,7 +25,7 @@ impl Import<'_> {
         let mut edits = Vec::new();
         for (path, node) in nodes {
             let attributes = match self.client.attributes(node) {
-                Err(error) if error.is("NoNode") => continue,
+                Err(error) if error.is(ErrorName::NoNode) => continue,
                 answer => answer?,
             };
             match write_all(&path, &attributes) {

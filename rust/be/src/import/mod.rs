@@ -23,7 +23,7 @@ use crate::output::Output;
 use crate::server;
 use bestore::{Batch, Kind, Value};
 use bestore_client::wire::kind_named;
-use bestore_client::Client;
+use bestore_client::{Client, ErrorName};
 use content::{Reader, INDICES};
 use follow::Watches;
 use indicatif::{ProgressBar, ProgressStyle};
@@ -194,7 +194,7 @@ fn make_indices(client: &mut Client) -> Result<BTreeMap<String, Kind>, Failure> 
     for (name, kind) in INDICES {
         match there.get(name) {
             None => match server::apply(client, Batch::new().make_index(name, kind)) {
-                Err(error) if !error.is("IndexExists") => return Err(error.into()),
+                Err(error) if !error.is(ErrorName::IndexExists) => return Err(error.into()),
                 _ => {}
             },
             Some(other) if *other != kind => complain(&format!(
@@ -207,7 +207,9 @@ fn make_indices(client: &mut Client) -> Result<BTreeMap<String, Kind>, Failure> 
     }
     let all = kinds(server::indices(client)?);
     for (name, _) in INDICES.iter().filter(|(name, _)| !all.contains_key(*name)) {
-        complain(&format!("warning: not each volume has the index {name} with one type"));
+        complain(&format!(
+            "warning: the volumes have the index {name} with different types, or some lack it"
+        ));
     }
     Ok(all)
 }

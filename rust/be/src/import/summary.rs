@@ -5,7 +5,7 @@ use crate::command_line::Import as Line;
 use crate::failure::{complain, message, Failure};
 use crate::output::Output;
 use crate::text::escaped;
-use bestore_client::Error;
+use bestore_client::{Error, ErrorName};
 use serde::Serialize;
 use std::path::{Path, PathBuf};
 
@@ -16,14 +16,14 @@ const MOST_PAGES: u64 = 16_384;
 const SHOWN: usize = 10;
 
 /// Errors of the server after which the same write may be accepted.
-const PASSING: [&str; 7] = [
-    "Full",
-    "Busy",
-    "Conflict",
-    "OutOfMemory",
-    "NotSaved",
-    "Stopped",
-    "NotLeader",
+const PASSING: [ErrorName; 7] = [
+    ErrorName::Full,
+    ErrorName::Busy,
+    ErrorName::Conflict,
+    ErrorName::OutOfMemory,
+    ErrorName::NotSaved,
+    ErrorName::Stopped,
+    ErrorName::NotLeader,
 ];
 
 /// What has become of a file.
@@ -95,7 +95,7 @@ impl Summary {
 
     /// The store has refused something of a file.
     pub fn refuse(&mut self, path: PathBuf, error: &Error) {
-        self.is_passing |= PASSING.iter().any(|name| error.is(name));
+        self.is_passing |= error.refusal().map_or(false, |refusal| PASSING.contains(&refusal.name));
         self.refused.push((path, message(error)));
     }
 

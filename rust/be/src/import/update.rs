@@ -11,7 +11,7 @@ use super::walk::{Found, Unread, Walked};
 use super::{bar, Import};
 use crate::failure::Failure;
 use bestore::{Batch, Node};
-use bestore_client::Error;
+use bestore_client::{Error, ErrorName};
 use std::collections::{BTreeMap, HashMap, HashSet};
 use std::path::{Path, PathBuf};
 use std::thread;
@@ -41,7 +41,7 @@ impl Import<'_> {
         let known = lost.chain(missing).chain(doubles).chain(known).collect();
         let client = &mut self.client;
         let Matching { files, mut gone } = matched(found, known, |node| match client.attributes(node) {
-            Err(error) if error.is("NoNode") => Ok(false),
+            Err(error) if error.is(ErrorName::NoNode) => Ok(false),
             answer => answer.map(|attributes| has_more(&attributes)),
         })?;
         gone.retain(|(_, known)| !lost_nodes.contains(&known.node));
@@ -179,7 +179,7 @@ impl Import<'_> {
                 };
                 self.place(&file.found.path, Some(known), content);
                 let had = match self.client.attributes(known.node) {
-                    Err(error) if error.is("NoNode") => continue,
+                    Err(error) if error.is(ErrorName::NoNode) => continue,
                     answer => answer?,
                 };
                 let edits = between(&had, &content.values);
@@ -252,7 +252,7 @@ impl Import<'_> {
             edit.add_to(&mut batch);
             match self.write_batch(batch) {
                 // Another program has removed it. The next import makes it again, if the file is there.
-                Err(error) if error.is("NoNode") => self.forget(edit),
+                Err(error) if error.is(ErrorName::NoNode) => self.forget(edit),
                 Err(error @ Error::Refused(_)) => {
                     summary.refuse(edit.path.clone(), &error);
                     refused.push(edit.path.clone());

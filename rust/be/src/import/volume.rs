@@ -5,7 +5,7 @@ use crate::failure::Failure;
 use crate::server;
 use bestore::{Batch, Value, Written};
 use bestore_client::wire::{Command, Next, Nothing};
-use bestore_client::{Client, Error};
+use bestore_client::{Client, Error, ErrorName};
 use std::collections::BTreeMap;
 use std::path::PathBuf;
 use std::sync::{Arc, Mutex, MutexGuard};
@@ -154,7 +154,7 @@ impl Volume {
         self.batches += 1;
         match self.try_to_make(&files) {
             Ok(nodes) => made.nodes.extend(files.into_iter().zip(nodes)),
-            Err(Failure::Server(error)) if error.is("Full") => {
+            Err(Failure::Server(error)) if error.is(ErrorName::Full) => {
                 self.is_full = true;
                 made.left.extend(files);
             }
@@ -186,8 +186,8 @@ impl Volume {
                     }
                     return Ok(written.nodes);
                 }
-                Err(error) if error.is("Conflict") && left > 0 => self.meet()?,
-                Err(error) if error.is("Busy") && left > 0 => thread::sleep(Duration::from_millis(2)),
+                Err(error) if error.is(ErrorName::Conflict) && left > 0 => self.meet()?,
+                Err(error) if error.is(ErrorName::Busy) && left > 0 => thread::sleep(Duration::from_millis(2)),
                 Err(error) => return Err(error.into()),
             }
             left -= 1;

@@ -1,6 +1,7 @@
 //! The protocol: requests, replies and values as JSON. `docs/SERVER.md` describes it.
 
 mod activity;
+mod error_name;
 mod operation;
 mod reply;
 mod request;
@@ -8,6 +9,7 @@ mod token;
 mod value;
 
 pub use activity::{ClientInfo, Clients, Files, Info, Latency, OldestReader, PinnedBy, Role};
+pub use error_name::ErrorName;
 pub use operation::{Operations, ShownOperations};
 pub use reply::{
     Attributes, Commit, Explained, HeldBy, Hello, Hits, Indices, Journal, JournalEntry, Limits, LogStatus, Next, Nodes,

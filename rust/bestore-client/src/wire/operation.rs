@@ -151,7 +151,11 @@ impl<'de> Visitor<'de> for OneOperation<'_> {
                 let name: Text<'_> = next(&mut parts, "a name")?;
                 self.batch.remove_index(&name.0);
             }
-            _ => return Err(de::Error::custom("there is no such operation")),
+            _ => {
+                return Err(de::Error::custom(
+                    "no operation has this name; they are new, remove, set, unset, index and unindex",
+                ))
+            }
         }
         match parts.next_element::<IgnoredAny>()? {
             None => Ok(()),
@@ -167,7 +171,7 @@ fn next<'de, T: Deserialize<'de>, A: SeqAccess<'de>>(parts: &mut A, what: &str) 
 }
 
 fn kind<E: de::Error>(name: Text<'_>) -> Result<Kind, E> {
-    kind_named(&name.0).ok_or_else(|| E::custom("there is no such kind"))
+    kind_named(&name.0).ok_or_else(|| E::custom(super::value::NO_KIND))
 }
 
 /// Gives the last operation that makes a node this number.

@@ -1,6 +1,7 @@
 //! Replies, and the lines that the server pushes.
 
-use super::{Json, Operations};
+use super::{ErrorName, Json, Operations};
+use bestore::Class;
 use serde::{Deserialize, Serialize};
 use std::collections::BTreeMap;
 use std::fmt;
@@ -358,12 +359,15 @@ replies! {
     /// Why a request did nothing, with what is known of it.
     Refusal {
         /// The name of the error.
-        pub name: String,
+        pub name: ErrorName,
         /// Its number in `bestore.h`, if it has one.
         #[serde(default, skip_serializing_if = "Option::is_none")]
         pub number: Option<u32>,
         /// A text for people.
         pub message: String,
+        /// What a client can do about it, if the server says so. [`Refusal::class`] knows it otherwise.
+        #[serde(default, skip_serializing_if = "Option::is_none", with = "super::error_name::class")]
+        pub class: Option<Class>,
         /// What goes with it, by names.
         #[serde(flatten)]
         pub details: BTreeMap<String, serde_json::Value>,
@@ -386,6 +390,24 @@ fn is_one(value: &u32) -> bool {
 }
 
 impl Refusal {
+    /// An error with this message.
+    #[must_use]
+    pub fn new(name: ErrorName, message: impl Into<String>) -> Self {
+        Refusal {
+            number: name.number(),
+            class: Some(name.class()),
+            message: message.into(),
+            name,
+            ..Refusal::default()
+        }
+    }
+
+    /// What a client can do about the error.
+    #[must_use]
+    pub fn class(&self) -> Class {
+        self.class.unwrap_or_else(|| self.name.class())
+    }
+
     /// A number that goes with the error.
     #[must_use]
     pub fn number_of(&self, detail: &str) -> Option<u64> {

@@ -327,7 +327,7 @@ macro_rules! commands {
             fn read<A: MapAccess<'a>>(name: &str, map: &mut A) -> Result<Self, A::Error> {
                 match name {
                     $($name => Ok(Command::$variant(map.next_value::<Object<$parameters>>()?.0)),)*
-                    _ => Err(de::Error::custom("there is no such command")),
+                    _ => Err(de::Error::custom("no command has this name")),
                 }
             }
 

@@ -12,6 +12,7 @@ use std::str::FromStr;
 #[must_use]
 pub const fn kind_name(kind: Kind) -> &'static str {
     match kind {
+        // surface.toml: names of kinds
         Kind::Text => "text",
         Kind::Int32 => "int32",
         Kind::Int64 => "int64",
@@ -19,8 +20,14 @@ pub const fn kind_name(kind: Kind) -> &'static str {
         Kind::Raw => "raw",
         Kind::Uint32 => "uint32",
         Kind::Uint64 => "uint64",
+        // surface.toml: end
     }
 }
+
+/// What is said of another name.
+// surface.toml: list of kinds
+pub(super) const NO_KIND: &str = "no kind has this name; they are text, int32, int64, mime, raw, uint32, uint64";
+// surface.toml: end
 
 /// The kind with this name.
 #[must_use]
@@ -102,13 +109,14 @@ impl<'de> Visitor<'de> for JsonVisitor {
     }
 
     fn visit_u64<E: de::Error>(self, number: u64) -> Result<Json, E> {
-        let number = i64::try_from(number).map_err(|_| E::custom("the integer is no int64"))?;
+        let number = i64::try_from(number)
+            .map_err(|_| E::custom("the integer doesn't fit an int64; a greater one is written as {\"uint64\":5}"))?;
         Ok(Json(number.into()))
     }
 
     fn visit_map<A: MapAccess<'de>>(self, mut map: A) -> Result<Json, A::Error> {
         let name: Text<'_> = map.next_key()?.ok_or_else(|| de::Error::custom("a kind is missing"))?;
-        let kind = kind_named(&name.0).ok_or_else(|| de::Error::custom("there is no such kind"))?;
+        let kind = kind_named(&name.0).ok_or_else(|| de::Error::custom(NO_KIND))?;
         let value = match kind {
             Kind::Text => Value::Text(map.next_value()?),
             Kind::Mime => Value::Mime(map.next_value()?),

@@ -161,14 +161,14 @@ impl fmt::Display for Error {
     fn fmt(&self, f: &mut fmt::Formatter<'_>) -> fmt::Result {
         match self {
             Error::Foreign { path } => {
-                write!(f, "{}: the file is of another program", path.display())
+                write!(f, "{}: the file belongs to another program; name another one", path.display())
             }
             Error::Newer { path, version, known } => write!(
                 f,
-                "{}: the file has format {version}, and format {known} is the latest known here",
+                "{}: the file has format {version}, and format {known} is the latest known here; use a newer version of bestore",
                 path.display()
             ),
-            Error::Held { path } => write!(f, "{}: the file is in use", path.display()),
+            Error::Held { path } => write!(f, "{}: the file is open in another process or store; close it there first", path.display()),
             Error::Exists { path } => write!(
                 f,
                 "{}: this file or folder exists, and isn't overwritten; remove it, or name another",
@@ -176,7 +176,7 @@ impl fmt::Display for Error {
             ),
             Error::DiskFull { path } => write!(f, "{}: the disk is full", path.display()),
             Error::Differs { place, why } => {
-                write!(f, "{place}: the file has what no store did: {why}")
+                write!(f, "{place}: the file has something that no store wrote: {why}")
             }
             Error::TooLarge { place, error } => {
                 write!(f, "{place}: the file doesn't fit the limits of the store: {error}")
@@ -184,7 +184,7 @@ impl fmt::Display for Error {
             Error::Sqlite { path, error } => write!(f, "{}: {error}", path.display()),
             Error::Thread(error) => write!(f, "the thread that saves can't be started: {error}"),
             Error::Folder { path, error } => write!(f, "{}: {error}", path.display()),
-            Error::NoFile { path } => write!(f, "{}: the file of this volume is missing", path.display()),
+            Error::NoFile { path } => write!(f, "{}: the file of this volume is missing, and a later volume has one; put it back", path.display()),
             Error::Fewer { folder, found: 0, .. } => {
                 write!(
                     f,

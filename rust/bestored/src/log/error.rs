@@ -118,7 +118,7 @@ impl fmt::Display for Error {
             Error::Length { known, found } => {
                 write!(f, "the log has {found} entries, and {known} of them are known here")
             }
-            Error::Differs { place, why } => write!(f, "{place} of the log: it has what no store did: {why}"),
+            Error::Differs { place, why } => write!(f, "{place} of the log: it has something that no store wrote: {why}"),
             Error::TooLarge { place, error } => {
                 write!(f, "{place} of the log: it doesn't fit the limits of the store: {error}")
             }

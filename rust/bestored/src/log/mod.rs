@@ -20,7 +20,7 @@ use crate::os;
 use crate::server::Shared;
 use crate::tokens::Tokens;
 use bestore::{Shelf, ShelfPass, Store};
-use bestore_client::wire;
+use bestore_client::wire::{self, ErrorName};
 use database::Database;
 use error::Result;
 use line::{Line, Role};
@@ -288,8 +288,8 @@ fn within(milliseconds: Option<u64>) -> std::result::Result<Duration, Failure> {
     match milliseconds.unwrap_or(5_000) {
         time @ 0..=60_000 => Ok(Duration::from_millis(time)),
         _ => Err(Failure::new(
-            "BadRequest",
-            "an entry is waited for up to 60000 milliseconds",
+            ErrorName::BadRequest,
+            "within has 0 to 60000 milliseconds, and this is more",
         )),
     }
 }

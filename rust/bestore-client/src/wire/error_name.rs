@@ -1,0 +1,270 @@
+//! The names of errors in the protocol.
+
+use bestore::Class;
+use serde::{Deserialize, Deserializer, Serialize, Serializer};
+use std::borrow::Cow;
+use std::fmt;
+
+macro_rules! names {
+    ($($(#[$about:meta])* $name:ident = $number:expr, $class:ident, $text:literal;)*) => {
+        /// The name of an error in the protocol.
+        #[non_exhaustive]
+        #[derive(Clone, Debug, PartialEq, Eq, Hash)]
+        pub enum ErrorName {
+            $($(#[$about])* $name,)*
+            /// An error that this client doesn't know.
+            Other(String),
+        }
+
+        impl ErrorName {
+            /// Every error that this client knows.
+            pub const ALL: &'static [ErrorName] = &[$(ErrorName::$name),*];
+
+            /// The name, as the protocol has it.
+            #[must_use]
+            pub fn as_str(&self) -> &str {
+                match self {
+                    $(ErrorName::$name => stringify!($name),)*
+                    ErrorName::Other(name) => name,
+                }
+            }
+
+            /// The number in `bestore.h`, if it is an error of the library.
+            #[must_use]
+            pub const fn number(&self) -> Option<u32> {
+                match self {
+                    $(ErrorName::$name => $number,)*
+                    ErrorName::Other(_) => None,
+                }
+            }
+
+            /// What a program can do about the error. Of an unknown one nothing says that the same request may succeed later.
+            #[must_use]
+            pub const fn class(&self) -> Class {
+                match self {
+                    $(ErrorName::$name => Class::$class,)*
+                    ErrorName::Other(_) => Class::Mine,
+                }
+            }
+
+            /// What was wrong, and what would be right.
+            #[must_use]
+            pub const fn text(&self) -> &'static str {
+                match self {
+                    $(ErrorName::$name => $text,)*
+                    ErrorName::Other(_) => "the server has an error that this client doesn't know",
+                }
+            }
+        }
+    };
+}
+
+names! {
+    // surface.toml: errors
+    /// Another pass is writing; call again once it has finished.
+    Busy = Some(1), Retry, "another pass is writing; call again once it has finished";
+    /// There is no such node.
+    NoNode = Some(2), Mine, "there is no such node";
+    /// The node has no attribute of this name.
+    NoAttribute = Some(3), Mine, "the node has no attribute of this name";
+    /// The node has 64 attributes, the most it can have; remove one first.
+    TooManyAttributes = Some(4), Full, "the node has 64 attributes, the most it can have; remove one first";
+    /// There is already an index of this name.
+    IndexExists = Some(5), Mine, "there is already an index of this name";
+    /// There is no index of this name.
+    NoIndex = Some(6), Mine, "there is no index of this name";
+    /// The store has 32 indices, the most it can have; remove one first.
+    TooManyIndices = Some(7), Full, "the store has 32 indices, the most it can have; remove one first";
+    /// An index can't have this kind; it can have a kind of texts or integers, but not of MIME types or raw bytes.
+    NotIndexable = Some(8), Mine, "an index can't have this kind; it can have a kind of texts or integers, but not of MIME types or raw bytes";
+    /// The journal is at the limit that the store was opened with; carry the state on into a new store.
+    CommitsSpent = Some(9), Full, "the journal is at the limit that the store was opened with; carry the state on into a new store";
+    /// Out of memory; free some and call again.
+    OutOfMemory = Some(10), Full, "out of memory; free some and call again";
+    /// No page is free; unpin old snapshots, remove nodes, or open a store with more pages.
+    Full = Some(11), Full, "no page is free; unpin old snapshots, remove nodes, or open a store with more pages";
+    /// This query isn't valid here; it needs comparisons such as size>=5, joined by && or ||.
+    Syntax = Some(12), Mine, "this query isn't valid here; it needs comparisons such as size>=5, joined by && or ||";
+    /// This pattern isn't valid here; a set such as [a-d] ends with ], isn't empty, and its ranges rise.
+    BadPattern = Some(13), Mine, "this pattern isn't valid here; a set such as [a-d] ends with ], isn't empty, and its ranges rise";
+    /// The query has more than 4,096 bytes.
+    TooLong = Some(14), Mine, "the query has more than 4,096 bytes";
+    /// The query has more than 64 parentheses and ! inside one another.
+    TooDeep = Some(15), Mine, "the query has more than 64 parentheses and ! inside one another";
+    /// The query has more than 256 comparisons.
+    TooMany = Some(16), Mine, "the query has more than 256 comparisons";
+    /// No index can answer the query; compare a name that has an index, on both sides of each ||.
+    NotCovered = Some(17), Mine, "no index can answer the query; compare a name that has an index, on both sides of each ||";
+    /// A name is empty or has more than 63 bytes.
+    NameLength = Some(18), Mine, "a name is empty or has more than 63 bytes";
+    /// A value has more than 255 bytes.
+    DataLength = Some(19), Mine, "a value has more than 255 bytes";
+    /// A name or a text has a zero byte; only a raw value may have one.
+    HasNul = Some(20), Mine, "a name or a text has a zero byte; only a raw value may have one";
+    /// A limit of the store is out of its range; it has 8 to 16,384 pages, 1 to 64 passes and 1 to 4,294,967,295 commits.
+    BadLimits = Some(21), Mine, "a limit of the store is out of its range; it has 8 to 16,384 pages, 1 to 64 passes and 1 to 4,294,967,295 commits";
+    /// The items build no query; each operator takes the items before it, and one query is left at the end.
+    BadRpn = Some(22), Mine, "the items build no query; each operator takes the items before it, and one query is left at the end";
+    /// The handle is closed; use an open one.
+    Closed = Some(64), Gone, "the handle is closed; use an open one";
+    /// The handle that is to be opened is open; close it first, or open another.
+    Open = Some(65), Mine, "the handle that is to be opened is open; close it first, or open another";
+    /// No snapshot is pinned; pin one before you read.
+    NotPinned = Some(66), Mine, "no snapshot is pinned; pin one before you read";
+    /// A snapshot is pinned already; unpin it first.
+    Pinned = Some(67), Mine, "a snapshot is pinned already; unpin it first";
+    /// Every pass of the store is in use; close one, or open the store with more.
+    NoPass = Some(68), Full, "every pass of the store is in use; close one, or open the store with more";
+    /// A batch has 1 to 64 operations.
+    BadCount = Some(69), Mine, "a batch has 1 to 64 operations";
+    /// The text isn't valid UTF-8.
+    NotUtf8 = Some(70), Mine, "the text isn't valid UTF-8";
+    /// There is no operation of this number; they are 0 to 5.
+    NoOperation = Some(71), Mine, "there is no operation of this number; they are 0 to 5";
+    /// No kind has this type code.
+    NoKind = Some(72), Mine, "no kind has this type code";
+    /// The number doesn't fit its kind; use a kind that holds it.
+    NoValue = Some(73), Mine, "the number doesn't fit its kind; use a kind that holds it";
+    /// A name or a value isn't within the bytes that go with the list.
+    BadPart = Some(74), Mine, "a name or a value isn't within the bytes that go with the list";
+    /// There is no item of this number; they are 0 to 15.
+    NoItem = Some(75), Mine, "there is no item of this number; they are 0 to 15";
+    /// The journal has another length than the write expects; read again, and write on what you read then.
+    Conflict = Some(76), Retry, "the journal has another length than the write expects; read again, and write on what you read then";
+    /// Another handle of the store is open; close it first.
+    InUse = Some(77), Retry, "another handle of the store is open; close it first";
+    /// The cursor doesn't fit the index; go on from a cursor of the same index, or begin without one.
+    BadCursor = Some(78), Mine, "the cursor doesn't fit the index; go on from a cursor of the same index, or begin without one";
+    /// A page has at least one node; ask for 1 or more.
+    NoRoom = Some(79), Mine, "a page has at least one node; ask for 1 or more";
+    /// The request isn't valid.
+    BadRequest = None, Mine, "the request isn't valid";
+    /// The snapshot was kept too long, and the server took it back; pin again.
+    Expired = None, Gone, "the snapshot was kept too long, and the server took it back; pin again";
+    /// There is no such volume.
+    NoVolume = None, Mine, "there is no such volume";
+    /// A node is in another volume than the one that is written.
+    OtherVolume = None, Mine, "a node is in another volume than the one that is written";
+    /// An index is made in all volumes, in a batch of its own.
+    PartialIndex = None, Mine, "an index is made in all volumes, in a batch of its own";
+    /// The journal isn't as long yet; ask again.
+    NotReached = None, Retry, "the journal isn't as long yet; ask again";
+    /// The connection has no such live query; begin it by watch.
+    NoWatch = None, Gone, "the connection has no such live query; begin it by watch";
+    /// The connection has as many live queries as it may have; end one by unwatch first.
+    TooManyWatches = None, Full, "the connection has as many live queries as it may have; end one by unwatch first";
+    /// As many clients as may are reading copies of snapshots; ask again once one has finished.
+    TooManyCopies = None, Retry, "as many clients as may are reading copies of snapshots; ask again once one has finished";
+    /// Nobody with this number is connected; `be clients` has the numbers.
+    NoClient = None, Mine, "nobody with this number is connected; `be clients` has the numbers";
+    /// The server keeps no file; start it with --keep.
+    NotKept = None, Mine, "the server keeps no file; start it with --keep";
+    /// The server is in no log; start it with --log or --follow.
+    NoLog = None, Mine, "the server is in no log; start it with --log or --follow";
+    /// The server follows another one; write to that.
+    NotLeader = None, Gone, "the server follows another one; write to that";
+    /// The write couldn't be saved.
+    NotSaved = None, Gone, "the write couldn't be saved";
+    /// The server saves nothing any more.
+    Stopped = None, Gone, "the server saves nothing any more";
+    /// The server doesn't speak this version of the protocol.
+    Protocol = None, Mine, "the server doesn't speak this version of the protocol";
+    /// The request has more than 1 MiB.
+    LineTooLong = None, Mine, "the request has more than 1 MiB";
+    /// The rest of the request didn't come.
+    Timeout = None, Gone, "the rest of the request didn't come";
+    /// The server is another user's; start one of your own, or name its socket.
+    NotAllowed = None, Mine, "the server is another user's; start one of your own, or name its socket";
+    /// The pushes of a live query waited too long and are lost; begin it again.
+    PushesLost = None, Gone, "the pushes of a live query waited too long and are lost; begin it again";
+    /// The server has an error that it doesn't name.
+    Unexpected = None, Mine, "the server has an error that it doesn't name";
+    // surface.toml: end
+}
+
+impl Default for ErrorName {
+    fn default() -> Self {
+        ErrorName::Other(String::new())
+    }
+}
+
+impl ErrorName {
+    /// The error of the library with this number in `bestore.h`.
+    #[must_use]
+    pub fn numbered(number: u32) -> Option<ErrorName> {
+        ErrorName::ALL
+            .iter()
+            .find(|name| name.number() == Some(number))
+            .cloned()
+    }
+}
+
+impl From<Cow<'_, str>> for ErrorName {
+    fn from(name: Cow<'_, str>) -> Self {
+        let known = ErrorName::ALL.iter().find(|known| known.as_str() == name);
+        known.cloned().unwrap_or_else(|| ErrorName::Other(name.into_owned()))
+    }
+}
+
+impl fmt::Display for ErrorName {
+    fn fmt(&self, f: &mut fmt::Formatter<'_>) -> fmt::Result {
+        f.write_str(self.as_str())
+    }
+}
+
+impl Serialize for ErrorName {
+    fn serialize<S: Serializer>(&self, to: S) -> Result<S::Ok, S::Error> {
+        to.serialize_str(self.as_str())
+    }
+}
+
+impl<'de> Deserialize<'de> for ErrorName {
+    fn deserialize<D: Deserializer<'de>>(from: D) -> Result<Self, D::Error> {
+        String::deserialize(from).map(|name| Cow::from(name).into())
+    }
+}
+
+/// A class by its name. Of one that this client doesn't know nothing is kept.
+pub(super) mod class {
+    use bestore::Class;
+    use serde::{Deserialize, Deserializer, Serializer};
+
+    pub(in super::super) fn serialize<S: Serializer>(class: &Option<Class>, to: S) -> Result<S::Ok, S::Error> {
+        to.serialize_str(class.map_or("", Class::name))
+    }
+
+    pub(in super::super) fn deserialize<'de, D: Deserializer<'de>>(from: D) -> Result<Option<Class>, D::Error> {
+        String::deserialize(from).map(|name| Class::named(&name))
+    }
+}
+
+#[cfg(test)]
+mod tests {
+    use super::*;
+    use crate::wire::Refusal;
+
+    #[test]
+    fn names_lead_back_to_errors() {
+        for name in ErrorName::ALL {
+            let json = serde_json::to_string(name).unwrap();
+            assert_eq!(serde_json::from_str::<ErrorName>(&json).unwrap(), *name);
+            assert!(!name.text().is_empty());
+            if let Some(number) = name.number() {
+                assert_eq!(ErrorName::numbered(number).as_ref(), Some(name));
+            }
+        }
+        let unknown: ErrorName = serde_json::from_str(r#""Later""#).unwrap();
+        assert_eq!(unknown, ErrorName::Other("Later".into()));
+        assert_eq!(serde_json::to_string(&unknown).unwrap(), r#""Later""#);
+    }
+
+    #[test]
+    fn the_class_is_what_the_server_says_and_otherwise_that_of_the_name() {
+        let class = |json: &str| serde_json::from_str::<Refusal>(json).unwrap().class();
+        assert_eq!(class(r#"{"name":"Busy","message":""}"#), Class::Retry);
+        assert_eq!(class(r#"{"name":"Later","message":""}"#), Class::Mine);
+        assert_eq!(class(r#"{"name":"Later","class":"full","message":""}"#), Class::Full);
+        assert_eq!(class(r#"{"name":"Stopped","class":"full","message":""}"#), Class::Full);
+        assert_eq!(class(r#"{"name":"Full","class":"of later","message":""}"#), Class::Full);
+    }
+}

@@ -1,0 +1,145 @@
+#!/usr/bin/env python3
+"""Writes what all languages share of surface.toml into the sources and documents, or looks whether they have it.
+
+usage: tools/surface.py            writes the regions and files anew
+       tools/surface.py --check    says which of them differ, and exits with 1 if one does
+
+A region begins after a line with "surface.toml: NAME" and ends before one with "surface.toml: end". What programs were built with
+never changes: to c/abi/ it only adds lines, and a number there that the table has otherwise is an error.
+"""
+from __future__ import annotations
+
+import re
+import subprocess
+import sys
+from difflib import unified_diff
+from pathlib import Path
+
+from surface_table import ROOT, Surface, Wrong, load
+from surface_texts import FILES, REGIONS
+
+HEADER = "include/bestore.h"
+BINDINGS = "rust/bestore-sys/src/lib.rs"
+ABI = "c/abi/libbestore.so.0.c"
+MANUAL = "docs/bestore.3"
+END = re.compile(r"^[^\w\n]*surface\.toml: end[^\w\n]*$", re.M)
+
+
+def with_region(path: str, text: str, name: str, body: str) -> str:
+    """The text of a file with what is between the marks of a region replaced."""
+    begins = list(re.finditer(rf"^[^\w\n]*surface\.toml: {re.escape(name)}[^\w\n]*\n", text, re.M))
+    if len(begins) != 1:
+        raise Wrong(f"{path}: the line \"surface.toml: {name}\" has to be there once, and is there {len(begins)} times")
+    begin = begins[0].end()
+    end = END.search(text, begin)
+    if end is None or "surface.toml: " in text[begin:end.start()]:
+        raise Wrong(f"{path}: after \"surface.toml: {name}\" a line with only \"surface.toml: end\" has to follow")
+    return text[:begin] + body + text[end.start():]
+
+
+def prototypes(header: str) -> dict[str, str]:
+    """The calls that the header declares, with the types of their parameters."""
+    found = {}
+    for name, parameters in re.findall(r"^uint32_t (bes_\w+)\(([^;]*)\);", header, re.M):
+        types = [re.sub(r"(?<=[ *])\w+$", "", it.strip()).strip() for it in parameters.split(",")]
+        found[name] = "void" if parameters == "void" else ", ".join(types)
+    return found
+
+
+def check_calls(surface: Surface, where: str, called: set[str]) -> None:
+    """Refuses a file that has other calls than the table."""
+    for name in sorted(called - set(surface.calls)):
+        raise Wrong(f"{where} has {name}, and [exports] of surface.toml doesn't: add it to the version that brings it")
+    for name in sorted(set(surface.calls) - called):
+        raise Wrong(f"surface.toml exports {name}, and {where} doesn't have it: declare it there")
+
+
+def described(surface: Surface) -> dict[str, str]:
+    """The numbers that the ABI has, by their names."""
+    rows = [("BES_OK", "0"), *((it.constant, str(it.number)) for it in surface.faults)]
+    rows += [(it.c, str(it.number)) for it in surface.classes]
+    rows += [(it.c, f"0x{it.type_code:08x}") for it in surface.kinds]
+    rows += [(f"BES_{it.c}", str(it.number)) for it in surface.operations]
+    rows += [(f"BES_ITEM_{it.c}", str(it.number)) for it in surface.items]
+    return dict(rows)
+
+
+def with_abi(surface: Surface, text: str, calls: dict[str, str]) -> str:
+    """The description of the ABI, with a line for each number and call that it lacks."""
+    numbers = dict(re.findall(r"^NUMBER\((\w+), (\w+)\)", text, re.M))
+    wanted = described(surface)
+    for name, number in numbers.items():
+        if name not in wanted:
+            raise Wrong(f"{ABI} has {name}, and surface.toml doesn't: programs have it, so it has to stay")
+        if wanted[name] != number:
+            raise Wrong(f"{ABI} has {name} = {number}, and surface.toml {wanted[name]}: programs have {number}, so it has to stay")
+    has = set(re.findall(r"^CALL\((\w+)", text, re.M))
+    added = [f"NUMBER({name}, {number})" for name, number in wanted.items() if name not in numbers]
+    added += [f"CALL({name}, {calls[name]})" for name in surface.calls if name not in has]
+    for name in sorted(has - set(surface.calls)):
+        raise Wrong(f"{ABI} has {name}, and surface.toml doesn't export it: programs call it, so it has to stay")
+    return text.replace("\nint main(void)", "".join(f"{line}\n" for line in added) + "\nint main(void)")
+
+
+def manual() -> str:
+    """The manual page that is made from the header, as it is now."""
+    return subprocess.run([sys.executable, ROOT / "c/manual.py"], check=True, stdout=subprocess.PIPE, text=True).stdout
+
+
+def wanted_files(surface: Surface) -> dict[str, str]:
+    """What each file has to have, but for the manual page, which is made from the header."""
+    wanted = {path: render(surface) for path, render in FILES.items()}
+    for (path, name), render in REGIONS.items():
+        text = wanted.get(path) or (ROOT / path).read_text()
+        wanted[path] = with_region(path, text, name, render(surface))
+    calls = prototypes(wanted[HEADER])
+    check_calls(surface, HEADER, set(calls))
+    check_calls(surface, BINDINGS, set(re.findall(r"^    pub fn (bes_\w+)\(", wanted[BINDINGS], re.M)))
+    wanted[ABI] = with_abi(surface, (ROOT / ABI).read_text(), calls)
+    return wanted
+
+
+def differs(path: str, wanted: str) -> bool:
+    """Whether a file has something else, which is shown."""
+    file = ROOT / path
+    found = file.read_text() if file.exists() else ""
+    shown = unified_diff(found.splitlines(), wanted.splitlines(), path, f"{path} by surface.toml", lineterm="", n=1)
+    for line in list(shown)[:20]:
+        print(line)
+    return found != wanted
+
+
+def write(path: str, wanted: str) -> bool:
+    """Writes a file if it has something else."""
+    file = ROOT / path
+    if file.exists() and file.read_text() == wanted:
+        return False
+    file.write_text(wanted)
+    print(f"wrote {path}")
+    return True
+
+
+def run(checks: bool) -> None:
+    """Writes or checks everything."""
+    surface = load()
+    wanted = wanted_files(surface)
+    act = differs if checks else write
+    count = sum(act(path, text) for path, text in wanted.items())
+    count += act(MANUAL, manual())
+    if checks and count:
+        raise Wrong(f"{count} files differ from surface.toml: run tools/surface.py")
+    print(f"surface: {len(REGIONS)} regions and {len(FILES) + 2} files have what surface.toml says")
+
+
+def main() -> None:
+    words = sys.argv[1:]
+    if words not in ([], ["--check"]):
+        sys.exit((__doc__ or "").strip())
+    try:
+        run(checks=words == ["--check"])
+    except Wrong as wrong:
+        sys.exit(f"surface: {wrong}")
+
+
+if __name__ == "__main__":
+    main()

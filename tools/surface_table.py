@@ -1,0 +1,207 @@
+"""The table surface.toml: what its rows have, and what has to be true of them."""
+from __future__ import annotations
+
+import re
+import tomllib
+from dataclasses import dataclass, fields
+from pathlib import Path
+from typing import Any, Iterable, Optional, TypeVar
+
+ROOT = Path(__file__).resolve().parent.parent
+TABLE = ROOT / "surface.toml"
+MOST_OF_A_TEXT = 90
+
+
+class Wrong(Exception):
+    """The table or a file that is made from it isn't as it has to be."""
+
+
+@dataclass(frozen=True)
+class Class:
+    """What a program can do about an error."""
+
+    name: str
+    number: int
+    about: str
+
+    @property
+    def c(self) -> str:
+        return f"BES_CLASS_{self.name.upper()}"
+
+
+@dataclass(frozen=True)
+class Kind:
+    """A kind of values."""
+
+    number: int
+    code: str
+    be: str
+    c: str
+    name: str
+    tool: str
+    rust: str
+    rust_about: str
+    shown: str
+    python: str
+    value: str
+    indexable: bool
+    made: str
+    read: str
+    script: str
+    printed: str
+    about: str = ""
+    sign: Optional[bool] = None
+
+    @property
+    def type_code(self) -> int:
+        """The four letters as a number."""
+        return int.from_bytes(self.code.encode(), "big")
+
+    @property
+    def is_number(self) -> bool:
+        return self.sign is not None
+
+
+@dataclass(frozen=True)
+class Fault:
+    """An error of the library."""
+
+    number: int
+    c: str
+    name: str
+    klass: str
+    what: str
+    advice: str = ""
+    python: str = ""
+    bases: str = ""
+    protocol: Optional[str] = None
+    script: Optional[str] = None
+    argument: str = ""
+    script_about: str = ""
+
+    @property
+    def constant(self) -> str:
+        return f"BES_{self.c}"
+
+    @property
+    def exception(self) -> str:
+        """The exception of Python."""
+        return self.python or self.name
+
+    @property
+    def text(self) -> str:
+        """What was wrong, and what would be right."""
+        return f"{self.what}; {self.advice}" if self.advice else self.what
+
+
+@dataclass(frozen=True)
+class ServerFault:
+    """An error of a server that the library doesn't have."""
+
+    name: str
+    klass: str
+    what: str
+    advice: str = ""
+    about: str = ""
+    protocol: Optional[str] = None
+    python: bool = True
+
+
+@dataclass(frozen=True)
+class Numbered:
+    """An operation or an item."""
+
+    number: int
+    c: str
+    about: str = ""
+
+
+@dataclass(frozen=True)
+class Surface:
+    """The whole table."""
+
+    classes: list[Class]
+    kinds: list[Kind]
+    faults: list[Fault]
+    server_faults: list[ServerFault]
+    operations: list[Numbered]
+    items: list[Numbered]
+    exports: dict[str, list[str]]
+
+    @property
+    def calls(self) -> list[str]:
+        return [call for calls in self.exports.values() for call in calls]
+
+
+Row = TypeVar("Row", Class, Kind, Fault, ServerFault, Numbered)
+
+
+def rows_of(kind: type[Row], part: str, found: Iterable[dict[str, Any]]) -> list[Row]:
+    """The rows of one part of the table."""
+    known, rows = {field.name for field in fields(kind)}, []
+    for at, row in enumerate(found):
+        named = {"klass" if key == "class" else key: value for key, value in row.items()}
+        if unknown := named.keys() - known:
+            raise Wrong(f"surface.toml: [[{part}]] {at + 1} has {sorted(unknown)[0]!r}, and may have {', '.join(sorted(known))}")
+        try:
+            rows.append(kind(**named))
+        except TypeError as error:
+            raise Wrong(f"surface.toml: [[{part}]] {at + 1} lacks something: {error}") from None
+    return rows
+
+
+def once(part: str, what: str, values: Iterable[object]) -> None:
+    """Refuses a value that two rows have."""
+    seen: set[object] = set()
+    for value in values:
+        if value in seen:
+            raise Wrong(f"surface.toml: two rows of {part} have the {what} {value}, and each needs one of its own")
+        seen.add(value)
+
+
+def check_texts(surface: Surface) -> None:
+    """Looks at the classes and the texts of errors."""
+    classes = {it.name for it in surface.classes}
+    for it in [*surface.faults, *surface.server_faults]:
+        if it.klass not in classes:
+            raise Wrong(f"surface.toml: {it.name} has the class {it.klass!r}, and the classes are {', '.join(sorted(classes))}")
+        for text in (it.what, it.advice):
+            if len(text) > MOST_OF_A_TEXT or text.endswith(".") or not text.isascii() or '"' in text:
+                raise Wrong(f"surface.toml: a text of {it.name} has up to {MOST_OF_A_TEXT} characters of ASCII, no quotes and "
+                            f"no full stop at its end, and this one is {text!r}")
+
+
+def check(surface: Surface) -> None:
+    """Looks whether the rows are those of one table."""
+    for kind in surface.kinds:
+        if not re.fullmatch("[A-Z]{4}", kind.code):
+            raise Wrong(f"surface.toml: a type code has four capitals, and that of {kind.name} is {kind.code!r}")
+    once("kinds", "number", (it.number for it in surface.kinds))
+    once("kinds", "code", (it.code for it in surface.kinds))
+    once("errors", "number", (it.number for it in surface.faults))
+    once("errors", "name", (it.name for it in [*surface.faults, *surface.server_faults]))
+    for part, rows in (("operations", surface.operations), ("items", surface.items)):
+        if [it.number for it in rows] != list(range(len(rows))):
+            raise Wrong(f"surface.toml: the {part} are numbered from 0, without a gap and in their order")
+    once("exports", "call", surface.calls)
+    check_texts(surface)
+
+
+def load(path: Path = TABLE) -> Surface:
+    """Reads the table."""
+    with path.open("rb") as file:
+        try:
+            found = tomllib.load(file)
+        except tomllib.TOMLDecodeError as error:
+            raise Wrong(f"{path.name}: {error}") from None
+    surface = Surface(
+        classes=rows_of(Class, "classes", ({"name": name, **row} for name, row in found["classes"].items())),
+        kinds=rows_of(Kind, "kinds", found["kinds"]),
+        faults=rows_of(Fault, "errors", found["errors"]),
+        server_faults=rows_of(ServerFault, "server_errors", found["server_errors"]),
+        operations=rows_of(Numbered, "operations", found["operations"]),
+        items=rows_of(Numbered, "items", found["items"]),
+        exports=found["exports"],
+    )
+    check(surface)
+    return surface
