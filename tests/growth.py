@@ -1,6 +1,7 @@
 """The table of what grows, tests/growth.txt, and the sizes at which it is tried."""
 from __future__ import annotations
 
+import random
 import re
 from pathlib import Path
 from typing import Iterator, NamedTuple
@@ -37,6 +38,16 @@ def sizes_of(words: str, least: int, most: int) -> list[int]:
     if which == "each":
         return sorted({*range(least, int(last or most) + 1), *powers(least, most)})
     return powers(least, int(last or most))
+
+
+def more_sizes(sizes: list[int], chance: random.Random) -> list[int]:
+    """These sizes, and two between the least and the greatest if some are missing there: one that is as likely small as large, and one
+    of any size."""
+    least, most = sizes[0], sizes[-1]
+    if len(sizes) > most - least:
+        return sizes
+    by_power = round(max(1, least) * (most / max(1, least)) ** chance.random())
+    return sorted({*sizes, by_power, chance.randint(least, most)})
 
 
 def trial_of(line: str, least: int, most: int) -> Iterator[Trial]:

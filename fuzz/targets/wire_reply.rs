@@ -5,6 +5,7 @@
 use bestore_client::wire::{self, Json};
 use serde::de::DeserializeOwned;
 use serde::Serialize;
+use serde_json::Value as Detail;
 use std::fmt::Debug;
 
 bestore_fuzz::target!(|input| {
@@ -50,10 +51,22 @@ fn goes_there_and_back<T: DeserializeOwned + Serialize + PartialEq + Debug>(line
 
 /// A refusal is shown whatever it says, also if the caret's place is beyond the query's end.
 fn refuses(line: &[u8]) {
-    goes_there_and_back::<wire::Refusal>(line);
     if let Ok(mut refusal) = serde_json::from_slice::<wire::Refusal>(line) {
+        if refusal.details.values().all(is_exact) {
+            goes_there_and_back::<wire::Refusal>(line);
+        }
         refusal.query = Some(refusal.message.clone());
         assert!(refusal.to_string().starts_with(&refusal.name));
+    }
+}
+
+/// Whether a detail has no fraction. No detail of the protocol has one, and serde_json reads it to within its last digit.
+fn is_exact(detail: &Detail) -> bool {
+    match detail {
+        Detail::Number(number) => !number.is_f64(),
+        Detail::Array(list) => list.iter().all(is_exact),
+        Detail::Object(members) => members.values().all(is_exact),
+        _ => true,
     }
 }
 
