@@ -17,7 +17,7 @@ import sqlite3
 import sys
 import threading
 import time
-from typing import Callable, Dict, List, Optional
+from typing import Callable, Dict, List, Optional, Union
 
 sys.path.insert(0, os.path.join(os.path.dirname(os.path.abspath(__file__)), "..", "python"))
 
@@ -128,7 +128,8 @@ def rate(claims: List[Claim], queue_again: Callable[[List[int]], None]) -> float
 def measured(queued: int, workers: int, rounds: int) -> Dict[str, float]:
     """The best rate of each way to claim."""
     best: Dict[str, float] = {}
-    for title, store in (("bestore", Bestore(queued)), ("sqlite3", Sqlite(queued))):
+    stores: Dict[str, Union[Bestore, Sqlite]] = {"bestore": Bestore(queued), "sqlite3": Sqlite(queued)}
+    for title, store in stores.items():
         for way in ("any_job", "urgent_job"):
             claims = [getattr(store, way)() for _ in range(workers)]
             best[f"{title} {way}"] = max(rate(claims, store.queue_again) for _ in range(rounds))

@@ -242,7 +242,8 @@ class Lmdb(Peer):
         return [int.from_bytes(key, "big") for name, key in cursor if part in name]
 
     def page(self, asked: Any) -> List[Tuple[Any, ...]]:
-        get, cursor, rows = self._reading.get, self._size_cursor, []
+        get, cursor = self._reading.get, self._size_cursor
+        rows: List[Tuple[Any, ...]] = []
         there = cursor.last() if asked is None else self._move_before(*asked)
         while there and len(rows) < SHOWN:
             key = cursor.value()
