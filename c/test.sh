@@ -55,8 +55,8 @@ build() { cc -std=c11 "${warn[@]}" -I../include "$@" libbestore.a -lpthread; }
 build_cpp() { c++ -std=c++17 "${warn[@]}" -I../include "$@" libbestore.a -lpthread; }
 
 # The tests, and those of them in which threads run.
-tests=(test columns errors threads witness helpers texts racing promises)
-tests_cpp=(test helpers racing)
+tests=(test columns errors ordered threads witness helpers texts racing promises)
+tests_cpp=(test helpers ordered racing)
 with_threads=(threads witness helpers racing promises)
 
 for test in "${tests[@]}"; do
@@ -138,6 +138,10 @@ build -O2 ../examples/c/first.c -o "$work/first"
 "$work/first" | cmp - <(echo "node 1")
 build -O2 ../examples/c/unread.c -o "$work/unread"
 "$work/unread" | cmp - <(printf '%s\n' "came 1" "came 2" "went 1" "came 3")
+build -O2 ../examples/c/newest.c -o "$work/newest"
+"$work/newest" | cmp - <(printf '20 letters, Letter %s, and more\n' "98 to Letter 60" "58 to Letter 20" "100 to Letter 62")
+build -O2 ../examples/c/jobs.c -o "$work/jobs"
+"$work/jobs" | cmp - <(echo "200 jobs were claimed")
 build -O2 ../examples/c/carry.c -o "$work/carry"
 "$work/carry" | cmp - <(printf '%s\n' "3 stores" "ann 500" "bob 500" "in the first store 499")
 build -O2 ../examples/c/mailbox.c -o "$work/mailbox"

@@ -190,6 +190,98 @@ struct Updates {
 
 class Snapshot;
 
+// An order of nodes: by the values that an index has, and by number where these are equal. A node without a value in the index isn't
+// in it.
+class Order {
+public:
+    // The ascending order by the index of this name.
+    explicit Order(std::string_view name)
+    {
+        detail::check(bes_check_name(detail::bytes_of(name), name.size(), &name_));
+    }
+
+    // The exact reverse of the ascending order.
+    Order descending() const
+    {
+        Order reverse = *this;
+        reverse.is_descending_ = true;
+        return reverse;
+    }
+
+    std::string name() const { return std::string(reinterpret_cast<const char *>(name_.bytes), name_.length); }
+    bool is_descending() const noexcept { return is_descending_; }
+
+private:
+    friend class Snapshot;
+
+    bes_name name_{};
+    bool is_descending_ = false;
+};
+
+// A position in the answer of a query in an order: that of the last node of a page. The next page has what comes after it, also in a
+// later snapshot, whatever was written in between.
+class Cursor {
+public:
+    // The beginning of the query's answer.
+    Cursor(const Prepared &query, const Order &order) : order_(order), query_(query.text()) {}
+
+    const Order &order() const noexcept { return order_; }
+
+    // The last node of the page, and the value that it has in the index. They are empty at the beginning.
+    std::optional<Node> node() const { return raw_.length == 0 ? std::nullopt : std::optional<Node>(read().first); }
+    std::optional<Value> value() const { return raw_.length == 0 ? std::nullopt : std::optional<Value>(read().second); }
+
+private:
+    friend class Snapshot;
+
+    std::pair<Node, Value> read() const
+    {
+        bes_attribute value{};
+        std::uint8_t bytes[255];
+        Node node = 0;
+        detail::check(bes_cursor_value(&raw_, &value, bytes, sizeof bytes, &node));
+        return {node, detail::value_of(value.code, value.number, {reinterpret_cast<const char *>(bytes), value.length})};
+    }
+
+    Order order_;
+    std::string query_; // its canonical text
+    bes_cursor raw_{};
+};
+
+// Some of the nodes that a query finds, in an order.
+struct Page {
+    std::vector<Node> nodes;
+    bool more;     // whether others come after these
+    Cursor cursor; // the position of the last one; of an empty page it is where that began
+};
+
+// The nodes that a query finds, in an order: Snapshot::ordered makes it, and it asks for page after page. Go over it once. The query and
+// the snapshot have to stay as long.
+//
+//     for (bestore::Node node : pin.ordered(query, bestore::Order("MAIL:when").descending()))
+class Ordered {
+public:
+    using Iterator = detail::Iterator<Ordered, Node>;
+
+    // From the next node on.
+    Iterator begin();
+    Iterator end() { return Iterator(nullptr); }
+
+private:
+    friend Iterator;
+    friend class Snapshot;
+
+    static constexpr std::size_t first_page = 64, largest_page = 4096;
+
+    Ordered(Snapshot &snapshot, Prepared &query, const Cursor &after) : snapshot_(&snapshot), query_(&query), page_{{}, true, after} {}
+
+    Snapshot *snapshot_;
+    Prepared *query_;
+    Page page_;
+    std::size_t at_ = 0, most_ = first_page;
+    Node item_ = 0;
+};
+
 // A query that returns what changed since it was refreshed last. At first all its nodes come.
 class Live : public Prepared {
 public:
@@ -252,6 +344,42 @@ public:
         if (count > room)
             detail::check(bes_found(prepared.handle(), room, nodes.data() + room, count - room, &count));
         return nodes;
+    }
+
+    // Up to `most` of the nodes that meet the query and have a value in the order's index, in the order. Throws BES_NO_INDEX, and
+    // BES_NO_ROOM if `most` is 0.
+    Page page(Prepared &query, const Order &order, std::size_t most) { return page(query, Cursor(query, order), most); }
+
+    // The next page: those after a cursor, in its order. Throws BES_BAD_CURSOR also if it is of another query.
+    Page page(Prepared &query, const Cursor &after, std::size_t most)
+    {
+        if (after.query_ != query.text())
+            throw Refusal(BES_BAD_CURSOR);
+        Page page{std::vector<Node>(room(most) + 1), false, after};
+        const bes_name &by = after.order_.name_;
+        std::uint64_t count = 0;
+        std::uint32_t more = 0;
+        detail::check(bes_ordered(handle(), query.handle(), &by, after.order_.is_descending_ ? 1 : 0, &page.cursor.raw_,
+                                  page.nodes.data(), page.nodes.size() - 1, &count, &more));
+        page.nodes.resize(count);
+        page.more = more != 0;
+        return page;
+    }
+
+    // All of them, asked for page after page.
+    Ordered ordered(Prepared &query, const Order &order) { return ordered(query, Cursor(query, order)); }
+    Ordered ordered(Prepared &query, const Cursor &after) { return Ordered(*this, query, after); }
+
+    // The first `most` nodes that meet the query, ascending from a number on. Throws BES_NO_ROOM if `most` is 0.
+    std::vector<Node> first(Prepared &query, Node from, std::size_t most)
+    {
+        return part(most, [&](auto... nodes) { return bes_first(handle(), query.handle(), from, nodes...); });
+    }
+
+    // Any `most` nodes that meet the query, or all if there are fewer, in no order. Throws BES_NO_ROOM if `most` is 0.
+    std::vector<Node> any(Prepared &query, std::size_t most)
+    {
+        return part(most, [&](auto... nodes) { return bes_any(handle(), query.handle(), nodes...); });
     }
 
     // How many nodes meet the query, with none listed.
@@ -432,6 +560,23 @@ private:
         return bes_query_prepared(handle(), prepared.handle(), nodes, room, count);
     }
 
+    // How many of the nodes that are wanted there may be, and one at least if one is wanted.
+    std::size_t room(std::size_t most)
+    {
+        Node next = 0;
+        detail::check(bes_next(handle(), &next));
+        return std::min<std::size_t>(most, std::max<Node>(next, 1));
+    }
+
+    template <class Call> std::vector<Node> part(std::size_t most, Call call)
+    {
+        std::vector<Node> nodes(room(most) + 1);
+        std::uint64_t count = 0;
+        detail::check(call(nodes.data(), nodes.size() - 1, &count));
+        nodes.resize(count);
+        return nodes;
+    }
+
     template <class Call> std::vector<Node> found(Call call, detail::Place place)
     {
         return detail::whole<std::vector<Node>>(256, place, call);
@@ -481,6 +626,19 @@ private:
     std::uint64_t number_ = 0;
     std::unique_ptr<bes_pass, detail::Unpins> pass_;
 };
+
+inline Ordered::Iterator Ordered::begin()
+{
+    if (at_ == page_.nodes.size() && page_.more) {
+        page_ = snapshot_->page(*query_, page_.cursor, most_);
+        most_ = std::min(2 * most_, largest_page);
+        at_ = 0;
+    }
+    if (at_ == page_.nodes.size())
+        return end();
+    item_ = page_.nodes[at_++];
+    return Iterator(this);
+}
 
 // A pinned snapshot, until it ends.
 class Pin : public Snapshot {

@@ -1,5 +1,5 @@
-/* Helpers over indices and texts: comparisons of a query, indices that they need, escapes, UTF-8, and a caret under an error. Include bestore.h,
- * which includes this file.
+/* Helpers over indices and texts: comparisons of a query, indices that they need, escapes, UTF-8, a caret under an error, and positions in
+ * an index. Include bestore.h, which includes this file.
  *
  * A text that bes_next_comparison and the helpers over it read must be a query that the library parses: one that bes_query has
  * taken or refused by BES_NOT_COVERED, or the text of bes_prepared_text. */
@@ -382,6 +382,89 @@ static inline int bes_print_caret(FILE *file, const char *text, uint64_t byte)
         fputc((unsigned char)text[i] < ' ' || text[i] == 0x7f ? ' ' : text[i], file);
     fprintf(file, "\n%*s^\n", (int)bes_columns_(text + begin, at - begin), "");
     return ferror(file);
+}
+
+/* How many bytes a number of this type code has in a key of an index, or 0 if its values are no numbers. */
+static inline size_t bes_key_size_(uint32_t code)
+{
+    bool is_short = code == BES_INT32_TYPE || code == BES_UINT32_TYPE;
+    return !bes_is_number_code(code) ? 0 : is_short ? 4 : 8;
+}
+
+/* What is added to a number in a key of an index, so that the bytes are in the order of the numbers. */
+static inline uint64_t bes_key_shift_(uint32_t code)
+{
+    return code == BES_INT32_TYPE ? (uint64_t)1 << 31 : code == BES_INT64_TYPE ? (uint64_t)1 << 63 : 0;
+}
+
+/* Writes the low bytes of a number, the high one first. */
+static inline void bes_put_high_first_(uint8_t *bytes, uint64_t number, size_t length)
+{
+    for (size_t at = length; at > 0; number >>= 8)
+        bytes[--at] = (uint8_t)number;
+}
+
+static inline uint64_t bes_take_high_first_(const uint8_t *bytes, size_t length)
+{
+    uint64_t number = 0;
+    for (size_t at = 0; at < length; at++)
+        number = number << 8 | bytes[at];
+    return number;
+}
+
+/* Why no key of an index has this value, or BES_OK. */
+static inline uint32_t bes_unkeyable_(const bes_attribute *value, const void *bytes)
+{
+    uint64_t shifted = value->number + bes_key_shift_(value->code);
+    if (value->code == BES_STRING_TYPE)
+        return value->length > 255 ? BES_DATA_LENGTH : memchr(bytes, 0, value->length) != NULL ? BES_HAS_NUL : BES_OK;
+    if (bes_key_size_(value->code) == 0)
+        return BES_NOT_INDEXABLE;
+    return bes_key_size_(value->code) == 4 && shifted > UINT32_MAX ? BES_NO_VALUE : BES_OK;
+}
+
+/* Makes the position at which a value and a node are in the order of an index, so that bes_ordered goes on after it: with node 0 from
+ * all nodes of the value on, or in the reverse order after them.
+ * [in] value     the value, as bes_get writes it
+ * [in] bytes     the bytes of a text
+ * BES_NOT_INDEXABLE, BES_DATA_LENGTH, BES_HAS_NUL, BES_NO_VALUE (the number doesn't fit its type). The cursor stays as it was. */
+static inline uint32_t bes_cursor_at(const bes_attribute *value, const void *bytes, uint64_t node, bes_cursor *cursor)
+{
+    uint32_t error = bes_unkeyable_(value, bytes);
+    size_t size = value->code == BES_STRING_TYPE ? value->length + 1 : bes_key_size_(value->code);
+    if (error != BES_OK)
+        return error;
+    memset(cursor, 0, sizeof *cursor);
+    if (value->code == BES_STRING_TYPE)
+        memcpy(cursor->key, bytes, value->length);
+    else
+        bes_put_high_first_(cursor->key, value->number + bes_key_shift_(value->code), size);
+    bes_put_high_first_(cursor->key + size, node, 8);
+    cursor->kind = value->code;
+    cursor->length = (uint32_t)size + 8;
+    return BES_OK;
+}
+
+/* Reads the value and the node of a position, as bes_ordered leaves it after a page that isn't empty.
+ * [out] value    the value, as bes_get writes it
+ * [out] bytes    the bytes of a text, if there is room for all
+ * [out] node     the node
+ * BES_BAD_CURSOR: it is the beginning, or a position in no index. */
+static inline uint32_t bes_cursor_value(const bes_cursor *cursor, bes_attribute *value, uint8_t *bytes, size_t bytes_room,
+                                        uint64_t *node)
+{
+    size_t size = cursor->length < 8 || cursor->length > sizeof cursor->key ? 0 : cursor->length - 8;
+    uint32_t code = cursor->kind;
+    bool is_text = code == BES_STRING_TYPE && size > 0 && memchr(cursor->key, 0, size) == cursor->key + size - 1;
+    if (!is_text && (size == 0 || size != bes_key_size_(code)))
+        return BES_BAD_CURSOR;
+    value->code = code;
+    value->length = is_text ? size - 1 : 0;
+    value->number = is_text ? 0 : bes_take_high_first_(cursor->key, size) - bes_key_shift_(code);
+    if (value->length > 0 && value->length <= bytes_room)
+        memcpy(bytes, cursor->key, value->length);
+    *node = bes_take_high_first_(cursor->key + size, 8);
+    return BES_OK;
 }
 
 #ifdef __cplusplus

@@ -163,6 +163,19 @@ class Parts(unittest.TestCase):
                     self.assertEqual(len(set(found)), min(limit, 4))
                     self.assertLessEqual(set(found), {1, 2, 3, 4})
 
+    def test_a_change(self):
+        def claim(change):
+            page = change.query("size>=3", by="size", limit=1)
+            rows = change.rows("size>=3", ["size"], by="size", most=1)
+            change[page[0]]["size"] = 0
+            return page[0], rows, change.query("size>=3", by="size", limit=1), change.any("size==9", 1), change.rows(
+                "size>=3", ["size"], by="size", most=1)
+
+        for job in (2, 4, 3):
+            size = self.store.pin().get(job, "size")
+            claimed = job, [(job, [size])], [job], [5], [(job, [0])]  # the query reads the snapshot alone
+            self.assertEqual(self.store.change(claim), claimed)
+
     def test_an_empty_store(self):
         with bestore.open() as store:
             store.make_index("size", bestore.INT64)

@@ -62,7 +62,7 @@ fi
 
 run "Rust" test --workspace --features $features -- --show-output
 run "Rust, without features" test -p bestore-sys -p bestore --lib --tests
-for example in first mailbox shelf; do
+for example in first mailbox newest jobs shelf; do
     run "Rust, example $example" run -q -p bestore --example $example
 done
 for expected in "run 1" "run 2"; do

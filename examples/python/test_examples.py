@@ -10,6 +10,12 @@ HERE = os.path.dirname(os.path.abspath(__file__))
 PRINTED = {
     "first.py": "1 ann\n",
     "counter.py": "200 100 100\n",
+    "newest.py": """\
+20 letters, Letter 98 to Letter 60, and more
+20 letters, Letter 58 to Letter 20, and more
+20 letters, Letter 100 to Letter 62, and more
+""",
+    "jobs.py": "200 200\n",
     "follow.py": """\
 unread: came [] went []
 1 by 0: MakeIndex(name='MAIL:status', kind=bestore.STRING)

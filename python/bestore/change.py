@@ -7,9 +7,10 @@ from typing import TYPE_CHECKING, ClassVar, Dict, Iterable, Iterator, List, Muta
 from .errors import BadCount, NoAttribute, NoNode, NotPinned, OtherVolume, WrongKind, encoded
 from .nodes import volume_of
 from .operations import MOST_OPERATIONS, SET, Batch
+from .pages import Cursor, Order, Page
 from .queries import Prepared
 from .values import KIND_OF, Encoded, Kind, Typed, Value, encode_value, typed_value
-from .versions import Attributes, Query, Version
+from .versions import Asked, Attributes, Query, Version
 
 if TYPE_CHECKING:
     from .store import Pass
@@ -186,6 +187,15 @@ class Change(Version):
 
     def _nodes_of(self, asked: Query) -> List[int]:
         return self._snapshot._nodes_of(asked)
+
+    def _first_of(self, asked: Query, start: int, limit: int) -> List[int]:
+        return self._snapshot._first_of(asked, start, limit)
+
+    def _any_of(self, asked: Query, limit: int) -> List[int]:
+        return self._snapshot._any_of(asked, limit)
+
+    def _page_of(self, asked: Asked, order: Order, after: Optional[Cursor], limit: Optional[int]) -> Page[int]:
+        return self._snapshot._page_of(asked, order, after, limit)
 
     def _count_of(self, asked: Query) -> int:
         return self._snapshot._count_of(asked)

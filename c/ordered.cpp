@@ -1,0 +1,193 @@
+// Pages in the order of an index, in C++, beside the whole answer, sorted and cut.
+#include "tests.hpp"
+#include <algorithm>
+#include <random>
+#include <string>
+#include <tuple>
+
+using bestore::Cursor;
+using bestore::Kind;
+using bestore::Node;
+using bestore::Order;
+
+namespace {
+
+// A value as an index compares it: a number with its sign, or a text.
+using Rank = std::tuple<bool, std::uint64_t, std::string>;
+using Keys = std::vector<std::pair<Rank, Node>>;
+
+Rank rank(const bestore::Value &value)
+{
+    if (const auto *text = std::get_if<std::string>(&value))
+        return {false, 0, *text};
+    if (const auto *number = std::get_if<std::int32_t>(&value))
+        return {*number >= 0, std::uint64_t(std::int64_t(*number)), ""};
+    if (const auto *number = std::get_if<std::int64_t>(&value))
+        return {*number >= 0, std::uint64_t(*number), ""};
+    if (const auto *number = std::get_if<std::uint32_t>(&value))
+        return {false, *number, ""};
+    return {false, std::get<std::uint64_t>(value), ""};
+}
+
+// Values of each kind, which several nodes share.
+bestore::Value value_of(Kind kind, unsigned at)
+{
+    static const char *const texts[] = {"", "a", "ab", "b", "\xc3\xa4"};
+    switch (kind) {
+    case Kind::int32:
+        return std::int32_t(at == 0 ? INT32_MIN : at == 1 ? -1 : INT32_MAX - 4 + std::int32_t(at));
+    case Kind::int64:
+        return std::int64_t(at == 0 ? INT64_MIN : at == 1 ? -1 : INT64_MAX - 4 + std::int64_t(at));
+    case Kind::uint32:
+        return std::uint32_t(at < 3 ? at : UINT32_MAX - 4 + at);
+    case Kind::uint64:
+        return std::uint64_t(at < 3 ? at : UINT64_MAX - 4 + at);
+    default:
+        return std::string(texts[at]);
+    }
+}
+
+const std::pair<const char *, Kind> kinds[] = {
+    {"text", Kind::string}, {"i32", Kind::int32}, {"i64", Kind::int64}, {"u32", Kind::uint32}, {"u64", Kind::uint64}};
+
+void set(bestore::Batch &batch, Node node, const char *name, const bestore::Value &value)
+{
+    std::visit([&](const auto &held) { batch.set(node, name, held); }, value);
+}
+
+// Makes a node with some values.
+void write(bestore::Pass &pass, std::mt19937 &chance)
+{
+    bestore::Batch batch;
+    const Node node = pass.new_node();
+    for (const auto &[name, kind] : kinds)
+        if (chance() % 3 > 0)
+            set(batch, node, name, value_of(kind, chance() % 5));
+    batch.set(node, "other", std::int64_t(chance() % 3));
+    pass.apply(batch);
+}
+
+// The whole answer in an order.
+Keys plain(bestore::Snapshot &snapshot, bestore::Prepared &query, const Order &order)
+{
+    Keys keys;
+    for (Node node : snapshot.query(query))
+        if (auto value = snapshot.get(node, order.name()))
+            keys.emplace_back(rank(*value), node);
+    std::sort(keys.begin(), keys.end());
+    if (order.is_descending())
+        std::reverse(keys.begin(), keys.end());
+    return keys;
+}
+
+// The page after a cursor that the whole answer has, and whether there is more.
+std::pair<std::vector<Node>, bool> cut(const Keys &keys, const Cursor &after, std::size_t most)
+{
+    std::vector<Node> nodes;
+    for (const auto &key : keys) {
+        if (after.node()) {
+            const Keys::value_type last{rank(*after.value()), *after.node()};
+            if (after.order().is_descending() ? key >= last : key <= last)
+                continue;
+        }
+        nodes.push_back(key.second);
+    }
+    const bool more = nodes.size() > most;
+    nodes.resize(std::min(nodes.size(), most));
+    return {nodes, more};
+}
+
+// All pages of a query in an order, with writes in between.
+void page_on(bestore::Pass &pass, std::mt19937 &chance, bestore::Prepared &query, const Order &order)
+{
+    Cursor after(query, order);
+    for (bool more = true; more;) {
+        const std::size_t most = std::size_t{1} << chance() % 7;
+        auto pin = pass.pin();
+        const auto page = pin.page(query, after, most);
+        const auto keys = plain(pin, query, order);
+        CHECK(std::pair(page.nodes, page.more) == cut(keys, after, most));
+        CHECK(page.cursor.node() == (page.nodes.empty() ? after.node() : Carried(page.nodes.back())));
+        std::vector<Node> all;
+        for (Node node : pin.ordered(query, after))
+            all.push_back(node);
+        CHECK(all == cut(keys, after, SIZE_MAX).first);
+        after = page.cursor;
+        more = page.more;
+        pin.unpin();
+        write(pass, chance);
+    }
+}
+
+void pages()
+{
+    bestore::Store pass;
+    std::mt19937 chance(5);
+    for (const auto &[name, kind] : kinds)
+        pass.make_index(name, kind);
+    pass.make_index("other", Kind::int64);
+    for (int i = 0; i < 100; i++)
+        write(pass, chance);
+    for (const char *text : {"other>=0", "other==1", "text==\"*a*\" || u64<2", "i32<0 && text!=b", "u32==3"}) {
+        bestore::Prepared query(text);
+        for (const auto &[name, kind] : kinds) {
+            page_on(pass, chance, query, Order(name));
+            page_on(pass, chance, query, Order(name).descending());
+        }
+    }
+}
+
+// The first nodes by number, and any.
+void parts()
+{
+    bestore::Store pass;
+    pass.make_index("size", Kind::int64);
+    for (std::int64_t size = 0; size < 300; size++)
+        pass.set(pass.new_node(), "size", size % 3);
+    auto pin = pass.pin();
+    bestore::Prepared query("size==1");
+    const auto all = pin.query(query);
+    for (std::size_t most : {std::size_t{1}, std::size_t{7}, std::size_t{100}, std::size_t{101}, SIZE_MAX}) {
+        const auto count = static_cast<std::ptrdiff_t>(std::min<std::size_t>(most, 100));
+        CHECK(pin.first(query, 0, most) == std::vector<Node>(all.begin(), all.begin() + count));
+        CHECK(pin.first(query, all[99], most) == std::vector<Node>(1, all[99]) && pin.first(query, all[99] + 1, most).empty());
+        auto any = pin.any(query, most);
+        std::sort(any.begin(), any.end());
+        CHECK(any.size() == static_cast<std::size_t>(count) && std::unique(any.begin(), any.end()) == any.end());
+        CHECK(std::includes(all.begin(), all.end(), any.begin(), any.end()));
+    }
+}
+
+void refusals()
+{
+    bestore::Store pass;
+    pass.make_index("size", Kind::int64);
+    pass.set(pass.new_node(), "size", std::int64_t{5});
+    bestore::Prepared query("size>0"), same("\"size\" > \"0\""), other("size>1"), uncovered("when>0");
+    auto pin = pass.pin();
+    const auto cursor = pin.page(query, Order("size"), 1).cursor;
+    CHECK(std::get<std::int64_t>(*cursor.value()) == 5 && cursor.node() == Carried(1) && cursor.order().name() == "size");
+    CHECK(pin.page(same, cursor, 1).nodes.empty());
+    refused(BES_BAD_CURSOR, [&] { pin.page(other, cursor, 1); });
+    refused(BES_NO_INDEX, [&] { pin.page(query, Order("when"), 1); });
+    refused(BES_NOT_COVERED, [&] { pin.page(uncovered, Order("size"), 1); });
+    refused(BES_NO_ROOM, [&] { pin.page(query, Order("size"), 0); });
+    refused(BES_NO_ROOM, [&] { pin.first(query, 0, 0); });
+    refused(BES_NO_ROOM, [&] { pin.any(query, 0); });
+    refused(BES_NAME_LENGTH, [&] { Order("").descending(); });
+    pin.unpin();
+    refused(BES_NOT_PINNED, [&] { pin.page(query, Order("size"), 1); });
+    pass.remove_index("size");
+    pass.make_index("size", Kind::string);
+    auto later = pass.pin();
+    refused(BES_BAD_CURSOR, [&] { later.page(query, cursor, 1); });
+}
+
+} // namespace
+
+int main()
+{
+    pages();
+    parts();
+    refusals();
+}

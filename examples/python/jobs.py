@@ -1,0 +1,46 @@
+"""A queue: workers claim one job each, by a change, until none is left. No two claim the same one."""
+
+import threading
+
+import bestore
+
+JOBS, WORKERS = 200, 4
+
+
+def claim(change):
+    """Claims the waiting job that is most urgent, and returns it, or None if there is none."""
+    found = change.query("job:state==waiting", by="job:urgency", descending=True, limit=1)
+    for job in found:
+        change[job]["job:state"] = "claimed"
+        return job
+    return None
+
+
+def work(store, claimed):
+    """Claims job after job."""
+    with store:
+        job = store.change(claim)
+        while job is not None:
+            claimed.append(job)
+            job = store.change(claim)
+
+
+def main():
+    with bestore.open() as store:
+        store.make_index("job:state", bestore.STRING)
+        store.make_index("job:urgency", bestore.INT64)
+        for number in range(JOBS):
+            job = store.new_node()
+            store.apply(bestore.Batch().set(job, "job:state", "waiting").set(job, "job:urgency", number % 10))
+        claimed = [[] for _ in range(WORKERS)]
+        threads = [threading.Thread(target=work, args=(store.another(), jobs)) for jobs in claimed]
+        for thread in threads:
+            thread.start()
+        for thread in threads:
+            thread.join()
+        jobs = sum(claimed, [])
+        print(len(jobs), len(set(jobs)))
+
+
+if __name__ == "__main__":
+    main()

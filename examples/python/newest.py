@@ -1,0 +1,39 @@
+"""The newest 20 letters of a mailbox, and then the next 20. A letter that comes in between moves no other one to another page."""
+
+import bestore
+
+
+def file_letters(store, first, count):
+    """Files letters to ann and bob in turn, one each minute."""
+    def file(change):
+        letter = change.new()
+        change[letter]["MAIL:to"] = "ann" if minute % 2 == 0 else "bob"
+        change[letter]["MAIL:when"] = 1_700_000_000 + 60 * minute
+        change[letter]["MAIL:subject"] = f"Letter {minute}"
+
+    for minute in range(first, first + count):
+        store.change(file)
+
+
+def show_page(store, after=None):
+    """Prints a page of ann's letters, and returns where the next one begins."""
+    with store.pin() as version:
+        rows = version.rows("MAIL:to==ann", ["MAIL:subject"], most=20, by="MAIL:when", descending=True, after=after)
+    subjects = [subject for _, (subject,) in rows]
+    print(f"{len(rows)} letters, {subjects[0]} to {subjects[-1]}{', and more' if rows.more else ''}")
+    return rows.cursor
+
+
+def main():
+    with bestore.open() as store:
+        store.make_index("MAIL:to", bestore.STRING)
+        store.make_index("MAIL:when", bestore.INT64)
+        file_letters(store, 0, 100)
+        cursor = show_page(store)
+        file_letters(store, 100, 1)
+        show_page(store, cursor)
+        show_page(store)
+
+
+if __name__ == "__main__":
+    main()
