@@ -314,7 +314,7 @@ impl<'a> Desk<'a> {
                 watches: WATCHES as u64,
             },
             volumes: view.volumes() as u32,
-            features: vec![wire::ORDER.into()],
+            features: wire::QUERY_FEATURES.map(String::from).to_vec(),
         };
         self.reply(id, &hello);
         Ok(())
