@@ -32,6 +32,8 @@ TEXTS = ("kind", "from", "to", "subject", "status")
 """The names of five attributes that have no index."""
 SIZES = 100
 """How many nodes have the same size."""
+SHOWN = 20
+"""How many rows a page has, of three columns each."""
 
 
 def name_of(node: int) -> str:
@@ -75,6 +77,12 @@ class Peer:
         """The nodes whose names contain a text."""
         raise NotImplementedError
 
+    def page(self, asked: Any) -> List[Tuple[Any, ...]]:
+        """The rows with the greatest sizes, or those after a place, by falling sizes and nodes."""
+        raise NotImplementedError
+
+    older = page
+
     def begin(self) -> None:
         """Begins to read."""
 
@@ -95,6 +103,10 @@ class Peer:
     def part(self, node: int) -> Any:
         return name_of(node)[-5:]
 
+    def place(self, size: int, node: int) -> Any:
+        """A place in the order of sizes."""
+        return size, node
+
 
 class Bestore(Peer):
     title = "bestore"
@@ -104,6 +116,7 @@ class Bestore(Peer):
         self._store = self._bestore.open(16384, 2)
         self._store.make_index("name", self._bestore.STRING)
         self._store.make_index("size", self._bestore.INT64)
+        self._all = self._bestore.prepare("size>=0")
         for node in range(1, nodes + 1):
             batch = self._bestore.Batch().new_node().set(node, "name", name_of(node)).set(node, "size", node % (nodes // SIZES))
             for text in TEXTS:
@@ -137,6 +150,16 @@ class Bestore(Peer):
     def five(self, asked: Any) -> List[List[str]]:
         version = self._version
         return version.columns(version.query_prepared(asked), TEXTS)  # type: ignore[no-any-return]
+
+    def page(self, asked: Any) -> List[Tuple[Any, ...]]:
+        rows = self._version.rows(self._all, TEXTS[:3], most=SHOWN, by="size", descending=True, after=asked)
+        return [(node, *values) for node, values in rows]
+
+    older = page
+
+    def place(self, size: int, node: int) -> Any:
+        order = self._bestore.Order("size", True)
+        return self._bestore.Cursor(order, self._all._check, self._bestore.INT64, size, node)
 
     def name(self, node: int) -> Any:
         return self._bestore.prepare(f"name=={name_of(node)}")
@@ -218,6 +241,27 @@ class Lmdb(Peer):
         cursor.first()
         return [int.from_bytes(key, "big") for name, key in cursor if part in name]
 
+    def page(self, asked: Any) -> List[Tuple[Any, ...]]:
+        get, cursor = self._reading.get, self._size_cursor
+        rows: List[Tuple[Any, ...]] = []
+        there = cursor.last() if asked is None else self._move_before(*asked)
+        while there and len(rows) < SHOWN:
+            key = cursor.value()
+            rows.append((int.from_bytes(key, "big"), *(get(key + name.encode()).decode() for name in TEXTS[:3])))
+            there = cursor.prev()
+        return rows
+
+    older = page
+
+    def _move_before(self, size: int, node: int) -> bool:
+        """Moves the cursor of sizes to the last place before this one."""
+        cursor = self._size_cursor
+        if cursor.set_range_dup(struct.pack(">q", size), struct.pack(">Q", node)):
+            return cursor.prev()  # type: ignore[no-any-return]
+        if cursor.set_range(struct.pack(">q", size + 1)):
+            return cursor.prev()  # type: ignore[no-any-return]
+        return cursor.last()  # type: ignore[no-any-return]
+
     def close(self) -> None:
         self._environment.close()
         shutil.rmtree(self._folder)
@@ -277,6 +321,15 @@ class Sqlite(Peer):
     def containing(self, asked: Any) -> List[int]:
         return self._column("SELECT node FROM value WHERE name = 'name' AND instr(value, ?) > 0", asked)
 
+    def page(self, asked: Any) -> List[Tuple[Any, ...]]:
+        columns = ", ".join(f"(SELECT value FROM value WHERE node = found.node AND name = '{text}')" for text in TEXTS[:3])
+        after = "" if asked is None else " AND (value, node) < (?, ?)"
+        line = (f"SELECT node, {columns} FROM value AS found WHERE name = 'size'{after} "
+                f"ORDER BY value DESC, node DESC LIMIT {SHOWN}")
+        return self._connection.execute(line, asked or ()).fetchall()
+
+    older = page
+
     def close(self) -> None:
         self._connection.close()
 
@@ -286,6 +339,7 @@ CASES: Dict[str, str] = {
     "get": "get", "set_plain": "set, not indexed", "set_size": "set, indexed", "by_name": "prepared query of 1 hit",
     "by_size": f"prepared query of {SIZES} hits", "kinds": f"{SIZES} hits with an attribute each",
     "five": f"5 attributes of {SIZES} hits", "containing": "contains, over all names",
+    "page": f"the {SHOWN} of the greatest sizes, with 3 attributes each", "older": f"{SHOWN} such after a place",
 }
 FEW, MANY = 100, 600
 """How many calls are made where instructions are counted."""
@@ -301,6 +355,10 @@ def asked_of(peer: Peer, case: str, nodes: int, count: int, chance: random.Rando
     if case in ("set_plain", "set_size"):
         most = sizes if case == "set_size" else 2**40
         return [(number, chance.randrange(most)) for number in numbers]
+    if case == "page":
+        return [(None,)] * count
+    if case == "older":
+        return [(peer.place(number % sizes, number),) for number in numbers]
     if case in ("by_name", "containing"):
         make = peer.name if case == "by_name" else peer.part
         return [(make(number),) for number in numbers]

@@ -208,6 +208,8 @@ run Python "${python[@]}" -m unittest discover -q -s ../python
 "${python[@]}" ../examples/python/first.py | cmp - <(echo "1 ann")
 "${python[@]}" ../bench/python.py --rounds 1 --nodes 100 --seconds 0.001 >"$work/said" 2>&1 ||
     { cat "$work/said" >&2; echo "bench/python.py: failed" >&2; exit 1; }
+"${python[@]}" ../bench/claims.py --rounds 1 --queued 500 --workers 2 >"$work/said" 2>&1 ||
+    { cat "$work/said" >&2; echo "bench/claims.py: failed" >&2; exit 1; }
 if [ -x $program ]; then
     run "the library and the program" "${python[@]}" ../python/alike.py $program
 else

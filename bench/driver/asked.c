@@ -42,6 +42,17 @@ static struct asked contains_from(uint64_t nodes, uint64_t *state) {
     return told("name==\"*%s*\" && size>=%llu", word, 10 * (number)below(state, nodes / 2));
 }
 
+static struct asked all_tenth(uint64_t *state) {
+    number from = below(state, 1000), tenth = below(state, 10);
+    return told("size>=-%llu && tenth==%llu", from, tenth);
+}
+
+static struct asked all_kind(uint64_t *state) {
+    number from = below(state, 1000);
+    struct text kind = kind_text(below(state, 8));
+    return told("size>=-%llu && kind==\"%.*s\"", from, (int)kind.length, kind.bytes);
+}
+
 struct asked text_of(enum shape shape, uint64_t nodes, uint64_t width, uint64_t *state) {
     switch (shape) {
     case ONE_NAME: return told("name==\"%05llu-document.txt\"", (number)below(state, nodes));
@@ -55,6 +66,10 @@ struct asked text_of(enum shape shape, uint64_t nodes, uint64_t width, uint64_t 
     case UNEQUAL: return unequal(below(state, nodes));
     case ANY_THREE: return any_three(nodes, state);
     case CONTAINS_FROM: return contains_from(nodes, state);
+    case NAME_TENTH: return told("name==\"0%llu*\"", (number)below(state, 10));
+    case ONE_END: return told("name==\"*%llu-document.txt\"", (number)below(state, 10));
+    case ALL_TENTH: return all_tenth(state);
+    case ALL_KIND: return all_kind(state);
     case ALL_SIZES: return told("size>=-%llu", (number)below(state, 1000));
     }
     exit(1);

@@ -16,6 +16,10 @@ enum shape {
     ANY_THREE,     /* three names of files, joined by `||` */
     CONTAINS_FROM, /* the names of files with a word in them, and sizes from one of the smaller half on */
     ALL_SIZES,     /* all sizes */
+    NAME_TENTH,    /* the names of a tenth of all nodes, by their front */
+    ONE_END,       /* the names of a tenth of all nodes, by their end */
+    ALL_TENTH,     /* all sizes, of a tenth of all nodes by a second number */
+    ALL_KIND,      /* all sizes, of an eighth of all nodes by what no index has */
 };
 
 struct asked {

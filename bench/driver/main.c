@@ -1,4 +1,4 @@
-/* The driver: `PEER writes|reads|indices|patterns|shared|held|mixed NODES`, `PEER import FILES`, `PEER sets NODES INDICES`,
+/* The driver: `PEER writes|reads|indices|patterns|order|shared|held|mixed NODES`, `PEER import FILES`, `PEER sets NODES INDICES`,
  * `PEER threads NODES MILLISECONDS`, `PEER open PAGES`, `PEER journal LISTS OPERATIONS`, `PEER pauses NODES COMMITS`.
  *
  * A fourth word, after a second number that may be 0, says how small a part of each case is done: 20 for a twentieth. A fifth
@@ -16,6 +16,7 @@ static int run(const char *workload, const struct data *data, uint64_t other) {
     else if (!strcmp(workload, "reads")) run_reads(data);
     else if (!strcmp(workload, "indices")) run_indices(data);
     else if (!strcmp(workload, "patterns")) run_patterns(data);
+    else if (!strcmp(workload, "order")) run_order(data);
     else if (!strcmp(workload, "shared")) run_shared(data);
     else if (!strcmp(workload, "import")) run_import(data);
     else if (!strcmp(workload, "sets")) run_sets(data, other);

@@ -44,6 +44,18 @@ size_t ask(struct pass *pass, struct query *query, uint64_t *nodes, size_t most)
 /* Any `most` of a query's nodes, in any order, where there are so many. How many there are. */
 size_t ask_some(struct pass *pass, struct query *query, uint64_t *nodes, size_t most);
 
+/* A place in an order: a number, or none in an order of texts, and a node. */
+struct place {
+    int64_t number;
+    uint64_t node;
+};
+
+/* A page: the first `most` nodes of a query by falling numbers, or texts, of a name that has an index, and then by falling nodes;
+ * those after a place, if there is one. `hits`: about how many nodes the query has, so that a peer may choose its way. A peer
+ * that has no orders leaves both out. */
+extern const bool has_order;
+size_t ask_page(struct pass *pass, struct query *query, struct text by, const struct place *after, uint64_t hits, uint64_t *nodes, size_t most);
+
 /* All attributes of each of some nodes, or of those that a query finds where a peer is faster so: numbers, and the lengths of
  * texts, summed up. */
 extern const bool has_attributes, has_joined_reads;

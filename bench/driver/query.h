@@ -31,6 +31,9 @@ struct query {
  * it anew, and fills `prepared` alone. */
 void parse(struct query *query, struct text text);
 
+/* Picks the comparison of a name, and those that bound a walk over its index. Whether there is one. */
+bool pick_name(struct query *query, struct text name);
+
 bool number_holds(const struct comparison *comparison, int64_t number);
 bool text_holds(const struct comparison *comparison, struct text text);
 

@@ -7,6 +7,7 @@ void run_writes(const struct data *data);
 void run_reads(const struct data *data);
 void run_indices(const struct data *data);
 void run_patterns(const struct data *data);
+void run_order(const struct data *data);
 void run_shared(const struct data *data);
 void run_mixed(const struct data *data);
 void run_import(const struct data *data);

@@ -155,6 +155,32 @@ size_t ask(struct pass *pass, struct query *query, uint64_t *nodes, size_t most)
     return count;
 }
 
+size_t ask_some(struct pass *pass, struct query *query, uint64_t *nodes, size_t most) {
+    uint64_t count;
+    must_do(bes_any(&pass->held, query->prepared, nodes, most, &count));
+    return count;
+}
+
+const bool has_order = true;
+
+static bes_cursor cursor_at(const struct place *after) {
+    bes_cursor cursor = {0, 0, {0}};
+    const bes_attribute number = {.code = BES_INT64_TYPE, .number = after ? (uint64_t)after->number : 0};
+    if (after) must_do(bes_cursor_at(&number, "", after->node, &cursor));
+    return cursor;
+}
+
+size_t ask_page(struct pass *pass, struct query *query, struct text by, const struct place *after, uint64_t hits, uint64_t *nodes, size_t most) {
+    bes_cursor cursor = cursor_at(after);
+    bes_name name;
+    uint64_t count;
+    uint32_t more;
+    (void)hits;
+    must_do(bes_check_name((const uint8_t *)by.bytes, by.length, &name));
+    must_do(bes_ordered(&pass->held, query->prepared, &name, 1, &cursor, nodes, most, &count, &more));
+    return count;
+}
+
 /* A number, or how long a text is; 0 where there is none. */
 static uint64_t weight_of(const bes_cell *cell) { return cell->code == BES_INT64_TYPE ? cell->number : cell->length; }
 

@@ -323,6 +323,27 @@ size_t ask_some(struct pass *pass, struct query *query, uint64_t *nodes, size_t 
     return step_through(pass, bound(pass, query), nodes, most, most);
 }
 
+const bool has_order = true;
+
+/* One statement for each form of query, with the order and the limit. */
+size_t ask_page(struct pass *pass, struct query *query, struct text by, const struct place *after, uint64_t hits, uint64_t *nodes, size_t most) {
+    static const char *const joined = "SELECT a.node FROM attribute a JOIN attribute o ON o.node = a.node AND o.name = 'size'";
+    bool is_picked = pick_name(query, by);
+    struct words words = words_of(query, is_picked ? nodes_selected : joined);
+    char table = is_picked ? 'a' : 'o';
+    int at = 1;
+    (void)hits;
+    if (after) add(&words, " AND (%c.value, %c.node) < (?%d, ?%d)", table, table, words.arguments + 1, words.arguments + 2);
+    add(&words, " ORDER BY %c.value DESC, %c.node DESC LIMIT %d", table, table, (int)most);
+    sqlite3_stmt *statement = kept_statement(pass, &words);
+    for (int i = 0; i < query->count; i++) bind_comparison(statement, &query->comparisons[i], &at);
+    if (after) {
+        sqlite3_bind_int64(statement, at++, after->number);
+        sqlite3_bind_int64(statement, at++, after->node);
+    }
+    return step_through(pass, statement, nodes, most, most);
+}
+
 /* One statement for the query and the attributes of what it finds: faster than one for each node. */
 uint64_t ask_joined(struct pass *pass, struct query *query) {
     struct words words = words_of(query, values_selected);

@@ -78,7 +78,7 @@ def measure(programs: dict[str, str], peak: str, rounds: int, milliseconds: int,
         results.loads.append(os.getloadavg()[0])
         for workload in all_workloads(most, milliseconds):
             for peer in peers:
-                if peer.has_threads or not workload.needs_threads:
+                if workload.fits(peer):
                     keep_workload(results, peer, workload, run([programs[peer.name], *workload.words()]))
         stop_on_other_answers(results)
         for peer in peers:

@@ -1,0 +1,154 @@
+#!/usr/bin/env python3
+"""How fast workers claim one job each from a queue, beside sqlite3 in memory, from Python: one table in Markdown.
+
+    /usr/bin/python3 bench/claims.py                          queues of 500, 2,000 and 16,000 jobs, one worker and eight
+    /usr/bin/python3 bench/claims.py --queued 500 --rounds 1  a trial
+
+It needs the package (PYTHONPATH=python). A claim reads a waiting job and marks it as claimed, as one: in bestore by `change`, with
+any job or with the most urgent one; in SQLite by one UPDATE with RETURNING. Jobs that were claimed are queued again between the
+rounds, so each round finds the queue as long. SQLite's connection is one for all workers, guarded by a lock.
+"""
+
+from __future__ import annotations
+
+import argparse
+import os
+import sqlite3
+import sys
+import threading
+import time
+from typing import Callable, Dict, List, Optional, Union
+
+sys.path.insert(0, os.path.join(os.path.dirname(os.path.abspath(__file__)), "..", "python"))
+
+import bestore
+
+CLAIMS = 400
+"""How many jobs are claimed in a round."""
+Claim = Callable[[], Optional[int]]
+
+
+class Bestore:
+    """Jobs as nodes. `claimers` are the ways to claim one."""
+
+    def __init__(self, queued: int) -> None:
+        self._store = bestore.open(16384)
+        self._store.make_index("job:state", bestore.STRING)
+        self._store.make_index("job:urgency", bestore.INT64)
+        for number in range(queued):
+            job = self._store.new_node()
+            self._store.apply(bestore.Batch().set(job, "job:state", "waiting").set(job, "job:urgency", number * 7919 % 1000))
+
+    def any_job(self) -> Claim:
+        """Claims by a pass of its own."""
+        return self._claim(lambda change, waiting: change.any(waiting, 1))
+
+    def urgent_job(self) -> Claim:
+        return self._claim(
+            lambda change, waiting: change.query_prepared(waiting, by="job:urgency", descending=True, limit=1))
+
+    def _claim(self, find: Callable[[bestore.Change, bestore.Prepared], List[int]]) -> Claim:
+        user, waiting = self._store.another(), bestore.prepare("job:state==waiting")
+
+        def claim(change: bestore.Change) -> Optional[int]:
+            found = find(change, waiting)
+            if not found:
+                return None
+            change.set(found[0], "job:state", "claimed")
+            return found[0]
+
+        return lambda: user.change(claim)
+
+    def queue_again(self, jobs: List[int]) -> None:
+        for job in jobs:
+            self._store.set(job, "job:state", "waiting")
+
+
+class Sqlite:
+    """Jobs as rows, with an index of state and urgency."""
+
+    def __init__(self, queued: int) -> None:
+        self._lock = threading.Lock()
+        self._connection = sqlite3.connect(":memory:", isolation_level=None, check_same_thread=False)
+        self._connection.execute("CREATE TABLE job (number INTEGER PRIMARY KEY, state TEXT, urgency INTEGER)")
+        self._connection.execute("CREATE INDEX jobs ON job (state, urgency)")
+        rows = [("waiting", number * 7919 % 1000) for number in range(queued)]
+        self._connection.executemany("INSERT INTO job (state, urgency) VALUES (?, ?)", rows)
+
+    def any_job(self) -> Claim:
+        return self._claim("")
+
+    def urgent_job(self) -> Claim:
+        return self._claim("ORDER BY urgency DESC, number DESC")
+
+    def _claim(self, order: str) -> Claim:
+        line = ("UPDATE job SET state = 'claimed' WHERE number = "
+                f"(SELECT number FROM job WHERE state = 'waiting' {order} LIMIT 1) RETURNING number")
+
+        def claim() -> Optional[int]:
+            with self._lock:
+                rows = self._connection.execute(line).fetchall()
+            return rows[0][0] if rows else None
+
+        return claim
+
+    def queue_again(self, jobs: List[int]) -> None:
+        self._connection.executemany("UPDATE job SET state = 'waiting' WHERE number = ?", [(job,) for job in jobs])
+
+
+def work(claim: Claim, count: int, begin: threading.Barrier, claimed: List[int]) -> None:
+    """Claims so many jobs, once all workers are there."""
+    begin.wait()
+    for _ in range(count):
+        job = claim()
+        if job is None:
+            return
+        claimed.append(job)
+
+
+def rate(claims: List[Claim], queue_again: Callable[[List[int]], None]) -> float:
+    """How many jobs these workers claim in a second."""
+    begin = threading.Barrier(len(claims) + 1)
+    claimed: List[List[int]] = [[] for _ in claims]
+    workers = [threading.Thread(target=work, args=(claim, CLAIMS // len(claims), begin, jobs)) for claim, jobs in zip(claims, claimed)]
+    for worker in workers:
+        worker.start()
+    begin.wait()
+    begun = time.perf_counter()
+    for worker in workers:
+        worker.join()
+    taken = time.perf_counter() - begun
+    jobs = [job for some in claimed for job in some]
+    if len(set(jobs)) != CLAIMS:
+        sys.exit(f"{len(jobs)} claims of {len(set(jobs))} jobs, and not of {CLAIMS}")
+    queue_again(jobs)
+    return CLAIMS / taken
+
+
+def measured(queued: int, workers: int, rounds: int) -> Dict[str, float]:
+    """The best rate of each way to claim."""
+    best: Dict[str, float] = {}
+    stores: Dict[str, Union[Bestore, Sqlite]] = {"bestore": Bestore(queued), "sqlite3": Sqlite(queued)}
+    for title, store in stores.items():
+        for way in ("any_job", "urgent_job"):
+            claims = [getattr(store, way)() for _ in range(workers)]
+            best[f"{title} {way}"] = max(rate(claims, store.queue_again) for _ in range(rounds))
+    return best
+
+
+def main() -> None:
+    parser = argparse.ArgumentParser(description=__doc__, formatter_class=argparse.RawDescriptionHelpFormatter)
+    parser.add_argument("--rounds", type=int, default=5, help="how many rounds (5)")
+    parser.add_argument("--queued", type=int, nargs="*", default=[500, 2_000, 16_000], help="how many jobs wait")
+    parser.add_argument("--workers", type=int, nargs="*", default=[1, 8], help="how many workers there are")
+    options = parser.parse_args()
+    print("| queued, workers | bestore: any | sqlite3: any | bestore: most urgent | sqlite3: most urgent |\n|---|---|---|---|---|")
+    for workers in options.workers:
+        for queued in options.queued:
+            best = measured(queued, workers, options.rounds)
+            cells = [best[f"{title} {way}"] for way in ("any_job", "urgent_job") for title in ("bestore", "sqlite3")]
+            print(f"| {queued:,}, {workers} | " + " | ".join(f"{it:,.0f}" for it in cells) + " |", flush=True)
+
+
+if __name__ == "__main__":
+    main()
