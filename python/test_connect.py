@@ -22,6 +22,7 @@ import test_changes
 import test_fork
 import test_language
 import test_native
+import test_ordered
 from bestore import _connection, connected
 from servers import BESTORED, PATIENCE, OverServer, Server
 
@@ -63,6 +64,7 @@ for _module, _names in [
     (test_language, "Patterns Covered Counts Hints NoTexts"),
     (test_fork, "Forks"),
     (test_native, "Columns"),
+    (test_ordered, "Parts Threads"),
 ]:
     for _name in _names.split():
         _made = over_server(getattr(_module, _name))

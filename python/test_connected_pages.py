@@ -212,6 +212,25 @@ class RandomPages(OfServer):
             if chance.randrange(20) == 0:
                 self.restart()
 
+    def test_cursors_of_no_page(self):
+        """A position may be one at which no node is, or none could be."""
+        for _ in range(60):
+            self.write()
+        for _ in range(150):
+            order = pages.Order(self.chance.choice(list(KINDS)), bool(self.chance.randrange(2)))
+            kind, query = KINDS[order.by], self.chance.choice(QUERIES)
+            with bestore.prepare(query) as prepared:
+                check = prepared._check
+            node = self.chance.choice([0, 1, 10**14 - 1, 10**14, 3 * 10**14 + 1, 2**53, 2**64 - 1, *self.nodes])
+            cursor = pages.Cursor(order, check, kind, value_of(self.chance, kind), node)
+            with self.store.pin() as version:
+                page = version.query(query, by=order.by, descending=order.descending, limit=20, after=cursor)
+                plain = Version._page_of(version, query, order, cursor, 20)
+                self.assertEqual((page, page.more, page.cursor), (plain, plain.more, plain.cursor), f"{self.said} {query} {cursor!r}")
+                other = bestore.UINT32 if kind != bestore.UINT32 else bestore.INT64
+                with self.assertRaisesRegex(BadCursor, "begin without a cursor"):
+                    version.query(query, by=order.by, descending=order.descending, after=pages.Cursor(order, check, other, 7, node))
+
     def test_beside_the_plain_way(self):
         for _ in range(120):
             self.write()

@@ -19,7 +19,6 @@ MOST_NAMES = 64
 """The names of a request for columns."""
 _ALL = 2**64 - 1  # nodes, or more than any store has
 _MOST_OF_A_PAGE = 50_000  # nodes of a reply
-_ORDER = "order"  # of the features of a server
 
 
 class QueriedVersion(Version):
@@ -34,10 +33,9 @@ class QueriedVersion(Version):
     def _ask(self, command: str, parameters: JSON, read: Callable[[JSON], _Result], query: Optional[str] = None) -> _Result:
         """Makes a call on the pass while it has this pin."""
 
-    @property
-    def _can_order(self) -> bool:
-        """Whether the server has pages in an order, any nodes, and pages that aren't counted."""
-        return _ORDER in self._features
+    def _takes(self, parameter: str) -> bool:
+        """Whether the server takes this parameter of a query, as older ones don't."""
+        return parameter in self._features
 
     def _ask_query(self, command: str, asked: Query, text: str, others: JSON, read: Callable[[JSON], _Result]) -> _Result:
         """Asks something of a query. `text` is what is sent for it."""
@@ -67,12 +65,12 @@ class QueriedVersion(Version):
         parameters: JSON = {"from": first} if first else {}
         if limit < _ALL:
             parameters["limit"] = min(limit - had, _MOST_OF_A_PAGE)
-        if parameters and self._can_order:
+        if parameters and self._takes("uncounted"):
             parameters["uncounted"] = True
         return parameters
 
     def _any_of(self, asked: Query, limit: int) -> List[int]:
-        if limit > _MOST_OF_A_PAGE or not self._can_order:
+        if limit > _MOST_OF_A_PAGE or not self._takes("any"):
             return self._first_of(asked, 0, limit)
         return self._ask_query("query", asked, _text_of(asked), {"any": limit}, lambda ok: read_nodes(ok["nodes"]))
 
@@ -91,12 +89,12 @@ class QueriedVersion(Version):
         return rows
 
     def _page_of(self, asked: Asked, order: Order, after: Optional[Cursor], limit: Optional[int]) -> Page[int]:
-        if not self._can_order:
+        if not self._takes("by"):
             return super()._page_of(asked, order, after, limit)
         return self._pages(asked, order, after, limit, {}, lambda ok: read_nodes(ok["nodes"]))
 
     def _page_of_rows(self, query: Asked, names: List[str], order: Order, after: Optional[Cursor], most: int) -> Page[Row]:
-        if not self._can_order or len(names) > MOST_NAMES:
+        if not self._takes("by") or len(names) > MOST_NAMES:
             return super()._page_of_rows(query, names, order, after, most)
         for name in names:
             encoded(name)

@@ -89,8 +89,8 @@ class Server(NamedTuple):
     volumes: int = 1
     """How many volumes there are. `pages` and `commits` are of each."""
     features: Tuple[str, ...] = ()
-    """What the server has that older ones lack. With `order` it finds pages in the order of an index; otherwise they are cut here
-    from the whole answer."""
+    """What the server takes that older ones don't, such as the parameter `by` of a query. If it doesn't take that, pages in an order are
+    cut here from the whole answer."""
 
 
 def _read_server(hello: JSON) -> Tuple[Server, int]:

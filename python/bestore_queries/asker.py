@@ -360,11 +360,11 @@ class Asker(threading.Thread):
             self._has_news = True
 
     def _report_first(self, session: Session, ask: Ask, begin: Optional[Begin]) -> List[Hit]:
-        """Reads the first hits in an order, and reports them. At an error there are none: the window sorts all hits when it has
+        """Reads the first hits in an order, and reports them. At an error it reports none: the window sorts all hits when it has
         them."""
         if begin is None:
             return []
-        names, (by, descending) = _names(ask), begin.order
+        names, (by, descending), hits = _names(ask), begin.order, []  # type: List[str], Order, List[Hit]
         try:
             with session.user.pin() as version:
                 rows = version.rows(ask.text, names, most=begin.most, by=by, descending=descending)
@@ -372,7 +372,7 @@ class Asker(threading.Thread):
         except bestore.BrokenConnection:
             raise
         except bestore.Error:
-            return []
+            pass
         self._report(First(ask.turn, begin.order, hits))
         return hits
 

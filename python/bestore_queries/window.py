@@ -49,10 +49,11 @@ class Window:
         self._fault: Optional[typed_query.Fault] = None
         self._hints: List[bestore.Hint] = []
         self._turn, self._is_answered = 0, False
+        self._awaits_first = False  # whether first hits were asked for that haven't come
         self._count: Optional[Counted] = None
         self._is_open, self._lost = False, ""
         self._openings: List[Opening] = []
-        self._is_ended = False
+        self._is_ended, self._next_step = False, ""
         theme.apply(root)
         self._build_head()
         self._build_foot()
@@ -162,7 +163,9 @@ class Window:
             self._typed, self._fault = typed_query.TypedQuery(text, "", ()), error.fault
         self._show_columns()
         if self._is_open and self._fault is None:
-            self._asker.send(Ask(self._turn, self._typed.sent, [it.attribute for it in self._columns()], self._begin()))
+            begin = self._begin()
+            self._asker.send(Ask(self._turn, self._typed.sent, [it.attribute for it in self._columns()], begin))
+            self._await_first(begin)
         self._tell_query()
         self._tell_state()
 
@@ -178,6 +181,7 @@ class Window:
         begin = self._begin()
         if begin is not None and self._is_answered:
             self._asker.send(Sort(self._turn, begin))
+            self._await_first(begin)
         self.list.show_order()
         self.list.paint()
 
@@ -188,6 +192,18 @@ class Window:
         if not columns.is_number(self._indices.get(attribute)):
             return None
         return Begin(Order(attribute, self.hits.will_be_turned), 2 * self.list.room)
+
+    def _await_first(self, begin: Optional[Begin]) -> None:
+        """Looks for reports at short intervals until the first hits come, if they were asked for."""
+        self._awaits_first = begin is not None
+        if self._awaits_first:
+            self._look_after(BUSY_PAUSE)
+
+    def _look_after(self, milliseconds: int) -> None:
+        """Looks for reports next after this time."""
+        if self._next_step:
+            self.root.after_cancel(self._next_step)
+        self._next_step = self.root.after(milliseconds, self._step)
 
     def open(self, hits: List[Hit]) -> None:
         """Opens files by the programs that the desktop has for them."""
@@ -242,7 +258,7 @@ class Window:
 
     def _step(self) -> None:
         """Takes reports for a short time, and goes on as long as the window is there."""
-        end, is_busy, is_changed = time.monotonic() + BUDGET, self.hits.is_sorting, False
+        end, is_busy, is_changed = time.monotonic() + BUDGET, self.hits.is_sorting or self._awaits_first, False
         while time.monotonic() < end:
             try:
                 report = self._asker.reports.get_nowait()
@@ -257,7 +273,7 @@ class Window:
             self._tell_state()
         self._look_at_openings()
         self._show_notice()
-        self._next_step = self.root.after(BUSY_PAUSE if is_busy else IDLE_PAUSE, self._step)
+        self._look_after(BUSY_PAUSE if is_busy else IDLE_PAUSE)
 
     def _take(self, report: Report) -> None:
         if isinstance(report, (Opened, Lost)):
@@ -282,6 +298,8 @@ class Window:
         self._offer_attributes()
 
     def _take_answer(self, report: Union[Accepted, Refused, Named, First, Came, Went, Counted]) -> None:
+        if isinstance(report, (First, Accepted, Refused)):
+            self._awaits_first = False
         if isinstance(report, (First, Came)):
             for hit in report.hits:
                 self.hits.put(hit)
@@ -304,7 +322,7 @@ class Window:
 
     def _take_nothing(self) -> None:
         """There is no answer, so nothing is shown."""
-        self._is_answered, self._count = False, None
+        self._is_answered, self._awaits_first, self._count = False, False, None
         self.hits.clear()
         self.list.clear()
 

@@ -121,7 +121,7 @@ class Asking(unittest.TestCase):
         self.file("a")
         self.start("size==1", begin=Begin(Order("none"), 2))
         self.becomes("a")
-        self.assertEqual(self.firsts(), [])
+        self.assertEqual(self.firsts(), [[]])
 
     def test_more_than_the_journal_is_read_for(self) -> None:
         """After many writes all hits are read again."""

@@ -362,7 +362,8 @@ impl Client {
         Ok(self.greeted(hello))
     }
 
-    /// Whether the server has said by [`hello`](Self::hello) that it has this, such as [`wire::ORDER`].
+    /// Whether the server has said by [`hello`](Self::hello) that it has this: one of its `features`, such as
+    /// `by` for pages in an order.
     #[must_use]
     pub fn has(&self, feature: &str) -> bool {
         self.features.iter().any(|it| it == feature)
@@ -508,7 +509,7 @@ impl Client {
             columns: (!columns.is_empty()).then_some(wire::Columns(columns)),
             limit: query.limit,
             from: query.from,
-            uncounted: query.uncounted && self.has(wire::ORDER),
+            uncounted: query.uncounted && self.has("uncounted"),
             ..wire::Query::default()
         }))
     }

@@ -23,7 +23,7 @@ use std::time::Instant;
 pub const WATCHES: usize = 32;
 
 /// What the server knows beyond the first version of the protocol.
-const FEATURES: [&str; 7] = [wire::ORDER, "token", "run", "collect", "info", "clients", "kick"];
+const FEATURES: [&str; 6] = ["token", "run", "collect", "info", "clients", "kick"];
 
 /// How many bytes of replies are collected before they are sent.
 const COLLECTED: usize = 1 << 16;
@@ -315,7 +315,7 @@ impl<'a> Desk<'a> {
                 watches: WATCHES as u64,
             },
             volumes: view.volumes() as u32,
-            features: FEATURES.iter().map(|name| name.to_string()).collect(),
+            features: wire::QUERY_FEATURES.iter().chain(&FEATURES).map(|name| name.to_string()).collect(),
         };
         self.reply(id, &hello);
         Ok(())

@@ -8,7 +8,7 @@ use serde::Serialize;
 use std::collections::VecDeque;
 
 /// How many queries of a connection stay parsed.
-const KEPT: usize = 8;
+const KEPT: usize = 4;
 
 /// The queries that a connection has asked last, the last one first.
 #[derive(Debug, Default)]
@@ -147,16 +147,13 @@ fn most_of(name: &str, nodes: u64) -> Result<usize, Failure> {
 }
 
 impl Parsed {
-    /// Asks, and says at an error where in the text it is.
+    /// Asks. At an error of the query it is that of the text, which says where in the text it is.
     fn ask<T>(
         &self,
         snapshot: &ShelfSnapshot<'_>,
         ask: impl FnOnce(&Prepared) -> Result<T, Error>,
     ) -> Result<T, Failure> {
-        ask(&self.prepared).map_err(|error| match error {
-            Error::Query(_) => snapshot.explain(&self.text).err().unwrap_or(error).into(),
-            error => error.into(),
-        })
+        ask(&self.prepared).map_err(|error| snapshot.explain(&self.text).err().unwrap_or(error).into())
     }
 
     fn count(&self, snapshot: &ShelfSnapshot<'_>, query: &wire::Query<'_>) -> Result<wire::Hits, Failure> {

@@ -166,9 +166,10 @@ fn a_cursor_of_an_index_that_was_made_anew() {
 fn the_server_says_that_it_orders() {
     let (_folder, server) = start(&[]);
     let mut client = server.client();
-    assert!(!client.has(wire::ORDER));
-    assert_eq!(client.hello().unwrap().features, [wire::ORDER]);
-    assert!(client.has(wire::ORDER));
+    let has_all = |client: &Client| wire::QUERY_FEATURES.iter().all(|name| client.has(name));
+    assert!(!has_all(&client));
+    client.hello().unwrap();
+    assert!(has_all(&client) && !client.has("none"));
 }
 
 /// Pages of a snapshot that was taken back have an error, as other reads have it, and pages of a pinned one stay in it.

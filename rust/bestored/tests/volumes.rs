@@ -1,7 +1,7 @@
 //! Servers with several volumes.
 
 use crate::common::{command, wait_until, Folder, Server, PATIENCE};
-use bestore::{Batch, Kind, Node};
+use bestore::{Batch, Kind, Node, Order};
 use bestore_client::wire::{self, Command, Push};
 use bestore_client::{Client, ErrorName, Query};
 use std::collections::BTreeSet;
@@ -271,12 +271,21 @@ fn a_volume_without_an_index_is_named() {
     let (_folder, server) = sizes("2");
     let mut client = server.client();
     client.apply_in(1, Batch::new().make_index("name", Kind::Text)).unwrap();
-    let refused = client.query("name==a").unwrap_err();
+    for query in ["size==1||(name==a)", "size==1 || ( name==b )"] {
+        let refused = client.query(query).unwrap_err();
+        let refusal = refused.refusal().unwrap();
+        assert_eq!(
+            (
+                refusal.name.as_str(),
+                refusal.number_of("volume"),
+                refusal.number_of("offset")
+            ),
+            ("NotCovered", Some(0), query.find("name").map(|at| at as u64))
+        );
+    }
+    let refused = client.page("size==1", &Order::by("name"), None, 1).unwrap_err();
     let refusal = refused.refusal().unwrap();
-    assert_eq!(
-        (refusal.name.as_str(), refusal.number_of("volume")),
-        ("NotCovered", Some(0))
-    );
+    assert_eq!((refusal.name.as_str(), refusal.number_of("volume")), ("NoIndex", Some(0)));
     let indices: wire::Indices = client.call(Command::Indices(wire::Nothing {})).unwrap();
     assert_eq!((indices.indices.len(), &indices.partial["name"]), (1, &vec![1]));
     client.apply(Batch::new().make_index("name", Kind::Text)).unwrap();

@@ -34,8 +34,8 @@ pub fn several(numbers: &[u64]) -> Vec<u64> {
 /// The version of the protocol.
 pub const PROTOCOL: u64 = 1;
 
-/// The name in `features` of answers in the order of an index, of any nodes, and of pages that aren't counted.
-pub const ORDER: &str = "order";
+/// The parameters of `query` that the first servers of this protocol refuse. The `features` of a server name those that it takes.
+pub const QUERY_FEATURES: [&str; 3] = ["by", "any", "uncounted"];
 
 /// The most nodes of a line.
 pub const NODES: usize = 50_000;
