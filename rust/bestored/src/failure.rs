@@ -51,6 +51,11 @@ impl Failure {
         Self::new("Expired", "the snapshot was kept too long, and the server took it back")
     }
 
+    /// Whether a snapshot was taken back.
+    pub fn is_expired(&self) -> bool {
+        self.0.name == "Expired"
+    }
+
     /// The server doesn't have an entry yet.
     #[cfg(feature = "log")]
     pub fn not_reached(expected: u64, found: u64) -> Self {
