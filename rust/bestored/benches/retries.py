@@ -31,10 +31,22 @@ LIFE = 1.5
 """How many seconds a server lives at most."""
 
 
+def connect(socket: str) -> bestore.connected.ConnectedPass:
+    """Connects to a server that may be killed just now."""
+    until = time.monotonic() + PATIENCE
+    while True:
+        try:
+            return bestore.connect(socket, repeat=PATIENCE)
+        except (bestore.NoServer, bestore.connected.BrokenConnection, bestore.NoPass):
+            if time.monotonic() > until:
+                raise
+            time.sleep(0.005)
+
+
 def write(socket: str, node: int, count: int) -> int:
     """Writes batches, each once. Returns how many replies came."""
     last = 0
-    with bestore.connect(socket, repeat=PATIENCE) as store:
+    with connect(socket) as store:
         for number in range(1, count + 1):
             batch = Batch()
             batch.new_node()
@@ -56,15 +68,7 @@ class Server:
 
     def start(self) -> None:
         self._process = subprocess.Popen(self._command, stderr=subprocess.DEVNULL)
-        until = time.monotonic() + PATIENCE
-        while True:
-            try:
-                bestore.connect(self.socket).close()
-                return
-            except (bestore.NoServer, bestore.connected.BrokenConnection, bestore.NoPass):
-                if time.monotonic() > until or self._process.poll() is not None:
-                    raise
-                time.sleep(0.005)
+        connect(self.socket).close()
 
     def kill(self) -> None:
         self._process.kill()
