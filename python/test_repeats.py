@@ -22,7 +22,11 @@ class Repeats(unittest.TestCase):
         self.server.start()
 
     def connect(self, repeat=PATIENCE):
-        return self.server.connect(repeat=repeat)
+        while True:
+            try:
+                return self.server.connect(repeat=repeat)
+            except connected.Disconnected:
+                pass  # the server was killed before it had answered
 
     def test_each_write_is_made_once(self):
         """Four threads write by `apply` and by `change`, and the server is killed six times."""

@@ -3,7 +3,6 @@
 use crate::command_line::Backup as Line;
 use crate::failure::Failure;
 use crate::output::Output;
-use crate::server::collect;
 use crate::state::{each_batch, volumes, Shown};
 use bestore::saved::Backup;
 use bestore::Batch;
@@ -14,7 +13,7 @@ use bestore_client::{Client, Error};
 pub fn make(client: &mut Client, line: &Line, output: &mut Output) -> Result<(), Failure> {
     let hello = client.hello()?;
     let mut backup = Backup::create(&line.file, hello.volumes)?;
-    let snapshot = collect(client)?;
+    let snapshot = client.collect()?;
     let (mut about, mut count) = (Vec::new(), 0);
     for volume in volumes(&hello) {
         about.push(each_batch(client, volume, |batch| {
@@ -51,7 +50,7 @@ fn flush(client: &mut Client, hello: &Hello) -> Result<(), Error> {
 /// Prints a snapshot.
 pub fn dump(client: &mut Client, output: &mut Output) -> Result<(), Failure> {
     let hello = client.hello()?;
-    let snapshot = collect(client)?;
+    let snapshot = client.collect()?;
     let mut batches = Vec::new();
     for volume in volumes(&hello) {
         each_batch(client, volume, |batch| {

@@ -3,7 +3,7 @@
 use crate::command_line::ServerOptions;
 use crate::failure::{complain, message, Failure};
 use bestore::Batch;
-use bestore_client::wire::{Command, Indices, Next, Nothing};
+use bestore_client::wire::{Command, Indices, Nothing};
 use bestore_client::{Client, Error, ErrorName, Options, SocketPath};
 use std::collections::BTreeMap;
 
@@ -110,19 +110,6 @@ fn apply_one_by_one(client: &mut Client, nodes: &[u64], add: impl Fn(&mut Batch,
 /// Reports why something failed for a node.
 pub fn report(node: u64, why: &str) {
     complain(&format!("node {node}: {why}"));
-}
-
-/// Has the server copy its current snapshot, which `state` then reads. If the server takes the snapshot back before that is done, it is
-/// tried again.
-pub fn collect(client: &mut Client) -> Result<Next, Failure> {
-    let mut left = SNAPSHOTS;
-    loop {
-        left -= 1;
-        match client.call(Command::Collect(Nothing {})) {
-            Err(error) if error.is(ErrorName::Expired) && left > 0 => {}
-            answer => return Ok(answer?),
-        }
-    }
 }
 
 /// Runs the closure while the client keeps one snapshot. If the server takes that back, the closure runs again on the next one.

@@ -450,6 +450,14 @@ impl Client {
         self.call(Command::Next(Nothing {}))
     }
 
+    /// Has the server copy the snapshot, so that the command `state` reads it without a pin.
+    ///
+    /// # Errors
+    /// As `call`.
+    pub fn collect(&mut self) -> Result<wire::Next> {
+        self.call(Command::Collect(Nothing {}))
+    }
+
     /// Gives the snapshot back.
     ///
     /// # Errors

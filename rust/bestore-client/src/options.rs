@@ -96,6 +96,8 @@ impl Options {
         loop {
             match self.connect_once(&socket) {
                 Err(Error::Io(error)) if may_start(&error) && Instant::now() < until => thread::sleep(AGAIN),
+                // It has ended before it could say which run it is.
+                Err(Error::Closed) if self.repeat.is_some() && Instant::now() < until => thread::sleep(AGAIN),
                 answer => return answer,
             }
         }

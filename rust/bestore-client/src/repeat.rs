@@ -88,10 +88,11 @@ impl Client {
 
     /// Writes once: with a token, if it may have to be sent again.
     pub(crate) fn write_until(&mut self, mut write: wire::Write, until: Option<Instant>) -> Result<wire::Written> {
-        if until.is_some() {
-            write.token = new_token();
-            write.run = write.expected.as_ref().and(self.run.clone());
+        if until.is_none() {
+            return self.call(Command::Batch(write));
         }
+        write.token = new_token();
+        write.run = write.expected.as_ref().and(self.run.clone());
         loop {
             match self.call(Command::Batch(write.clone())) {
                 Err(error) if self.may_repeat(&error, until) => {}

@@ -1,7 +1,7 @@
 //! The answers to requests.
 
 use crate::clients::Client;
-use crate::copy::Copy;
+use crate::copy::{self, Copy};
 use crate::failure::Failure;
 use crate::info;
 use crate::outbox::Outbox;
@@ -335,12 +335,7 @@ impl<'a> Desk<'a> {
     /// Copies what reads see, so that `state` can read it without a snapshot.
     fn collect(&mut self, view: &mut View<'_, '_>) -> Result<wire::Next, Failure> {
         self.copy = None;
-        let Shared { copies, pressure, .. } = self.shared;
-        let since = view.since().unwrap_or_else(Instant::now);
-        let (copy, next) = view.read(|snapshot| {
-            let copy = copies.make(snapshot, || pressure.is_over(since))?;
-            Ok((copy, volumes::next(snapshot)?))
-        })?;
+        let (copy, next) = copy::collect(self.shared, view)?;
         self.copy = Some(copy);
         Ok(next)
     }

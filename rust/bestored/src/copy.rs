@@ -1,13 +1,19 @@
 //! Copies of snapshots: what `state` reads after `collect`. A client may read one slowly, as it keeps no pages of the store.
 
+use crate::answer::View;
 use crate::failure::Failure;
 use crate::page::{self, Room};
+use crate::server::Shared;
 use bestore::{Batch, ShelfSnapshot};
 use bestore_client::wire::{self, ErrorName, ShownOperations};
 use std::sync::atomic::{AtomicUsize, Ordering};
+use std::time::Instant;
 
 /// How many copies there may be at the same time, of all clients. Each takes up to as much memory as the pages of the store.
 const MOST: usize = 2;
+
+/// How often a volume is copied again after its snapshot was taken back.
+const TRIES: u32 = 5;
 
 /// Counts the copies that there are.
 #[derive(Debug, Default)]
@@ -35,27 +41,6 @@ impl Drop for Copy<'_> {
 }
 
 impl Copies {
-    /// Copies the snapshot, unless that `is_over` before its end.
-    pub fn make(&self, snapshot: &ShelfSnapshot<'_>, is_over: impl Fn() -> bool) -> Result<Copy<'_>, Failure> {
-        let mut copy = self.begin()?;
-        for volume in 0..snapshot.volumes().len() as u32 {
-            let of_volume = snapshot.volume(volume)?;
-            let mut batches = Vec::new();
-            for batch in of_volume.state() {
-                if is_over() {
-                    return Err(Failure::expired());
-                }
-                batches.push(batch?.to_bytes()?);
-            }
-            copy.volumes.push(Volume {
-                commit: of_volume.number(),
-                next: snapshot.next_node(volume)?,
-                batches,
-            });
-        }
-        Ok(copy)
-    }
-
     fn begin(&self) -> Result<Copy<'_>, Failure> {
         let take = |count| (count < MOST).then(|| count + 1);
         match self.0.fetch_update(Ordering::Relaxed, Ordering::Relaxed, take) {
@@ -71,7 +56,58 @@ impl Copies {
     }
 }
 
+/// Copies what reads see. If nothing is pinned, each volume is copied from a snapshot of its own, which it keeps for a shorter time, and
+/// tried again if that is taken back.
+pub fn collect<'a>(shared: &'a Shared, view: &mut View<'_, '_>) -> Result<(Copy<'a>, wire::Next), Failure> {
+    let mut copy = shared.copies.begin()?;
+    for volume in 0..view.volumes() as u32 {
+        let mut left = TRIES;
+        loop {
+            let pinned = view.since();
+            let since = pinned.unwrap_or_else(Instant::now);
+            let is_over = || shared.pressure.is_over(since);
+            match view.read(|snapshot| copy.add(snapshot, volume, is_over)) {
+                Err(failure) if failure.is_expired() && pinned.is_none() && left > 0 => left -= 1,
+                Err(failure) => return Err(failure),
+                Ok(()) => break,
+            }
+        }
+    }
+    let next = copy.next(view.roomiest()?);
+    Ok((copy, next))
+}
+
 impl Copy<'_> {
+    /// Copies a volume, unless its snapshot `is_over` before that is done.
+    fn add(&mut self, snapshot: &ShelfSnapshot<'_>, volume: u32, is_over: impl Fn() -> bool) -> Result<(), Failure> {
+        let of_volume = snapshot.volume(volume)?;
+        let mut batches = Vec::new();
+        for batch in of_volume.state() {
+            if is_over() {
+                return Err(Failure::expired());
+            }
+            batches.push(batch?.to_bytes()?);
+        }
+        self.volumes.push(Volume {
+            commit: of_volume.number(),
+            next: snapshot.next_node(volume)?,
+            batches,
+        });
+        Ok(())
+    }
+
+    /// The numbers of the copy. New nodes are made in the volume with the most free pages.
+    fn next(&self, roomiest: u32) -> wire::Next {
+        let commits: Vec<u64> = self.volumes.iter().map(|volume| volume.commit).collect();
+        let nexts: Vec<u64> = self.volumes.iter().map(|volume| volume.next).collect();
+        wire::Next {
+            commit: commits.iter().sum(),
+            commits: wire::several(&commits),
+            next: nexts.get(roomiest as usize).copied().unwrap_or_default(),
+            nexts: wire::several(&nexts),
+        }
+    }
+
     /// A page of the batches of a volume.
     pub fn page(&self, from: &wire::From) -> Result<wire::State, Failure> {
         let asked = page::volume(from.volume, self.volumes.len())?;

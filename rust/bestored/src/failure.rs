@@ -53,6 +53,11 @@ impl Failure {
         Self::named(ErrorName::Expired)
     }
 
+    /// Whether a snapshot was taken back.
+    pub fn is_expired(&self) -> bool {
+        self.0.name == "Expired"
+    }
+
     /// The server doesn't have an entry yet.
     #[cfg(feature = "log")]
     pub fn not_reached(expected: u64, found: u64) -> Self {

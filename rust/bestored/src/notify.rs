@@ -8,7 +8,7 @@ use std::time::{Duration, Instant};
 /// How much longer the start may take from a message on, while the server waits for a database.
 const EXTENSION: Duration = Duration::from_secs(30);
 
-/// Who is told, if anybody is.
+/// Whom the server notifies, if anybody.
 #[derive(Debug)]
 pub struct Notifier {
     socket: Option<OsString>,

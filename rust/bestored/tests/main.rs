@@ -20,4 +20,6 @@ mod protocol;
 mod repeats;
 mod slow;
 mod socket;
+#[cfg(feature = "log")]
+mod successors;
 mod volumes;

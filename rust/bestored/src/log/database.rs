@@ -46,7 +46,9 @@ const TABLES: &str = "
         leader text NOT NULL DEFAULT '',
         run text NOT NULL DEFAULT '',
         entries bigint NOT NULL DEFAULT 0,
-        next bigint NOT NULL DEFAULT 1
+        next bigint NOT NULL DEFAULT 1,
+        touched timestamptz,
+        touched_term bigint
     );
     CREATE TABLE bestore_state (place bigint PRIMARY KEY, batch bytea NOT NULL);
     CREATE TABLE bestore_entry (
@@ -58,7 +60,7 @@ const TABLES: &str = "
 /// between. The row of `bestore_log` is locked until the commit.
 const APPEND: &str = "
     WITH head AS (
-        UPDATE bestore_log SET last = last + cardinality($3::bigint[])
+        UPDATE bestore_log SET last = last + cardinality($3::bigint[]), touched = clock_timestamp(), touched_term = term
         WHERE term = $1 AND last = $2 RETURNING last
     ), added AS (
         INSERT INTO bestore_entry (number, term, pass, batch, token)
@@ -66,6 +68,30 @@ const APPEND: &str = "
         FROM head, unnest($3::bigint[], $4::bytea[], $5::text[]) WITH ORDINALITY AS row (pass, batch, token, place)
     )
     SELECT pg_notify('bestore_log', last::text) FROM head";
+
+/// What earlier versions made without.
+const COLUMNS: &str = "
+    ALTER TABLE bestore_entry ADD COLUMN IF NOT EXISTS token text;
+    ALTER TABLE bestore_log ADD COLUMN IF NOT EXISTS touched timestamptz, ADD COLUMN IF NOT EXISTS touched_term bigint;
+";
+
+/// The head, and for how many seconds its leader has said nothing, if it is one that says it lives.
+const HEAD: &str = "
+    SELECT *, CASE WHEN touched_term = term THEN extract(epoch FROM clock_timestamp() - touched)::float8 END AS silence
+    FROM bestore_log";
+
+/// Says that the leader of the term `$1` lives. This needn't be on a standby's disk.
+const TOUCH: &str = "
+    UPDATE bestore_log SET touched = clock_timestamp(), touched_term = term
+    FROM (SELECT set_config('synchronous_commit', 'local', true)) AS once
+    WHERE term = $1 RETURNING bestore_log.*";
+
+/// Ends the session that has the lock, if it has done nothing for `$1` seconds. So a follower that has just got it stays.
+const END_LEADER: &str = "
+    SELECT pg_terminate_backend(pid) FROM pg_locks JOIN pg_stat_activity USING (pid)
+    WHERE locktype = 'advisory' AND datname = current_database() AND granted
+        AND classid = 1650815860 AND objid = 'bestore_log'::regclass::oid
+        AND state_change < clock_timestamp() - $1::float8 * interval '1 second'";
 
 /// Removes the entries up to `$1`, but for the last ones that have a token: so many as `$2`.
 const REMOVE: &str = "
@@ -96,6 +122,8 @@ pub struct Head {
     pub entries: u64,
     /// The number of the next node after the state.
     pub next: u64,
+    /// For how many seconds the leader has said nothing, if that is known.
+    pub silence: Option<f64>,
 }
 
 impl Head {
@@ -108,6 +136,7 @@ impl Head {
             run: row.try_get("run")?,
             entries: unsigned(row, "entries")?,
             next: unsigned(row, "next")?,
+            silence: row.try_get("silence").unwrap_or_default(),
         })
     }
 }
@@ -254,16 +283,13 @@ impl Database {
         }
     }
 
-    /// Adds the column of the tokens, which a log of an earlier version lacks.
-    pub async fn add_tokens(&self) -> Result<()> {
-        let sql = "SELECT EXISTS (SELECT FROM pg_attribute
-            WHERE attrelid = 'bestore_entry'::regclass AND attname = 'token' AND NOT attisdropped)";
+    /// Adds the columns that a log of an earlier version lacks.
+    pub async fn add_columns(&self) -> Result<()> {
+        let sql = "SELECT count(*) = 2 FROM pg_attribute WHERE NOT attisdropped AND
+            (attrelid, attname) IN (('bestore_entry'::regclass, 'token'), ('bestore_log'::regclass, 'touched_term'))";
         match self.one(sql, &[]).await?.try_get(0)? {
             true => Ok(()),
-            false => {
-                let add = "ALTER TABLE bestore_entry ADD COLUMN IF NOT EXISTS token text";
-                limited(self.client.batch_execute(add)).await
-            }
+            false => limited(self.client.batch_execute(COLUMNS)).await,
         }
     }
 
@@ -284,7 +310,19 @@ impl Database {
     }
 
     pub async fn head(&self) -> Result<Head> {
-        Head::of(&self.one("SELECT * FROM bestore_log", &[]).await?)
+        Head::of(&self.one(HEAD, &[]).await?)
+    }
+
+    /// Says that the leader of this term lives. `None`: there is a later term.
+    pub async fn touch(&self, term: u64) -> Result<Option<Head>> {
+        let touched = limited(self.client.query_opt(TOUCH, &[&(term as i64)])).await?;
+        touched.as_ref().map(Head::of).transpose()
+    }
+
+    /// Ends the session of a leader that has done nothing for so many seconds. Returns whether there was one.
+    pub async fn end_leader(&self, silence: f64) -> Result<bool> {
+        let ended = limited(self.client.query(END_LEADER, &[&silence])).await?;
+        Ok(!ended.is_empty())
     }
 
     /// Takes the lock by which a server leads, if nobody has it. It is given back when the connection ends.
@@ -294,7 +332,8 @@ impl Database {
 
     /// Begins the next term. From then on no other server can add entries. With `again` the last leader has to be this run.
     pub async fn take_term(&self, leader: &str, run: &str, again: bool) -> Result<Option<Head>> {
-        let sql = "UPDATE bestore_log SET term = term + 1, leader = $1, run = $2 WHERE run = $2 OR NOT $3 RETURNING *";
+        let sql = "UPDATE bestore_log SET term = term + 1, leader = $1, run = $2, touched = clock_timestamp(),
+            touched_term = term + 1 WHERE run = $2 OR NOT $3 RETURNING *";
         let taken = limited(self.client.query_opt(sql, &[&leader, &run, &again])).await?;
         taken.as_ref().map(Head::of).transpose()
     }

@@ -20,6 +20,9 @@ const LOOK: Duration = Duration::from_millis(100);
 /// How often a leader that has nothing to write looks whether it still leads.
 const LEADING: Duration = Duration::from_secs(1);
 
+/// After so many seconds without a word of the leader a follower takes over. A call of the database takes less.
+const LEASE: f64 = 10.0;
+
 /// How long a follower lets the leader come back after the connection to the database has broken.
 const GRACE: Duration = Duration::from_secs(3);
 
@@ -66,7 +69,7 @@ impl Member {
             database.make().await?;
         }
         database.check_format().await?;
-        database.add_tokens().await?;
+        database.add_columns().await?;
         let role = match leads {
             true => lead_first(&database, &access).await?,
             false => Role::Follower,
@@ -180,11 +183,11 @@ impl Member {
                 let head = self.database.head().await?;
                 self.check(&head)?;
                 self.line.change(|state| {
-                    state.leader = head.leader;
+                    state.leader = head.leader.clone();
                     state.last = head.last;
                     state.trouble = None;
                 });
-                if Instant::now() >= self.may_lead && self.database.try_lock().await? {
+                if Instant::now() >= self.may_lead && self.gets_lock(&head).await? {
                     self.take_over(shared).await?;
                     return Ok(Turn::Next);
                 }
@@ -192,6 +195,18 @@ impl Member {
             self.database.news(LOOK).await;
         }
         Ok(Turn::End)
+    }
+
+    /// Takes the lock if nobody has it, or if who has it has been silent for too long, as on a machine that is paused. What such a leader
+    /// adds later isn't of the last term, and so isn't added.
+    async fn gets_lock(&self, head: &Head) -> Result<bool> {
+        if head.silence.map_or(false, |silence| silence >= LEASE) && self.database.end_leader(LEASE).await? {
+            eprintln!(
+                "bestored: {} leads and has said nothing for {LEASE} seconds; its session is ended",
+                head.leader
+            );
+        }
+        self.database.try_lock().await
     }
 
     /// Ends the term of the last leader, applies all that it has added, and leads.
@@ -338,11 +353,13 @@ impl Member {
             return Ok(());
         }
         self.tried = Instant::now();
-        let head = self.database.head().await?;
-        self.check(&head)?;
-        match head.term == term {
-            true => Ok(()),
-            false => Err(self.deposed(&head)),
+        match self.database.touch(term).await? {
+            Some(head) => self.check(&head),
+            None => {
+                let head = self.database.head().await?;
+                self.check(&head)?;
+                Err(self.deposed(&head))
+            }
         }
     }
 
