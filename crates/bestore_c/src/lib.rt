@@ -51,8 +51,8 @@ mod telling;
 
 use asking::{find_prepared, put_text, query_for, refresh_prepared, tell, tell_text};
 use be_session::{
-    Cursor, HeldOrder, Operation, PredicateItem, Session, held_name, operations, prepare, prepare_items,
-    query_of_items,
+    Cursor, HeldOrder, Operation, PredicateItem, Session, held_name, operations, prepare,
+    prepare_items, query_of_items,
 };
 use be_store::{ArrayVec, Cell, HeldName, Limits};
 use entries::tell_entry;
