@@ -1,4 +1,7 @@
+pub mod Cursors
+pub mod Filters
 pub mod Fronts
+pub mod IndexParts
 pub mod KeyLists
 pub mod PageKeys
 pub mod Some

@@ -67,13 +67,13 @@ module _ (s : State) (sound : IsSound s) (by : List ℕ) (kind : Kind) (is : ind
       (ap (λ i. seen_in i (attribute s h.node by) h.node) h.there ∙ h.paired, p.node_fits)
 
   module _ (descending : Bool) where
-    abbrev R : List ℕ → List ℕ → Ordering
+    abbrev pub R : List ℕ → List ℕ → Ordering
     R = key_cmp descending
 
-    abbrev entries_of : List ℕ → List (List ℕ × ℕ)
+    abbrev pub entries_of : List ℕ → List (List ℕ × ℕ)
     entries_of nodes = flat_map (keyed s by) nodes
 
-    abbrev IsOneOf : List ℕ → List ℕ → ℕ → Type 0
+    abbrev pub IsOneOf : List ℕ → List ℕ → ℕ → Type 0
     IsOneOf nodes q n = (value : Value) × Contains nodes n × (sees s n by ≡ Some value) × (q ≡ key value n)
 
     one_later : (m : ℕ) (nodes q : List ℕ) (n : ℕ) → IsOneOf nodes q n → IsOneOf (m ∷ nodes) q n
@@ -93,7 +93,7 @@ module _ (s : State) (sound : IsSound s) (by : List ℕ) (kind : Kind) (is : ind
     one_at m nodes q n (Some value) e h more = one_here m nodes q n value e (eq_by_cmp R q (key value m)) refl h more
 
     -- what is found among the nodes' keys is the key of one of them
-    found_is : (nodes q : List ℕ) (n : ℕ) → find R q (entries_of nodes) ≡ Some n → IsOneOf nodes q n
+    pub found_is : (nodes q : List ℕ) (n : ℕ) → find R q (entries_of nodes) ≡ Some n → IsOneOf nodes q n
     found_is [] q n h = cc
     found_is (m ∷ nodes) q n h = one_at m nodes q n (sees s m by) refl h (λ g. found_is nodes q n g)
 
@@ -121,12 +121,12 @@ module _ (s : State) (sound : IsSound s) (by : List ℕ) (kind : Kind) (is : ind
       found_seen m nodes None e (inr is) = is
       found_seen m nodes (Some w) e h = found_by m nodes w e (eq_by_cmp R (key value n) (key w m)) refl h
 
-      is_found : (nodes : List ℕ) → Contains nodes n → find R (key value n) (entries_of nodes) ≡ Some n
+      pub is_found : (nodes : List ℕ) → Contains nodes n → find R (key value n) (entries_of nodes) ≡ Some n
       is_found [] (k, below, at) = absurd (omega arith)
       is_found (m ∷ nodes) (zero, below, at) = found_seen m nodes (sees s m by) refl (inl at)
       is_found (m ∷ nodes) (suc k, below, at) = found_seen m nodes (sees s m by) refl (inr (is_found nodes (k, omega arith, at)))
 
-has_attribute : (s : State) (node : ℕ) (name : List ℕ) (value : Value) → attribute s node name ≡ Some value → fin.contains_key s.nodes node ≡ true
+pub has_attribute : (s : State) (node : ℕ) (name : List ℕ) (value : Value) → attribute s node name ≡ Some value → fin.contains_key s.nodes node ≡ true
 has_attribute s node name value h = by (fin.get s.nodes node) h
   where
     by : (found : Option Attributes) → option_and_then (λ attributes. fin.get attributes name) found ≡ Some value → is_some found ≡ true

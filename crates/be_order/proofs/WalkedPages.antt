@@ -27,20 +27,20 @@ use Rattle.be_order.specs.Walks.{AreFirst, IsEntry}
 use Rattle.be_order.proofs.PageKeys.{cursor_last}
 use Rattle.be_order.proofs.Walked.{scan_is, scanned, seen_of_key, walked_are}
 
-nodes_take : (n : ℕ) (es : List (List ℕ × ℕ)) → nodes_of (take n es) ≡ take n (nodes_of es)
+pub nodes_take : (n : ℕ) (es : List (List ℕ × ℕ)) → nodes_of (take n es) ≡ take n (nodes_of es)
 nodes_take zero es = refl
 nodes_take (suc n) [] = refl
 nodes_take (suc n) (e ∷ es) = ap (λ l. e.1 ∷ l) (nodes_take n es)
 
-nodes_append : (xs ys : List (List ℕ × ℕ)) → nodes_of (xs ++ ys) ≡ nodes_of xs ++ nodes_of ys
+pub nodes_append : (xs ys : List (List ℕ × ℕ)) → nodes_of (xs ++ ys) ≡ nodes_of xs ++ nodes_of ys
 nodes_append [] ys = refl
 nodes_append (x ∷ xs) ys = ap (λ l. x.1 ∷ l) (nodes_append xs ys)
 
-keys_append : (xs ys : List (List ℕ × ℕ)) → keys_of (xs ++ ys) ≡ keys_of xs ++ keys_of ys
+pub keys_append : (xs ys : List (List ℕ × ℕ)) → keys_of (xs ++ ys) ≡ keys_of xs ++ keys_of ys
 keys_append [] ys = refl
 keys_append (x ∷ xs) ys = ap (λ l. x.0 ∷ l) (keys_append xs ys)
 
-nodes_length : (es : List (List ℕ × ℕ)) → length (nodes_of es) ≡ length es
+pub nodes_length : (es : List (List ℕ × ℕ)) → length (nodes_of es) ≡ length es
 nodes_length [] = refl
 nodes_length (e ∷ es) = ap suc (nodes_length es)
 
@@ -49,12 +49,12 @@ take_fewer zero es = refl
 take_fewer (suc n) [] = refl
 take_fewer (suc n) (e ∷ es) = ap (λ l. e ∷ l) (take_fewer n es)
 
-length_take : (n : ℕ) (es : List (List ℕ × ℕ)) → length (take n es) ≡ min n (length es)
+pub length_take : (n : ℕ) (es : List (List ℕ × ℕ)) → length (take n es) ≡ min n (length es)
 length_take zero es = omega arith
 length_take (suc n) [] = omega arith
 length_take (suc n) (e ∷ es) = omega (arith, length_take n es)
 
-contains_front : (n : ℕ) (es : List (List ℕ × ℕ)) (e : List ℕ × ℕ) → Contains (take n es) e → Contains es e
+pub contains_front : (n : ℕ) (es : List (List ℕ × ℕ)) (e : List ℕ × ℕ) → Contains (take n es) e → Contains es e
 contains_front zero es e h = absurd (omega (arith, h.1))
 contains_front (suc n) [] e h = h
 contains_front (suc n) (x ∷ es) e (zero, below, is) = (0, omega arith, is)
@@ -63,10 +63,10 @@ contains_front (suc n) (x ∷ es) e (suc i, below, is) =
     (suc later.0, omega (arith, later.1), later.2)
 
 -- a list is empty or ends with an entry
-abbrev Ended : List (List ℕ × ℕ) → Type 0
+abbrev pub Ended : List (List ℕ × ℕ) → Type 0
 Ended es = (es ≡ []) ⊎ ((init : List (List ℕ × ℕ)) × (e : List ℕ × ℕ) × (es ≡ init ++ e ∷ []))
 
-ended : (es : List (List ℕ × ℕ)) → Ended es
+pub ended : (es : List (List ℕ × ℕ)) → Ended es
 ended [] = inl refl
 ended (x ∷ es) = by (ended es)
   where
@@ -74,7 +74,7 @@ ended (x ∷ es) = by (ended es)
     by (inl none) = inr ([], x, ap (λ l. x ∷ l) none)
     by (inr some) = inr (x ∷ some.0, some.1, ap (λ l. x ∷ l) some.2)
 
-has_by_kind : (s : State) (by : List ℕ) (kind : Kind) → index_kind s by ≡ Some kind → has_index s by ≡ true
+pub has_by_kind : (s : State) (by : List ℕ) (kind : Kind) → index_kind s by ≡ Some kind → has_index s by ≡ true
 has_by_kind s by kind is = at (fin.get s.indices by) is
   where
     at : (found : Option Index) → option_map (λ (i : Index). i.kind) found ≡ Some kind → is_some found ≡ true

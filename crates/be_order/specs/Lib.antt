@@ -1,3 +1,4 @@
+pub mod Asked
 pub mod Firsts
 pub mod Ordered
 pub mod Walks

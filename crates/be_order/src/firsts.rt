@@ -5,7 +5,7 @@ ghost use Rattle.be_volume.specs.Query.{scan};
 ghost use Rattle.be_volume.specs.Volume.{State};
 ghost use Rattle.be_order.specs.Firsts.{IsAnyOf, from_number};
 
-use be_plan::{Source, answer_into};
+use be_plan::{PreparedQuery, Source, answer_into};
 use be_query::Query;
 use be_value::Refusal;
 use std::alloc::Global;
@@ -63,4 +63,44 @@ pub fn any_into<S: Source>(
     answer_into(alloc, query, source, found)?;
     found.truncate(most);
     Ok(())
+}
+
+/// The first of a prepared query by number, as `first_by_number` has them of a query.
+pub fn first_prepared_into<S: Source>(
+    alloc: Global,
+    prepared: &mut PreparedQuery,
+    source: &mut S,
+    first: u64,
+    most: usize,
+    found: &mut Vec<u64>,
+) -> Result<(), Refusal>
+    ghost volume: { State }
+    requires { S.answers_for source.old volume }
+    ensures answer { Answers (λ _. found.new.items) result
+        (from_number volume prepared.old first most) }
+    ensures same { prepared.new ≡ prepared.old }
+    ensures stays { S.kept source.new ≡ S.kept source.old }
+    ensures answers { S.answers_for source.new volume }
+{
+    first_by_number(alloc, prepared.query(), source, first, most, found)
+}
+
+/// Any few of a prepared query's answer, as `any_into` has them of a query.
+pub fn any_prepared_into<S: Source>(
+    alloc: Global,
+    prepared: &mut PreparedQuery,
+    source: &mut S,
+    most: usize,
+    found: &mut Vec<u64>,
+) -> Result<(), Refusal>
+    ghost volume: { State }
+    requires { S.answers_for source.old volume }
+    ensures any { OnOk result (IsAnyOf (scan volume prepared.old) most found.new.items) }
+    ensures refused { IfErr result (λ e. Answers (λ _. found.new.items) result
+        (scan volume prepared.old)) }
+    ensures same { prepared.new ≡ prepared.old }
+    ensures stays { S.kept source.new ≡ S.kept source.old }
+    ensures answers { S.answers_for source.new volume }
+{
+    any_into(alloc, prepared.query(), source, most, found)
 }

@@ -6,13 +6,14 @@
 //! gives, in order.
 #![tactic(auto)]
 
+mod asked;
 mod firsts;
 mod keys;
 mod pages;
 mod prepared;
 mod sources;
 
-pub use firsts::{any_into, first_by_number};
+pub use firsts::{any_into, any_prepared_into, first_by_number, first_prepared_into};
 pub use pages::{Order, ordered_into};
 pub use prepared::ordered_prepared_into;
 pub use sources::{OrderedKeys, OrderedSource};

@@ -1,4 +1,4 @@
-//! Pages of a prepared query, by a walk.
+//! Pages of a prepared query.
 ghost use Rattle.std.specs.Prelude.{◌≡◌, ◌∷◌, ◌++◌, [], ℕ, List, None, OnErr, IfErr, IfOk, IfSome};
 ghost use Rattle.std.specs.Prelude.{Ok, Some, length, take};
 ghost use Rattle.std.specs.Option.{option_copied, option_map};
@@ -13,6 +13,7 @@ ghost use Rattle.be_plan.specs.Prepared.{Decides};
 ghost use Rattle.be_plan.specs.Walk.{AreAllOn};
 ghost use Rattle.be_order.specs.Ordered.{cursor_bytes, page, page_with};
 
+use crate::asked::ask_page;
 use crate::keys::{Index, key_in};
 use crate::{Order, OrderedKeys, OrderedSource, ordered_into};
 use arrayvec::ArrayVec;
@@ -21,7 +22,7 @@ use be_value::{Kind, Refusal};
 use std::alloc::Global;
 
 /// Keeps the first of the nodes, and moves the cursor to the last of these.
-fn keep_first<S: OrderedSource>(
+pub(crate) fn keep_first<S: OrderedSource>(
     source: &mut S,
     index: Index<'_>,
     most: usize,
@@ -93,7 +94,8 @@ fn walk_page<S: OrderedSource>(
 /// Puts a page of a prepared query into a list, as `ordered_into` does of a query. If the range of
 /// the query on the order's own index decides it, and the source walks in order, the page costs one
 /// walk over as many keys as the page has nodes, and one more; then it takes no memory but for the
-/// list. Otherwise it costs what `ordered_into` does.
+/// list. Otherwise it walks the index and asks the query of each node until the page is full. If
+/// too few nodes pass, it costs what `ordered_into` does, and what it had asked before.
 pub fn ordered_prepared_into<S: OrderedSource>(
     alloc: Global,
     prepared: &mut PreparedQuery,
@@ -125,5 +127,14 @@ pub fn ordered_prepared_into<S: OrderedSource>(
             }
         }
     }
-    ordered_into(alloc, prepared.query(), source, order, cursor, found)
+    let query = prepared.query();
+    let index = Index {
+        name: order.by,
+        kind,
+    };
+    let asked = ask_page(alloc, query, source, index, order, cursor, found)?;
+    if let Some(more) = asked {
+        return Ok(more);
+    }
+    ordered_into(alloc, query, source, order, cursor, found)
 }
