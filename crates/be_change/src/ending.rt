@@ -7,7 +7,8 @@ ghost use Rattle.be_table.specs.declared.pass.Knowledge.{Knowledge};
 ghost use Rattle.be_store.specs.History.{Pins, Unpins};
 ghost use Rattle.be_store.specs.Passes.{HasRead, IsPassOf, IsPinnedTo, volume_pinned};
 ghost use Rattle.be_change.specs.Changing.{After, Reads};
-ghost use Rattle.be_change.specs.Ending.{are_checked, Begins, Ends, IsChangeOf, IsNotBegun, Releases};
+ghost use Rattle.be_change.specs.Ending.{Begins, Ends, IsChangeOf, IsNotBegun, Releases};
+ghost use Rattle.be_change.specs.Ending.{are_checked};
 
 use crate::Change;
 use be_store::laws::seen_is_legal;
@@ -101,6 +102,17 @@ impl Change {
         let ended = write(&self, store, pass, tries);
         release(self.pins(), store, pass);
         ended
+    }
+
+    /// Ends the change without writing: unpins the pass if `begin` pinned it. A change that is
+    /// dropped leaves that pin.
+    pub fn abandon(self, store: &Store, pass: &mut Pass)
+        requires pass { IsPassOf store.now pass.old }
+        requires pinned { (n : ℕ) × IsPinnedTo pass.old.knows n }
+        ensures pass { IsPassOf store.now pass.new }
+        ensures released { Releases self.pins pass.old.knows pass.new.knows }
+    {
+        release(self.pins(), store, pass);
     }
 }
 

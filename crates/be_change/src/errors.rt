@@ -20,6 +20,7 @@ pub enum CollectError {
 }
 
 impl fmt::Display for CollectError {
+    /// What was wrong, and what would be right.
     fn fmt<W: fmt::Write>(&self, f: &mut fmt::Formatter<W>) -> fmt::Result {
         match self {
             CollectError::TooMany => f.write_str("a change has at most 64 operations"),
