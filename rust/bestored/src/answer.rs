@@ -315,7 +315,11 @@ impl<'a> Desk<'a> {
                 watches: WATCHES as u64,
             },
             volumes: view.volumes() as u32,
-            features: wire::QUERY_FEATURES.iter().chain(&FEATURES).map(|name| name.to_string()).collect(),
+            features: wire::QUERY_FEATURES
+                .iter()
+                .chain(&FEATURES)
+                .map(|name| name.to_string())
+                .collect(),
         };
         self.reply(id, &hello);
         Ok(())

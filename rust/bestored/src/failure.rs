@@ -55,7 +55,7 @@ impl Failure {
 
     /// Whether a snapshot was taken back.
     pub fn is_expired(&self) -> bool {
-        self.0.name == "Expired"
+        self.0.name == ErrorName::Expired
     }
 
     /// The server doesn't have an entry yet.

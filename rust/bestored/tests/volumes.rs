@@ -285,7 +285,10 @@ fn a_volume_without_an_index_is_named() {
     }
     let refused = client.page("size==1", &Order::by("name"), None, 1).unwrap_err();
     let refusal = refused.refusal().unwrap();
-    assert_eq!((refusal.name.as_str(), refusal.number_of("volume")), ("NoIndex", Some(0)));
+    assert_eq!(
+        (refusal.name.as_str(), refusal.number_of("volume")),
+        ("NoIndex", Some(0))
+    );
     let indices: wire::Indices = client.call(Command::Indices(wire::Nothing {})).unwrap();
     assert_eq!((indices.indices.len(), &indices.partial["name"]), (1, &vec![1]));
     client.apply(Batch::new().make_index("name", Kind::Text)).unwrap();
