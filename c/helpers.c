@@ -32,7 +32,7 @@ static void names(void)
     const char *unknown = bes_strerror(63);
     for (uint32_t error = 1; error <= 200; error++) {
         bool is_known = strcmp(bes_error_name(error), "BES_?") != 0;
-        CHECK(is_known || error < BES_BUSY || (error > BES_BAD_RPN && error < BES_CLOSED) || error > BES_IN_USE);
+        CHECK(is_known || error < BES_BUSY || (error > BES_BAD_RPN && error < BES_CLOSED) || error > BES_NO_ROOM);
         CHECK(strncmp(bes_error_name(error), "BES_", 4) == 0 && (strcmp(bes_strerror(error), unknown) != 0) == is_known);
         CHECK(bes_class(error) >= BES_CLASS_RETRY && bes_class(error) <= BES_CLASS_GONE);
     }

@@ -121,6 +121,12 @@ static const bes_meaning_ bes_meanings_[] = {
     { BES_IN_USE, BES_CLASS_RETRY, "BES_IN_USE",
       "another handle of the store is open; "
       "close it first" },
+    { BES_BAD_CURSOR, BES_CLASS_MINE, "BES_BAD_CURSOR",
+      "the cursor isn't one of this index; "
+      "begin without a cursor, or use one that a page in the order of the index has left" },
+    { BES_NO_ROOM, BES_CLASS_MINE, "BES_NO_ROOM",
+      "there is no room for a node of the page; "
+      "give room for one or more" },
     /* surface.toml: end */
 };
 

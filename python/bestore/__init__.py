@@ -40,10 +40,11 @@ from .change import Change, ChangedAttributes
 from .connected import connect
 from .errors import (
     # surface.toml: exceptions
-    BadCount, BadItems, BadLimits, BadPart, BadPattern, Busy, Closed, CommitsSpent, Conflict,
-    DataLength, Full, HasNul, InUse, IndexExists, NameLength, NoAttribute, NoIndex, NoItem, NoKind,
-    NoMemory, NoNode, NoOperation, NoPass, NoValue, NotCovered, NotIndexable, NotPinned, NotUTF8,
-    Opened, Pinned, QuerySyntax, TooDeep, TooLong, TooMany, TooManyAttributes, TooManyIndices,
+    BadCount, BadCursor, BadItems, BadLimits, BadPart, BadPattern, Busy, Closed, CommitsSpent,
+    Conflict, DataLength, Full, HasNul, InUse, IndexExists, NameLength, NoAttribute, NoIndex,
+    NoItem, NoKind, NoMemory, NoNode, NoOperation, NoPass, NoRoom, NoValue, NotCovered,
+    NotIndexable, NotPinned, NotUTF8, Opened, Pinned, QuerySyntax, TooDeep, TooLong, TooMany,
+    TooManyAttributes, TooManyIndices,
     # surface.toml: end
     BadBytes, Error, Forked, Nested, NotReached, NoVolume, OtherStore, OtherVolume, PartialIndex,
     QueryError, QueryNotUTF8, Refusal, TooManyAttempts, WrongKind,
@@ -67,13 +68,13 @@ STRING, INT32, INT64, MIME, RAW, UINT32, UINT64 = (
 
 __all__ = [
     # surface.toml: names
-    "BadCount", "BadItems", "BadLimits", "BadPart", "BadPattern", "BadRequest", "Busy", "Closed",
-    "CommitsSpent", "Conflict", "DataLength", "Expired", "Full", "HasNul", "InUse", "IndexExists",
-    "NameLength", "NoAttribute", "NoIndex", "NoItem", "NoKind", "NoLog", "NoMemory", "NoNode",
-    "NoOperation", "NoPass", "NoValue", "NoWatch", "NotAllowed", "NotCovered", "NotIndexable",
-    "NotKept", "NotLeader", "NotPinned", "NotUTF8", "Opened", "Pinned", "PushesLost", "QuerySyntax",
-    "TooDeep", "TooLong", "TooMany", "TooManyAttributes", "TooManyIndices", "TooManyWatches",
-    "Unexpected",
+    "BadCount", "BadCursor", "BadItems", "BadLimits", "BadPart", "BadPattern", "BadRequest", "Busy",
+    "Closed", "CommitsSpent", "Conflict", "DataLength", "Expired", "Full", "HasNul", "InUse",
+    "IndexExists", "NameLength", "NoAttribute", "NoIndex", "NoItem", "NoKind", "NoLog", "NoMemory",
+    "NoNode", "NoOperation", "NoPass", "NoRoom", "NoValue", "NoWatch", "NotAllowed", "NotCovered",
+    "NotIndexable", "NotKept", "NotLeader", "NotPinned", "NotUTF8", "Opened", "Pinned",
+    "PushesLost", "QuerySyntax", "TooDeep", "TooLong", "TooMany", "TooManyAttributes",
+    "TooManyIndices", "TooManyWatches", "Unexpected",
     # surface.toml: end
     "Attributes", "BadBytes", "Batch", "BrokenConnection", "Change", "ChangedAttributes", "Changes",
     "Comparison", "Disconnected", "Entry", "Error", "ErrorClass", "ErrorNumber", "Forked", "Held",

@@ -60,6 +60,8 @@ class ErrorNumber(enum.IntEnum):
     NO_ITEM = 75
     CONFLICT = 76
     IN_USE = 77
+    BAD_CURSOR = 78
+    NO_ROOM = 79
 
 
 class Meaning(NamedTuple):
@@ -145,6 +147,10 @@ MEANINGS: Dict[int, Meaning] = {
                          "read again, and write on what you read then"),
     ErrorNumber.IN_USE: Meaning(ErrorClass.RETRY, "another handle of the store is open",
                          "close it first"),
+    ErrorNumber.BAD_CURSOR: Meaning(ErrorClass.MINE, "the cursor isn't one of this index",
+                         "begin without a cursor, or use one that a page in the order of the index has left"),
+    ErrorNumber.NO_ROOM: Meaning(ErrorClass.MINE, "there is no room for a node of the page",
+                         "give room for one or more"),
 }
 """The errors of the library, by their numbers."""
 

@@ -61,6 +61,8 @@ constants! {
     BES_NO_ITEM = 75;
     BES_CONFLICT = 76;
     BES_IN_USE = 77;
+    BES_BAD_CURSOR = 78;
+    BES_NO_ROOM = 79;
 
     BES_CLASS_NONE = 0;
     BES_CLASS_RETRY = 1;

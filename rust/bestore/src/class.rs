@@ -305,6 +305,18 @@ pub(crate) const MEANINGS: &[Meaning] = &[
         what: "another handle of the store is open",
         advice: "close it first",
     },
+    Meaning {
+        code: sys::BES_BAD_CURSOR,
+        class: Class::Mine,
+        what: "the cursor isn't one of this index",
+        advice: "begin without a cursor, or use one that a page in the order of the index has left",
+    },
+    Meaning {
+        code: sys::BES_NO_ROOM,
+        class: Class::Mine,
+        what: "there is no room for a node of the page",
+        advice: "give room for one or more",
+    },
     // surface.toml: end
 ];
 
