@@ -133,9 +133,10 @@ enum {
     BES_CONFLICT = 76,        /* the journal has another length than the write expects; read
                                * again, and write on what you read then */
     BES_IN_USE = 77,          /* another handle of the store is open; close it first */
-    BES_BAD_CURSOR = 78,      /* the cursor doesn't fit the index; go on from a cursor of the
-                               * same index, or begin without one */
-    BES_NO_ROOM = 79          /* a page has at least one node; ask for 1 or more */
+    BES_BAD_CURSOR = 78,      /* the cursor isn't one of this index; begin without a cursor, or
+                               * use one that a page in the order of the index has left */
+    BES_NO_ROOM = 79          /* there is no room for a node of the page; give room for one or
+                               * more */
     /* surface.toml: end */
 };
 

@@ -122,11 +122,11 @@ static const bes_meaning_ bes_meanings_[] = {
       "another handle of the store is open; "
       "close it first" },
     { BES_BAD_CURSOR, BES_CLASS_MINE, "BES_BAD_CURSOR",
-      "the cursor doesn't fit the index; "
-      "go on from a cursor of the same index, or begin without one" },
+      "the cursor isn't one of this index; "
+      "begin without a cursor, or use one that a page in the order of the index has left" },
     { BES_NO_ROOM, BES_CLASS_MINE, "BES_NO_ROOM",
-      "a page has at least one node; "
-      "ask for 1 or more" },
+      "there is no room for a node of the page; "
+      "give room for one or more" },
     /* surface.toml: end */
 };
 

@@ -12,6 +12,7 @@ from __future__ import annotations
 import re
 import subprocess
 import sys
+from dataclasses import replace
 from difflib import unified_diff
 from pathlib import Path
 
@@ -44,6 +45,23 @@ def prototypes(header: str) -> dict[str, str]:
         types = [re.sub(r"(?<=[ *])\w+$", "", it.strip()).strip() for it in parameters.split(",")]
         found[name] = "void" if parameters == "void" else ", ".join(types)
     return found
+
+
+def without_planned(surface: Surface, header: str) -> Surface:
+    """The table without the calls of versions after that of the header which the header doesn't declare yet."""
+    declared = prototypes(header)
+    found = re.search(r'#define BES_VERSION "([\d.]+)"', header)
+    if found is None:
+        raise Wrong(f"{HEADER} has no line #define BES_VERSION")
+    now = numbers_of(found[1])
+    exports = {version: [call for call in calls if call in declared or numbers_of(version) <= now]
+               for version, calls in surface.exports.items()}
+    return replace(surface, exports={version: calls for version, calls in exports.items() if calls})
+
+
+def numbers_of(version: str) -> list[int]:
+    """The numbers of a version, as 0.3.0."""
+    return [int(part) for part in version.split(".")]
 
 
 def check_calls(surface: Surface, where: str, called: set[str]) -> None:
@@ -121,7 +139,7 @@ def write(path: str, wanted: str) -> bool:
 
 def run(checks: bool) -> None:
     """Writes or checks everything."""
-    surface = load()
+    surface = without_planned(load(), (ROOT / HEADER).read_text())
     wanted = wanted_files(surface)
     act = differs if checks else write
     count = sum(act(path, text) for path, text in wanted.items())

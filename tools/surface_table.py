@@ -129,6 +129,11 @@ class Surface:
     exports: dict[str, list[str]]
 
     @property
+    def all_faults(self) -> list[Fault | ServerFault]:
+        """Those of the library, and then those of a server."""
+        return [*self.faults, *self.server_faults]
+
+    @property
     def calls(self) -> list[str]:
         return [call for calls in self.exports.values() for call in calls]
 
@@ -140,14 +145,19 @@ def rows_of(kind: type[Row], part: str, found: Iterable[dict[str, Any]]) -> list
     """The rows of one part of the table."""
     known, rows = {field.name for field in fields(kind)}, []
     for at, row in enumerate(found):
-        named = {"klass" if key == "class" else key: value for key, value in row.items()}
-        if unknown := named.keys() - known:
+        values = {"klass" if key == "class" else key: value for key, value in row.items()}
+        if unknown := values.keys() - known:
             raise Wrong(f"surface.toml: [[{part}]] {at + 1} has {sorted(unknown)[0]!r}, and may have {', '.join(sorted(known))}")
         try:
-            rows.append(kind(**named))
+            rows.append(kind(**values))
         except TypeError as error:
             raise Wrong(f"surface.toml: [[{part}]] {at + 1} lacks something: {error}") from None
     return rows
+
+
+def named(key: str, found: dict[str, dict[str, Any]]) -> Iterable[dict[str, Any]]:
+    """The rows of a part whose keys are the names."""
+    return ({key: name, **row} for name, row in found.items())
 
 
 def once(part: str, what: str, values: Iterable[object]) -> None:
@@ -162,7 +172,7 @@ def once(part: str, what: str, values: Iterable[object]) -> None:
 def check_texts(surface: Surface) -> None:
     """Looks at the classes and the texts of errors."""
     classes = {it.name for it in surface.classes}
-    for it in [*surface.faults, *surface.server_faults]:
+    for it in surface.all_faults:
         if it.klass not in classes:
             raise Wrong(f"surface.toml: {it.name} has the class {it.klass!r}, and the classes are {', '.join(sorted(classes))}")
         for text in (it.what, it.advice):
@@ -179,7 +189,7 @@ def check(surface: Surface) -> None:
     once("kinds", "number", (it.number for it in surface.kinds))
     once("kinds", "code", (it.code for it in surface.kinds))
     once("errors", "number", (it.number for it in surface.faults))
-    once("errors", "name", (it.name for it in [*surface.faults, *surface.server_faults]))
+    once("errors", "name", (it.name for it in surface.all_faults))
     for part, rows in (("operations", surface.operations), ("items", surface.items)):
         if [it.number for it in rows] != list(range(len(rows))):
             raise Wrong(f"surface.toml: the {part} are numbered from 0, without a gap and in their order")
@@ -195,12 +205,12 @@ def load(path: Path = TABLE) -> Surface:
         except tomllib.TOMLDecodeError as error:
             raise Wrong(f"{path.name}: {error}") from None
     surface = Surface(
-        classes=rows_of(Class, "classes", ({"name": name, **row} for name, row in found["classes"].items())),
+        classes=rows_of(Class, "classes", named("name", found["classes"])),
         kinds=rows_of(Kind, "kinds", found["kinds"]),
         faults=rows_of(Fault, "errors", found["errors"]),
         server_faults=rows_of(ServerFault, "server_errors", found["server_errors"]),
-        operations=rows_of(Numbered, "operations", found["operations"]),
-        items=rows_of(Numbered, "items", found["items"]),
+        operations=rows_of(Numbered, "operations", named("c", found["operations"])),
+        items=rows_of(Numbered, "items", named("c", found["items"])),
         exports=found["exports"],
     )
     check(surface)

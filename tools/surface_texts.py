@@ -154,7 +154,7 @@ def rust_error_names(surface: Surface) -> str:
         number = f"Some({it.number})" if isinstance(it, Fault) else "None"
         text = f"{it.what}; {it.advice}" if it.advice else it.what
         return f"    /// {sentence(text)}\n    {it.name} = {number}, {capital(it.klass)}, \"{escaped(text)}\";"
-    return lines(map(row, [*surface.faults, *surface.server_faults]))
+    return lines(map(row, surface.all_faults))
 
 
 def python_meaning(it: Fault | ServerFault) -> str:
@@ -291,7 +291,7 @@ def table_of_script_kinds(surface: Surface) -> str:
 def table_of_server_errors(surface: Surface) -> str:
     """A row for the errors that have one class and carry the same."""
     rows: dict[tuple[str, str], list[str]] = {}
-    for it in [*surface.faults, *surface.server_faults]:
+    for it in surface.all_faults:
         if it.protocol is not None:
             name = f"`{it.name}` {it.number}" if isinstance(it, Fault) else f"`{it.name}`"
             rows.setdefault((it.klass, it.protocol), []).append(name)

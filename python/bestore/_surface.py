@@ -147,10 +147,10 @@ MEANINGS: Dict[int, Meaning] = {
                          "read again, and write on what you read then"),
     ErrorNumber.IN_USE: Meaning(ErrorClass.RETRY, "another handle of the store is open",
                          "close it first"),
-    ErrorNumber.BAD_CURSOR: Meaning(ErrorClass.MINE, "the cursor doesn't fit the index",
-                         "go on from a cursor of the same index, or begin without one"),
-    ErrorNumber.NO_ROOM: Meaning(ErrorClass.MINE, "a page has at least one node",
-                         "ask for 1 or more"),
+    ErrorNumber.BAD_CURSOR: Meaning(ErrorClass.MINE, "the cursor isn't one of this index",
+                         "begin without a cursor, or use one that a page in the order of the index has left"),
+    ErrorNumber.NO_ROOM: Meaning(ErrorClass.MINE, "there is no room for a node of the page",
+                         "give room for one or more"),
 }
 """The errors of the library, by their numbers."""
 

@@ -308,14 +308,14 @@ pub(crate) const MEANINGS: &[Meaning] = &[
     Meaning {
         code: sys::BES_BAD_CURSOR,
         class: Class::Mine,
-        what: "the cursor doesn't fit the index",
-        advice: "go on from a cursor of the same index, or begin without one",
+        what: "the cursor isn't one of this index",
+        advice: "begin without a cursor, or use one that a page in the order of the index has left",
     },
     Meaning {
         code: sys::BES_NO_ROOM,
         class: Class::Mine,
-        what: "a page has at least one node",
-        advice: "ask for 1 or more",
+        what: "there is no room for a node of the page",
+        advice: "give room for one or more",
     },
     // surface.toml: end
 ];

@@ -133,10 +133,10 @@ names! {
     Conflict = Some(76), Retry, "the journal has another length than the write expects; read again, and write on what you read then";
     /// Another handle of the store is open; close it first.
     InUse = Some(77), Retry, "another handle of the store is open; close it first";
-    /// The cursor doesn't fit the index; go on from a cursor of the same index, or begin without one.
-    BadCursor = Some(78), Mine, "the cursor doesn't fit the index; go on from a cursor of the same index, or begin without one";
-    /// A page has at least one node; ask for 1 or more.
-    NoRoom = Some(79), Mine, "a page has at least one node; ask for 1 or more";
+    /// The cursor isn't one of this index; begin without a cursor, or use one that a page in the order of the index has left.
+    BadCursor = Some(78), Mine, "the cursor isn't one of this index; begin without a cursor, or use one that a page in the order of the index has left";
+    /// There is no room for a node of the page; give room for one or more.
+    NoRoom = Some(79), Mine, "there is no room for a node of the page; give room for one or more";
     /// The request isn't valid.
     BadRequest = None, Mine, "the request isn't valid";
     /// The snapshot was kept too long, and the server took it back; pin again.
