@@ -60,7 +60,7 @@ impl Drop for Measured<'_> {
 
 impl Measured<'_> {
     /// The write is made and kept.
-    pub fn is_done(self) {
+    pub fn finish(self) {
         let meter = self.meter;
         meter.count(meter.now(), self.begin.elapsed());
     }
@@ -215,7 +215,7 @@ mod tests {
         let (refused, made) = (meter.begin(), meter.begin());
         assert_eq!(meter.writing(), 2);
         drop(refused);
-        made.is_done();
+        made.finish();
         assert_eq!((meter.writing(), meter.writes()), (0, 1));
     }
 }

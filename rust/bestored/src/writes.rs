@@ -65,7 +65,7 @@ fn write_now(
     // Some volumes may have been written before another one refused.
     shared.watcher.written();
     match &written {
-        Ok(_) => measured.is_done(),
+        Ok(_) => measured.finish(),
         Err(_) => shared.kept.end_if_failed(),
     }
     written

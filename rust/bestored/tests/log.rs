@@ -673,7 +673,12 @@ fn a_server_waits_for_its_database() {
     assert!(ended.server.end_by("TERM").success(), "{}", ended.said());
     database.postgres.begin();
     waiting.client().apply(Batch::new().new_node()).unwrap();
-    assert_eq!(waiting.said().matches("it is tried again").count(), 1, "{}", waiting.said());
+    assert_eq!(
+        waiting.said().matches("it is tried again").count(),
+        1,
+        "{}",
+        waiting.said()
+    );
     // What doesn't pass by itself is an error.
     let url = database.url().replace("///test", "///none");
     let said = Member::start_at(Folder::in_memory(), &url, "--log").end();

@@ -310,7 +310,7 @@ impl File {
         if self.with_token.len() < MOST_TOKENS + TOKENS_AT_ONCE {
             return Ok(());
         }
-        let last = self.with_token.drain(..TOKENS_AT_ONCE).last().unwrap_or(0);
+        let last = self.with_token.drain(..TOKENS_AT_ONCE).next_back().unwrap_or(0);
         let mut delete = self.connection.prepare_cached("DELETE FROM token WHERE number <= ?")?;
         delete.execute([last as i64]).map(drop)
     }
