@@ -1,10 +1,10 @@
 #!/usr/bin/env python3
 """Backups of a server that eight processes write to: is each the state of one commit, and what do the writers notice?
 
-usage: backups.py FOLDER    the folder with bestored and be, such as rust/target/release
+usage: backups.py FOLDER [BACKUPS]    the folder with bestored and be, such as rust/target/release; 50 backups by default
 
 It makes a store of 60,000 nodes in five volumes, in a new folder, measures how long writes take, and measures again while `be backup`
-runs 50 times. Each backup is opened: in each volume the counters, of which each write moves one, have to give the commit number, and
+runs so often. Each backup is opened: in each volume the counters, of which each write moves one, have to give the commit number, and
 none may be lower than what was replied to before the backup began. PYTHONPATH names the folder of the package bestore. It exits with 1 if a backup is wrong, or
 if the 99th percentile of the writes grows to more than three times what it was.
 """
@@ -140,7 +140,7 @@ def back_up(programs: Path, socket: str, path: Path) -> Any:
     return json.loads(said.stdout)
 
 
-def measure(programs: Path, folder: Path, socket: str) -> float:
+def measure(programs: Path, folder: Path, socket: str, backups: int) -> float:
     """Prints the figures, and returns how much the writes' 99th percentile grows."""
     begin = fill(socket)
     answered = [counter() for _ in range(WRITERS)]
@@ -148,7 +148,7 @@ def measure(programs: Path, folder: Path, socket: str) -> float:
         time.sleep(ALONE)
     seconds = []
     with Writing(socket, answered) as beside:
-        for number in range(BACKUPS):
+        for number in range(backups):
             before = [count.value for count in answered]
             path, started = folder / f"backup{number}", time.perf_counter()
             about = back_up(programs, socket, path)
@@ -158,14 +158,15 @@ def measure(programs: Path, folder: Path, socket: str) -> float:
     for what, writing in [("alone", alone), ("beside backups", beside)]:
         middle, high = (percentile(writing.times, part) for part in (0.5, 0.99))
         print(f"{what}: {len(writing.times)} writes, p50 {middle:.2f} ms, p99 {high:.2f} ms")
-    print(f"{BACKUPS} backups of {NODES} nodes: {min(seconds):.2f} to {max(seconds):.2f} s each")
+    print(f"{backups} backups of {NODES} nodes: {min(seconds):.2f} to {max(seconds):.2f} s each")
     return percentile(beside.times, 0.99) / percentile(alone.times, 0.99)
 
 
 def main() -> None:
-    if len(sys.argv) != 2 or sys.argv[1].startswith("-"):
+    if not 2 <= len(sys.argv) <= 3 or sys.argv[1].startswith("-"):
         raise SystemExit(__doc__)
     programs = Path(sys.argv[1]).resolve()
+    backups = int(sys.argv[2]) if len(sys.argv) > 2 else BACKUPS
     with tempfile.TemporaryDirectory() as name:
         folder = Path(name)
         socket = str(folder / "socket")
@@ -175,7 +176,7 @@ def main() -> None:
         try:
             while not (folder / "socket").exists() and server.poll() is None:
                 time.sleep(0.05)
-            growth = measure(programs, folder, socket)
+            growth = measure(programs, folder, socket, backups)
         finally:
             server.terminate()
             server.wait(60)
