@@ -1,5 +1,6 @@
 -- What a walk over a whole index finds, of whose nodes a query is asked.
-use Rattle.std.specs.Prelude.{◌≡◌, ◌⊎◌, ◌<◌, ℕ, Bool, false, List, [], ◌++◌, drop, filter, length, take}
+use Rattle.std.specs.Prelude.{◌≡◌, ◌⊎◌, ◌<◌, ℕ, Bool, false, List, [], ◌++◌}
+use Rattle.std.specs.Prelude.{drop, filter, length, take}
 use Rattle.std.specs.FinMap as map
 use Rattle.std.specs.declared.option.Option.{Option}
 use Rattle.be_query.specs.Grammar.{Formula}

@@ -10,11 +10,11 @@ use Rattle.be_plan.specs.Narrow.{Within}
 use Rattle.be_order.specs.Ordered.{is_after, key_cmp, keys_of, nodes_of}
 
 -- the key is one of the index of that name, from `low` to `high`, and it is this node's
-pub record IsEntry (s : State) (name low : List ℕ) (high : Option (List ℕ)) (k : List ℕ) (node : ℕ) : Type 0
-  where
-    pub is_key : IsKey s name k
-    pub within : Within low high k
-    pub node_is : is_key.node ≡ node
+pub record IsEntry (s : State) (name low : List ℕ) (high : Option (List ℕ)) (k : List ℕ)
+    (node : ℕ) : Type 0 where
+  pub is_key : IsKey s name k
+  pub within : Within low high k
+  pub node_is : is_key.node ≡ node
 
 -- These are the first of the entries that come after the cursor, `most` at most, in order.
 pub record AreFirst (Is : List ℕ → ℕ → Type 0) (descending : Bool) (cursor : Option (List ℕ))

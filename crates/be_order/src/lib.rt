@@ -9,11 +9,13 @@
 mod asked;
 mod firsts;
 mod keys;
+mod laws;
 mod pages;
 mod prepared;
 mod sources;
 
 pub use firsts::{any_into, any_prepared_into, first_by_number, first_prepared_into};
+pub use laws::next_page_goes_on;
 pub use pages::{Order, ordered_into};
 pub use prepared::ordered_prepared_into;
 pub use sources::{OrderedKeys, OrderedSource};
