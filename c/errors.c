@@ -71,7 +71,9 @@ static void of_writes(void)
     RETURNS(BES_NO_KIND, write_one(BES_SET, 99, (const uint8_t *)memset(bytes, 'a', LONG_TEXT), 2, 256, 0));
     no_text[0] = zero_text[0] = 'a';
     RETURNS(BES_NOT_UTF8, write_one(BES_SET, BES_STRING_TYPE, no_text, 1, 256, 0));
+    RETURNS(BES_NOT_UTF8, write_one(BES_SET, BES_MIME_STRING_TYPE, no_text, 1, 256, 0));
     RETURNS(BES_DATA_LENGTH, write_one(BES_SET, BES_STRING_TYPE, zero_text, 1, 256, 0));
+    RETURNS(BES_DATA_LENGTH, write_one(BES_SET, BES_MIME_STRING_TYPE, zero_text, 1, 256, 0));
     RETURNS(BES_HAS_NUL, write_one(BES_SET, BES_STRING_TYPE, zero_text, 1, 2, 0));
     RETURNS(BES_NO_VALUE, write_one(BES_SET, BES_INT32_TYPE, bytes, 1, 0, 1ull << 40));
     no_text[0] = 0xff;

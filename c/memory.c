@@ -82,7 +82,21 @@ static uint32_t call_apply_if(void)
 static uint32_t call_query(void) { return bes_query(&mine, query, sizeof query - 1, out.nodes, 4, &out.count); }
 static uint32_t call_items(void) { return bes_query_items(&mine, less, 3, parts, 11, out.nodes, 4, &out.count); }
 static uint32_t call_prepared(void) { return bes_query_prepared(&mine, &kept, out.nodes, 4, &out.count); }
+static uint32_t call_ordered(void)
+{
+    const bes_cursor begin = {0, 0, {0}};
+    bes_cursor cursor = begin;
+    bes_name by;
+    uint32_t more = 9, error = bes_check_name_text("size", &by);
+    if (error == BES_OK)
+        error = bes_ordered(&mine, &kept, &by, 1, &cursor, out.nodes, 4, &out.count, &more);
+    CHECK(error == BES_OK ? more == 0 && cursor.length > 0 : more == 9 && memcmp(&cursor, &begin, sizeof cursor) == 0);
+    return error;
+}
+static uint32_t call_first(void) { return bes_first(&mine, &kept, 0, out.nodes, 4, &out.count); }
+static uint32_t call_any(void) { return bes_any(&mine, &kept, out.nodes, 4, &out.count); }
 static uint32_t call_refresh(void) { return bes_refresh(&mine, &kept, &out.updates); }
+static uint32_t call_refresh_changed(void) { return bes_refresh_changed(&mine, &kept, &out.updates); }
 static uint32_t call_explain(void) { return bes_explain(&mine, query, sizeof query - 1, out.bytes, 64, &out.count); }
 static uint32_t call_attributes(void) { return bes_attributes(&mine, 1, &out.counts, out.listed, 4, out.bytes, 64); }
 static uint32_t call_indices(void) { return bes_indices(&mine, &out.counts, out.listed, 4, out.bytes, 64); }
@@ -167,6 +181,7 @@ static void refuse_all(void)
         call_attributes, call_indices, call_nodes, call_state, call_journal, call_journal_from, call_prepared_text, call_apply,
         call_retry
     };
+    uint32_t (*const in_parts[])(void) = {call_ordered, call_first, call_any, call_refresh_changed};
     uint32_t (*const without[])(void) = {call_changes, call_found, call_get, call_columns, call_status, call_next, call_number,
                                          call_join, call_move_witness, call_move_prepared, call_move_place, call_unpin, call_pin,
                                          call_move};
@@ -179,6 +194,8 @@ static void refuse_all(void)
     for (size_t i = 0; i < sizeof with_requests / sizeof *with_requests; i++)
         CHECK(refuse_each(with_requests[i]) > 0);
     CHECK(out.number == 6 && out.nodes[0] == 3);
+    for (size_t i = 0; i < sizeof in_parts / sizeof *in_parts; i++)
+        refuse_each(in_parts[i]);
     journal_length = 6;
     CHECK(refuse_each(call_apply_if) > 0 && out.number == 7 && out.nodes[0] == 4);
     CHECK(call_apply_if() == BES_CONFLICT && out.number == 7);

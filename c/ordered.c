@@ -207,7 +207,7 @@ static void writes_between(bes_pass *pass)
     CHECK(nodes[0] == node + 5 && nodes[1] == node + 4 && nodes[2] == node + 3);
     CHECK(bes_unpin(pass) == BES_OK);
     CHECK(bes_set_int32(pass, node, "size", 160) == BES_OK);     /* moved before the cursor: not met any more */
-    CHECK(bes_set_int32(pass, node + 5, "size", 105) == BES_OK); /* met, and moved behind it: comes again */
+    CHECK(bes_set_int32(pass, node + 5, "size", 105) == BES_OK); /* met, and moved after it: comes again */
     CHECK(bes_remove_node(pass, node + 3) == BES_OK);            /* the cursor's own node */
     CHECK(bes_pin(pass, &number) == BES_OK);
     CHECK(bes_ordered(pass, &prepared, &by, 1, &cursor, nodes, 8, &count, &more) == BES_OK && count == 3 && more == 0);

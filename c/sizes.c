@@ -150,6 +150,37 @@ static void many_nodes(void)
     OK(bes_close(&pass) || bes_close(&empty));
 }
 
+/* The same nodes in one page and in two, from the first on, and as any few; and as what came by a refresh of what was written. */
+static void nodes_in_parts(void)
+{
+    bes_pass pass = BES_PASS_INIT;
+    bes_name by = {0, {0}};
+    uint64_t number = 0, count = 0;
+    uint32_t more = 7;
+    open_numbered(&pass, MOST_NODES);
+    OK(bes_check_name_text("k", &by) || bes_pin(&pass, &number));
+    AT_EACH_SIZE {
+        bes_prepared prepared = BES_PREPARED_INIT;
+        bes_updates updates = {7, 7};
+        bes_cursor cursor = {0, 0, {0}};
+        snprintf(text, sizeof text, "k<=%d", (int)size);
+        OK(bes_prepare_text(text, &prepared, &place));
+        OK(bes_ordered(&pass, &prepared, &by, 0, &cursor, nodes, size, &count, &more));
+        CHECK(count == size && more == 0 && are_from_one(nodes, count));
+        memset(&cursor, 0, sizeof cursor);
+        OK(bes_ordered(&pass, &prepared, &by, 0, &cursor, nodes, (size + 1) / 2, &number, &more));
+        CHECK(number == (size + 1) / 2 && more == (size > 1));
+        OK(bes_ordered(&pass, &prepared, &by, 0, &cursor, nodes + number, MOST_NODES - number, &count, &more));
+        CHECK(number + count == size && more == 0 && are_from_one(nodes, size));
+        OK(bes_first(&pass, &prepared, 0, nodes, size, &count));
+        CHECK(count == size && are_from_one(nodes, count));
+        OK(bes_any(&pass, &prepared, nodes, size, &count) || bes_refresh_changed(&pass, &prepared, &updates));
+        CHECK(count == size && updates.created == size && updates.removed == 0);
+        OK(bes_release(&prepared));
+    }
+    OK(bes_close(&pass));
+}
+
 /* Whether a size is at most one beside a power of two, where lists grow. */
 static bool is_by_power(uint64_t size)
 {
@@ -608,7 +639,8 @@ static const struct row {
     const char *name;
     void (*run)(void);
 } rows[] = {
-    {"nodes", many_nodes}, {"candidates", many_candidates}, {"listed-nodes", listed_nodes}, {"operations", many_operations},
+    {"nodes", many_nodes}, {"nodes-in-parts", nodes_in_parts}, {"candidates", many_candidates}, {"listed-nodes", listed_nodes},
+    {"operations", many_operations},
     {"comparisons", many_comparisons}, {"query-bytes", long_queries}, {"item-bytes", long_items}, {"name-bytes", long_names}, {"value-bytes", long_values},
     {"indices", many_indices}, {"index-names", long_index_names}, {"passes", many_passes}, {"pages", many_pages},
     {"batches", long_batches}, {"state", many_states}, {"entries", many_entries}

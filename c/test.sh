@@ -55,7 +55,7 @@ build() { cc -std=c11 "${warn[@]}" -I../include "$@" libbestore.a -lpthread; }
 build_cpp() { c++ -std=c++17 "${warn[@]}" -I../include "$@" libbestore.a -lpthread; }
 
 # The tests, and those of them in which threads run.
-tests=(test columns cursors errors ordered threads witness helpers texts racing promises)
+tests=(test columns cursors ordered closing errors threads witness helpers texts racing promises)
 tests_cpp=(test helpers ordered racing)
 with_threads=(threads witness helpers racing promises)
 

@@ -190,13 +190,8 @@ impl Prepared {
             × IsUnrefreshed (pinned_number session.old.knows.phase)
             (scan (volume_pinned session.old.knows) self.old.live.query) e) }
     {
-        match session.refresh_changed(&mut self.live) {
-            Ok(updates) => {
-                self.updates = updates;
-                Ok(())
-            }
-            Err(fault) => Err(fault),
-        }
+        self.updates = session.refresh_changed(&mut self.live)?;
+        Ok(())
     }
 
     /// The canonical text of the query. OutOfMemory.

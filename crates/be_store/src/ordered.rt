@@ -122,8 +122,8 @@ impl Store {
     /// it is as it was if the page is empty. The first page has none.
     ///
     /// A cursor is a place in the order and no count. At a later version a page goes on from there,
-    /// whatever was written in between: a node that was put before the cursor meanwhile isn't seen,
-    /// and one that was moved behind it may come again.
+    /// whatever was written in between: a node whose value is now before the cursor isn't seen, and
+    /// one that was seen and is now after it comes again.
     ///
     /// NoSuchIndex if that version has no index of the order's name; then NotCovered if the query
     /// rests on no index of it; OutOfMemory. An error leaves the cursor as it was, and the list has

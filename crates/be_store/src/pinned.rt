@@ -4,8 +4,8 @@
 //! that leaves a function by `?` asks through a `Pinned`, which unpins when it goes.
 ghost use Rattle.std.specs.List.Sorted.{IsStrictlyIncreasing};
 ghost use Rattle.std.specs.Prelude.{◌≡◌, ◌⊎◌, ◌<◌, ◌≤◌, ◌++◌, ◌*◌, ◌^◌, ℕ, true, false, [], None};
-ghost use Rattle.std.specs.Prelude.{Ok, Err, IsOk, IfOk, IfErr, IfNone, IfSome, OnErr, OnOk, length};
-ghost use Rattle.std.specs.Prelude.{map as each};
+ghost use Rattle.std.specs.Prelude.{Ok, Err, IsOk, IfOk, IfErr, IfNone, IfSome, OnErr, OnOk};
+ghost use Rattle.std.specs.Prelude.{length, map as each};
 ghost use Rattle.be_value.specs.Refusal.{Answers};
 ghost use Rattle.be_value.specs.declared.refusals.Refusal.TheVariants.{OutOfMemory, NotCovered};
 ghost use Rattle.be_volume.specs.Query.{scan, has_index, covered};

@@ -1,9 +1,9 @@
 //! The store for programs in C: `include/bestore.h` declares what is exported here.
 //!
 //! Each export takes a handle that its caller owns, calls the session in it, and returns a number:
-//! 0, the number of a refusal or of another error, or 64 and 65, which are the handle's own. Only
-//! two have a `requires`: the witness of `bes_join` is one of the pass's store, and the last refresh
-//! of the query of `bes_refresh_changed` was in it.
+//! 0, the number of a refusal or of another error, or 64 and 65, which are the handle's own. Two
+//! have a `requires`: the witness of `bes_join` is one of the pass's store, and the last refresh of
+//! the query of `bes_refresh_changed` was in it.
 #![tactic(auto)]
 
 ghost use Rattle.std.specs.Prelude.{◌≡◌, ◌⊎◌, ◌+◌, ◌==◌, None, Ok, length, map, not};
