@@ -134,14 +134,6 @@ impl Change {
 
     /// Sets an attribute of a node, in place of any value that it has.
     ///
-    /// What the collected operations leave of an attribute, if one of them touches it.
-    pub(crate) fn left(&self, node: u64, name: &Name) -> Option<Option<Value>>
-        ensures { (base : State) → Reads self.now base → After self.now base
-            (λ s. attribute s node name.now ≡ unwrap_or result (attribute base node name.now)) }
-    {
-        attribute_left(self.ops.as_slice(), self.first + self.made, node, name)
-    }
-
     /// WrongKind if the change checks kinds, and the index of this name takes values of another
     /// kind, as the collected operations leave it; a name without an index takes any kind. TooMany,
     /// OutOfMemory.
@@ -190,6 +182,14 @@ impl Change {
             Some(kind) => kind,
             None => listed_kind(self.indices.as_slice(), name),
         }
+    }
+
+    /// What the collected operations leave of an attribute, if one of them touches it.
+    pub(crate) fn left(&self, node: u64, name: &Name) -> Option<Option<Value>>
+        ensures { (base : State) → Reads self.now base → After self.now base
+            (λ s. attribute s node name.now ≡ unwrap_or result (attribute base node name.now)) }
+    {
+        attribute_left(self.ops.as_slice(), self.first + self.made, node, name)
     }
 
     /// WrongKind if the change checks kinds, and the index of this name takes values of another.

@@ -1,0 +1,136 @@
+//! What a change reads of its own operations, and which kinds it takes.
+ghost use Rattle.be_store.specs.Passes.{IsPassOf};
+
+use crate::tests::steps::{
+    collected, current_number, ended, is_taken, make_first, number_at, open_for_one,
+};
+use be_change::{Change, Kinds};
+use be_store::{Kind, Name, Op, Pass, Refusal, Store, Value};
+use std::alloc::Global;
+
+type Read = Option<i64>;
+
+/// The number of node 1 before the operations, after two sets, and after an unset.
+fn reads_of_old(
+    change: &mut Change,
+    store: &Store,
+    pass: &mut Pass,
+    name: &Name,
+) -> Result<(Read, Read, Read), Refusal>
+    requires { IsPassOf store.now pass.old }
+    ensures { IsPassOf store.now pass.new }
+{
+    let before = number_at(change, store, pass, 1, name);
+    collected(change.set(1, name.copy(), Value::int64(2)))?;
+    collected(change.set(1, name.copy(), Value::int64(3)))?;
+    let set = number_at(change, store, pass, 1, name);
+    collected(change.unset(1, name.copy()))?;
+    let unset = number_at(change, store, pass, 1, name);
+    Ok((before, set, unset))
+}
+
+/// The number of a new node before it has one, and then; node 1 is removed.
+fn reads_of_new(
+    change: &mut Change,
+    store: &Store,
+    pass: &mut Pass,
+    name: &Name,
+) -> Result<(Read, Read), Refusal>
+    requires { IsPassOf store.now pass.old }
+    ensures { IsPassOf store.now pass.new }
+{
+    let node = collected(change.new_node())?;
+    let before = number_at(change, store, pass, node, name);
+    collected(change.set(node, name.copy(), Value::int64(5)))?;
+    let set = number_at(change, store, pass, node, name);
+    Ok((before, set))
+}
+
+/// What the store has after a change that removes node 1: the number of node 2, and that of node 1.
+/// Then what a change reads of node 1, that it removes after it was made with a 1, before it does.
+fn removes(
+    mut change: Change,
+    store: &Store,
+    alloc: Global,
+    pass: &mut Pass,
+    name: &Name,
+) -> Result<(Read, Read, Read), Refusal>
+    requires { IsPassOf store.now pass.old }
+    ensures { IsPassOf store.now pass.new }
+{
+    collected(change.set(1, name.copy(), Value::int64(1)))?;
+    let last = number_at(&change, store, pass, 1, name);
+    collected(change.remove_node(1))?;
+    let gone = number_at(&change, store, pass, 1, name);
+    ended(change, store, pass)?;
+    let made = current_number(store, alloc, pass, 2)?;
+    Ok((made, gone, last))
+}
+
+type Reads = ((Read, Read, Read), (Read, Read), (Read, Read, Read));
+
+/// What a change reads beside its own operations.
+pub(crate) fn own_reads(alloc: Global) -> Result<Reads, Refusal> {
+    let (store, mut pass) = open_for_one(alloc, 100)?;
+    make_first(&store, &mut pass, 1)?;
+    let name = Name::new("a")?;
+    let mut change = Change::begin(alloc, &store, &mut pass, Kinds::Checked)?;
+    let old = reads_of_old(&mut change, &store, &mut pass, &name)?;
+    let new = reads_of_new(&mut change, &store, &mut pass, &name)?;
+    let last = removes(change, &store, alloc, &mut pass, &name)?;
+    Ok((old, new, last))
+}
+
+/// A store with an index of texts, and a change in it.
+fn with_index(
+    store: &Store,
+    alloc: Global,
+    pass: &mut Pass,
+    kinds: Kinds,
+) -> Result<Change, Refusal>
+    requires { IsPassOf store.now pass.old }
+    ensures { IsPassOf store.now pass.new }
+{
+    let index = Op::MkIndex(Name::new("a")?, Kind::Cstr);
+    store.apply(pass, &[Op::New, index])?;
+    Change::begin(alloc, store, pass, kinds)
+}
+
+/// Whether a number is taken at a name that has an index of texts, whether a text is, and whether a
+/// number is at another name.
+fn taken_by_snapshot(change: &mut Change) -> Result<(bool, bool, bool), Refusal> {
+    let number = is_taken(change.set(1, Name::new("a")?, Value::int64(1)))?;
+    let text = is_taken(change.set(1, Name::new("a")?, Value::text("x")?))?;
+    let other = is_taken(change.set(1, Name::new("b")?, Value::int64(1)))?;
+    Ok((number, text, other))
+}
+
+/// Whether a number is taken once the index is removed; whether a text is once there is an index of
+/// numbers, and whether a number is.
+fn taken_by_change(change: &mut Change) -> Result<(bool, bool, bool), Refusal> {
+    collected(change.remove_index(Name::new("a")?))?;
+    let removed = is_taken(change.set(1, Name::new("a")?, Value::int64(1)))?;
+    collected(change.make_index(Name::new("a")?, Kind::Llng))?;
+    let text = is_taken(change.set(1, Name::new("a")?, Value::text("x")?))?;
+    let number = is_taken(change.set(1, Name::new("a")?, Value::int64(1)))?;
+    Ok((removed, text, number))
+}
+
+type Taken = ((bool, bool, bool), (bool, bool, bool));
+
+/// Which kinds a change takes that checks them.
+pub(crate) fn kinds_taken(alloc: Global) -> Result<Taken, Refusal> {
+    let (store, mut pass) = open_for_one(alloc, 100)?;
+    let mut change = with_index(&store, alloc, &mut pass, Kinds::Checked)?;
+    let before = taken_by_snapshot(&mut change)?;
+    let after = taken_by_change(&mut change)?;
+    ended(change, &store, &mut pass)?;
+    Ok((before, after))
+}
+
+/// Whether a change that doesn't check kinds takes a number at a name that has an index of texts.
+pub(crate) fn unchecked_kinds(alloc: Global) -> Result<bool, Refusal> {
+    let (store, mut pass) = open_for_one(alloc, 100)?;
+    let mut change = with_index(&store, alloc, &mut pass, Kinds::Unchecked)?;
+    is_taken(change.set(1, Name::new("a")?, Value::int64(1)))
+}
