@@ -800,7 +800,7 @@ static void spent(void)
                                                   "carry the state on into a new store") == 0);
     CHECK(strcmp(bes_strerror(BES_BAD_PART), "a name or a value isn't within the bytes that go with the list") == 0);
     CHECK(strcmp(bes_strerror(63), "an error of a later version of the library") == 0);
-    CHECK(bes_version() == BES_VERSION_NUMBER && strcmp(BES_VERSION, "0.3.0") == 0);
+    CHECK(bes_version() == BES_VERSION_NUMBER && strcmp(BES_VERSION, "0.4.0") == 0);
 }
 
 /* No pass is lost that is closed, or met: 64 are taken, closed and taken again, by the first handle and by another one. */

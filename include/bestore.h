@@ -44,9 +44,9 @@ extern "C" {
 #endif
 
 #define BES_VERSION_MAJOR 0
-#define BES_VERSION_MINOR 3
+#define BES_VERSION_MINOR 4
 #define BES_VERSION_PATCH 0
-#define BES_VERSION "0.3.0"
+#define BES_VERSION "0.4.0"
 #define BES_VERSION_NUMBER (BES_VERSION_MAJOR * 1000000 + BES_VERSION_MINOR * 1000 + BES_VERSION_PATCH)
 
 /* Both fields are the library's. */

@@ -201,7 +201,7 @@ NUMBER(BES_CLASS_GONE, 4)
 NUMBER(BES_BAD_CURSOR, 78)
 NUMBER(BES_NO_ROOM, 79)
 
-/* After version 0.3.0. */
+/* Version 0.4.0. */
 CALL(bes_ordered, bes_pass *, bes_prepared *, const bes_name *, uint32_t, bes_cursor *, uint64_t *, size_t, uint64_t *,
      uint32_t *)
 CALL(bes_first, bes_pass *, bes_prepared *, uint64_t, uint64_t *, size_t, uint64_t *)

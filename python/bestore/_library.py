@@ -18,7 +18,7 @@ except ImportError as error:
         "compiler and Python.h; or install bestore's wheel (`make -C c wheel`).", name=error.name) from None
 
 SONAME = "libbestore.so.0"
-VERSION = "0.3.0"
+VERSION = "0.4.0"
 
 
 class Handle(ctypes.Structure):

@@ -36,10 +36,10 @@ fn link_from(folder: &Path) {
 }
 
 fn link_by_pkg_config() {
-    let found = pkg_config::Config::new().atleast_version("0.3.0").probe("bestore");
+    let found = pkg_config::Config::new().atleast_version("0.4.0").probe("bestore");
     if let Err(error) = found {
         fail(&format!(
-            "libbestore 0.3.0 or later was not found.\n\
+            "libbestore 0.4.0 or later was not found.\n\
              Name the folder that has libbestore.so or libbestore.a by BESTORE_LIB_DIR,\n\
              or the folder that has bestore.pc by PKG_CONFIG_PATH.\n\n{error}"
         ));

@@ -16,7 +16,7 @@ use std::alloc::{AllocError, Global};
 
 /// The program's version. The library for C says its own in include/bestore.h, and c/test.sh
 /// compares the two.
-const VERSION: &str = "0.3.0";
+const VERSION: &str = "0.4.0";
 
 /// The argument of all commands but `race`, as help shows it.
 const FILE: &str = "FILE";

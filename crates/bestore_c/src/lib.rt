@@ -85,13 +85,13 @@ pub(crate) const CLOSED: u32 = 64;
 /// The handle that is to be opened is open.
 const OPEN: u32 = 65;
 
-/// The version of the library: 3,000 for 0.3.0, a million for each first number and a thousand for
+/// The version of the library: 4,000 for 0.4.0, a million for each first number and a thousand for
 /// each second.
 #[unsafe(no_mangle)]
 pub extern "C" fn bes_version() -> u32
-    ensures { result ≡ 3000 }
+    ensures { result ≡ 4000 }
 {
-    3000
+    4000
 }
 
 /// Opens a store, and the handle as its first pass.

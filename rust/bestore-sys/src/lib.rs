@@ -11,7 +11,7 @@ use core::ffi::c_void;
 use core::ptr::null_mut;
 
 /// The version of the header that these declarations were made from, as `bes_version` returns it.
-pub const BES_VERSION_NUMBER: u32 = 3000;
+pub const BES_VERSION_NUMBER: u32 = 4000;
 
 macro_rules! constants {
     ($($(#[$about:meta])* $name:ident = $value:expr;)*) => {

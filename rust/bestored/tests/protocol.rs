@@ -114,7 +114,7 @@ fn reads() {
     );
     let hello = talk.ask(r#"{"id":1,"hello":{"protocol":1}}"#);
     assert!(
-        hello.starts_with(r#"{"id":1,"ok":{"protocol":1,"server":"0.3.0","#),
+        hello.starts_with(r#"{"id":1,"ok":{"protocol":1,"server":"0.4.0","#),
         "{hello}"
     );
 }

@@ -38,7 +38,7 @@ fn help_and_version_are_shown() {
         assert!(output.status.success());
         String::from_utf8(output.stdout).unwrap()
     };
-    assert_eq!(shown("--version"), "bestored 0.3.0\n");
+    assert_eq!(shown("--version"), "bestored 0.4.0\n");
     let help = shown("--help");
     for option in [
         "--socket",
