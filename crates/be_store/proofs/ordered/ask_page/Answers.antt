@@ -1,4 +1,4 @@
 use Rattle.be_store.proofs.ordered.ask_page.Goals as goal
 
-pub source-source-requires : goal.source-source-requires
-source-source-requires g c = record { version = (g.volume, c.requires.1) }
+pub ordered_source-source-requires : goal.ordered_source-source-requires
+ordered_source-source-requires g c = record { version = (g.volume, c.requires.1) }
