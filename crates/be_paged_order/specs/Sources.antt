@@ -5,7 +5,7 @@ use Rattle.be_pages.specs.declared.room.Standing.{Standing}
 use Rattle.be_volume.specs.Volume.{State}
 use Rattle.be_paged_reading.specs.Version.{IsVersion}
 
--- There is a reader of the pages that answers for the volume, and the page has the volume's version.
+-- There is a reader of the pages that answers for the volume, whose version the page has.
 pub record IsReaderOf {P K : Type 0} (answers_for : P → State → Type 0)
     (kept : P → K × ((ℕ → Standing) × (ℕ → ℕ → ℕ))) (reader : Option P) (page : ℕ)
     (volume : State) : Type 0 where

@@ -138,6 +138,11 @@ fn what_can_not_be_sorted_is_said() {
         error(&["-s", "size", "-n", "0"]),
         (1, "be: `limit` is 0, and a page has 1 to 50000 nodes\n".into())
     );
+}
+
+#[test]
+fn options_of_an_order_need_one() {
+    let server = server!(Server::with_three());
     for words in [
         &["-r"][..],
         &["--after", "AQ"],
@@ -148,8 +153,12 @@ fn what_can_not_be_sorted_is_said() {
         &["--count", "--any", "1"],
         &["--any", "-1"],
     ] {
-        let (status, said) = error(words);
-        assert_eq!((status, said.contains("error: ")), (2, true), "{words:?} {said}");
+        let said = server.be(&[&["query"], words, &["name==*"]].concat());
+        assert_eq!(
+            (said.status, said.error.contains("error: ")),
+            (2, true),
+            "{words:?} {said:?}"
+        );
     }
 }
 

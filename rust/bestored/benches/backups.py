@@ -4,7 +4,7 @@
 usage: backups.py FOLDER [BACKUPS]    the folder with bestored and be, such as rust/target/release; 50 backups by default
 
 It makes a store of 60,000 nodes in five volumes, in a new folder, measures how long writes take, and measures again while `be backup`
-runs so often. Each backup is opened: in each volume the counters, of which each write moves one, have to give the commit number, and
+runs so often. Then each backup is opened: in each volume the counters, of which each write moves one, have to give the commit number, and
 none may be lower than what was replied to before the backup began. PYTHONPATH names the folder of the package bestore. It exits with 1 if a backup is wrong, or
 if the 99th percentile of the writes grows to more than three times what it was.
 """
@@ -146,19 +146,20 @@ def measure(programs: Path, folder: Path, socket: str, backups: int) -> float:
     answered = [counter() for _ in range(WRITERS)]
     with Writing(socket, answered) as alone:
         time.sleep(ALONE)
-    seconds = []
+    made, seconds = [], []
     with Writing(socket, answered) as beside:
         for number in range(backups):
             before = [count.value for count in answered]
             path, started = folder / f"backup{number}", time.perf_counter()
-            about = back_up(programs, socket, path)
+            made.append((path, back_up(programs, socket, path), before))
             seconds.append(time.perf_counter() - started)
-            check(path, about, begin, before)
-            shutil.rmtree(path)
     for what, writing in [("alone", alone), ("beside backups", beside)]:
         middle, high = (percentile(writing.times, part) for part in (0.5, 0.99))
         print(f"{what}: {len(writing.times)} writes, p50 {middle:.2f} ms, p99 {high:.2f} ms")
-    print(f"{backups} backups of {NODES} nodes: {min(seconds):.2f} to {max(seconds):.2f} s each")
+    print(f"{backups} backups of {NODES} nodes: {min(seconds):.2f} to {max(seconds):.2f} s each", flush=True)
+    for path, about, before in made:
+        check(path, about, begin, before)
+        shutil.rmtree(path)
     return percentile(beside.times, 0.99) / percentile(alone.times, 0.99)
 
 

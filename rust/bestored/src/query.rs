@@ -86,54 +86,43 @@ impl Queries {
     }
 }
 
-fn form_of<'q>(query: &'q wire::Query<'_>) -> Result<Form<'q>, Failure> {
-    let lone = |is_given: bool, name: &str, goes: &str| match is_given {
-        true => Err(Failure::bad_request(&format!("`{name}` goes {goes}"))),
-        false => Ok(()),
-    };
+/// An error if parameters are given that don't go together. It says what would be right.
+fn check_together(query: &wire::Query<'_>) -> Result<(), Failure> {
     let by_number = query.from != 0 || query.uncounted;
-    if let Some(by) = &query.by {
-        lone(
-            query.any.is_some(),
-            "any",
-            "without `by`, since any nodes have no order",
-        )?;
-        lone(
-            query.count,
-            "count",
-            "without `by`: the nodes that have a value in the index are asked for by a comparison",
-        )?;
-        lone(
-            by_number,
-            "from",
-            "by number; with `by` a page goes on `after` a cursor, and is never counted",
-        )?;
-        let order = Order::by(by);
-        return Ok(Form::InOrder {
-            order: if query.descending { order.descending() } else { order },
+    let wrong = match (&query.by, query.any) {
+        (Some(_), Some(_)) => "`any` goes without `by`, since any nodes have no order",
+        (Some(_), None) if query.count => {
+            "`count` goes without `by`: a comparison finds the nodes with a value in the index"
+        }
+        (Some(_), None) if by_number => "`from` and `uncounted` go without `by`, whose pages go on `after` a cursor",
+        (None, _) if query.descending => "`descending` goes with `by`, the name of an index",
+        (None, _) if query.after.is_some() => "`after` goes with `by`, the name of the index whose cursor it is",
+        (None, Some(_)) if query.count || by_number || query.limit.is_some() => {
+            "`any` goes only with `columns`: it is a number of nodes"
+        }
+        _ => return Ok(()),
+    };
+    Err(Failure::bad_request(wrong))
+}
+
+fn form_of<'q>(query: &'q wire::Query<'_>) -> Result<Form<'q>, Failure> {
+    check_together(query)?;
+    let form = match (&query.by, query.any) {
+        (Some(by), _) => Form::InOrder {
+            order: match query.descending {
+                true => Order::by(by).descending(),
+                false => Order::by(by),
+            },
             after: query.after.as_deref(),
             most: most_of("limit", query.limit.unwrap_or(NODES as u64))?,
-        });
-    }
-    lone(query.descending, "descending", "with `by`, the name of an index")?;
-    lone(
-        query.after.is_some(),
-        "after",
-        "with `by`, the name of the index whose cursor it is",
-    )?;
-    match query.any {
-        None if query.count => Ok(Form::Count),
-        None => Ok(Form::ByNumber),
-        Some(any) => {
-            lone(
-                query.count || by_number || query.limit.is_some(),
-                "any",
-                "only with `columns`: it is a number of nodes",
-            )?;
-            let most = most_of("any", any)?;
-            Ok(Form::Any { most })
-        }
-    }
+        },
+        (None, Some(any)) => Form::Any {
+            most: most_of("any", any)?,
+        },
+        (None, None) if query.count => Form::Count,
+        (None, None) => Form::ByNumber,
+    };
+    Ok(form)
 }
 
 /// A number of nodes that a page can have.

@@ -73,7 +73,13 @@ fn pages_in_an_order() {
         let request = format!(r#""query":{{"query":"size>0",{parameters}}}"#);
         talk.check(&request, &format!(r#""ok":{{"commit":1,{reply}}}"#));
     }
-    // A node without a size isn't in the order of sizes.
+}
+
+#[test]
+fn nodes_without_a_value_are_not_in_the_order() {
+    let (_folder, server) = start(&[]);
+    let mut talk = server.talk();
+    four(&mut talk);
     assert_eq!(server.client().any("size>0", 2).unwrap().len(), 2);
     let by_size = server
         .client()
@@ -88,54 +94,78 @@ fn pages_in_an_order() {
     );
 }
 
+/// Asks for pages of `size>0` with these parameters, each of which has its error.
+fn check_errors(talk: &mut Talk, errors: &[(&str, String)]) {
+    for (parameters, error) in errors {
+        let request = format!(r#""query":{{"query":"size>0",{parameters}}}"#);
+        talk.check(&request, &format!(r#""error":{{{error}}}"#));
+    }
+}
+
 #[test]
 fn what_a_page_can_not_be() {
     let (_folder, server) = start(&[]);
     let mut talk = server.talk();
     four(&mut talk);
-    let cursor = cursor_of(&mut talk, r#""query":{"query":"size>0","by":"size","limit":1}"#);
-    let after = |parameters: &str| format!(r#"{parameters},"after":"{cursor}""#);
     let bad = |why: &str| format!(r#""name":"BadRequest","message":"{why}""#);
-    let cursor_fault = |why: &str| format!(r#""name":"BadCursor","number":78,"message":"{why}""#);
-    for (parameters, error) in [
-        (r#""by":"size","limit":0"#.into(), bad("`limit` is 0, and a page has 1 to 50000 nodes")),
-        (r#""by":"size","limit":50001"#.into(), bad("`limit` is 50001, and a page has 1 to 50000 nodes")),
-        (r#""any":0"#.into(), bad("`any` is 0, and a page has 1 to 50000 nodes")),
-        (r#""any":18446744073709551615"#.into(), bad("`any` is 18446744073709551615, and a page has 1 to 50000 nodes")),
-        (r#""any":1,"limit":1"#.into(), bad("`any` goes only with `columns`: it is a number of nodes")),
-        (r#""by":"size","any":1"#.into(), bad("`any` goes without `by`, since any nodes have no order")),
-        (r#""by":"size","from":1"#.into(), bad("`from` goes by number; with `by` a page goes on `after` a cursor, and is never counted")),
-        (r#""descending":true"#.into(), bad("`descending` goes with `by`, the name of an index")),
-        (after(r#""limit":1"#), bad("`after` goes with `by`, the name of the index whose cursor it is")),
+    let count = |name: &str, nodes: &str| bad(&format!("`{name}` is {nodes}, and a page has 1 to 50000 nodes"));
+    let errors = [
+        (r#""by":"size","limit":0"#, count("limit", "0")),
+        (r#""by":"size","limit":50001"#, count("limit", "50001")),
+        (r#""any":0"#, count("any", "0")),
+        (r#""any":18446744073709551615"#, count("any", "18446744073709551615")),
+        (r#""any":1,"limit":1"#, bad("`any` goes only with `columns`: it is a number of nodes")),
+        (r#""any":1,"uncounted":true"#, bad("`any` goes only with `columns`: it is a number of nodes")),
+        (r#""by":"size","any":1"#, bad("`any` goes without `by`, since any nodes have no order")),
         (
-            r#""by":"kind""#.into(),
+            r#""by":"size","count":true"#,
+            bad("`count` goes without `by`: a comparison finds the nodes with a value in the index"),
+        ),
+        (
+            r#""by":"size","from":1"#,
+            bad("`from` and `uncounted` go without `by`, whose pages go on `after` a cursor"),
+        ),
+        (r#""descending":true"#, bad("`descending` goes with `by`, the name of an index")),
+        (r#""after":"AQ""#, bad("`after` goes with `by`, the name of the index whose cursor it is")),
+        (
+            r#""by":"kind""#,
             r#""name":"NoIndex","number":6,"message":"an order needs an index, and there is none of the name \"kind\"","missing":"kind""#.into(),
         ),
+    ];
+    check_errors(&mut talk, &errors);
+}
+
+#[test]
+fn a_cursor_of_another_page_is_refused() {
+    let (_folder, server) = start(&[]);
+    let mut talk = server.talk();
+    four(&mut talk);
+    let cursor = cursor_of(&mut talk, r#""query":{"query":"size>0","by":"size","limit":1}"#);
+    let fault = |why: &str| format!(r#""name":"BadCursor","number":78,"message":"{why}""#);
+    let other_order = |order: &str| {
+        fault(&format!(
+            r#"the cursor is of the order by \"size\" ascending, and this page is in the order by {order}: {}"#,
+            "keep the order, or begin without a cursor"
+        ))
+    };
+    let errors = [
         (
-            r#""by":"size","after":"AQ""#.into(),
-            cursor_fault("this text isn't a cursor: it is cut off or changed"),
+            r#""by":"size","after":"AQ""#,
+            fault("this text isn't a cursor: it is cut off or changed"),
         ),
         (
-            after(r#""by":"size","descending":true"#),
-            cursor_fault(concat!(
-                r#"the cursor is of the order by \"size\" ascending, and this page is in the order by \"size\" descending: "#,
-                "keep the order, or begin without a cursor"
-            )),
+            &*format!(r#""by":"size","descending":true,"after":"{cursor}""#),
+            other_order(r#"\"size\" descending"#),
         ),
         (
-            after(r#""by":"name""#),
-            cursor_fault(concat!(
-                r#"the cursor is of the order by \"size\" ascending, and this page is in the order by \"name\" ascending: "#,
-                "keep the order, or begin without a cursor"
-            )),
+            &*format!(r#""by":"name","after":"{cursor}""#),
+            other_order(r#"\"name\" ascending"#),
         ),
-    ] {
-        let request = format!(r#""query":{{"query":"size>0",{parameters}}}"#);
-        talk.check(&request, &format!(r#""error":{{{error}}}"#));
-    }
+    ];
+    check_errors(&mut talk, &errors);
     let other = format!(r#""query":{{"query":"size>1","by":"size","after":"{cursor}"}}"#);
     let why = "the cursor is of another query: ask the query that it came from, or begin without a cursor";
-    talk.check(&other, &format!(r#""error":{{{}}}"#, cursor_fault(why)));
+    talk.check(&other, &format!(r#""error":{{{}}}"#, fault(why)));
 }
 
 /// The same query may be written in another way.
