@@ -12,8 +12,9 @@ ghost use Rattle.be_volume.specs.Volume.{State};
 
 use crate::{Pass, Store};
 use arrayvec::ArrayVec;
-use be_order::{Order, any_into, first_by_number, ordered_into};
+use be_order::{Order, any_prepared_into, first_prepared_into, ordered_prepared_into};
 use be_paged::source;
+use be_paged_order::ordered_source;
 use be_pages::Look;
 use be_plan::{PreparedQuery, Source};
 use be_value::{Kind, Name, Refusal};
@@ -50,8 +51,8 @@ fn ask_page<L: Look>(
     ensures same { prepared.new ≡ prepared.old }
     ensures kept { L.kept result.0 ≡ L.kept look }
 {
-    let mut source = source(look, version_page);
-    let answer = ordered_into(alloc, prepared.query(), &mut source, order, cursor, found);
+    let mut source = ordered_source(look, version_page);
+    let answer = ordered_prepared_into(alloc, prepared, &mut source, order, cursor, found);
     (source.into_look(), answer)
 }
 
@@ -73,8 +74,8 @@ fn ask_first<L: Look>(
     ensures same { prepared.new ≡ prepared.old }
     ensures kept { L.kept result.0 ≡ L.kept look }
 {
-    let mut source = source(look, version_page);
-    let answer = first_by_number(alloc, prepared.query(), &mut source, first, most, found);
+    let mut source = ordered_source(look, version_page);
+    let answer = first_prepared_into(alloc, prepared, &mut source, first, most, found);
     (source.into_look(), answer)
 }
 
@@ -95,8 +96,8 @@ fn ask_any<L: Look>(
     ensures same { prepared.new ≡ prepared.old }
     ensures kept { L.kept result.0 ≡ L.kept look }
 {
-    let mut source = source(look, version_page);
-    let answer = any_into(alloc, prepared.query(), &mut source, most, found);
+    let mut source = ordered_source(look, version_page);
+    let answer = any_prepared_into(alloc, prepared, &mut source, most, found);
     (source.into_look(), answer)
 }
 
