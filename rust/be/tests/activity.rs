@@ -28,7 +28,7 @@ fn who_is_connected_is_listed_and_ended() {
     assert_eq!((gone.status, gone.out.as_str()), (1, ""));
     assert_eq!(
         gone.error,
-        "be: no client has the number 999; the clients may have changed (client 999)\n"
+        "be: no client has the number 999; the clients may have changed\n"
     );
     assert_eq!(server.be(&["kick", "me"]).status, 2);
 }

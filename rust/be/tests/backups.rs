@@ -100,10 +100,16 @@ fn what_is_no_backup_is_not_restored() {
     let server = server!(Server::start());
     let path = file(&server, "other");
     fs::write(&path, "no database").unwrap();
-    refused(&server.be(&["restore", text(&path)]), "the file is of another program");
+    refused(
+        &server.be(&["restore", text(&path)]),
+        "the file belongs to another program",
+    );
     refused(&server.be(&["restore", text(&file(&server, "none"))]), "none: ");
     fs::write(&path, "").unwrap();
-    refused(&server.be(&["restore", text(&path)]), "the file is of another program");
+    refused(
+        &server.be(&["restore", text(&path)]),
+        "the file belongs to another program",
+    );
     assert_eq!(Client::connect(server.socket()).unwrap().status().unwrap().entries, 0);
 }
 
