@@ -135,8 +135,7 @@ enum {
     BES_IN_USE = 77,          /* another handle of the store is open; close it first */
     BES_BAD_CURSOR = 78,      /* the cursor isn't one of this index; begin without a cursor, or
                                * use one that a page in the order of the index has left */
-    BES_NO_ROOM = 79          /* there is no room for a node of the page; give room for one or
-                               * more */
+    BES_NO_ROOM = 79          /* a page has at least one node; ask for one or more */
     /* surface.toml: end */
 };
 

@@ -125,8 +125,8 @@ static const bes_meaning_ bes_meanings_[] = {
       "the cursor isn't one of this index; "
       "begin without a cursor, or use one that a page in the order of the index has left" },
     { BES_NO_ROOM, BES_CLASS_MINE, "BES_NO_ROOM",
-      "there is no room for a node of the page; "
-      "give room for one or more" },
+      "a page has at least one node; "
+      "ask for one or more" },
     /* surface.toml: end */
 };
 

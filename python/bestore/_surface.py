@@ -149,8 +149,8 @@ MEANINGS: Dict[int, Meaning] = {
                          "close it first"),
     ErrorNumber.BAD_CURSOR: Meaning(ErrorClass.MINE, "the cursor isn't one of this index",
                          "begin without a cursor, or use one that a page in the order of the index has left"),
-    ErrorNumber.NO_ROOM: Meaning(ErrorClass.MINE, "there is no room for a node of the page",
-                         "give room for one or more"),
+    ErrorNumber.NO_ROOM: Meaning(ErrorClass.MINE, "a page has at least one node",
+                         "ask for one or more"),
 }
 """The errors of the library, by their numbers."""
 

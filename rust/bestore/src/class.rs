@@ -314,8 +314,8 @@ pub(crate) const MEANINGS: &[Meaning] = &[
     Meaning {
         code: sys::BES_NO_ROOM,
         class: Class::Mine,
-        what: "there is no room for a node of the page",
-        advice: "give room for one or more",
+        what: "a page has at least one node",
+        advice: "ask for one or more",
     },
     // surface.toml: end
 ];

@@ -135,8 +135,8 @@ names! {
     InUse = Some(77), Retry, "another handle of the store is open; close it first";
     /// The cursor isn't one of this index; begin without a cursor, or use one that a page in the order of the index has left.
     BadCursor = Some(78), Mine, "the cursor isn't one of this index; begin without a cursor, or use one that a page in the order of the index has left";
-    /// There is no room for a node of the page; give room for one or more.
-    NoRoom = Some(79), Mine, "there is no room for a node of the page; give room for one or more";
+    /// A page has at least one node; ask for one or more.
+    NoRoom = Some(79), Mine, "a page has at least one node; ask for one or more";
     /// The request isn't valid.
     BadRequest = None, Mine, "the request isn't valid";
     /// The snapshot was kept too long, and the server took it back; pin again.
