@@ -4,8 +4,8 @@
  *
  * HANDLES. A bes_pass is a session: one thread's handle on a store. It writes, pins a snapshot and reads it. A bes_prepared is a
  * parsed query. It belongs to no store, and any pass may ask it. A bes_place is a position in the list of operations that make a
- * snapshot again. A bes_witness is what a pass has seen, for a pass of the same store in another thread. The memory of a handle is
- * yours. Start it with BES_PASS_INIT, BES_PREPARED_INIT, BES_PLACE_INIT or BES_WITNESS_INIT, which are zero bytes. Never copy it and
+ * snapshot again. A bes_witness is what a pass has seen, for a pass of the same store in another thread. You own the memory
+ * of a handle. Start it with BES_PASS_INIT, BES_PREPARED_INIT, BES_PLACE_INIT or BES_WITNESS_INIT, which are zero bytes. Never copy it and
  * never change its fields: bes_move, bes_move_prepared, bes_move_place and bes_move_witness move it. Close it with bes_close,
  * bes_release, bes_leave or bes_dismiss. The store is freed with its last open pass.
  *
@@ -344,8 +344,8 @@ uint32_t bes_witness_of(bes_pass *pass, bes_witness *witness);
 /* Joins a witness, pinned or not: the pass and the witness have then both seen what either had. So each later snapshot of the pass
  * includes all that the witness's pass had seen, and each later commit number of the pass is greater than those. A pin stays where it
  * is. The witness stays open: it may be handed on, and joined again.
- * [in,out] witness  a witness of a pass of the same store. The library can't test that: with one of another store the behaviour is
- *                undefined.
+ * [in,out] witness  a witness from a pass of the same store. The library can't check that: with a witness from another store the
+ *                behaviour is undefined.
  * [out] seen     how many transactions both have now seen
  * BES_CLOSED (of pass, then of witness).
  * Cost: three steps. */
@@ -372,7 +372,7 @@ uint32_t bes_unpin(bes_pass *pass);
 /* Writes a batch of 1 to 64 operations as one transaction: all of them, in their order, or none. A pin stays where it is.
  * [in] operations  the operations, operations_count of them
  * [in] bytes     the bytes that their names and values are parts of
- * [out] made     for each operation the node that it made, or 0; as many as made_room
+ * [out] made     for each operation the node that it made, or 0; at most made_room
  * [out] number   the commit number
  * BES_CLOSED, BES_BAD_COUNT, BES_NO_MEMORY.
  * BES_BAD_PART, BES_NO_OPERATION; then of the name BES_NOT_UTF8, BES_NAME_LENGTH, BES_HAS_NUL; then BES_NO_KIND; then of the
@@ -407,7 +407,7 @@ uint32_t bes_next(bes_pass *pass, uint64_t *node);
 
 /* Asks a query in the pinned snapshot.
  * [in] text      the query; bestore's QUERIES.md has the language
- * [out] nodes    the first nodes that meet it, ascending; as many as nodes_room
+ * [out] nodes    the first nodes that meet it, ascending; at most nodes_room
  * [out] count    how many nodes meet it; if that is more than the room, ask again with more room
  * BES_CLOSED, BES_NOT_UTF8, BES_TOO_LONG.
  * BES_SYNTAX, BES_BAD_PATTERN, BES_TOO_MANY, BES_TOO_DEEP: the first from the left. Of BES_SYNTAX and BES_BAD_PATTERN count is the
@@ -420,7 +420,7 @@ uint32_t bes_next(bes_pass *pass, uint64_t *node);
 uint32_t bes_query(bes_pass *pass, const uint8_t *text, size_t text_length, uint64_t *nodes, size_t nodes_room,
                    uint64_t *count);
 
-/* As bes_query, for the query that items in reverse Polish order build. Nothing is parsed.
+/* Like bes_query, but the query is built from items in reverse Polish order. Nothing is parsed.
  * [in] items     the items, items_count of them
  * [in] bytes     the bytes that their names and texts are parts of
  * BES_CLOSED.
@@ -455,7 +455,7 @@ uint32_t bes_move_prepared(bes_prepared *prepared, bes_prepared *other);
 
 /* Writes the canonical text of a prepared query. Each comparison in it is "name"op"value", with no ! and no needless parenthesis.
  * bes_next_comparison reads its comparisons.
- * [out] bytes    the first bytes of the text; as many as bytes_room. No zero byte follows them.
+ * [out] bytes    the first bytes of the text; at most bytes_room. No zero byte follows them.
  * [out] count    how many bytes the text has; it may be longer than the query that was parsed
  * BES_CLOSED, BES_NO_MEMORY.
  * Cost: memory for the text. */
@@ -473,7 +473,7 @@ uint32_t bes_query_prepared(bes_pass *pass, bes_prepared *prepared, uint64_t *no
 /* Writes the nodes that the handle's last bes_query_prepared found, from an index on. So a result for which there was no room is read
  * without asking again, and a long one in parts. Needs no pin.
  * [in] from      the index of the first node to write, from 0
- * [out] nodes    the nodes, ascending; as many as nodes_room
+ * [out] nodes    the nodes, ascending; at most nodes_room
  * [out] count    how many nodes the whole result has; 0 before the first asking, and after one that returned an error
  * BES_CLOSED.
  * Cost: the time to copy them. */
@@ -540,14 +540,14 @@ uint32_t bes_refresh(bes_pass *pass, bes_prepared *prepared, bes_updates *update
 uint32_t bes_refresh_changed(bes_pass *pass, bes_prepared *prepared, bes_updates *updates);
 
 /* Writes the nodes that came at the last refresh, and those that went, each ascending. Needs no pin.
- * [out] created  the first that came; as many as created_room
- * [out] removed  the first that went; as many as removed_room
+ * [out] created  the first that came; at most created_room
+ * [out] removed  the first that went; at most removed_room
  * BES_CLOSED.
  * Cost: the time to copy them. */
 uint32_t bes_changes(bes_prepared *prepared, uint64_t *created, size_t created_room, uint64_t *removed, size_t removed_room);
 
 /* Explains a query: writes the comparisons whose indices are read, joined by " || ", and the cost, as in "size"<"0" score 3.
- * [out] bytes    the first bytes of that text; as many as bytes_room. No zero byte follows them.
+ * [out] bytes    the first bytes of that text; at most bytes_room. No zero byte follows them.
  * [out] count    how many bytes it has
  * The errors are those of bes_query.
  * Cost: the time to parse the query, and to find the indices of its names. Memory for the plan and the text. No node is read. */
@@ -565,7 +565,7 @@ uint32_t bes_nodes(bes_pass *pass, uint64_t from, uint64_t *nodes, size_t nodes_
 /* Reads a node's attribute in the pinned snapshot.
  * [in] name      the name, name_length bytes
  * [out] attribute  its type code, number and length
- * [out] bytes    the first bytes of a text or raw value; as many as bytes_room, and 255 suffice
+ * [out] bytes    the first bytes of a text or raw value; at most bytes_room, and 255 suffice
  * BES_CLOSED, BES_NOT_UTF8, BES_NAME_LENGTH, BES_HAS_NUL, BES_NOT_PINNED, BES_NO_ATTRIBUTE (also if there is no such node).
  * Cost: one descent of a tree. */
 uint32_t bes_get(bes_pass *pass, uint64_t node, const uint8_t *name, size_t name_length, bes_attribute *attribute,
@@ -581,7 +581,7 @@ uint32_t bes_check_name(const uint8_t *name, size_t name_length, bes_name *check
 /* Reads a node's attribute in the pinned snapshot, as bes_get does, by a name of bes_check_name.
  * [in] name      the name
  * [out] attribute  its type code, number and length
- * [out] bytes    the first bytes of a text or raw value; as many as bytes_room, and 255 suffice
+ * [out] bytes    the first bytes of a text or raw value; at most bytes_room, and 255 suffice
  * BES_CLOSED, BES_NOT_PINNED, BES_NO_ATTRIBUTE (also if there is no such node).
  * Cost: one descent of a tree. */
 uint32_t bes_get_named(bes_pass *pass, uint64_t node, const bes_name *name, bes_attribute *attribute, uint8_t *bytes,
@@ -591,9 +591,9 @@ uint32_t bes_get_named(bes_pass *pass, uint64_t node, const bes_name *name, bes_
  * are put end to end, in the order of the cells.
  * [in] nodes     the nodes, nodes_count of them, in any order
  * [in] names     the names, names_count of them. By ascending bytes they cost least.
- * [out] cells    the cells of the first node, one for each name, then those of the second, and so on; as many as cells_room. A node
+ * [out] cells    the cells of the first node, one for each name, then those of the second, and so on; at most cells_room. A node
  *                that isn't there and an attribute that it hasn't are no errors of the call: the cell has the number.
- * [out] bytes    the first bytes; as many as bytes_room
+ * [out] bytes    the first bytes; at most bytes_room
  * [out] bytes_count  how many bytes there are; if that is more than the room, call again with more room
  * BES_CLOSED, BES_NOT_PINNED, BES_BAD_COUNT (more than 2^32 cells). Then cells and bytes stay as they were, and bytes_count is 0.
  * Cost: one descent of a tree for a node whose attributes of these names follow one another; one more for each name that it hasn't,
@@ -603,8 +603,8 @@ uint32_t bes_columns(bes_pass *pass, const uint64_t *nodes, size_t nodes_count, 
 
 /* Lists a node's attributes in the pinned snapshot by ascending names, as the operations that set them.
  * [out] counts   how many operations and bytes there are; if that is more than the room, call again with more room
- * [out] operations  the first of them; as many as operations_room, and 64 suffice
- * [out] bytes    the first bytes that their names and values are parts of; as many as bytes_room, and 64 * (63 + 255) suffice
+ * [out] operations  the first of them; at most operations_room, and 64 suffice
+ * [out] bytes    the first bytes that their names and values are parts of; at most bytes_room, and 64 * (63 + 255) suffice
  * BES_CLOSED, BES_NOT_PINNED, BES_NO_NODE, BES_NO_MEMORY.
  * Cost: a descent of a tree, a walk over the node's attributes, and memory for the list. */
 uint32_t bes_attributes(bes_pass *pass, uint64_t node, bes_counts *counts, bes_operation *operations, size_t operations_room,
@@ -638,7 +638,7 @@ uint32_t bes_move_place(bes_place *place, bes_place *other);
 
 /* Writes the journal as text, pinned or not. Each transaction has a line, as 2 by 0 set 1 "size" LONG 5 -> ok: its commit number, the
  * pass that wrote it, its operations and their outcomes. The journal only grows, so the text of a later call begins with this.
- * [out] bytes    the first bytes of the text; as many as bytes_room. No zero byte follows them.
+ * [out] bytes    the first bytes of the text; at most bytes_room. No zero byte follows them.
  * [out] count    how many bytes it has
  * BES_CLOSED. BES_BUSY: another pass is writing, and count is that pass. BES_NO_MEMORY.
  * Cost: time and memory for the whole text. Writes of other passes return BES_BUSY meanwhile. */

@@ -130,7 +130,7 @@ static const bes_meaning_ bes_meanings_[] = {
     /* surface.toml: end */
 };
 
-/* What is known of an error, or NULL. */
+/* What is known about an error, or NULL. */
 static inline const bes_meaning_ *bes_meaning_of_(uint32_t error)
 {
     for (size_t i = 0; i < sizeof bes_meanings_ / sizeof *bes_meanings_; i++)
@@ -318,7 +318,7 @@ static inline unsigned bes_stand_back(unsigned turns)
 #define BES_TRIES 10000u
 #endif
 
-/* How many seconds a write is tried again at BES_FULL, while another pass has an older snapshot pinned. */
+/* How many seconds a write is retried after BES_FULL while another pass has an older snapshot pinned. */
 #ifndef BES_FULL_SECONDS
 #define BES_FULL_SECONDS 2
 #endif

@@ -1,4 +1,4 @@
-"""The line of those who wait for the file of a store."""
+"""The queue of threads that are waiting for a store's file."""
 
 from __future__ import annotations
 

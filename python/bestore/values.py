@@ -45,7 +45,7 @@ _Self = TypeVar("_Self", bound="Integer")
 
 
 class Integer(int):
-    """An integer that says its kind. `NoValue` if the kind doesn't hold it. What is computed from it is a plain int."""
+    """An integer with an explicit kind. `NoValue` if the kind doesn't hold it. What is computed from it is a plain int."""
 
     kind: ClassVar[Kind]
 

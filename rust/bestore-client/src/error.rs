@@ -32,7 +32,7 @@ pub enum Error {
         /// The user as whom this process acts.
         user: u32,
     },
-    /// A change sets an attribute of another kind than the index of its name takes. Nothing was written.
+    /// A change sets an attribute to a value of a kind that its index doesn't take. Nothing was written.
     KindMismatch {
         /// The name of the attribute.
         name: String,

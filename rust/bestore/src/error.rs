@@ -391,7 +391,7 @@ impl Error {
         meaning.show_advice(f)
     }
 
-    /// Shows an error that this crate finds itself.
+    /// Shows an error that this crate itself detects.
     fn show_own(&self, f: &mut fmt::Formatter<'_>) -> fmt::Result {
         match self {
             Error::KindMismatch { name, index, value } => write!(
@@ -420,7 +420,7 @@ impl Error {
     }
 }
 
-/// The names of the indices that there are.
+/// The names of the existing indices.
 fn listed(indices: &[String]) -> String {
     match indices {
         [] => "there are no indices".into(),

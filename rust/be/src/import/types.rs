@@ -77,7 +77,7 @@ impl Types {
         }
     }
 
-    /// Where the types are from, in words.
+    /// Where the types come from, in words.
     pub fn source(&self) -> &'static str {
         self.source
     }

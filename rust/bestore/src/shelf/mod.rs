@@ -1,6 +1,6 @@
 //! Shelves: several stores that one query searches.
 //!
-//! A [`Shelf`] has 1 to 64 stores, its *volumes*, and so room for more nodes than one store. A query is answered from all of
+//! A [`Shelf`] has 1 to 64 stores, its *volumes*, so it has room for more nodes than one store does. A query is answered from all of
 //! them, and a [node](Node) says which volume it is in. A node never leaves its volume.
 //!
 //! ```

@@ -393,7 +393,7 @@ impl Member {
         Ok(())
     }
 
-    /// Takes the lock again, and ends the own term, since the old session may still add entries.
+    /// Takes the lock again and ends its own term, since the old session may still add entries.
     async fn lead_again(&mut self, database: &Database) -> Result<()> {
         if !database.try_lock().await? {
             let head = database.head().await?;
