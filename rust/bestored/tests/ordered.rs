@@ -107,7 +107,7 @@ fn what_a_page_can_not_be() {
     let (_folder, server) = start(&[]);
     let mut talk = server.talk();
     four(&mut talk);
-    let bad = |why: &str| format!(r#""name":"BadRequest","message":"{why}""#);
+    let bad = |why: &str| format!(r#""name":"BadRequest","message":"{why}","class":"mine""#);
     let count = |name: &str, nodes: &str| bad(&format!("`{name}` is {nodes}, and a page has 1 to 50000 nodes"));
     let errors = [
         (r#""by":"size","limit":0"#, count("limit", "0")),
@@ -129,7 +129,7 @@ fn what_a_page_can_not_be() {
         (r#""after":"AQ""#, bad("`after` goes with `by`, the name of the index whose cursor it is")),
         (
             r#""by":"kind""#,
-            r#""name":"NoIndex","number":6,"message":"an order needs an index, and there is none of the name \"kind\"","missing":"kind""#.into(),
+            r#""name":"NoIndex","number":6,"message":"an order needs an index, and there is none of the name \"kind\"","class":"mine","missing":"kind""#.into(),
         ),
     ];
     check_errors(&mut talk, &errors);
@@ -141,7 +141,7 @@ fn a_cursor_of_another_page_is_refused() {
     let mut talk = server.talk();
     four(&mut talk);
     let cursor = cursor_of(&mut talk, r#""query":{"query":"size>0","by":"size","limit":1}"#);
-    let fault = |why: &str| format!(r#""name":"BadCursor","number":78,"message":"{why}""#);
+    let fault = |why: &str| format!(r#""name":"BadCursor","number":78,"message":"{why}","class":"mine""#);
     let other_order = |order: &str| {
         fault(&format!(
             r#"the cursor is of the order by \"size\" ascending, and this page is in the order by {order}: {}"#,

@@ -494,7 +494,7 @@ fn a_copy_is_read_without_a_pin_and_keeps_no_pages() {
     three(&mut talk);
     talk.check(
         r#""state":{}"#,
-        r#""error":{"name":"NotPinned","number":66,"message":"no snapshot is pinned"}"#,
+        r#""error":{"name":"NotPinned","number":66,"message":"no snapshot is pinned; pin one before you read","class":"mine"}"#,
     );
     talk.check(r#""collect":{}"#, r#""ok":{"commit":1,"next":4}"#);
     talk.check(
@@ -531,7 +531,7 @@ fn two_clients_read_copies_at_the_same_time() {
         r#""ok":{"commit":0,"next":1}"#,
         concat!(
             r#""error":{"name":"TooManyCopies","message":"2 clients are reading copies, as many as may "#,
-            r#"at the same time","most":2}"#
+            r#"at the same time","class":"retry","most":2}"#
         ),
     );
     // A client's second copy is in the place of its first one.

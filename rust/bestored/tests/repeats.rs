@@ -70,7 +70,7 @@ fn a_batch_that_was_refused_is_written_when_it_comes_again() {
     let mut talk = server.talk();
     talk.check(
         r#""batch":{"operations":[["set",1,"a",1]],"token":"a"}"#,
-        r#""error":{"name":"NoNode","number":2,"message":"no such node"}"#,
+        r#""error":{"name":"NoNode","number":2,"message":"there is no such node","class":"mine"}"#,
     );
     talk.check(
         r#""batch":{"operations":[["new"]]}"#,
@@ -90,7 +90,7 @@ fn numbers_of_another_run_are_refused() {
     let mut talk = server.talk();
     let write = |run: &str| format!(r#""batch":{{"operations":[["new"]],"expected":0,"run":"{run}"}}"#);
     let refused = format!(
-        r#""error":{{"name":"Conflict","number":76,"message":"{}","expected":0,"found":0,"run":"{run}"}}"#,
+        r#""error":{{"name":"Conflict","number":76,"message":"{}","class":"retry","expected":0,"found":0,"run":"{run}"}}"#,
         "the server was started again, and commit numbers begin anew"
     );
     talk.check(&write("1-1"), &refused);
@@ -119,7 +119,7 @@ fn tokens_are_of_the_whole_server_and_outlive_it() {
             r#""batch":{"operations":[["index","a","text"]],"token":"b"}"#,
             concat!(
                 r#""error":{"name":"BadRequest","message":"a batch that is written in each volume takes no token; "#,
-                r#"it can be sent again without one"}"#
+                r#"it can be sent again without one","class":"mine"}"#
             ),
         );
         first
