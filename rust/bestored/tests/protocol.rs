@@ -513,7 +513,7 @@ fn a_copy_is_read_without_a_pin_and_keeps_no_pages() {
         .contains(r#""oldest":null"#));
     talk.check(
         r#""state":{"from":99,"volume":1}"#,
-        r#""error":{"name":"NoVolume","message":"there is no volume 1: there are 1, counted from 0","volume":1,"volumes":1}"#,
+        r#""error":{"name":"NoVolume","message":"there is no volume 1; there are 1, counted from 0","class":"mine","volume":1,"volumes":1}"#,
     );
     // What is pinned goes before what was copied.
     talk.check(r#""pin":{}"#, r#""ok":{"commit":2,"next":4}"#);
