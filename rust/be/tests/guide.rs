@@ -64,7 +64,7 @@ fn the_lines_of_the_readme_may_be_pasted_at_once() {
     }
     let readme = include_str!("../../../README.md");
     let (_, lines) = readme.split_once("**One store for several programs**").unwrap();
-    let (lines, _) = lines.split_once("**With the program**").unwrap();
+    let (lines, _) = lines.split_once("**With the program").unwrap();
     let lines: Vec<&str> = lines.lines().filter_map(|line| line.strip_prefix("    ")).collect();
     assert_eq!(lines.len(), 5);
     for time in 0..TIMES {
