@@ -496,8 +496,9 @@ uint32_t bes_found(bes_prepared *prepared, uint64_t from, uint64_t *nodes, size_
  * BES_CLOSED (of pass, then of prepared), BES_NOT_PINNED, BES_NO_ROOM (nodes_room is 0), BES_NO_INDEX (the snapshot has no index by),
  * BES_BAD_CURSOR (it is of another kind than the index, or its key doesn't have 8 to 264 bytes), BES_NOT_COVERED, BES_NO_MEMORY.
  * count is 0 then, and nodes, more and cursor stay as they were. After all but BES_CLOSED the handle keeps no result.
- * Cost: that of bes_query_prepared, two descents of a tree for each node of the answer, and a sort of those after the cursor, with
- * memory for their keys. */
+ * Cost: if comparisons with this attribute alone decide the query, a descent of a tree and a walk over the page's keys. Otherwise the
+ * index is walked from the cursor, and the query asked of each node, with a descent for each; once fewer than about one in 32 passes,
+ * the whole query is asked, with two descents for each node of the answer, a sort, and memory for the keys. */
 uint32_t bes_ordered(bes_pass *pass, bes_prepared *prepared, const bes_name *by, uint32_t descending, bes_cursor *cursor,
                      uint64_t *nodes, size_t nodes_room, uint64_t *count, uint32_t *more);
 

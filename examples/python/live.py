@@ -1,0 +1,21 @@
+"""Waits for what another thread writes: a live query of a store in this process.
+
+    PYTHONPATH=python BESTORE_LIBRARY=c/libbestore.so python3 examples/python/live.py
+"""
+
+import threading
+
+import bestore
+
+
+def letter(change):
+    change[change.new()]["MAIL:status"] = "New"
+
+
+with bestore.open() as store:
+    store.make_index("MAIL:status", bestore.STRING)
+    writer = store.another()
+    with store.watch("MAIL:status==New") as unread:
+        unread.wait(0)
+        threading.Thread(target=writer.change, args=(letter,)).start()
+        print(unread.wait(60))
