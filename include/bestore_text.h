@@ -461,7 +461,7 @@ static inline uint32_t bes_cursor_value(const bes_cursor *cursor, bes_attribute 
     value->code = code;
     value->length = is_text ? size - 1 : 0;
     value->number = is_text ? 0 : bes_take_high_first_(cursor->key, size) - bes_key_shift_(code);
-    if (value->length > 0 && value->length <= bytes_room)
+    if (bytes != NULL && value->length > 0 && value->length <= bytes_room)
         memcpy(bytes, cursor->key, value->length);
     *node = bes_take_high_first_(cursor->key + size, 8);
     return BES_OK;
