@@ -316,7 +316,7 @@ class Editing(OverStore):
         window.root.update()
         self.assertIsNotNone(window.list.editor.cell)
         self.store.remove_node(1)
-        self.becomes(window, lambda: "no hit any more. You had typed: text/plain" in str(window.notice["text"]))
+        self.becomes(window, lambda: "isn't a hit any more. You had typed: text/plain" in str(window.notice["text"]))
         self.assertIsNone(window.list.editor.cell)
 
     def test_not_of_files(self) -> None:
