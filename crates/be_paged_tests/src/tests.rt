@@ -10,6 +10,7 @@ mod costs;
 mod lines;
 mod look_tests;
 mod nodes;
+mod ordering;
 mod random_lists;
 mod same;
 mod sizes;
