@@ -56,7 +56,7 @@ fn refuses(line: &[u8]) {
             goes_there_and_back::<wire::Refusal>(line);
         }
         refusal.query = Some(refusal.message.clone());
-        assert!(refusal.to_string().starts_with(&refusal.name));
+        assert!(refusal.to_string().starts_with(refusal.name.as_str()));
     }
 }
 
