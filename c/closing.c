@@ -1,4 +1,4 @@
-/* Handles that are closed: one that is pinned to less than it has seen, and the last one where there is no room at all. */
+/* Closing handles: one that is pinned to less than it has seen, and the last one when the caller has no room for the journal. */
 #include "tests.h"
 
 /* A pass that has written since it was pinned goes back without a pin: the store frees the pages of the versions since then, the pass is

@@ -69,7 +69,7 @@ static void positions(int kind)
     CHECK(bes_release(&all) == BES_OK && bes_close(&pass) == BES_OK);
 }
 
-/* What is in no index, and what is no position. */
+/* Values that no index holds, and cursors that are not a position in an index. */
 static void refused(void)
 {
     bes_cursor cursor = { 7, 7, { 7 } };
