@@ -3,6 +3,7 @@
 
     /usr/bin/python3 bench/claims.py                          queues of 500, 2,000 and 16,000 jobs, one worker and eight
     /usr/bin/python3 bench/claims.py --queued 500 --rounds 1  a trial
+    /usr/bin/python3 bench/claims.py --instructions           instructions a claim of one worker instead, by perf or valgrind
 
 It needs the package (PYTHONPATH=python). A claim reads a waiting job and marks it as claimed, as one: in bestore by `change`, with
 any job or with the most urgent one; in SQLite by one UPDATE with RETURNING. Jobs that were claimed are queued again between the
@@ -19,12 +20,17 @@ import threading
 import time
 from typing import Callable, Dict, List, Optional, Union
 
-sys.path.insert(0, os.path.join(os.path.dirname(os.path.abspath(__file__)), "..", "python"))
+sys.path[:0] = [os.path.join(os.path.dirname(os.path.abspath(__file__)), folder) for folder in ("../python", "script")]
 
 import bestore
 
+from instructions import instructions_a_call
+
 CLAIMS = 400
 """How many jobs are claimed in a round."""
+FEW, MANY = 100, 400
+"""How many claims are made where instructions are counted."""
+WAYS = ("any_job", "urgent_job")
 Claim = Callable[[], Optional[int]]
 
 
@@ -96,6 +102,9 @@ class Sqlite:
         self._connection.executemany("UPDATE job SET state = 'waiting' WHERE number = ?", [(job,) for job in jobs])
 
 
+STORES: Dict[str, Callable[[int], Union[Bestore, Sqlite]]] = {"bestore": Bestore, "sqlite3": Sqlite}
+
+
 def work(claim: Claim, count: int, begin: threading.Barrier, claimed: List[int]) -> None:
     """Claims so many jobs, once all workers are there."""
     begin.wait()
@@ -128,12 +137,29 @@ def rate(claims: List[Claim], queue_again: Callable[[List[int]], None]) -> float
 def measured(queued: int, workers: int, rounds: int) -> Dict[str, float]:
     """The best rate of each way to claim."""
     best: Dict[str, float] = {}
-    stores: Dict[str, Union[Bestore, Sqlite]] = {"bestore": Bestore(queued), "sqlite3": Sqlite(queued)}
-    for title, store in stores.items():
-        for way in ("any_job", "urgent_job"):
+    for title, made in STORES.items():
+        store = made(queued)
+        for way in WAYS:
             claims = [getattr(store, way)() for _ in range(workers)]
             best[f"{title} {way}"] = max(rate(claims, store.queue_again) for _ in range(rounds))
     return best
+
+
+def instructions(queued: int) -> Dict[str, str]:
+    """The instructions of a claim of one worker, by each way."""
+    own = [sys.executable, os.path.abspath(__file__), "--queued", str(queued), "--one"]
+    return {f"{title} {way}": instructions_a_call([*own, title, way], FEW, MANY) for title in STORES for way in WAYS}
+
+
+def claim_some(title: str, way: str, count: int, queued: int) -> None:
+    """Claims so many jobs, and nothing else."""
+    claim: Claim = getattr(STORES[title](queued), way)()
+    for _ in range(count):
+        claim()
+
+
+def print_row(what: str, cells: Dict[str, str]) -> None:
+    print(f"| {what} | " + " | ".join(cells[f"{title} {way}"] for way in WAYS for title in STORES) + " |", flush=True)
 
 
 def main() -> None:
@@ -141,13 +167,20 @@ def main() -> None:
     parser.add_argument("--rounds", type=int, default=5, help="how many rounds (5)")
     parser.add_argument("--queued", type=int, nargs="*", default=[500, 2_000, 16_000], help="how many jobs wait")
     parser.add_argument("--workers", type=int, nargs="*", default=[1, 8], help="how many workers there are")
+    parser.add_argument("--instructions", action="store_true", help="count instructions instead")
+    parser.add_argument("--one", nargs=3, metavar=("STORE", "WAY", "COUNT"), help=argparse.SUPPRESS)
     options = parser.parse_args()
+    if options.one:
+        claim_some(options.one[0], options.one[1], int(options.one[2]), options.queued[0])
+        return
     print("| queued, workers | bestore: any | sqlite3: any | bestore: most urgent | sqlite3: most urgent |\n|---|---|---|---|---|")
-    for workers in options.workers:
+    for workers in [1] if options.instructions else options.workers:
         for queued in options.queued:
+            if options.instructions:
+                print_row(f"{queued:,}, {workers}", instructions(queued))
+                continue
             best = measured(queued, workers, options.rounds)
-            cells = [best[f"{title} {way}"] for way in ("any_job", "urgent_job") for title in ("bestore", "sqlite3")]
-            print(f"| {queued:,}, {workers} | " + " | ".join(f"{it:,.0f}" for it in cells) + " |", flush=True)
+            print_row(f"{queued:,}, {workers}", {way: f"{it:,.0f}" for way, it in best.items()})
 
 
 if __name__ == "__main__":

@@ -20,13 +20,14 @@ import random
 import shutil
 import sqlite3
 import struct
-import subprocess
 import sys
 import tempfile
 import time
 from typing import Any, Callable, Dict, Iterator, List, Optional, Sequence, Tuple
 
-sys.path.insert(0, os.path.join(os.path.dirname(os.path.abspath(__file__)), "..", "python"))
+sys.path[:0] = [os.path.join(os.path.dirname(os.path.abspath(__file__)), folder) for folder in ("../python", "script")]
+
+from instructions import instructions_a_call
 
 TEXTS = ("kind", "from", "to", "subject", "status")
 """The names of five attributes that have no index."""
@@ -422,30 +423,12 @@ def print_times(taken: Dict[str, Dict[str, List[float]]], peers: List[Peer]) -> 
         print(f"| {title} | {' | '.join(cells)} | {rate(min(own))} | {spread:.2f} |")
 
 
-def counted(title: str, case: str, nodes: int, count: int) -> Optional[int]:
-    """The instructions of a process that makes so many calls, by perf or by valgrind."""
-    own = [sys.executable, os.path.abspath(__file__), "--nodes", str(nodes), "--one", title, case, str(count)]
-    environment = dict(os.environ, PYTHONHASHSEED="0")
-    for tool in (["perf", "stat", "-x,", "-e", "instructions:u"], ["valgrind", "--tool=callgrind", "--callgrind-out-file=/dev/null"]):
-        if shutil.which(tool[0]) is None:
-            continue
-        said = subprocess.run([*tool, *own], env=environment, stderr=subprocess.PIPE, text=True, check=False).stderr
-        for line in said.splitlines():
-            if tool[0] == "perf" and ",instructions:u," in line and line.split(",")[0].isdigit():
-                return int(line.split(",")[0])
-            if tool[0] == "valgrind" and "Collected : " in line:
-                return int(line.split("Collected : ")[1])
-    return None
-
-
 def print_instructions(titles: List[str], nodes: int) -> None:
-    """A table of instructions a call: the difference of a process that makes many calls and one that makes a few."""
+    """A table of instructions a call."""
     print("| case | " + " | ".join(titles) + " |\n|---" + "|---" * len(titles) + "|")
+    own = [sys.executable, os.path.abspath(__file__), "--nodes", str(nodes), "--one"]
     for case, title in CASES.items():
-        cells = []
-        for it in titles:
-            few, many = counted(it, case, nodes, FEW), counted(it, case, nodes, MANY)
-            cells.append("not counted" if few is None or many is None else f"{(many - few) // (MANY - FEW):,}")
+        cells = [instructions_a_call([*own, it, case], FEW, MANY) for it in titles]
         print(f"| {title} | {' | '.join(cells)} |", flush=True)
 
 

@@ -10,6 +10,7 @@ static bes_pass closed, pass, single;
 static bes_prepared unprepared, prepared;
 static bes_place not_begun, begun;
 static bes_witness unopened, witness;
+static bes_draft unbegun, draft;
 static uint64_t number, count, nodes[4];
 static bes_attribute attribute;
 static bes_counts counts;
@@ -47,6 +48,8 @@ static void of_handles(void)
     RETURNS(BES_CLOSED, bes_move_prepared(&unprepared, &prepared));
     RETURNS(BES_CLOSED, bes_move_place(&not_begun, &begun));
     RETURNS(BES_CLOSED, bes_move_witness(&unopened, &witness));
+    RETURNS(BES_CLOSED, bes_move_draft(&unbegun, &draft));
+    RETURNS(BES_CLOSED, bes_begin_change(&closed, &draft, &number, &count));
     RETURNS(BES_CLOSED, bes_witness_of(&closed, &witness));
     RETURNS(BES_CLOSED, bes_join(&closed, &witness, &number));
     RETURNS(BES_CLOSED, bes_join(&pass, &unopened, &number));
@@ -97,6 +100,47 @@ static void of_writes(void)
     /* The store's limits come last, that of the journal before that of the pages. */
     RETURNS(BES_NO_NODE, bes_remove_node(&single, 9));
     RETURNS(BES_COMMITS_SPENT, bes_new_node(&single, &number));
+}
+
+/* An operation of a change: what is wrong with it, then its kind, then how many there are. */
+static uint32_t add_one(uint32_t kind, uint32_t code, const uint8_t *parts, uint32_t name_length, uint32_t value_length)
+{
+    bes_operation one = {0, 0, 0, 0, 0, 0, 0, 0};
+    one.kind = kind;
+    one.code = code;
+    one.node = 1;
+    one.name_length = name_length;
+    one.value_length = value_length;
+    return bes_change_add(&draft, &one, parts, LONG_TEXT, &number);
+}
+
+static void of_changes(void)
+{
+    const uint8_t *name = memset(bytes, 'a', LONG_TEXT);
+    RETURNS(BES_CLOSED, bes_change_add(&unbegun, listed, bytes, 0, &number));
+    RETURNS(BES_OK, add_one(BES_MAKE_INDEX, BES_INT64_TYPE, name, 1, 0));
+    for (int i = 1; i < 64; i++)
+        RETURNS(BES_OK, add_one(BES_NEW_NODE, 0, name, 0, 0));
+    RETURNS(BES_BAD_PART, add_one(99, 0, name, LONG_TEXT + 1, 0));
+    RETURNS(BES_NO_OPERATION, add_one(99, 0, no_text, 64, 0));
+    RETURNS(BES_NOT_UTF8, add_one(BES_SET, 99, no_text, 64, 0));
+    RETURNS(BES_NO_KIND, add_one(BES_SET, 99, name, 1, 256));
+    RETURNS(BES_DATA_LENGTH, add_one(BES_SET, BES_STRING_TYPE, name, 1, 256));
+    RETURNS(BES_WRONG_KIND, add_one(BES_SET, BES_STRING_TYPE, name, 1, 1));
+    RETURNS(BES_BAD_COUNT, add_one(BES_SET, BES_INT64_TYPE, name, 1, 1));
+    RETURNS(BES_CLOSED, bes_change_get(&closed, &draft, 1, no_text, 64, &attribute, bytes, 0));
+    RETURNS(BES_CLOSED, bes_change_get(&pass, &unbegun, 1, no_text, 64, &attribute, bytes, 0));
+    CHECK(bes_unpin(&pass) == BES_OK);
+    RETURNS(BES_NOT_UTF8, bes_change_get(&pass, &draft, 1, no_text, 64, &attribute, bytes, 0));
+    RETURNS(BES_NAME_LENGTH, bes_change_get(&pass, &draft, 1, zero_text, 64, &attribute, bytes, 0));
+    RETURNS(BES_NOT_PINNED, bes_change_get(&pass, &draft, 9, NAME("a"), &attribute, bytes, 0));
+    RETURNS(BES_OK, bes_new_node(&pass, &number));
+    RETURNS(BES_NOT_PINNED, bes_end_change(&pass, &draft, &number));
+    /* BES_CONFLICT before what the store refuses. */
+    RETURNS(BES_OK, bes_begin_change(&pass, &draft, &number, &count));
+    RETURNS(BES_OK, add_one(BES_UNSET, 0, name, 1, 0));
+    RETURNS(BES_OK, bes_new_node(&pass, &number));
+    RETURNS(BES_CONFLICT, bes_end_change(&pass, &draft, &number));
 }
 
 /* Queries: their text, then the pin, then what serves them. */
@@ -150,10 +194,12 @@ int main(void)
     bes_prepared unprepared_inits[] = {BES_PREPARED_INIT, BES_PREPARED_INIT};
     bes_place place_inits[] = {BES_PLACE_INIT, BES_PLACE_INIT};
     bes_witness witness_inits[] = {BES_WITNESS_INIT, BES_WITNESS_INIT};
+    bes_draft draft_inits[] = {BES_DRAFT_INIT, BES_DRAFT_INIT};
     closed = inits[0], pass = inits[1], single = inits[2];
     unprepared = unprepared_inits[0], prepared = unprepared_inits[1];
     not_begun = place_inits[0], begun = place_inits[1];
     unopened = witness_inits[0], witness = witness_inits[1];
+    unbegun = draft_inits[0], draft = draft_inits[1];
     memset(no_text, 0xff, sizeof no_text);
     CHECK(bes_open(64, 1, 10, &pass) == BES_OK && bes_open(8, 1, 1, &single) == BES_OK);
     CHECK(bes_new_node(&pass, &number) == BES_OK && bes_new_node(&single, &number) == BES_OK);
@@ -162,6 +208,9 @@ int main(void)
     CHECK(bes_witness_of(&pass, &witness) == BES_OK);
     of_handles();
     of_writes();
+    CHECK(bes_begin_change(&pass, &draft, &number, &count) == BES_OK);
+    RETURNS(BES_OPEN, bes_begin_change(&pass, &draft, &number, &count));
+    of_changes();
     of_queries();
     of_reads();
     CHECK(bes_release(&prepared) == BES_OK && bes_leave(&begun) == BES_OK && bes_dismiss(&witness) == BES_OK);

@@ -42,8 +42,8 @@ static void names(void)
     CHECK(bes_class(BES_CLOSED) == BES_CLASS_GONE && bes_class(BES_CONFLICT) == BES_CLASS_RETRY);
     CHECK(strcmp(bes_error_name(BES_BAD_RPN), "BES_BAD_RPN") == 0 && strcmp(bes_error_name(BES_BUSY), "BES_BUSY") == 0);
     CHECK(strcmp(bes_error_name(BES_CLOSED), "BES_CLOSED") == 0 && strcmp(bes_error_name(BES_NO_ITEM), "BES_NO_ITEM") == 0);
-    CHECK(strcmp(bes_strerror(BES_CONFLICT), "the journal has another length than the write expects; "
-                                               "read again, and write on what you read then") == 0);
+    CHECK(strcmp(bes_strerror(BES_CONFLICT), "the journal's length isn't what the write expects; "
+                                               "read again, and base the write on that") == 0);
 }
 
 static void own_number(void)
@@ -156,6 +156,9 @@ static void changes(void)
     CHECK(bes_change(&passes[0], 3, count_up, &it, &number) == BES_NOT_UTF8 && number == 0 && it.runs == 1);
     CHECK(bes_change(&passes[0], 0, do_nothing, NULL, &number) == BES_OK && number == 10);
     CHECK(count_of(&passes[2]) == 2);
+    CHECK(bes_remove_index(&passes[1], "count") == BES_OK && bes_make_index(&passes[1], "count", BES_INT32_TYPE) == BES_OK);
+    it = (counting){&passes[1], 0, 0, 0, BES_OK};
+    CHECK(bes_change(&passes[0], 3, count_up, &it, &number) == BES_WRONG_KIND && number == 0 && it.runs == 1);
     CHECK(bes_pin(&passes[0], &number) == BES_OK && bes_change(&passes[0], 3, count_up, &it, &number) == BES_PINNED && number == 0);
     CHECK(bes_unpin(&passes[0]) == BES_OK && bes_unpin(&passes[0]) == BES_NOT_PINNED);
     close_three(passes);
@@ -448,12 +451,14 @@ static void in_child(void)
     bes_prepared prepared = BES_PREPARED_INIT;
     bes_place place = BES_PLACE_INIT;
     bes_witness witness = BES_WITNESS_INIT;
+    bes_draft draft = BES_DRAFT_INIT;
     uint64_t number = 0, node = 0;
     int status = 0;
     pid_t child;
     open_three(passes, 64);
     CHECK(bes_prepare_text("count>0", &prepared, &number) == BES_OK && bes_pin(&passes[0], &number) == BES_OK);
     CHECK(bes_batch_state(&passes[0], &place, &batch) == BES_OK && bes_witness_of(&passes[0], &witness) == BES_OK);
+    CHECK(bes_begin_change(&passes[2], &draft, &number, &node) == BES_OK);
     fflush(NULL);
     child = fork();
     CHECK(child >= 0);
@@ -463,8 +468,9 @@ static void in_child(void)
         bes_forget_prepared(&prepared);
         bes_forget_place(&place);
         bes_forget_witness(&witness);
+        bes_forget_draft(&draft);
         CHECK(bes_new_node(&passes[0], &node) == BES_CLOSED && bes_release(&prepared) == BES_CLOSED && bes_leave(&place) == BES_CLOSED);
-        CHECK(bes_dismiss(&witness) == BES_CLOSED);
+        CHECK(bes_dismiss(&witness) == BES_CLOSED && bes_abandon_change(&passes[2], &draft) == BES_CLOSED);
         open_three(passes, 64);
         close_three(passes);
         execlp("true", "true", (char *)NULL); /* which leaves no leak to be found */
@@ -473,6 +479,7 @@ static void in_child(void)
     CHECK(waitpid(child, &status, 0) == child && WIFEXITED(status) && WEXITSTATUS(status) == 0);
     CHECK(bes_new_node(&passes[1], &node) == BES_OK && node == 2);
     CHECK(bes_leave(&place) == BES_OK && bes_release(&prepared) == BES_OK && bes_dismiss(&witness) == BES_OK);
+    CHECK(bes_abandon_change(&passes[2], &draft) == BES_OK);
     close_three(passes);
 }
 

@@ -240,12 +240,13 @@ static void texts()
     CHECK(prepared.names() == std::vector<std::string>{"a", "b c"});
     const auto comparisons = comparisons_of("!(a=1 && b\\ c<2)");
     CHECK(comparisons.size() == 2 && comparisons[1].name == "b c" && comparisons[1].op == B_LT && comparisons[1].value == "2");
-    CHECK(comparisons[1].offset == 9 && comparisons[1].length == 6 && comparisons_of("").empty());
+    CHECK(comparisons[1].offset == 9 && comparisons[1].length == 6);
+    refused(BES_SYNTAX, at_byte(2), [] { comparisons_of("a<"); });
     CHECK(escape("[draft].txt") == "\\[draft].txt" && escape("").empty() && escape("a b") == "a\\ b");
-    CHECK(any_case("dR.[") == "[dD][rR].\\[" && any_case("\xc3\x89z\xe4\xb8\xad") == "[\xc3\x89\xc3\xa9][zZ]\xe4\xb8\xad");
-    CHECK(any_case("\xd0\x96\xd0\xb6\xcf\x80\xc5\xbe") ==
-          "[\xd0\x96\xd0\xb6][\xd0\xb6\xd0\x96][\xcf\x80\xce\xa0][\xc5\xbe\xc5\xbd]");
-    CHECK(any_case("\xc3\x97\xc3\xb7\xc3\x9f\xff\xc3") == "\xc3\x97\xc3\xb7\xc3\x9f\xff\xc3");
+    CHECK(any_case("dR.[") == "[dD][rR].\\[" && any_case("\xc3\x89z\xe4\xb8\xad") == "[\xc3\xa9\xc3\x89][zZ]\xe4\xb8\xad");
+    CHECK(any_case("\xc3\x97\xc3\xb7") == "\xc3\x97\xc3\xb7" && any_case("").empty());
+    refused(BES_NOT_UTF8, [] { any_case("\xc3"); });
+    refused(BES_NOT_UTF8, [] { escape("\xff"); });
     CHECK(caret("gr\xc3\xb6\xc3\x9f""e==[", 9) == "gr\xc3\xb6\xc3\x9f""e==[\n       ^" && caret("a\nb<", 4) == "b<\n  ^" && caret("", 3) == "\n^");
     CHECK(to_utf8("a\xff") == "a?" && to_utf8("\xc3\xa9\xc3\xa9", 3) == "\xc3\xa9" && to_utf8("").empty());
     CHECK(std::string(Refusal(BES_BUSY).name()) == "BES_BUSY");
@@ -253,24 +254,22 @@ static void texts()
     CHECK(Refusal(BES_FULL).error_class() == ErrorClass::full && Refusal(63).error_class() == ErrorClass::mine);
 }
 
-// Each letter that has another case finds that, and only that.
+// A text finds those that are equal in upper and lower case, whatever letters they have.
 static void any_case_finds()
 {
     Store store({512, 1, 100000});
     store.make_index("name", Kind::string);
     store.new_nodes(2);
-    int letters = 0;
-    for (char32_t c = 0x80; c < 0x600; c++) {
-        const std::string text = detail::two_bytes(c);
-        const char32_t other = detail::other_case(c);
-        CHECK(other == 0 || detail::other_case(other) == c);
-        if (other == 0)
-            continue;
-        letters++;
-        store.apply(Batch().set(1, "name", text).set(2, "name", detail::two_bytes(other)));
-        CHECK(store.pin().query("name==" + any_case(text)) == (Nodes{1, 2}));
+    const std::pair<const char *, const char *> equal[] = {
+        {"G\xc3\x9cNTHER", "G\xc3\xbcnther"}, {"\xce\xa3\xce\x91", "\xcf\x83\xce\xb1"}, {"\xd0\x96*", "\xd0\xb6*"},
+        {"\xc4\x8d[", "\xc4\x8c["}, {"\xe1\xba\x9e", "\xc3\x9f"}
+    };
+    for (const auto &[one, other] : equal) {
+        store.apply(Batch().set(1, "name", one).set(2, "name", other));
+        CHECK(store.pin().query("name==" + any_case(one)) == (Nodes{1, 2}));
+        CHECK(store.pin().query("name==\"" + any_case(other) + "\"") == (Nodes{1, 2}));
+        CHECK(store.pin().query("name==\"" + escape(one) + "\"") == Nodes{1});
     }
-    CHECK(letters == 2 * (30 + 61 + 26 + 48));
 }
 
 static void questions()

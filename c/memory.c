@@ -79,6 +79,26 @@ static uint32_t call_apply_if(void)
 {
     return bes_apply_if(&mine, journal_length, list, 2, parts, 11, out.nodes, 4, &out.number);
 }
+/* A whole change of a pass that isn't pinned, and that is left so. */
+static uint32_t call_change(void)
+{
+    bes_draft draft = BES_DRAFT_INIT;
+    bes_counts counts = {0, 0};
+    uint64_t number = 0, next = 0;
+    uint32_t error;
+    CHECK(bes_next(&theirs, &next) == BES_NOT_PINNED);
+    error = bes_begin_change(&theirs, &draft, &number, &next);
+    if (error == BES_OK)
+        error = bes_change_add(&draft, &list[0], parts, 11, &next);
+    if (error == BES_OK)
+        error = bes_change_add(&draft, &list[1], parts, 11, &number);
+    if (error == BES_OK)
+        error = bes_change_batch(&draft, &counts, NULL, 0, NULL, 0);
+    if (error == BES_OK)
+        return bes_end_change(&theirs, &draft, &out.number);
+    bes_abandon_change(&theirs, &draft);
+    return error;
+}
 static uint32_t call_query(void) { return bes_query(&mine, query, sizeof query - 1, out.nodes, 4, &out.count); }
 static uint32_t call_items(void) { return bes_query_items(&mine, less, 3, parts, 11, out.nodes, 4, &out.count); }
 static uint32_t call_prepared(void) { return bes_query_prepared(&mine, &kept, out.nodes, 4, &out.count); }
@@ -202,6 +222,7 @@ static void refuse_all(void)
     journal_length = 6;
     CHECK(refuse_each(call_apply_if) > 0 && out.number == 7 && out.nodes[0] == 4);
     CHECK(call_apply_if() == BES_CONFLICT && out.number == 7);
+    CHECK(refuse_each(call_change) > 0 && out.number == 8);
     for (size_t i = 0; i < sizeof without / sizeof *without; i++)
         CHECK(refuse_each(without[i]) == 0);
 }
@@ -265,6 +286,18 @@ static void tries_again(uint32_t retries, unsigned left)
     CHECK(turns == left);
 }
 
+/* The end of a change is one try, which leaves no turn to others, and nothing of the change. */
+static void ends_busy(void)
+{
+    bes_draft draft = BES_DRAFT_INIT;
+    uint64_t number = 7, next = 0;
+    CHECK(bes_begin_change(&theirs, &draft, &number, &next) == BES_OK);
+    CHECK(bes_change_add(&draft, &list[0], parts, 11, &next) == BES_OK);
+    turns = 0;
+    CHECK(bes_end_change(&theirs, &draft, &number) == BES_BUSY && number == 1 && !draft.live);
+    CHECK(turns == 0 && bes_next(&theirs, &next) == BES_NOT_PINNED);
+}
+
 /* What calls of another pass return: its writes BES_BUSY while the first is writing, with the number of that, 1, and its reads as
  * ever. */
 static void go_between(void)
@@ -279,6 +312,7 @@ static void go_between(void)
         tries_again(0, 0);
         tries_again(3, 1 + 2 + 4);
         tries_again(12, 1023 + 2 * 1024);
+        ends_busy();
         CHECK(bes_journal(&theirs, text, 4, &count) == BES_BUSY && count == 1);
         CHECK(bes_apply_if(&theirs, 0, list, 2, parts, 11, nodes, 0, &number) == BES_BUSY && number == 1);
         CHECK(bes_journal_from(&theirs, 0, &count, &counts, list_room, 1, text, 4, &number) == BES_BUSY && number == 1);
@@ -298,8 +332,8 @@ static void meet_busy(void)
     busy = 0;
     CHECK(call_apply() == BES_OK);
     between = NULL;
-    CHECK(accepted + busy > 0 && out.number == 8 + accepted);
-    CHECK(bes_unpin(&mine) == BES_OK && bes_pin(&mine, &out.number) == BES_OK && out.number == 8 + accepted);
+    CHECK(accepted + busy > 0 && out.number == 9 + accepted);
+    CHECK(bes_unpin(&mine) == BES_OK && bes_pin(&mine, &out.number) == BES_OK && out.number == 9 + accepted);
 }
 
 static bes_pass second;

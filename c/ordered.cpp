@@ -1,8 +1,10 @@
 // Pages in the order of an index, in C++, beside the whole answer, sorted and cut.
 #include "tests.hpp"
 #include <algorithm>
+#include <atomic>
 #include <random>
 #include <string>
+#include <thread>
 #include <tuple>
 
 using bestore::Cursor;
@@ -183,6 +185,65 @@ void refusals()
     refused(BES_BAD_CURSOR, [&] { later.page(query, cursor, 1); });
 }
 
+// A store whose query size>=0 finds 96 nodes and more, as refreshes by what was written need, and a write to it.
+constexpr unsigned sized = 300;
+
+void resize(bestore::Pass &pass, std::mt19937 &chance)
+{
+    const Node node = 1 + chance() % sized;
+    if (chance() % 4 == 0)
+        pass.apply(bestore::Batch().set(pass.new_node(), "size", std::int64_t(chance() % 10) - 2));
+    else
+        pass.set(node, "size", std::int64_t(chance() % 10) - 2);
+}
+
+void fill(bestore::Pass &pass, std::mt19937 &chance)
+{
+    pass.make_index("size", Kind::int64);
+    for (unsigned node = 0; node < sized; node += 50)
+        pass.new_nodes(50);
+    for (unsigned write = 0; write < 2 * sized; write++)
+        resize(pass, chance);
+}
+
+void compare(bestore::Live &whole, bestore::Live &changed, bestore::Snapshot &snapshot)
+{
+    const auto one = whole.refresh(snapshot), other = changed.refresh_changed(snapshot);
+    CHECK(one.created == other.created && one.removed == other.removed);
+}
+
+// A refresh by what was written returns what one of the whole query does, also in another store, and while another thread writes.
+void refreshes()
+{
+    std::mt19937 chance(0x11fe);
+    bestore::Store here({2048, 2, 1000000}), there({2048, 2, 1000000});
+    bestore::Live whole("size>=0"), changed("size>=0");
+    fill(here, chance);
+    fill(there, chance);
+    for (unsigned round = 0; round < 60; round++) {
+        bestore::Pass &pass = chance() % 4 == 0 ? static_cast<bestore::Pass &>(there) : here;
+        for (auto writes = chance() % 12; writes > 0; writes--)
+            resize(pass, chance);
+        auto pin = pass.pin();
+        compare(whole, changed, pin);
+    }
+    std::atomic<bool> is_over{false};
+    std::thread writer([&is_over, pass = here.another()]() mutable {
+        std::mt19937 other(7);
+        while (!is_over)
+            resize(pass, other);
+    });
+    for (unsigned round = 0; round < 100; round++) {
+        auto pin = here.pin();
+        compare(whole, changed, pin);
+    }
+    is_over = true;
+    writer.join();
+    auto pin = here.pin();
+    pin.unpin();
+    refused(BES_NOT_PINNED, [&] { changed.refresh_changed(pin); });
+}
+
 } // namespace
 
 int main()
@@ -190,4 +251,5 @@ int main()
     pages();
     parts();
     refusals();
+    refreshes();
 }

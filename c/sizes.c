@@ -247,6 +247,24 @@ static void are_listed(const bes_counts *counts, uint32_t kind, char letter, uin
     }
 }
 
+/* Sets as many attributes of node 1 again by a change of a pinned pass. */
+static void set_by_change(bes_pass *pass, uint64_t size)
+{
+    bes_draft draft = BES_DRAFT_INIT;
+    bes_counts counts = {7, 7};
+    uint64_t number = 0, next = 0;
+    OK(bes_unpin(pass) || bes_begin_change(pass, &draft, &number, &next));
+    for (uint64_t i = 0; i < size; i++) {
+        bes_batch_clear(&batch);
+        OK(bes_batch_set_uint64(&batch, 1, name_of('a', i), i));
+        OK(bes_change_add(&draft, batch.operations, batch.bytes, batch.used, &number));
+    }
+    OK(bes_change_batch(&draft, &counts, listed, 64, told, sizeof told));
+    are_listed(&counts, BES_SET, 'a', size);
+    OK(bes_end_change(pass, &draft, &number));
+    CHECK(number == 3);
+}
+
 /* Operations of a list, and attributes of a node. */
 static void many_operations(void)
 {
@@ -271,8 +289,24 @@ static void many_operations(void)
         OK(bes_journal_from(&pass, 1, &by, &counts, listed, 64, told, sizeof told, &number));
         CHECK(by == 0 && number == 2);
         are_listed(&counts, BES_SET, 'a', size);
+        set_by_change(&pass, size);
         OK(bes_close(&pass));
     }
+}
+
+/* The comparisons of a text `k==1||k==2..`, each with its place. */
+static void compared(uint64_t size)
+{
+    static bes_compared found[256];
+    bes_counts counts = {7, 7};
+    size_t at = 0;
+    OK(bes_query_comparisons((const uint8_t *)text, strlen(text), &counts, found, 256, told, sizeof told, &place));
+    CHECK(counts.operations == size && place == 0);
+    for (uint64_t i = 0; i < size; at = found[i++].end) {
+        CHECK(found[i].at == (i > 0 ? at + 2 : 0) && found[i].kind == BES_ITEM_EQ && found[i].form == BES_FORM_NUMBER);
+        CHECK(found[i].plain_value_at == found[i].plain_name_at + 1 && told[found[i].plain_name_at] == 'k');
+    }
+    CHECK(at == strlen(text) && counts.bytes == found[size - 1].plain_end);
 }
 
 /* Comparisons of a query, all of which are picked. */
@@ -296,7 +330,22 @@ static void many_comparisons(void)
         }
         found(&pass, text, items, items_count, 1);
         explained(&pass, size);
+        compared(size);
         OK(bes_close(&pass));
+    }
+}
+
+/* Bytes of a text that is escaped, and made a pattern in any case. */
+static void long_made_texts(void)
+{
+    AT_EACH_SIZE {
+        uint64_t count = 7;
+        memset(text, '*', size);
+        OK(bes_escape_bytes((const uint8_t *)text, size, told, sizeof told, &count));
+        CHECK(count == 2 * size && (size == 0 || (told[0] == '\\' && told[count - 1] == '*')));
+        memset(text, 'a', size);
+        OK(bes_any_case_bytes((const uint8_t *)text, size, told, sizeof told, &count));
+        CHECK(count == 4 * size && (size == 0 || memcmp(told + count - 4, "[aA]", 4) == 0));
     }
 }
 
@@ -406,6 +455,18 @@ static void long_values(void)
     }
 }
 
+/* A change knows the index of this name, by which it refuses another kind. */
+static void refuse_by_index(bes_pass *pass)
+{
+    bes_draft draft = BES_DRAFT_INIT;
+    uint64_t number = 0, next = 0;
+    bes_batch_clear(&batch);
+    OK(bes_batch_set_uint64(&batch, 1, name, 1) || bes_begin_change(pass, &draft, &number, &next));
+    CHECK(bes_change_add(&draft, batch.operations, batch.bytes, batch.used, &number) == BES_WRONG_KIND);
+    CHECK(number == BES_UINT32_TYPE);
+    OK(bes_abandon_change(pass, &draft));
+}
+
 /* Indices, each of which is picked. */
 static void many_indices(void)
 {
@@ -427,6 +488,7 @@ static void many_indices(void)
         explained(&pass, size);
         OK(bes_pin(&pass, &number) || bes_indices(&pass, &counts, listed, 32, told, sizeof told));
         are_listed(&counts, BES_MAKE_INDEX, 'i', size);
+        refuse_by_index(&pass);
         OK(bes_close(&pass));
     }
 }
@@ -641,7 +703,7 @@ static const struct row {
 } rows[] = {
     {"nodes", many_nodes}, {"nodes-in-parts", nodes_in_parts}, {"candidates", many_candidates}, {"listed-nodes", listed_nodes},
     {"operations", many_operations},
-    {"comparisons", many_comparisons}, {"query-bytes", long_queries}, {"item-bytes", long_items}, {"name-bytes", long_names}, {"value-bytes", long_values},
+    {"comparisons", many_comparisons}, {"query-bytes", long_queries}, {"item-bytes", long_items}, {"made-text-bytes", long_made_texts}, {"name-bytes", long_names}, {"value-bytes", long_values},
     {"indices", many_indices}, {"index-names", long_index_names}, {"passes", many_passes}, {"pages", many_pages},
     {"batches", long_batches}, {"state", many_states}, {"entries", many_entries}
 };

@@ -797,7 +797,7 @@ static void spent(void)
     CHECK(bes_new_node(&pass, &node) == BES_COMMITS_SPENT && node == 1);
     CHECK(bes_close(&pass) == BES_OK);
     CHECK(strcmp(bes_strerror(BES_COMMITS_SPENT), "the journal is at the limit that the store was opened with; "
-                                                  "carry the state on into a new store") == 0);
+                                                  "copy the state into a new store") == 0);
     CHECK(strcmp(bes_strerror(BES_BAD_PART), "a name or a value isn't within the bytes that go with the list") == 0);
     CHECK(strcmp(bes_strerror(63), "an error of a later version of the library") == 0);
     CHECK(bes_version() == BES_VERSION_NUMBER && strcmp(BES_VERSION, "0.4.0") == 0);

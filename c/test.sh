@@ -55,9 +55,9 @@ build() { cc -std=c11 "${warn[@]}" -I../include "$@" libbestore.a -lpthread; }
 build_cpp() { c++ -std=c++17 "${warn[@]}" -I../include "$@" libbestore.a -lpthread; }
 
 # The tests, and those of them in which threads run.
-tests=(test columns cursors ordered closing errors threads witness helpers texts racing promises)
-tests_cpp=(test helpers ordered racing)
-with_threads=(threads witness helpers racing promises)
+tests=(test columns cursors ordered changes closing errors threads witness helpers texts query_texts racing promises)
+tests_cpp=(test helpers changes ordered racing)
+with_threads=(changes threads witness helpers racing promises)
 
 for test in "${tests[@]}"; do
     build -O2 $test.c -o "$work/$test"

@@ -193,7 +193,40 @@ static void uncovered(void)
     CHECK(bes_close(&pass) == BES_OK);
 }
 
-/* A value that spells no number makes a comparison with an integer false, and one that does makes either <= or >= true. */
+/* A whole number from -2^63 to 2^64 - 1. */
+typedef struct whole {
+    bool is_negative;
+    uint64_t magnitude;
+} whole;
+
+/* Reads a number with an optional - and 1 to 20 digits. Backslashes are passed over. */
+static bool spells_number(const char *text, whole *number)
+{
+    size_t digits = 0;
+    number->magnitude = 0;
+    text += *text == '\\';
+    number->is_negative = *text == '-';
+    text += number->is_negative;
+    for (; *text != 0; text++, digits++) {
+        text += *text == '\\';
+        if (*text < '0' || *text > '9' || number->magnitude > (UINT64_MAX - (uint64_t)(*text - '0')) / 10)
+            return false;
+        number->magnitude = 10 * number->magnitude + (uint64_t)(*text - '0');
+    }
+    return digits > 0 && digits <= 20 && (!number->is_negative || number->magnitude <= (uint64_t)1 << 63);
+}
+
+/* Whether each integer of a kind with so many bits is above the number, or each is below. */
+static bool is_out_of_range(whole number, unsigned bits, bool is_signed)
+{
+    uint64_t greatest = UINT64_MAX >> (64 - bits + is_signed);
+    if (number.is_negative)
+        return number.magnitude > (is_signed ? greatest + 1 : 0);
+    return number.magnitude > greatest;
+}
+
+/* A value that spells no number makes a comparison with an integer false, and one that does makes either <= or >= true. The helper finds
+ * what is false for each integer of the index's kind. */
 static void never_true(void)
 {
     static const char *const by_hand[] = {
@@ -210,7 +243,8 @@ static void never_true(void)
         static const char *const names[] = {"int32", "int64", "uint32", "uint64"};
         const char *name = names[round % 4];
         size_t at = 0, length = below(24);
-        bool spells;
+        whole number;
+        bool spells, is_never;
         for (size_t i = 0; i < length; i++)
             value[i] = below(30) == 0 ? ".-\\x*"[below(5)] : (char)('0' + below(10));
         value[length] = 0;
@@ -218,10 +252,11 @@ static void never_true(void)
             strcpy(value, by_hand[round / 4]);
         if (strlen(value) > 0 && value[strlen(value) - 1] == '\\')
             continue;
-        spells = bes_spells_number(value, strlen(value));
+        spells = spells_number(value, &number);
+        is_never = !spells || is_out_of_range(number, round % 2 == 0 ? 32 : 64, round % 4 < 2);
         snprintf(text, sizeof text, "%s<=\"%s\" || %s>=\"%s\"", name, value, name, value);
         CHECK(found(&pass, text) == (spells ? 1 : 0));
-        CHECK(bes_next_never_true(&list, text, strlen(text), &at, &comparison) == !spells);
+        CHECK(bes_next_never_true(&list, text, strlen(text), &at, &comparison) == is_never);
         snprintf(text, sizeof text, "%s==\"%s\" || %s!=\"%s\"", name, value, name, value);
         CHECK(found(&pass, text) == (spells ? 1 : 0));
     }
@@ -323,6 +358,11 @@ static void any_case(void)
     uint64_t number = 0;
     open_store(&pass);
     CHECK(bes_any_case("dR.", pattern, sizeof pattern) == 9 && strcmp(pattern, "[dD][rR].") == 0);
+    CHECK(bes_any_case("\xff", pattern, sizeof pattern) == 0 && pattern[0] == 0);
+    CHECK(bes_unpin(&pass) == BES_OK && bes_set_text(&pass, 1, "text", "G\xc3\xbcnther") == BES_OK && bes_pin(&pass, &number) == BES_OK);
+    bes_any_case("G\xc3\x9cNTHER", pattern, sizeof pattern);
+    snprintf(query, sizeof query, "text==\"%s\"", pattern);
+    CHECK(found(&pass, query) == 1);
     CHECK(bes_any_case("dR.", pattern, 6) == 9 && strcmp(pattern, "[dD][") == 0);
     for (int round = 0; round < 1000; round++) {
         random_text(value);

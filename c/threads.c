@@ -69,13 +69,27 @@ static void *writer(void *arg)
     return NULL;
 }
 
+/* A refresh by what was written, while it is being written, finds what one of the whole query has found. */
+static void refresh_as(user *it, bes_prepared *whole, const bes_updates *updates, bes_prepared *changed)
+{
+    bes_updates others = {0, 0};
+    uint64_t came[2][NODES], went[2][NODES];
+    CHECK(bes_refresh_changed(&it->pass, changed, &others) == BES_OK);
+    CHECK(others.created == updates->created && others.removed == updates->removed);
+    CHECK(bes_changes(whole, came[0], NODES, went[0], NODES) == BES_OK);
+    CHECK(bes_changes(changed, came[1], NODES, went[1], NODES) == BES_OK);
+    CHECK(memcmp(came[0], came[1], updates->created * sizeof **came) == 0);
+    CHECK(memcmp(went[0], went[1], updates->removed * sizeof **went) == 0);
+}
+
 static void *reader(void *arg)
 {
     user *it = arg;
-    bes_prepared prepared = BES_PREPARED_INIT;
+    bes_prepared prepared = BES_PREPARED_INIT, changed = BES_PREPARED_INIT;
     bes_updates updates = {0, 0};
     uint64_t seen = 0, number = 0, count = 0, again = 0, place = 0, nodes[NODES], same[NODES];
     CHECK(bes_prepare_text("MAIL:from==\"ann\"", &prepared, &place) == BES_OK);
+    CHECK(bes_prepare_text("MAIL:from==\"ann\"", &changed, &place) == BES_OK);
     do {
         CHECK(bes_pin(&it->pass, &number) == BES_OK && number >= seen);
         seen = number;
@@ -84,12 +98,13 @@ static void *reader(void *arg)
             CHECK((nodes[i] - 1) / 2 == i);
         CHECK(bes_refresh(&it->pass, &prepared, &updates) == BES_OK);
         CHECK(updates.created == updates.removed + (it->rounds == 0 ? count : 0));
+        refresh_as(it, &prepared, &updates, &changed);
         CHECK(bes_query_prepared(&it->pass, &prepared, same, NODES, &again) == BES_OK && again == count);
         CHECK(memcmp(nodes, same, count * sizeof *nodes) == 0);
         CHECK(bes_unpin(&it->pass) == BES_OK);
         it->rounds++;
     } while (!is_over());
-    CHECK(bes_release(&prepared) == BES_OK);
+    CHECK(bes_release(&prepared) == BES_OK && bes_release(&changed) == BES_OK);
     return NULL;
 }
 

@@ -4,13 +4,14 @@
  *
  * HANDLES. A bes_pass is a session: one thread's handle on a store. It writes, pins a snapshot and reads it. A bes_prepared is a
  * parsed query. It belongs to no store, and any pass may ask it. A bes_place is a position in the list of operations that make a
- * snapshot again. A bes_witness is what a pass has seen, for a pass of the same store in another thread. You own the memory
- * of a handle. Start it with BES_PASS_INIT, BES_PREPARED_INIT, BES_PLACE_INIT or BES_WITNESS_INIT, which are zero bytes. Never copy it and
- * never change its fields: bes_move, bes_move_prepared, bes_move_place and bes_move_witness move it. Close it with bes_close,
- * bes_release, bes_leave or bes_dismiss. The store is freed with its last open pass.
+ * snapshot again. A bes_witness is what a pass has seen, for a pass of the same store in another thread. A bes_draft is a change: the
+ * operations that a pass will write on what it has read. You own the memory of a handle. Start it with BES_PASS_INIT,
+ * BES_PREPARED_INIT, BES_PLACE_INIT, BES_WITNESS_INIT or BES_DRAFT_INIT, which are zero bytes. Never copy it and never change its
+ * fields: bes_move, bes_move_prepared, bes_move_place, bes_move_witness and bes_move_draft move it. Close it with bes_close,
+ * bes_release, bes_leave, bes_dismiss, or bes_end_change or bes_abandon_change. The store is freed with its last open pass.
  *
  * THREADS. Give each thread a pass of its own. Calls on different passes run at the same time, and none waits for another. A pass,
- * a prepared query, a place and a witness take one call at a time. You may hand each to another thread if that thread's calls come
+ * a prepared query, a place, a witness and a draft take one call at a time. You may hand each to another thread if that thread's calls come
  * after yours (a join, a lock, a started thread). Call nothing here from a signal handler. No call is a cancellation point: a thread
  * that is cancelled in the deferred way, as threads are by default, ends between two calls. Close its pass in a cleanup handler. A
  * thread that ends inside a call, by asynchronous cancellation or a longjmp, leaves a handle that may not be used again. Its pin
@@ -18,8 +19,8 @@
  *
  * FORK. A forked child has a copy of the store, and what it writes there nobody else sees. If another thread was in a call at the
  * fork, the copy may be locked or half written. So a child calls nothing here with a handle that its parent opened. It clears each
- * by bes_forget, bes_forget_prepared, bes_forget_place or bes_forget_witness, which free nothing, and may then open a store of its
- * own.
+ * by bes_forget, bes_forget_prepared, bes_forget_place, bes_forget_witness or bes_forget_draft, which free nothing, and may then open
+ * a store of its own.
  *
  * ERRORS. Each call returns BES_OK or the number of an error. A call's comment lists its errors in the order in which the call
  * looks for them; if two hold, the first is returned. After an error the store, the handles and your memory are as they were, if
@@ -81,6 +82,14 @@ typedef struct bes_witness {
 
 #define BES_WITNESS_INIT { false, NULL }
 
+/* Both fields are the library's. */
+typedef struct bes_draft {
+    bool live;
+    void *at;
+} bes_draft;
+
+#define BES_DRAFT_INIT { false, NULL }
+
 /* What calls return. */
 enum {
     /* surface.toml: errors */
@@ -95,8 +104,8 @@ enum {
     BES_TOO_MANY_INDICES = 7, /* the store has 32 indices, the most it can have; remove one first */
     BES_NOT_INDEXABLE = 8,    /* an index can't have this kind; it can have a kind of texts or
                                * integers, but not of MIME types or raw bytes */
-    BES_COMMITS_SPENT = 9,    /* the journal is at the limit that the store was opened with;
-                               * carry the state on into a new store */
+    BES_COMMITS_SPENT = 9,    /* the journal is at the limit that the store was opened with; copy
+                               * the state into a new store */
     BES_NO_MEMORY = 10,       /* out of memory; free some and call again */
     BES_FULL = 11,            /* no page is free; unpin old snapshots, remove nodes, or open a
                                * store with more pages */
@@ -114,8 +123,8 @@ enum {
     BES_HAS_NUL = 20,         /* a name or a text has a zero byte; only a raw value may have one */
     BES_BAD_LIMITS = 21,      /* a limit of the store is out of its range; it has 8 to 16,384
                                * pages, 1 to 64 passes and 1 to 4,294,967,295 commits */
-    BES_BAD_RPN = 22,         /* the items build no query; each operator takes the items before
-                               * it, and one query is left at the end */
+    BES_BAD_RPN = 22,         /* the items don't form a query; each operator takes the items
+                               * before it, and one query is left at the end */
     BES_CLOSED = 64,          /* the handle is closed; use an open one */
     BES_OPEN = 65,            /* the handle that is to be opened is open; close it first, or open
                                * another */
@@ -125,17 +134,19 @@ enum {
                                * with more */
     BES_BAD_COUNT = 69,       /* a batch has 1 to 64 operations */
     BES_NOT_UTF8 = 70,        /* the text isn't valid UTF-8 */
-    BES_NO_OPERATION = 71,    /* there is no operation of this number; they are 0 to 5 */
+    BES_NO_OPERATION = 71,    /* there is no operation with this number; they are 0 to 5 */
     BES_NO_KIND = 72,         /* no kind has this type code */
     BES_NO_VALUE = 73,        /* the number doesn't fit its kind; use a kind that holds it */
     BES_BAD_PART = 74,        /* a name or a value isn't within the bytes that go with the list */
-    BES_NO_ITEM = 75,         /* there is no item of this number; they are 0 to 15 */
-    BES_CONFLICT = 76,        /* the journal has another length than the write expects; read
-                               * again, and write on what you read then */
+    BES_NO_ITEM = 75,         /* there is no item with this number; they are 0 to 15 */
+    BES_CONFLICT = 76,        /* the journal's length isn't what the write expects; read again,
+                               * and base the write on that */
     BES_IN_USE = 77,          /* another handle of the store is open; close it first */
-    BES_BAD_CURSOR = 78,      /* the cursor isn't one of this index; begin without a cursor, or
-                               * use one that a page in the order of the index has left */
-    BES_NO_ROOM = 79          /* a page has at least one node; ask for one or more */
+    BES_BAD_CURSOR = 78,      /* the cursor doesn't belong to this index; start without a cursor,
+                               * or use one from a page in this index's order */
+    BES_NO_ROOM = 79,         /* a page has at least one node; ask for one or more */
+    BES_WRONG_KIND = 80       /* the index of this name takes values of another kind; set a value
+                               * of the index's kind */
     /* surface.toml: end */
 };
 
@@ -405,6 +416,77 @@ uint32_t bes_apply_if(bes_pass *pass, uint64_t expected, const bes_operation *op
  * Cost: constant. */
 uint32_t bes_next(bes_pass *pass, uint64_t *node);
 
+/* Begins a change: reads the pinned snapshot, collects up to 64 operations, and writes them by bes_end_change if no other transaction
+ * came between. A pass that isn't pinned is pinned here, and bes_end_change or bes_abandon_change unpins it. Read other attributes and
+ * queries through the pass: they show the snapshot. bes_change calls all of this in a loop.
+ *
+ * A draft goes with the pass that began it, as long as that stays pinned to the draft's snapshot. If you unpin the pass, and pin it to
+ * another snapshot, bes_change_get and bes_end_change return BES_NOT_PINNED. A pass may have several drafts. Don't use a draft with a
+ * pass of another store: it would be written there.
+ * [out] draft    a closed handle, which is opened
+ * [out] number   the snapshot's number
+ * [out] next     the number that the first new node gets
+ * BES_CLOSED (of pass), BES_OPEN (of draft), BES_NO_MEMORY. The pass is then pinned or not, as it was.
+ * Cost: that of bes_pin if the pass isn't pinned, two reads of a page, and memory for the draft and the list of indices. */
+uint32_t bes_begin_change(bes_pass *pass, bes_draft *draft, uint64_t *number, uint64_t *next);
+
+/* The draft takes values of any kind from here on. At first it refuses one that the index of its name doesn't take: the store would
+ * keep the attribute, and no query of that name would find the node. BES_CLOSED. */
+uint32_t bes_change_any_kind(bes_draft *draft);
+
+/* Adds an operation to the draft. Nothing is written yet. An error adds nothing.
+ * [in] operation the operation
+ * [in] bytes     the bytes that its name and value are parts of
+ * [out] node     for BES_NEW_NODE the number of the node that it makes, which later operations may name; otherwise 0
+ * BES_CLOSED. BES_BAD_PART and the errors after it of bes_apply, if the operation is invalid.
+ * BES_WRONG_KIND: it sets an attribute, and the index of its name takes another kind, as the operations before it leave the index.
+ * node is that kind's type code. A name without an index takes any kind. It doesn't come after bes_change_any_kind.
+ * BES_BAD_COUNT: the draft has 64 operations. BES_NO_MEMORY.
+ * What the store refuses, as BES_NO_NODE, shows in bes_end_change.
+ * Cost: memory for the operation, and for BES_SET a look at the operations before it and at the list of indices. */
+uint32_t bes_change_add(bes_draft *draft, const bes_operation *operation, const uint8_t *bytes, size_t bytes_count,
+                        uint64_t *node);
+
+/* Reads a node's attribute as the draft's operations leave it: by the last of them that sets or removes it or makes or removes its
+ * node, and otherwise in the snapshot. If the store would refuse the operations, what it returns says nothing.
+ * [in] name      the name, name_length bytes
+ * [out] attribute, bytes  as in bes_get
+ * BES_CLOSED (of pass, then of draft), BES_NOT_UTF8, BES_NAME_LENGTH, BES_HAS_NUL, BES_NOT_PINNED (the pass isn't pinned to the
+ * draft's snapshot), BES_NO_ATTRIBUTE (also if there is no such node).
+ * Cost: a look at the draft's operations, and at most one descent of a tree. */
+uint32_t bes_change_get(bes_pass *pass, bes_draft *draft, uint64_t node, const uint8_t *name, size_t name_length,
+                        bes_attribute *attribute, uint8_t *bytes, size_t bytes_room);
+
+/* Lists the draft's operations, as a batch for bes_apply.
+ * [out] counts, operations, bytes  as in bes_attributes; 64 operations and 64 * (63 + 255) bytes suffice
+ * BES_CLOSED, BES_NO_MEMORY.
+ * Cost: memory for the list. */
+uint32_t bes_change_batch(bes_draft *draft, bes_counts *counts, bes_operation *operations, size_t operations_room, uint8_t *bytes,
+                          size_t bytes_room);
+
+/* Ends a change: writes the draft's operations as one transaction, if no other came since its snapshot. It unpins the pass if
+ * bes_begin_change pinned it, and closes the draft, both also after an error. A draft without operations writes nothing.
+ * [out] number   the commit number; for a draft without operations the snapshot's number. The new nodes have the numbers that
+ *                bes_change_add gave.
+ * BES_CLOSED (of pass, then of draft), BES_NOT_PINNED (the pass isn't pinned to the draft's snapshot, and its pin stays).
+ * BES_BUSY: another pass is writing, and number is that pass. BES_CONFLICT: another transaction came, and number is the length that the
+ * journal has. Begin anew after both: bes_again and bes_stand_back say when.
+ * What the store refuses, from BES_NO_NODE on, as in bes_apply. At BES_FULL, too, begin anew once other passes have unpinned.
+ * After an error nothing is written.
+ * Cost: that of bes_apply; at BES_CONFLICT that of BES_BUSY. */
+uint32_t bes_end_change(bes_pass *pass, bes_draft *draft, uint64_t *number);
+
+/* Ends a change without writing: unpins the pass if bes_begin_change pinned it, and it is still pinned to that snapshot, and closes the
+ * draft. If the pass is closed, it closes just the draft.
+ * BES_CLOSED (of pass, then of draft).
+ * Cost: one step. */
+uint32_t bes_abandon_change(bes_pass *pass, bes_draft *draft);
+
+/* Moves a draft into other, and closes its handle.
+ * [out] other    a closed handle, which is opened
+ * BES_CLOSED (of draft), BES_OPEN (of other). */
+uint32_t bes_move_draft(bes_draft *draft, bes_draft *other);
+
 /* Asks a query in the pinned snapshot.
  * [in] text      the query; bestore's QUERIES.md has the language
  * [out] nodes    the first nodes that meet it, ascending; at most nodes_room
@@ -445,7 +527,7 @@ uint32_t bes_prepare(const uint8_t *text, size_t text_length, bes_prepared *prep
 uint32_t bes_prepare_items(const bes_item *items, size_t items_count, const uint8_t *bytes, size_t bytes_count,
                            bes_prepared *prepared, uint64_t *place);
 
-/* Closes the handle, and frees the query with what it found. BES_CLOSED. */
+/* Closes the handle, and frees the query and its result. BES_CLOSED. */
 uint32_t bes_release(bes_prepared *prepared);
 
 /* Moves a prepared query into other, with what it found, and closes its handle.
@@ -664,6 +746,62 @@ uint32_t bes_journal_from(bes_pass *pass, uint64_t from, uint64_t *by, bes_count
  * BES_CLOSED. BES_BUSY: another pass is writing, and number is that pass.
  * Cost: a look at each pass and each page. Writes of other passes return BES_BUSY meanwhile. */
 uint32_t bes_status(bes_pass *pass, bes_usage *usage, uint64_t *number);
+
+/* What a query's text compares, and what is put into one. These calls take no pass, and any thread may make them.
+ *
+ * A comparison of a query's text. Offsets are in bytes: of the text, or of the bytes that bes_query_comparisons writes. */
+typedef struct bes_compared {
+    uint64_t at;             /* the comparison in the text: from its name */
+    uint64_t end;            /* to the byte after its value */
+    uint64_t name_at;        /* the name in the text, without its quotes and with its backslashes */
+    uint64_t name_end;
+    uint64_t value_at;       /* the value in the text, likewise */
+    uint64_t value_end;
+    uint64_t plain_name_at;  /* the name in the bytes, without backslashes; it ends where the plain value begins */
+    uint64_t plain_value_at; /* the value in the bytes, without backslashes; of a pattern its canonical text */
+    uint64_t plain_end;
+    uint32_t kind;           /* BES_ITEM_EQ .. BES_ITEM_GE, as each ! round the comparison turns it */
+    uint32_t kind_in_text;   /* the same as the text has it; it differs from kind inside an odd number of ! */
+    uint32_t form;           /* a bes_form */
+    bool is_never_int32;     /* whether no value of an index of this kind makes it true */
+    bool is_never_int64;
+    bool is_never_uint32;
+    bool is_never_uint64;
+} bes_compared;
+
+/* What the value of a comparison is. */
+enum bes_form {
+    BES_FORM_TEXT = 0,
+    BES_FORM_NUMBER = 1, /* a text that is a whole number from -2^63 to 2^64 - 1 */
+    BES_FORM_PATTERN = 2 /* a pattern with a wildcard */
+};
+
+/* Lists the comparisons of a query's text, from left to right, up to 256.
+ * [out] counts   how many comparisons there are, in counts->operations, and how many bytes
+ * [out] compared the first comparisons; at most compared_room
+ * [out] bytes    the first of the bytes with plain names and values; at most bytes_room. 64 bytes for each comparison and 4 for
+ *                each byte of the text suffice
+ * [out] place    after an error of the text its byte, as in bes_prepare; otherwise 0
+ * BES_NOT_UTF8, and the errors of a text that isn't a query, as in bes_query: BES_TOO_LONG, BES_SYNTAX, BES_BAD_PATTERN, BES_TOO_MANY,
+ * BES_TOO_DEEP. BES_NO_MEMORY. After an error counts, compared and bytes are as they were.
+ * Cost: the time to parse the text twice, and memory for the query and the list. */
+uint32_t bes_query_comparisons(const uint8_t *text, size_t text_length, bes_counts *counts, bes_compared *compared,
+                               size_t compared_room, uint8_t *bytes, size_t bytes_room, uint64_t *place);
+
+/* Writes a text so that a query reads it as this text: as a name, as a value, or as a part of a pattern, in quotes of either kind or,
+ * unless it is empty, without. bes_escape calls it.
+ * [out] bytes    the first bytes; at most bytes_room. No zero byte follows them. Twice the text's length suffices
+ * [out] count    how many bytes there are; 0 after an error
+ * BES_NOT_UTF8, BES_NO_MEMORY. A text with a zero byte is in no query. */
+uint32_t bes_escape_bytes(const uint8_t *text, size_t text_length, uint8_t *bytes, size_t bytes_room, uint64_t *count);
+
+/* Writes a pattern, for == and !=, that matches the texts which are equal to this one by Unicode's simple case folding, character by
+ * character, and no other text: draft becomes [dD][rR][aA][fF][tT]. It can be put where bes_escape_bytes' text can. bes_any_case
+ * calls it.
+ * [out] bytes, count  as in bes_escape_bytes. 12 times the text's length suffices
+ * BES_NOT_UTF8, BES_NO_MEMORY.
+ * Cost: a search in a table of 3,134 pairs for each character. */
+uint32_t bes_any_case_bytes(const uint8_t *text, size_t text_length, uint8_t *bytes, size_t bytes_room, uint64_t *count);
 
 /* The version of the library that runs. BES_VERSION_NUMBER is the version of this header; a program that loads the library at its
  * start compares the two. */

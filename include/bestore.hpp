@@ -19,96 +19,89 @@
 
 #include "bestore_snapshot.hpp"
 
-#include <map>
 #include <stdexcept>
 
 namespace bestore {
 
 // What Pass::change hands to its function: a pinned snapshot, and the operations of the transaction that will follow on it, up to 64.
-// get() sees what the change has set and removed so far; all else reads the snapshot alone.
+// get() sees what the change has set and removed so far; all else reads the snapshot alone. A call that throws adds no operation.
 class Change : public Snapshot, public detail::Writes<Change> {
 public:
     Change(const Change &) = delete;
     Change &operator=(const Change &) = delete;
 
-    // Makes a node, and returns its number.
-    Node create()
+    ~Change()
     {
-        if (next_ == 0)
-            detail::check(bes_next(handle(), &next_));
-        write({BES_NEW_NODE, next_});
-        return next_++;
+        if (draft_.live && is_ours())
+            bes_abandon_change(handle(), &draft_);
     }
+
+    // Makes a node, and returns its number.
+    Node create() { return add({BES_NEW_NODE}); }
 
     // Takes values of any kind from here on. At first a value of another kind than the index of its name throws KindMismatch.
     Change &any_kind() noexcept
     {
-        checks_kinds_ = false;
+        bes_change_any_kind(&draft_);
         return *this;
     }
 
-    // The operations so far.
-    const Batch &batch() const noexcept { return operations_; }
+    // The operations so far. What is added later is there at the next call.
+    const Batch &batch() const
+    {
+        detail::check(batch_.read([&](auto... room) { return bes_change_batch(&draft_, room...); }));
+        batch_.number_new_nodes(next_);
+        return batch_;
+    }
 
 private:
     friend class Pass;
     friend class detail::Writes<Change>;
 
-    explicit Change(bes_pass *pass) : Snapshot(pass) { batch_ = &operations_; }
+    Change(bes_pass *pass, std::uint64_t store) : Snapshot(pass, store)
+    {
+        std::uint64_t number = 0;
+        detail::check(bes_begin_change(pass, &draft_, &number, &next_));
+        reads(&draft_);
+    }
 
     Change &write(const detail::Edit &edit)
     {
-        if (operations_.size() == 64)
-            throw Refusal(BES_BAD_COUNT);
-        if (checks_kinds_)
-            check_kind(edit);
-        operations_.write(edit);
+        add(edit);
         return *this;
     }
 
-    void check_kind(const detail::Edit &edit)
+    // Adds an operation. Returns the node that it makes, or 0.
+    Node add(const detail::Edit &edit)
     {
-        const auto kind = static_cast<Kind>(edit.code);
-        if (edit.kind == BES_MAKE_INDEX)
-            kinds().insert_or_assign(std::string(edit.name), kind);
-        else if (edit.kind == BES_REMOVE_INDEX)
-            kinds().erase(std::string(edit.name));
-        if (edit.kind != BES_SET)
-            return;
-        const auto index = kinds().find(edit.name);
-        if (index != kinds().end() && index->second != kind)
-            throw KindMismatch(edit.name, index->second, kind);
-    }
-
-    // The kinds of the indices, with those that the change has made.
-    std::map<std::string, Kind, std::less<>> &kinds()
-    {
-        if (!kinds_) {
-            kinds_.emplace();
-            for (auto &index : indices())
-                kinds_->emplace(std::move(index.name), index.kind);
-        }
-        return *kinds_;
+        std::uint64_t made = 0;
+        handle(); // which throws in a forked child
+        parts_.assign(edit.name).append(edit.value);
+        const auto name_length = static_cast<std::uint32_t>(edit.name.size());
+        const bes_operation operation{edit.kind,   edit.code,   edit.node, edit.number, 0, name_length, name_length,
+                                      static_cast<std::uint32_t>(edit.value.size())};
+        const auto error = bes_change_add(&draft_, &operation, detail::bytes_of(parts_), parts_.size(), &made);
+        if (error == BES_WRONG_KIND)
+            throw KindMismatch(edit.name, static_cast<Kind>(made), static_cast<Kind>(edit.code));
+        detail::check(error, size_, detail::Place::operation);
+        size_++;
+        return made;
     }
 
     // Writes the operations if no other transaction came after the snapshot, and unpins. Returns the error, and the commit number or
     // what goes with the error.
     std::uint32_t commit(std::uint64_t *number)
     {
-        Node none = 0;
-        *number = this->number();
-        const auto error = operations_.empty()
-                               ? static_cast<std::uint32_t>(BES_OK)
-                               : bes_apply_if(handle(), *number, operations_.operations_.data(), operations_.size(),
-                                              detail::bytes_of(operations_.bytes_), operations_.bytes_.size(), &none, 0, number);
+        const auto error = bes_end_change(handle(), &draft_, number);
         release();
         return error;
     }
 
-    Batch operations_;
-    Node next_ = 0;
-    bool checks_kinds_ = true;
-    std::optional<std::map<std::string, Kind, std::less<>>> kinds_;
+    mutable bes_draft draft_ = BES_DRAFT_INIT;
+    mutable Batch batch_; // what batch() has read
+    std::string parts_;   // of an operation: its name and its value
+    Node next_ = 0;       // the number of the first new node
+    std::uint64_t size_ = 0;
 };
 
 // What a change returns whose function returns something: the commit number, and that.
@@ -215,7 +208,7 @@ public:
 
     // Joins a witness: the pass and the witness have then both seen what either had. So each later snapshot of the pass includes all that
     // the witness's pass had seen, and each later commit number of the pass is greater than those. Returns how many transactions both
-    // have seen. Throws std::invalid_argument if the witness is of another store.
+    // have seen. Throws std::invalid_argument if the witness is from another store.
     std::uint64_t join(Witness &witness)
     {
         std::uint64_t seen = 0;
@@ -243,14 +236,14 @@ public:
         bes_retry retry{attempts > 0 ? attempts - 1 : 0, 1, 0};
         if constexpr (std::is_void_v<Result>) {
             for (;;) {
-                Change change(handle());
+                Change change(handle(), store_);
                 f(change);
                 if (const auto number = committed(change, retry))
                     return *number;
             }
         } else {
             for (;;) {
-                Change change(handle());
+                Change change(handle(), store_);
                 std::decay_t<Result> result = f(change);
                 if (const auto number = committed(change, retry))
                     return Changed<std::decay_t<Result>>{*number, std::move(result)};
@@ -334,7 +327,7 @@ public:
     }
 
     // Pins the current snapshot. A pass has one pin at a time.
-    [[nodiscard]] Pin pin() & { return Pin(handle()); }
+    [[nodiscard]] Pin pin() & { return Pin(handle(), store_); }
 
     // Closes the pass, as its end does: it goes back to the store, and `another` may hand it out again.
     void close() noexcept { handle_.reset(); }
@@ -409,10 +402,19 @@ public:
     }
 };
 
-inline Updates Live::refresh(Snapshot &snapshot)
+inline Updates Live::refresh(Snapshot &snapshot) { return refreshed(snapshot, bes_refresh); }
+
+inline Updates Live::refresh_changed(Snapshot &snapshot)
+{
+    // The library can't test that the last refresh was in this store, as it requires.
+    return refreshed(snapshot, store_ == snapshot.store_ ? bes_refresh_changed : bes_refresh);
+}
+
+inline Updates Live::refreshed(Snapshot &snapshot, decltype(bes_refresh) *call)
 {
     bes_updates counts{};
-    detail::check(bes_refresh(snapshot.handle(), handle(), &counts));
+    detail::check(call(snapshot.handle(), handle(), &counts));
+    store_ = snapshot.store_;
     Updates updates{std::vector<Node>(counts.created + 1), std::vector<Node>(counts.removed + 1)};
     detail::check(bes_changes(handle(), updates.created.data(), counts.created, updates.removed.data(), counts.removed));
     updates.created.resize(counts.created);

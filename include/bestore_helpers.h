@@ -48,7 +48,7 @@ static const bes_meaning_ bes_meanings_[] = {
       "it can have a kind of texts or integers, but not of MIME types or raw bytes" },
     { BES_COMMITS_SPENT, BES_CLASS_FULL, "BES_COMMITS_SPENT",
       "the journal is at the limit that the store was opened with; "
-      "carry the state on into a new store" },
+      "copy the state into a new store" },
     { BES_NO_MEMORY, BES_CLASS_FULL, "BES_NO_MEMORY",
       "out of memory; "
       "free some and call again" },
@@ -81,7 +81,7 @@ static const bes_meaning_ bes_meanings_[] = {
       "a limit of the store is out of its range; "
       "it has 8 to 16,384 pages, 1 to 64 passes and 1 to 4,294,967,295 commits" },
     { BES_BAD_RPN, BES_CLASS_MINE, "BES_BAD_RPN",
-      "the items build no query; "
+      "the items don't form a query; "
       "each operator takes the items before it, and one query is left at the end" },
     { BES_CLOSED, BES_CLASS_GONE, "BES_CLOSED",
       "the handle is closed; "
@@ -103,7 +103,7 @@ static const bes_meaning_ bes_meanings_[] = {
     { BES_NOT_UTF8, BES_CLASS_MINE, "BES_NOT_UTF8",
       "the text isn't valid UTF-8" },
     { BES_NO_OPERATION, BES_CLASS_MINE, "BES_NO_OPERATION",
-      "there is no operation of this number; "
+      "there is no operation with this number; "
       "they are 0 to 5" },
     { BES_NO_KIND, BES_CLASS_MINE, "BES_NO_KIND",
       "no kind has this type code" },
@@ -113,20 +113,23 @@ static const bes_meaning_ bes_meanings_[] = {
     { BES_BAD_PART, BES_CLASS_MINE, "BES_BAD_PART",
       "a name or a value isn't within the bytes that go with the list" },
     { BES_NO_ITEM, BES_CLASS_MINE, "BES_NO_ITEM",
-      "there is no item of this number; "
+      "there is no item with this number; "
       "they are 0 to 15" },
     { BES_CONFLICT, BES_CLASS_RETRY, "BES_CONFLICT",
-      "the journal has another length than the write expects; "
-      "read again, and write on what you read then" },
+      "the journal's length isn't what the write expects; "
+      "read again, and base the write on that" },
     { BES_IN_USE, BES_CLASS_RETRY, "BES_IN_USE",
       "another handle of the store is open; "
       "close it first" },
     { BES_BAD_CURSOR, BES_CLASS_MINE, "BES_BAD_CURSOR",
-      "the cursor isn't one of this index; "
-      "begin without a cursor, or use one that a page in the order of the index has left" },
+      "the cursor doesn't belong to this index; "
+      "start without a cursor, or use one from a page in this index's order" },
     { BES_NO_ROOM, BES_CLASS_MINE, "BES_NO_ROOM",
       "a page has at least one node; "
       "ask for one or more" },
+    { BES_WRONG_KIND, BES_CLASS_MINE, "BES_WRONG_KIND",
+      "the index of this name takes values of another kind; "
+      "set a value of the index's kind" },
     /* surface.toml: end */
 };
 
@@ -188,6 +191,13 @@ static inline void bes_forget_witness(bes_witness *witness)
 {
     witness->live = false;
     witness->at = NULL;
+}
+
+/* As bes_forget, for a draft. */
+static inline void bes_forget_draft(bes_draft *draft)
+{
+    draft->live = false;
+    draft->at = NULL;
 }
 
 /* A batch with room for 64 operations of any kind. It starts cleared: by BES_BATCH_INIT, which sets all its 23 KB to zero, or by
@@ -410,11 +420,27 @@ static inline uint32_t bes_batch_apply_if(bes_pass *pass, uint64_t expected, con
  * one in *with. It returns BES_OK, or the error with which bes_change ends. */
 typedef uint32_t bes_changer(bes_pass *pass, bes_batch *batch, uint64_t next, void *with);
 
-/* One attempt of bes_change. */
+/* Writes a batch as a change on the snapshot to which the pass is pinned. Of an operation that isn't added number is the index. */
+static inline uint32_t bes_change_write_(bes_pass *pass, const bes_batch *batch, uint64_t *number)
+{
+    bes_draft draft = BES_DRAFT_INIT;
+    uint64_t next = 0;
+    uint32_t error = bes_begin_change(pass, &draft, number, &next);
+    for (size_t i = 0; i < batch->count && error == BES_OK; i++) {
+        error = bes_change_add(&draft, &batch->operations[i], batch->bytes, batch->used, &next);
+        *number = i;
+    }
+    if (error == BES_OK)
+        return bes_end_change(pass, &draft, number);
+    bes_abandon_change(pass, &draft);
+    return error;
+}
+
+/* One attempt of bes_change. While the changer runs no draft is open, so it may leave by a jump or an exception. */
 static inline uint32_t bes_change_once_(bes_pass *pass, bes_changer *changer, void *with, uint64_t *number)
 {
     bes_batch batch;
-    uint64_t snapshot = 0, next = 0, none = 0;
+    uint64_t snapshot = 0, next = 0;
     uint32_t error = bes_pin(pass, &snapshot);
     *number = 0;
     if (error != BES_OK)
@@ -423,10 +449,8 @@ static inline uint32_t bes_change_once_(bes_pass *pass, bes_changer *changer, vo
     error = bes_next(pass, &next);
     if (error == BES_OK)
         error = changer(pass, &batch, next, with);
-    if (error == BES_OK && batch.count == 0)
-        *number = snapshot;
-    else if (error == BES_OK)
-        error = bes_batch_apply_if(pass, snapshot, &batch, 1, &none, 0, number);
+    if (error == BES_OK)
+        error = bes_change_write_(pass, &batch, number);
     bes_unpin(pass);
     return error;
 }
@@ -436,7 +460,8 @@ static inline uint32_t bes_change_once_(bes_pass *pass, bes_changer *changer, vo
  * nothing.
  * [in] pass      a pass that isn't pinned
  * [out] number   the commit number; for an empty batch the snapshot's number
- * BES_CONFLICT: other transactions came between at each attempt. BES_PINNED, and the errors of the changer and of bes_apply. */
+ * BES_CONFLICT: other transactions came between at each attempt. BES_PINNED, the errors of the changer, and those of bes_change_add
+ * and bes_end_change. If bes_change_add returns the error, number is the index of the operation. */
 static inline uint32_t bes_change(bes_pass *pass, uint32_t attempts, bes_changer *changer, void *with, uint64_t *number)
 {
     bes_retry retry = {attempts > 0 ? attempts - 1 : 0, 1, 0};

@@ -288,8 +288,18 @@ public:
     using Prepared::Prepared;
 
     // Asks the query in the snapshot, and returns what changed. Use snapshots of one store, or of another that its state was carried
-    // on to.
+    // on to. It asks the whole query and takes no lock, so no write of another pass is BES_BUSY because of it.
     Updates refresh(Snapshot &snapshot);
+
+    // What refresh() returns, by bes_refresh_changed: it reads what was written since the last refresh, and asks the query only of
+    // those nodes. That takes less time if the answer has 96 nodes or more and few were written; writes of other passes are BES_BUSY
+    // meanwhile. Otherwise, and in another store than at the last refresh, it asks the whole query.
+    Updates refresh_changed(Snapshot &snapshot);
+
+private:
+    Updates refreshed(Snapshot &snapshot, decltype(bes_refresh) *call);
+
+    std::optional<std::uint64_t> store_; // that of the last refresh
 };
 
 // The operations that make a snapshot again on an empty store, as batches of 1 to 64, each for one write. Go over them once.
@@ -421,28 +431,29 @@ public:
         return at < text.size() ? std::optional<std::size_t>(at) : std::nullopt;
     }
 
-    // The comparisons that are false for each node: the name has an index of integers here, and the value spells no number, as in
-    // size>1.5. Their offsets are those in the canonical text.
+    // The comparisons that no node meets, because of the kind of integers that the index of the name has here: the value spells no number,
+    // as in size>1.5, or none of the kind is in the range. Their offsets are those in the canonical text.
     std::vector<Comparison> never_true(const Prepared &prepared)
     {
         const std::string text = prepared.text();
+        const auto comparisons = detail::listed_comparisons(text);
         bes_index_list list;
-        bes_comparison found{};
         std::vector<Comparison> never;
         detail::check(bes_list_indices(handle(), &list));
-        for (std::size_t at = 0; bes_next_never_true(&list, text.data(), text.size(), &at, &found);)
-            never.push_back(detail::comparison_of(text, found));
+        for (std::size_t at = 0; at < comparisons->counts.operations; at++)
+            if (const bes_compared &it = comparisons->comparisons[at]; bes_is_never_true(&list, comparisons.get(), &it))
+                never.push_back(detail::comparison_of(text, *comparisons, it));
         return never;
     }
 
     // An attribute, if the node is there and has it. In a change it may be one that the change has set.
     std::optional<Value> get(Node node, std::string_view name)
     {
-        if (const bes_operation *last = pending(node, name))
-            return last->kind == BES_SET ? std::optional<Value>(batch_->value_of(*last)) : std::nullopt;
         bes_attribute read{};
         std::uint8_t bytes[255];
-        const auto error = bes_get(handle(), node, detail::bytes_of(name), name.size(), &read, bytes, sizeof bytes);
+        const auto *text = detail::bytes_of(name);
+        const auto error = draft_ != nullptr ? bes_change_get(handle(), draft_, node, text, name.size(), &read, bytes, sizeof bytes)
+                                             : bes_get(handle(), node, text, name.size(), &read, bytes, sizeof bytes);
         if (error == BES_NO_ATTRIBUTE)
             return std::nullopt;
         detail::check(error);
@@ -463,7 +474,7 @@ public:
     std::vector<std::vector<std::optional<Value>>> columns(const std::vector<Node> &nodes, const std::vector<std::string_view> &names)
     {
         std::vector<std::vector<std::optional<Value>>> columns(names.size(), std::vector<std::optional<Value>>(nodes.size()));
-        if (batch_ != nullptr) {
+        if (draft_ != nullptr) {
             for (std::size_t node = 0; node < nodes.size(); node++)
                 for (std::size_t name = 0; name < names.size(); name++)
                     columns[name][node] = get(nodes[node], names[name]);
@@ -523,7 +534,7 @@ public:
 protected:
     friend class Live;
 
-    explicit Snapshot(bes_pass *pass) : pass_(nullptr, detail::Unpins{detail::generation()})
+    Snapshot(bes_pass *pass, std::uint64_t store) : pass_(nullptr, detail::Unpins{detail::generation()}), store_(store)
     {
         detail::check(bes_pin(pass, &number_));
         pass_.reset(pass);
@@ -540,8 +551,11 @@ protected:
 
     void release() noexcept { pass_.reset(); }
 
-    // The operations that a change has so far.
-    const Batch *batch_ = nullptr;
+    // Whether it has a pin, and was made in this process.
+    bool is_ours() const noexcept { return pass_ && detail::is_ours(pass_.get_deleter().made_in); }
+
+    // From now on get() sees the operations of this draft.
+    void reads(bes_draft *draft) noexcept { draft_ = draft; }
 
 private:
     std::uint32_t asked(std::string_view text, Node *nodes, std::size_t room, std::uint64_t *count)
@@ -601,7 +615,7 @@ private:
         return count;
     }
 
-    // The error, with the place of the comparison that has no index, if that is the error.
+    // The error; for BES_NOT_COVERED also the place of the comparison without an index.
     std::uint32_t located(std::uint32_t error, std::string_view text, std::uint64_t *place)
     {
         if (error == BES_NOT_COVERED)
@@ -609,22 +623,10 @@ private:
         return error;
     }
 
-    // The last operation of the change that says what a node's attribute is.
-    const bes_operation *pending(Node node, std::string_view name) const
-    {
-        if (!batch_)
-            return nullptr;
-        const auto says = [&](const bes_operation &it) {
-            return it.node == node && (it.kind == BES_NEW_NODE || it.kind == BES_REMOVE_NODE ||
-                                       ((it.kind == BES_SET || it.kind == BES_UNSET) && batch_->part(it.name_at, it.name_length) == name));
-        };
-        const auto &all = batch_->operations_;
-        const auto last = std::find_if(all.rbegin(), all.rend(), says);
-        return last == all.rend() ? nullptr : &*last;
-    }
-
     std::uint64_t number_ = 0;
     std::unique_ptr<bes_pass, detail::Unpins> pass_;
+    std::uint64_t store_;        // which store it is of
+    bes_draft *draft_ = nullptr; // of a change
 };
 
 inline Ordered::Iterator Ordered::begin()

@@ -1,8 +1,7 @@
 /* Helpers over indices and texts: comparisons of a query, indices that they need, escapes, UTF-8, a caret under an error, and positions in
  * an index. Include bestore.h, which includes this file.
  *
- * A text that bes_next_comparison and the helpers over it read must be a query that the library parses: one that bes_query has
- * taken or refused by BES_NOT_COVERED, or the text of bes_prepared_text. */
+ * What a query's text says, the library reads: bes_query_comparisons lists its comparisons. */
 #include "bestore.h" /* which includes this file once more, and then nothing here is left */
 
 #ifndef BESTORE_TEXT_H
@@ -25,79 +24,57 @@ typedef struct bes_comparison {
     size_t value_length;
 } bes_comparison;
 
-/* Whether c is one of the characters, of which zero is none. */
-static inline bool bes_is_among_(char c, const char *characters)
+/* The most comparisons of a query, and the most bytes of their plain names and values. */
+enum { BES_COMPARISONS = 256, BES_COMPARISONS_BYTES = 64 * 256 + 4 * 4096 };
+
+/* The comparisons of a query, from left to right. It has 55 KB. */
+typedef struct bes_comparison_list {
+    bes_counts counts; /* operations: how many comparisons there are */
+    bes_compared comparisons[BES_COMPARISONS];
+    uint8_t bytes[BES_COMPARISONS_BYTES];
+} bes_comparison_list;
+
+/* bes_query_comparisons into a list. After an error the list is empty. */
+static inline uint32_t bes_list_comparisons(const char *text, size_t length, bes_comparison_list *list, uint64_t *place)
 {
-    return c != 0 && strchr(characters, c) != NULL;
+    list->counts.operations = list->counts.bytes = 0;
+    return bes_query_comparisons((const uint8_t *)text, length, &list->counts, list->comparisons, BES_COMPARISONS, list->bytes,
+                                 sizeof list->bytes, place);
 }
 
-static inline size_t bes_skip_(const char *text, size_t length, size_t at, const char *characters)
+static inline void bes_read_compared_(const bes_compared *it, bes_comparison *read)
 {
-    while (at < length && bes_is_among_(text[at], characters))
-        at++;
-    return at;
+    read->at = (size_t)it->at;
+    read->length = (size_t)(it->end - it->at);
+    read->name_at = (size_t)it->name_at;
+    read->name_length = (size_t)(it->name_end - it->name_at);
+    read->kind = it->kind_in_text;
+    read->value_at = (size_t)it->value_at;
+    read->value_length = (size_t)(it->value_end - it->value_at);
 }
 
-/* Reads the word or quoted text at an offset, and returns the offset after it. */
-static inline size_t bes_take_text_(const char *text, size_t length, size_t at, size_t *begin, size_t *count)
+/* The first of the listed comparisons that begins at an offset or after it, or NULL. */
+static inline const bes_compared *bes_compared_from_(const bes_comparison_list *list, size_t at)
 {
-    const char quote[2] = {at < length && bes_is_among_(text[at], "\"'") ? text[at] : '\0', '\0'};
-    const char *ends = quote[0] != 0 ? quote : " \t\n\r\"'=!<>&|()";
-    at += quote[0] != 0;
-    *begin = at;
-    while (at < length && text[at] != 0 && !bes_is_among_(text[at], ends))
-        at += text[at] == '\\' ? 2 : 1;
-    at = at < length ? at : length;
-    *count = at - *begin;
-    return quote[0] != 0 && at < length ? at + 1 : at;
+    for (uint64_t i = 0; i < list->counts.operations; i++)
+        if (list->comparisons[i].at >= at)
+            return &list->comparisons[i];
+    return NULL;
 }
 
-/* Reads the operator at an offset, and returns the offset after it, or the same one if there is none. */
-static inline size_t bes_take_operator_(const char *text, size_t length, size_t at, uint32_t *kind)
-{
-    bool equals = at + 1 < length && text[at + 1] == '=';
-    if (at == length || !bes_is_among_(text[at], "=!<>") || (text[at] == '!' && !equals))
-        return at;
-    if (text[at] == '=')
-        *kind = BES_ITEM_EQ;
-    else if (text[at] == '!')
-        *kind = BES_ITEM_NE;
-    else if (text[at] == '<')
-        *kind = equals ? BES_ITEM_LE : BES_ITEM_LT;
-    else
-        *kind = equals ? BES_ITEM_GE : BES_ITEM_GT;
-    return at + (equals ? 2 : 1);
-}
-
-/* Reads the next comparison of a query.
+/* Reads the next comparison of a query. Each call parses the whole text; bes_list_comparisons reads all at once.
  * [in,out] at    where to read on: 0 at first, then after the comparison that was read
- * Returns whether there is one. */
+ * Returns whether there is one. A text that isn't a query has none. */
 static inline bool bes_next_comparison(const char *text, size_t length, size_t *at, bes_comparison *found)
 {
-    static const char blanks[] = " \t\n\r";
-    size_t begin = bes_skip_(text, length, *at, " \t\n\r()!&|"), after, value;
-    found->at = begin;
-    after = bes_take_text_(text, length, begin, &found->name_at, &found->name_length);
-    after = bes_skip_(text, length, after, blanks);
-    value = bes_take_operator_(text, length, after, &found->kind);
-    if (begin == length || value == after)
+    bes_comparison_list list;
+    const bes_compared *next;
+    uint64_t place = 0;
+    if (bes_list_comparisons(text, length, &list, &place) != BES_OK || (next = bes_compared_from_(&list, *at)) == NULL)
         return false;
-    value = bes_skip_(text, length, value, blanks);
-    *at = bes_take_text_(text, length, value, &found->value_at, &found->value_length);
-    found->length = *at - begin;
+    bes_read_compared_(next, found);
+    *at = (size_t)next->end;
     return true;
-}
-
-/* Copies a part of a query's text without its backslashes, if it has room. Returns how long it is then. */
-static inline size_t bes_plain(const char *text, size_t length, char *plain, size_t room)
-{
-    size_t count = 0;
-    for (size_t i = 0; i < length; i++, count++) {
-        i += text[i] == '\\' && i + 1 < length;
-        if (count < room)
-            plain[count] = text[i];
-    }
-    return count;
 }
 
 /* The indices of a snapshot, by ascending names. */
@@ -125,59 +102,66 @@ static inline const bes_operation *bes_index_named(const bes_index_list *list, c
     return NULL;
 }
 
-/* The index of a comparison's name, or NULL. */
-static inline const bes_operation *bes_index_of(const bes_index_list *list, const char *text, const bes_comparison *comparison)
+/* The index of the name of a listed comparison, or NULL. */
+static inline const bes_operation *bes_index_of(const bes_index_list *list, const bes_comparison_list *comparisons,
+                                                const bes_compared *comparison)
 {
-    char name[64];
-    size_t length = bes_plain(text + comparison->name_at, comparison->name_length, name, sizeof name);
-    return length < sizeof name ? bes_index_named(list, name, length) : NULL;
+    return bes_index_named(list, (const char *)comparisons->bytes + comparison->plain_name_at,
+                           (size_t)(comparison->plain_value_at - comparison->plain_name_at));
 }
 
 /* Finds the first comparison whose name has no index in the pinned snapshot, for a message at BES_NOT_COVERED. It need not be the one
  * that needs an index: an || needs one on both sides, an && on one.
  * [out] at       the byte offset of the comparison, or the text's length if each has an index, and after an error
- * The errors and the cost are those of bes_indices. */
+ * The errors and the cost are those of bes_indices and bes_query_comparisons. */
 static inline uint32_t bes_uncovered(bes_pass *pass, const char *text, size_t length, size_t *at)
 {
     bes_index_list list;
-    bes_comparison comparison;
-    size_t next = 0;
+    bes_comparison_list comparisons;
+    uint64_t place = 0;
     uint32_t error = bes_list_indices(pass, &list);
     *at = length;
-    if (error != BES_OK)
-        return error;
-    while (*at == length && bes_next_comparison(text, length, &next, &comparison))
-        if (bes_index_of(&list, text, &comparison) == NULL)
-            *at = comparison.at;
-    return BES_OK;
+    if (error == BES_OK)
+        error = bes_list_comparisons(text, length, &comparisons, &place);
+    for (uint64_t i = 0; error == BES_OK && *at == length && i < comparisons.counts.operations; i++)
+        if (bes_index_of(&list, &comparisons, &comparisons.comparisons[i]) == NULL)
+            *at = (size_t)comparisons.comparisons[i].at;
+    return error;
 }
 
-/* Whether a value spells a number: an optional - and 1 to 20 digits, from -2^63 to 2^64 - 1. Backslashes are passed over. */
-static inline bool bes_spells_number(const char *text, size_t length)
+/* Whether no node meets a listed comparison, because of the kind of the index that its name has: of integers for size>1.5, or of those
+ * without a sign for size<0. */
+static inline bool bes_is_never_true(const bes_index_list *list, const bes_comparison_list *comparisons, const bes_compared *comparison)
 {
-    char plain[22];
-    size_t count = bes_plain(text, length, plain, sizeof plain), at = count > 0 && plain[0] == '-';
-    uint64_t most = at > 0 ? (uint64_t)1 << 63 : UINT64_MAX, number = 0;
-    if (count == at || count - at > 20)
+    const bes_operation *index = bes_index_of(list, comparisons, comparison);
+    switch (index == NULL ? 0 : index->code) {
+    case BES_INT32_TYPE:
+        return comparison->is_never_int32;
+    case BES_INT64_TYPE:
+        return comparison->is_never_int64;
+    case BES_UINT32_TYPE:
+        return comparison->is_never_uint32;
+    case BES_UINT64_TYPE:
+        return comparison->is_never_uint64;
+    default:
         return false;
-    for (; at < count; at++) {
-        uint64_t digit = (uint64_t)(plain[at] - '0');
-        if (plain[at] < '0' || plain[at] > '9' || number > (most - digit) / 10)
-            return false;
-        number = 10 * number + digit;
     }
-    return true;
 }
 
-/* Finds the next comparison that is false for each node: its name has an index of integers in the snapshot, and its value spells
- * no number, as in size>1.5. Use it as bes_next_comparison. */
+/* Finds the next comparison that bes_is_never_true. Use it as bes_next_comparison. */
 static inline bool bes_next_never_true(const bes_index_list *list, const char *text, size_t length, size_t *at,
                                        bes_comparison *found)
 {
-    while (bes_next_comparison(text, length, at, found)) {
-        const bes_operation *index = bes_index_of(list, text, found);
-        if (index != NULL && bes_is_number_code(index->code) && !bes_spells_number(text + found->value_at, found->value_length))
+    bes_comparison_list comparisons;
+    uint64_t place = 0;
+    if (bes_list_comparisons(text, length, &comparisons, &place) != BES_OK)
+        return false;
+    for (const bes_compared *it; (it = bes_compared_from_(&comparisons, *at)) != NULL;) {
+        *at = (size_t)it->end;
+        if (bes_is_never_true(list, &comparisons, it)) {
+            bes_read_compared_(it, found);
             return true;
+        }
     }
     return false;
 }
@@ -271,56 +255,35 @@ static inline uint32_t bes_reindex(bes_pass *pass, const char *name, uint32_t at
     return error;
 }
 
-/* Writes a character at an offset, if it has room there before a zero byte. */
-static inline size_t bes_put_char_(char *out, size_t room, size_t at, char c)
-{
-    if (room > 0 && at < room - 1)
-        out[at] = c;
-    return at + 1;
-}
+/* A call of the library that writes a text made of another one. */
+typedef uint32_t bes_made_text_(const uint8_t *text, size_t length, uint8_t *bytes, size_t room, uint64_t *count);
 
-/* Writes a character, with a backslash if a query would take it for anything but itself. */
-static inline size_t bes_put_escaped_(char *out, size_t room, size_t at, char c)
+static inline size_t bes_put_text_(bes_made_text_ *call, const char *text, char *out, size_t room)
 {
-    if (bes_is_among_(c, "*?[\\\"' \t\n\r=!<>&|()"))
-        at = bes_put_char_(out, room, at, '\\');
-    return bes_put_char_(out, room, at, c);
+    uint64_t count = 0;
+    uint8_t none = 0;
+    size_t most = room > 0 ? room - 1 : 0;
+    call((const uint8_t *)text, strlen(text), room > 0 ? (uint8_t *)out : &none, most, &count);
+    if (room > 0)
+        out[count < most ? count : most] = 0;
+    return (size_t)count;
 }
 
 /* Writes a text so that it stands for itself in a query: as a name, a value or a part of a pattern, in quotes or not. Quotes
  * are right for every text, also an empty one. So [draft].txt becomes \[draft].txt.
  * [out] out      the text and a zero byte, cut to `room` bytes; twice the text's length and 1 suffice
- * Returns how many bytes it has with enough room, without the zero byte. */
+ * Returns how many bytes it has with enough room, without the zero byte; 0 if the text isn't valid UTF-8. */
 static inline size_t bes_escape(const char *text, char *out, size_t room)
 {
-    size_t at = 0;
-    for (; *text != 0; text++)
-        at = bes_put_escaped_(out, room, at, *text);
-    if (room > 0)
-        out[at < room ? at : room - 1] = 0;
-    return at;
+    return bes_put_text_(bes_escape_bytes, text, out, room);
 }
 
-/* As bes_escape, and letters of ASCII match in either case, as BQuery builds it: draft becomes [dD][rR][aA][fF][tT]. The result is
+/* As bes_escape, and each letter matches in either case, as BQuery builds it: draft becomes [dD][rR][aA][fF][tT]. The result is
  * a pattern, for == and !=.
- * [out] out      4 times the text's length and 1 suffice */
+ * [out] out      12 times the text's length and 1 suffice */
 static inline size_t bes_any_case(const char *text, char *out, size_t room)
 {
-    size_t at = 0;
-    for (; *text != 0; text++) {
-        char lower = *text >= 'A' && *text <= 'Z' ? (char)(*text - 'A' + 'a') : *text;
-        if (lower < 'a' || lower > 'z') {
-            at = bes_put_escaped_(out, room, at, *text);
-            continue;
-        }
-        at = bes_put_char_(out, room, at, '[');
-        at = bes_put_char_(out, room, at, lower);
-        at = bes_put_char_(out, room, at, (char)(lower - 'a' + 'A'));
-        at = bes_put_char_(out, room, at, ']');
-    }
-    if (room > 0)
-        out[at < room ? at : room - 1] = 0;
-    return at;
+    return bes_put_text_(bes_any_case_bytes, text, out, room);
 }
 
 /* How many bytes the character of UTF-8 at the front of a text has, or 0 if no character begins there. A zero byte is none. */

@@ -5,6 +5,7 @@
 #include "bestore_values.hpp"
 
 #include <algorithm>
+#include <memory>
 
 namespace bestore {
 
@@ -19,59 +20,43 @@ struct Comparison {
 
 namespace detail {
 
-inline Comparison comparison_of(std::string_view text, const bes_comparison &found)
+inline Comparison comparison_of(std::string_view text, const bes_comparison_list &list, const bes_compared &found)
 {
-    std::string name(found.name_length, '\0');
-    name.resize(bes_plain(text.data() + found.name_at, found.name_length, name.data(), name.size()));
-    return {name, static_cast<query_op>(found.kind), std::string(text.substr(found.value_at, found.value_length)), found.at,
-            found.length};
+    const auto *bytes = reinterpret_cast<const char *>(list.bytes);
+    return {std::string(bytes + found.plain_name_at, bytes + found.plain_value_at), static_cast<query_op>(found.kind_in_text),
+            std::string(text.substr(found.value_at, found.value_end - found.value_at)), found.at, found.end - found.at};
 }
 
-// The number of the character at a byte of UTF-8, and how many bytes it has. A byte that begins none is itself.
-inline std::pair<char32_t, std::size_t> character_at(std::string_view text, std::size_t at)
+// The comparisons of a query, as the library lists them.
+inline std::unique_ptr<bes_comparison_list> listed_comparisons(std::string_view text)
 {
-    const auto byte = [&](std::size_t i) { return static_cast<char32_t>(static_cast<unsigned char>(text[i])); };
-    const bool has_next = at + 1 < text.size() && (byte(at + 1) & 0xc0) == 0x80;
-    if (byte(at) < 0xc2 || byte(at) > 0xdf || !has_next)
-        return {byte(at), 1};
-    return {(byte(at) & 0x1f) << 6 | (byte(at + 1) & 0x3f), 2};
+    std::uint64_t place = 0;
+    auto list = std::make_unique<bes_comparison_list>();
+    const auto error = bes_list_comparisons(reinterpret_cast<const char *>(bytes_of(text)), text.size(), list.get(), &place);
+    check(error, place, Place::byte);
+    return list;
 }
 
-// A character of two bytes of UTF-8.
-inline std::string two_bytes(char32_t c)
+// The text that a call of the library makes of another, which has up to so many times its bytes.
+template <class Call> std::string made_text(std::string_view text, std::size_t times, Call call)
 {
-    return {static_cast<char>(0xc0 | c >> 6), static_cast<char>(0x80 | (c & 0x3f))};
-}
-
-// The same letter in the other case, where both are one character of two bytes: Latin-1, Latin Extended-A, Greek and Cyrillic. None
-// otherwise.
-inline char32_t other_case(char32_t c)
-{
-    struct Letters {
-        char32_t first, last;
-        int to_other; // 0: upper and lower case alternate, beginning with the first
-    };
-    static const Letters all[] = {
-        {0xc0, 0xd6, 0x20}, {0xd8, 0xde, 0x20}, {0xe0, 0xf6, -0x20}, {0xf8, 0xfe, -0x20}, {0x100, 0x12f, 0}, {0x132, 0x137, 0},
-        {0x139, 0x148, 0}, {0x14a, 0x177, 0}, {0x179, 0x17e, 0}, {0x391, 0x3a1, 0x20}, {0x3a3, 0x3ab, 0x20}, {0x3b1, 0x3c1, -0x20},
-        {0x3c3, 0x3cb, -0x20}, {0x400, 0x40f, 0x50}, {0x410, 0x42f, 0x20}, {0x430, 0x44f, -0x20}, {0x450, 0x45f, -0x50}
-    };
-    const auto found = std::find_if(std::begin(all), std::end(all), [c](const Letters &it) { return it.first <= c && c <= it.last; });
-    if (found == std::end(all))
-        return 0;
-    const int step = found->to_other != 0 ? found->to_other : (c - found->first) % 2 == 0 ? 1 : -1;
-    return static_cast<char32_t>(static_cast<int>(c) + step);
+    std::string made(times * text.size(), '\0');
+    std::uint8_t none = 0;
+    std::uint64_t count = 0;
+    check(call(bytes_of(text), text.size(), made.empty() ? &none : reinterpret_cast<std::uint8_t *>(made.data()), made.size(), &count));
+    made.resize(count);
+    return made;
 }
 
 } // namespace detail
 
-// The comparisons of a query that the library parses, in their order.
+// The comparisons of a query, in their order. Throws what a text that isn't one is refused with.
 inline std::vector<Comparison> comparisons_of(std::string_view text)
 {
+    const auto list = detail::listed_comparisons(text);
     std::vector<Comparison> comparisons;
-    bes_comparison found{};
-    for (std::size_t at = 0; bes_next_comparison(text.data(), text.size(), &at, &found);)
-        comparisons.push_back(detail::comparison_of(text, found));
+    for (std::size_t at = 0; at < list->counts.operations; at++)
+        comparisons.push_back(detail::comparison_of(text, *list, list->comparisons[at]));
     return comparisons;
 }
 
@@ -85,37 +70,11 @@ inline std::vector<std::string> names_of(std::string_view text)
     return names;
 }
 
-// A text that stands for itself in a query, as bes_escape writes it.
-inline std::string escape(std::string_view text)
-{
-    std::string escaped(2 * text.size() + 1, '\0');
-    std::size_t length = 0;
-    for (const char c : text)
-        length = bes_put_escaped_(escaped.data(), escaped.size(), length, c);
-    escaped.resize(length);
-    return escaped;
-}
+// A text that stands for itself in a query, as bes_escape writes it. Throws BES_NOT_UTF8.
+inline std::string escape(std::string_view text) { return detail::made_text(text, 2, bes_escape_bytes); }
 
-// As escape, and letters match in either case: those of ASCII, and those of Latin, Greek and Cyrillic that have one character in each
-// case. The result is a pattern, for == and !=.
-inline std::string any_case(std::string_view text)
-{
-    std::string pattern;
-    for (std::size_t at = 0; at < text.size();) {
-        const auto [c, length] = detail::character_at(text, at);
-        const auto shown = text.substr(at, length);
-        at += length;
-        if (length == 2 && detail::other_case(c) != 0) {
-            pattern.append("[").append(shown).append(detail::two_bytes(detail::other_case(c))).append("]");
-        } else if ((c >= 'a' && c <= 'z') || (c >= 'A' && c <= 'Z')) {
-            const char lower = static_cast<char>(c | 0x20), upper = static_cast<char>(lower - 'a' + 'A');
-            pattern.append({'[', lower, upper, ']'});
-        } else {
-            pattern += escape(shown);
-        }
-    }
-    return pattern;
-}
+// As escape, and each letter matches in either case, by Unicode's simple case folding. The result is a pattern, for == and !=.
+inline std::string any_case(std::string_view text) { return detail::made_text(text, 12, bes_any_case_bytes); }
 
 // A text of any bytes, as a file's name, made one that the library takes, as bes_to_utf8 does: `most` bytes at most.
 inline std::string to_utf8(std::string_view text, std::size_t most = 255)

@@ -515,6 +515,14 @@ private:
         return error;
     }
 
+    // Gives the operations that make nodes the numbers from this one on.
+    void number_new_nodes(Node next)
+    {
+        for (auto &it : operations_)
+            if (it.kind == BES_NEW_NODE)
+                it.node = next++;
+    }
+
     std::vector<bes_operation> operations_;
     std::string bytes_;
 };

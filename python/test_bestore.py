@@ -10,6 +10,7 @@ import threading
 import unittest
 
 import bestore
+import bestore._library  # which a store of this process loads
 
 
 class Values(unittest.TestCase):
@@ -546,7 +547,7 @@ class WhatIsCarried(unittest.TestCase):
 class Library(unittest.TestCase):
     def test_missing(self):
         environment = dict(os.environ, BESTORE_LIBRARY="/nowhere/libbestore.so.0", PYTHONPATH=os.pathsep.join(sys.path))
-        said = subprocess.run([sys.executable, "-c", "import bestore"], env=environment, stderr=subprocess.PIPE, check=False)
+        said = subprocess.run([sys.executable, "-c", "import bestore; bestore.open()"], env=environment, stderr=subprocess.PIPE, check=False)
         self.assertIn(b"ImportError: bestore can't load its library: /nowhere/libbestore.so.0", said.stderr)
         self.assertIn(b"Run `make` in c/", said.stderr)
 

@@ -152,8 +152,8 @@ class Conditions(unittest.TestCase):
             with self.assertRaises(bestore.Conflict) as conflict:
                 store.apply_if(1, batch)
             self.assertEqual((conflict.exception.expected, conflict.exception.found, conflict.exception.number), (1, 2, 76))
-            self.assertEqual(str(conflict.exception), "the journal has another length than the write expects (2 entries, and not 1); "
-                             "read again, and write on what you read then")
+            self.assertEqual(str(conflict.exception), "the journal's length isn't what the write expects (2, not 1); "
+                             "read again, and base the write on that")
             self.assertEqual((store.apply_if(2, batch), store.status().entries), ((3, [3]), 3))
             for number in (-1, 2**64 + 3, 3 - 2**64):
                 with self.assertRaises(bestore.Conflict) as conflict:

@@ -64,7 +64,7 @@ class Errors(unittest.TestCase):
         self.assertEqual(bestore.TooManyAttempts(5).error_class, bestore.ErrorClass.RETRY)
         self.assertEqual(saved.DiskFull("path").error_class, bestore.ErrorClass.FULL)
         self.assertEqual(bestore.NoServer("path", "why").error_class, bestore.ErrorClass.GONE)
-        self.assertEqual(bestore.WrongKind("a", "INT32", "INT64").error_class, bestore.ErrorClass.MINE)
+        self.assertEqual(errors.wrong_kind("a", "INT32", "INT64").error_class, bestore.ErrorClass.MINE)
 
     def test_caught_by_what_they_are(self):
         for kind, number in [(KeyError, 2), (KeyError, 3), (MemoryError, 10), (ValueError, 19), (bestore.Full, 11)]:
@@ -86,7 +86,7 @@ class Errors(unittest.TestCase):
         fault.offset, fault.missing, fault.indices = 0, "a", ("b",)
         self.assertEqual(str(pickle.loads(pickle.dumps(fault))), str(fault))
         for fault in (
-            bestore.TooManyAttempts(3), bestore.WrongKind("a", "INT64", "INT32"), bestore.BadBytes(3, "more bytes"),
+            bestore.TooManyAttempts(3), errors.wrong_kind("a", "INT64", "INT32"), bestore.BadBytes(3, "more bytes"),
             bestore.Forked(),
         ):
             self.assertEqual(str(pickle.loads(pickle.dumps(fault))), str(fault))

@@ -13,6 +13,7 @@ import threading
 import unittest
 
 import bestore
+import bestore._library  # which a store of this process loads
 
 try:
     import _testcapi

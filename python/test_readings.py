@@ -1,4 +1,4 @@
-"""Query texts as Python's own reading takes them apart, against the library that parses them.
+"""The comparisons of query texts, against the canonical texts that the library makes of them.
 
 Each run takes other texts. If one fails, the seed is in the message: BESTORE_SEED=seed repeats that run.
 """
@@ -88,8 +88,8 @@ class Readings(unittest.TestCase):
             text = some_text(self.chance)
             known = canonical(text)
             if known is None:
-                # It isn't a query, and is read to its end all the same.
-                comparisons(text)
+                with self.assertRaises(bestore.QueryError, msg=f"{text!r}, seed {self.seed}"):
+                    comparisons(text)
                 continue
             queries += 1
             with self.subTest(text=text, seed=self.seed):

@@ -22,11 +22,15 @@ class Repeats(unittest.TestCase):
         self.server.start()
 
     def connect(self, repeat=PATIENCE):
+        until = time.monotonic() + PATIENCE
         while True:
             try:
                 return self.server.connect(repeat=repeat)
-            except connected.Disconnected:
-                pass  # the server was killed before it had answered
+            except (connected.Disconnected, bestore.NoServer):
+                # The server was killed before it had answered, or isn't started again yet.
+                if time.monotonic() > until:
+                    raise
+                time.sleep(0.002)
 
     def test_each_write_is_made_once(self):
         """Four threads write by `apply` and by `change`, and the server is killed six times."""

@@ -103,6 +103,11 @@ def sql(path, *statements):
         return [connection.execute(statement).fetchall() for statement in statements][-1]
 
 
+def remove_checksums(path):
+    """Makes the file one of the first format, so that what differs isn't found by its checksum."""
+    sql(path, *(f"ALTER TABLE {table} DROP COLUMN checksum" for table in ("about", "state", "entry")), "PRAGMA user_version = 1")
+
+
 def file_size(store, size):
     def file(change):
         node = change.new()
@@ -173,11 +178,11 @@ class Kept(Files):
         self.addCleanup(os.umask, os.umask(0))
         with saved.open(self.path, pages=64) as store:
             store.new_node()
-            self.assertEqual(modes(), {"test.bestore": 0o600, "test.bestore-wal": 0o600})
+            self.assertEqual(modes(), dict.fromkeys(("test.bestore", "test.bestore-last", "test.bestore-wal"), 0o600))
         os.chmod(self.path, 0o640)  # what somebody has chosen stays
         with saved.open(self.path, pages=64) as store:
             store.new_node()
-            self.assertEqual(modes(), {"test.bestore": 0o640, "test.bestore-wal": 0o640})
+            self.assertEqual(modes(), {"test.bestore": 0o640, "test.bestore-last": 0o600, "test.bestore-wal": 0o640})
 
     def test_each_call(self):
         """Each call that writes is saved, by each pass, also a node that is gone."""
@@ -261,7 +266,7 @@ class Kept(Files):
                 self.assertEqual(version.nodes(), [1, 2])
             file_size(store, 4)
         self.assertEqual(sql(self.path, "SELECT number FROM entry"), [(6,)])
-        self.assertEqual(sql(self.path, "SELECT number FROM about ORDER BY what"), [(5,), (4,)])
+        self.assertEqual(sql(self.path, "SELECT number FROM about WHERE what <> 'file' ORDER BY what"), [(5,), (4,)])
         with saved.open(self.path, 64) as store:
             self.assertEqual(sizes(store), [1, 2, 4])
         self.assertEqual(os.listdir(self.folder), ["test.bestore"])
@@ -447,7 +452,7 @@ class Refused(Files):
         three(self.path)
         sql(self.path, "PRAGMA user_version = 7")
         newer = self.refusal()
-        self.assertEqual((type(newer), newer.path, newer.version, newer.known), (saved.Newer, self.path, 7, 1))
+        self.assertEqual((type(newer), newer.path, newer.version, newer.known), (saved.Newer, self.path, 7, 2))
 
     def test_no_file(self):
         for path in (os.path.join(self.folder, "missing", "file"), self.folder):
@@ -482,6 +487,7 @@ class Refused(Files):
         ]:
             with self.subTest(change):
                 three(self.path)
+                remove_checksums(self.path)
                 sql(self.path, change)
                 differs = self.refusal()
                 self.assertEqual(
@@ -496,28 +502,12 @@ class Refused(Files):
         self.assertEqual((type(small), small.entry), (saved.TooLarge, 4))
         self.assertIsInstance(small.__cause__, bestore.CommitsSpent)
 
-    def test_any_changed_byte(self):
-        """A file with a changed byte, or cut off, is opened or refused."""
-        three(self.path)
-        with open(self.path, "rb") as file:
-            whole = file.read()
-        changed = [whole[:at] + bytes([whole[at] ^ 0x55]) + whole[at + 1:] for at in range(0, len(whole), len(whole) // 97)]
-        cut = [whole[:length] for length in range(0, len(whole), len(whole) // 11)]
-        refused = 0
-        for data in changed + cut:
-            with open(self.path, "wb") as file:
-                file.write(data)
-            try:
-                saved.open(self.path, 64).close()
-            except saved.SavedError:
-                refused += 1
-        self.assertGreater(refused, 0)
-
     def test_errors_of_older_pythons(self):
         """Before 3.11 an error of SQLite has a message alone."""
         for message, kind in [
             ("database is locked", saved.Held), ("database or disk is full", saved.DiskFull),
             ("file is not a database", saved.Foreign), ("disk I/O error", saved.SqliteError),
+            ("database disk image is malformed", saved.Damaged),
         ]:
             self.assertIs(type(of_sqlite("path", sqlite3.OperationalError(message))), kind)
 
@@ -597,7 +587,7 @@ class Failures(Files):
         """A transaction that was interrupted while it was rolled back is rolled back by the next one."""
         with saved.open(self.path, 64) as store:
             store._saver._file._run("BEGIN")
-            store._saver._file._run("INSERT INTO entry VALUES (1, 1, x'00')")
+            store._saver._file._run("INSERT INTO entry VALUES (1, 1, x'00', 0)")
             store.new_node()
         with saved.open(self.path, 64) as store, store.pin() as version:
             self.assertEqual(version.nodes(), [1])

@@ -2,7 +2,7 @@
 
 import bestore
 from bestore import saved
-from test_saved import Files, sql, three
+from test_saved import Files, remove_checksums, sql, three
 
 LAST = 2**63 - 1
 
@@ -10,6 +10,7 @@ LAST = 2**63 - 1
 class Numbers(Files):
     def has_entries(self, number: int) -> None:
         """Says in the file that its state contains the entries up to this number."""
+        remove_checksums(self.path)
         sql(self.path, f"UPDATE about SET number = {number} WHERE what = 'entries'")
 
     def test_writes_end(self) -> None:

@@ -460,7 +460,7 @@ class Kept(Indexed, unittest.TestCase):
         for volume in range(3):
             self.sized(store, volume, 5)
         self.assertEqual(self.refused("append", store.flush), (saved.Stopped, "0.bestore"))
-        self.assertEqual(list(file.entries())[-1][0], store.volume(1).number_in_file(store.statuses()[1].entries))
+        self.assertEqual(list(file.entries(0))[-1][0], store.volume(1).number_in_file(store.statuses()[1].entries))
         self.assertEqual(self.refused("append", store.close), (saved.Stopped, "0.bestore"))
 
     def test_no_folder(self):

@@ -61,7 +61,7 @@ if ! resolves; then
 fi
 
 run "Rust" test --workspace --features $features -- --show-output
-run "Rust, without features" test -p bestore-sys -p bestore --lib --tests
+run "Rust, without features" test -p bestore-sys -p bestore-types -p bestore --lib --tests
 for example in first mailbox newest jobs shelf; do
     run "Rust, example $example" run -q -p bestore --example $example
 done
@@ -92,7 +92,8 @@ else
     BESTORED=$(realpath "$CARGO_TARGET_DIR/debug/bestored")
     export BESTORED
     if ! (cd ../python && timeout -k 10 600 env BESTORE_LIBRARY="$BESTORE_LIB_DIR/libbestore.so" PYTHONDONTWRITEBYTECODE=1 \
-        python3 -W error -m unittest test_connect test_connected_pages test_repeats test_shelf test_watches test_saved.Processes.test_rust) >"$work/said" 2>&1; then
+        python3 -W error -m unittest test_connect test_connected_pages test_live test_repeats test_shelf test_watches \
+        test_without_library test_saved.Processes.test_rust) >"$work/said" 2>&1; then
         cat "$work/said" >&2
         echo "Python, over the server: failed, or not at its end after 600 seconds" >&2
         exit 1
@@ -109,6 +110,19 @@ else
     else
         echo "the query window, over the server: ok, $(sed -n 's/^Ran \([0-9]* tests\) in .*/\1/p' "$work/said")"
     fi
+fi
+
+# What clients of servers that are killed have seen, by scripts that share no code with the server.
+if ! command -v python3 >/dev/null; then
+    echo "histories of servers: skipped, there is no python3"
+elif ! (cd bestored/history && timeout -k 10 600 env BESTORED="$(realpath "$CARGO_TARGET_DIR/debug/bestored")" PYTHONDONTWRITEBYTECODE=1 \
+    python3 -W error -m unittest -v test_history) >"$work/said" 2>&1; then
+    cat "$work/said" >&2
+    echo "histories of servers: failed, or not at its end after 600 seconds" >&2
+    exit 1
+else
+    echo "histories of servers: ok, $(sed -n 's/^Ran \([0-9]* tests\) in .*/\1/p' "$work/said")"
+    grep -h "skipped '" "$work/said" || true
 fi
 
 # How the library is found: by pkg-config, in an archive, and not at all.

@@ -68,6 +68,7 @@ struct asked text_of(enum shape shape, uint64_t nodes, uint64_t width, uint64_t 
     case CONTAINS_FROM: return contains_from(nodes, state);
     case NAME_TENTH: return told("name==\"0%llu*\"", (number)below(state, 10));
     case ONE_END: return told("name==\"*%llu-document.txt\"", (number)below(state, 10));
+    case ONE_PART: return told("name==\"*%llu-doc*\"", (number)below(state, 10));
     case ALL_TENTH: return all_tenth(state);
     case ALL_KIND: return all_kind(state);
     case ALL_SIZES: return told("size>=-%llu", (number)below(state, 1000));

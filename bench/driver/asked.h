@@ -18,6 +18,7 @@ enum shape {
     ALL_SIZES,     /* all sizes */
     NAME_TENTH,    /* the names of a tenth of all nodes, by their front */
     ONE_END,       /* the names of a tenth of all nodes, by their end */
+    ONE_PART,      /* the same, by what they have in the middle */
     ALL_TENTH,     /* all sizes, of a tenth of all nodes by a second number */
     ALL_KIND,      /* all sizes, of an eighth of all nodes by what no index has */
 };

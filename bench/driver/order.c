@@ -72,7 +72,6 @@ static struct store *open_tenths(const struct data *data) {
 
 void run_order(const struct data *data) {
     uint64_t answers = NO_ANSWERS, all = data->nodes;
-    if (!has_order) return;
     struct store *store = open_tenths(data);
     struct pass *pass = store_pass(store, 0);
     pin(pass);
@@ -82,6 +81,7 @@ void run_order(const struct data *data) {
     time_pages(pass, data, "page-tenth", (struct paging){ALL_TENTH, 0, all / 10, SIZE, NEWEST}, &answers);
     time_pages(pass, data, "page-tenth-middle", (struct paging){ALL_TENTH, 0, all / 10, SIZE, ANYWHERE}, &answers);
     time_pages(pass, data, "page-kind", (struct paging){ALL_KIND, 0, all / 8, SIZE, NEWEST}, &answers);
+    time_pages(pass, data, "page-part", (struct paging){ONE_PART, 0, all / 10, SIZE, NEWEST}, &answers);
     time_pages(pass, data, "page-front-1000", (struct paging){NAME_TENTH, 0, all / 10, SIZE, NEWEST}, &answers);
     time_pages(pass, data, "page-front-100", (struct paging){NAME_FRONT, 0, 100, SIZE, NEWEST}, &answers);
     time_pages(pass, data, "page-end", (struct paging){ONE_END, 0, all / 10, NAME, NEWEST}, &answers);

@@ -3,7 +3,7 @@
 
 #define WEAK __attribute__((weak))
 
-WEAK const bool has_long_lists = false, has_attributes = true, has_joined_reads = false, has_order = false;
+WEAK const bool has_long_lists = false, has_attributes = true, has_joined_reads = false;
 
 WEAK void prepare(struct pass *pass, struct query *query) {
     (void)pass;
@@ -13,13 +13,6 @@ WEAK void prepare(struct pass *pass, struct query *query) {
 WEAK size_t ask_some(struct pass *pass, struct query *query, uint64_t *nodes, size_t most) {
     size_t count = ask(pass, query, nodes, most);
     return count < most ? count : most;
-}
-
-WEAK size_t ask_page(struct pass *pass, struct query *query, struct text by, const struct place *after, uint64_t hits, uint64_t *nodes, size_t most) {
-    (void)by;
-    (void)after;
-    (void)hits;
-    return ask_some(pass, query, nodes, most);
 }
 
 WEAK uint64_t ask_joined(struct pass *pass, struct query *query) {

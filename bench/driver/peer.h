@@ -51,9 +51,7 @@ struct place {
 };
 
 /* A page: the first `most` nodes of a query by falling numbers, or texts, of a name that has an index, and then by falling nodes;
- * those after a place, if there is one. `hits`: about how many nodes the query has, so that a peer may choose its way. A peer
- * that has no orders leaves both out. */
-extern const bool has_order;
+ * those after a place, if there is one. `hits`: about how many nodes the query has, so that a peer may choose its way. */
 size_t ask_page(struct pass *pass, struct query *query, struct text by, const struct place *after, uint64_t hits, uint64_t *nodes, size_t most);
 
 /* All attributes of each of some nodes, or of those that a query finds where a peer is faster so: numbers, and the lengths of

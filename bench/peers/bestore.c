@@ -161,8 +161,6 @@ size_t ask_some(struct pass *pass, struct query *query, uint64_t *nodes, size_t 
     return count;
 }
 
-const bool has_order = true;
-
 static bes_cursor cursor_at(const struct place *after) {
     bes_cursor cursor = {0, 0, {0}};
     const bes_attribute number = {.code = BES_INT64_TYPE, .number = after ? (uint64_t)after->number : 0};

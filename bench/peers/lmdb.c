@@ -9,6 +9,7 @@
 
 #include "../driver/peer.h"
 #include "holds.h"
+#include "paging.h"
 
 #define INDICES 32
 #define PASSES 64
@@ -289,65 +290,40 @@ size_t ask(struct pass *pass, struct query *query, uint64_t *nodes, size_t most)
 
 size_t ask_some(struct pass *pass, struct query *query, uint64_t *nodes, size_t most) { return walk(pass, query, nodes, 0, most, most); }
 
-const bool has_order = true;
+static uint64_t keys_in(struct pass *pass, struct text by) {
+    MDB_stat stat;
+    must_do(mdb_stat(pass->reading, index_of(pass->store, by)->database, &stat));
+    return stat.ms_entries;
+}
 
 /* Moves a cursor to the last key before a place, or to the last one of all. */
 static int move_before(MDB_cursor *cursor, const struct place *after, MDB_val *key, MDB_val *value) {
     uint8_t from[16];
     if (!after) return mdb_cursor_get(cursor, key, value, MDB_LAST);
-    put_number(from, (uint64_t)after->number ^ 1ull << 63);
-    put_number(from + 8, after->node);
+    put_place(from, after);
     *key = (MDB_val){sizeof from, from};
     int status = mdb_cursor_get(cursor, key, value, MDB_SET_RANGE);
     return mdb_cursor_get(cursor, key, value, status ? MDB_LAST : MDB_PREV);
 }
 
-/* A walk down the index of the order, on which the query is asked of each node. */
-static size_t walk_down(struct pass *pass, const struct query *query, const struct index *index, bool is_picked, const struct place *after, uint64_t *nodes, size_t most) {
+static size_t walk_down(struct pass *pass, const struct query *query, struct text by, bool is_picked, const struct place *after, uint64_t *nodes,
+                        size_t most) {
     const struct comparison *pick = &query->comparisons[query->pick];
     bool scans = is_picked && is_scan(pick);
-    MDB_cursor *cursor = cursor_of(pass, index);
+    MDB_cursor *cursor = cursor_of(pass, index_of(pass->store, by));
     MDB_val key, value;
     size_t count = 0;
     for (int status = move_before(cursor, after, &key, &value); !status && count < most; status = mdb_cursor_get(cursor, &key, &value, MDB_PREV)) {
         if (scans && !text_holds(pick, key_text(key.mv_data, key.mv_size))) continue;
-        if (is_picked && !scans && (int64_t)(take_number(key.mv_data) ^ 1ull << 63) < pick->number) break;
+        if (is_picked && !scans && is_below(pick, key.mv_data)) break;
         uint64_t node = take_number((uint8_t *)key.mv_data + key.mv_size - 8);
         if ((is_picked || holds(pass, pick, node)) && all_hold(pass, query, node)) nodes[count++] = node;
     }
     return count;
 }
 
-static int is_falling(const void *left, const void *right) {
-    const struct place *a = left, *b = right;
-    if (a->number != b->number) return a->number < b->number ? 1 : -1;
-    return a->node < b->node ? 1 : a->node > b->node ? -1 : 0;
-}
-
-/* A walk over the picked index, and a sort of what it finds by the numbers. */
-static size_t get_and_sort(struct pass *pass, const struct query *query, struct text by, const struct place *after, uint64_t *nodes, size_t most) {
-    static uint64_t found[32768];
-    static struct place places[32768];
-    size_t all = walk(pass, query, found, 0, 32768, SIZE_MAX), count = 0;
-    for (size_t i = 0; i < all; i++) {
-        struct place it = {.node = found[i]};
-        if (get_number(pass, it.node, by, &it.number) && (!after || is_falling(&it, after) > 0)) places[count++] = it;
-    }
-    qsort(places, count, sizeof *places, is_falling);
-    if (count > most) count = most;
-    for (size_t i = 0; i < count; i++) nodes[i] = places[i].node;
-    return count;
-}
-
-/* By whichever of both gets fewer nodes: all hits, or as many of all nodes as have `most` hits among them. */
 size_t ask_page(struct pass *pass, struct query *query, struct text by, const struct place *after, uint64_t hits, uint64_t *nodes, size_t most) {
-    const struct index *index = index_of(pass->store, by);
-    MDB_stat stat;
-    bool is_picked = pick_name(query, by);
-    if (is_picked) return walk_down(pass, query, index, true, after, nodes, most);
-    must_do(mdb_stat(pass->reading, index->database, &stat));
-    if (stat.ms_entries * most < hits * hits) return walk_down(pass, query, index, false, after, nodes, most);
-    return get_and_sort(pass, query, by, after, nodes, most);
+    return page(pass, query, by, after, hits, nodes, most);
 }
 
 /* By a cursor, which is set to each node. */

@@ -323,8 +323,6 @@ size_t ask_some(struct pass *pass, struct query *query, uint64_t *nodes, size_t 
     return step_through(pass, bound(pass, query), nodes, most, most);
 }
 
-const bool has_order = true;
-
 /* One statement for each form of query, with the order and the limit. */
 size_t ask_page(struct pass *pass, struct query *query, struct text by, const struct place *after, uint64_t hits, uint64_t *nodes, size_t most) {
     static const char *const joined = "SELECT a.node FROM attribute a JOIN attribute o ON o.node = a.node AND o.name = 'size'";

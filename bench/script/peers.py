@@ -19,7 +19,6 @@ class Peer:
     archive: str = ""
     package: str = ""
     has_threads: bool = True
-    has_order: bool = True
     has_journal: bool = False
 
 
@@ -32,14 +31,13 @@ class Workload:
     other: int = 0
     case: str = ""
     needs_threads: bool = False
-    needs_order: bool = False
 
     def words(self) -> list[str]:
         return [self.name, str(self.nodes), str(self.other)]
 
     def fits(self, peer: Peer) -> bool:
         """Whether a peer has what the workload needs."""
-        return (peer.has_threads or not self.needs_threads) and (peer.has_order or not self.needs_order)
+        return peer.has_threads or not self.needs_threads
 
 
 def single_workloads(most: int) -> list[Workload]:
@@ -48,7 +46,7 @@ def single_workloads(most: int) -> list[Workload]:
     return [
         Workload("indices", nodes),
         Workload("patterns", nodes),
-        Workload("order", nodes, needs_order=True),
+        Workload("order", nodes),
         Workload("shared", nodes),
         Workload("held", nodes, case="set-held", needs_threads=True),
         Workload("sets", min(MANY, most), 2, case="set-many"),
@@ -62,10 +60,10 @@ PEERS = [
     Peer("lmdb", "LMDB", "#1f77b4", "lmdb.c", library="lmdb", package="liblmdb-dev"),
     Peer("sqlite", "SQLite, memory", "#bcbd22", "sqlite.c", library="sqlite3", package="libsqlite3-dev", has_threads=False),
     Peer("sqlite-wal", "SQLite, WAL", "#ff7f0e", "sqlite.c", ["-DWAL"], library="sqlite3", package="libsqlite3-dev"),
-    Peer("model", "model in C", "#2ca02c", "model/*.c", has_order=False, has_journal=True),
+    Peer("model", "model in C", "#2ca02c", "model/*.c", has_journal=True),
     Peer("library", "bestore, from C", "#9467bd", "bestore.c", archive="c/libbestore.a",
          package="c/libbestore.a, which `make` in c/ builds", has_journal=True),
-    Peer(OURS, "bestore", "#d62728", has_order=False, has_journal=True),
+    Peer(OURS, "bestore", "#d62728", has_journal=True),
 ]
 TITLES = {peer.name: peer.title for peer in PEERS}
 COLORS = {peer.name: peer.color for peer in PEERS}

@@ -51,6 +51,7 @@ CASES = {
     "page-tenth": "the 50 greatest sizes of a tenth of the nodes, by a number that has an index",
     "page-tenth-middle": "50 of these after a place in the middle",
     "page-kind": "the 50 greatest sizes of an eighth, by a text that has no index",
+    "page-part": "the 50 greatest sizes of a tenth, by a pattern of their names",
     "page-front-1000": "the 50 greatest sizes of 1,000 nodes, by the front of their names",
     "page-front-100": "the same of 100 nodes",
     "page-end": "the last 50 names that end with a text, of which there are 1,000",

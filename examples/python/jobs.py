@@ -8,10 +8,14 @@ JOBS, WORKERS = 200, 4
 
 
 def claim(change):
-    """Claims the waiting job that is most urgent, and returns it, or None if there is none."""
+    """Claims the waiting job that is most urgent, and returns it, or None if there is none.
+
+    A claimed job loses its urgency, so that the next claim doesn't pass it on its way to a waiting one.
+    """
     found = change.query("job:state==waiting", by="job:urgency", descending=True, limit=1)
     for job in found:
         change[job]["job:state"] = "claimed"
+        del change[job]["job:urgency"]
         return job
     return None
 

@@ -66,25 +66,30 @@ static uint32_t opposite(uint32_t kind)
     return kinds[kind - BES_ITEM_EQ];
 }
 
-/* Two texts without their backslashes are the same. */
-static bool is_same(const char *mine, size_t length, const char *theirs, size_t their_length)
+/* The parts of the bytes of two lists are the same. */
+static bool is_same(const bes_comparison_list *mine, uint64_t at, uint64_t end, const bes_comparison_list *theirs, uint64_t their_at,
+                    uint64_t their_end)
 {
-    static char plain[ROOM], other[ROOM];
-    size_t count = bes_plain(mine, length, plain, sizeof plain);
-    return count == bes_plain(theirs, their_length, other, sizeof other) && memcmp(plain, other, count) == 0;
+    return end - at == their_end - their_at && memcmp(mine->bytes + at, theirs->bytes + their_at, (size_t)(end - at)) == 0;
 }
 
-/* A query and its canonical text have the same comparisons in the same order; a ! turns their operators. */
+/* A query and its canonical text have the same comparisons in the same order; a ! turns their operators. A canonical text may be too
+ * long to be a query. */
 static void compare(const char *text, size_t length, const char *canonical, size_t canonical_length)
 {
-    bes_comparison mine, theirs;
-    size_t at = 0, other_at = 0;
-    while (bes_next_comparison(text, length, &at, &mine)) {
-        CHECK(bes_next_comparison(canonical, canonical_length, &other_at, &theirs));
-        CHECK(theirs.kind == mine.kind || theirs.kind == opposite(mine.kind));
-        CHECK(is_same(text + mine.name_at, mine.name_length, canonical + theirs.name_at, theirs.name_length));
+    static bes_comparison_list mine, theirs;
+    uint64_t place = 7;
+    CHECK(bes_list_comparisons(text, length, &mine, &place) == BES_OK && place == 0);
+    if (bes_list_comparisons(canonical, canonical_length, &theirs, &place) == BES_TOO_LONG)
+        return;
+    CHECK(mine.counts.operations == theirs.counts.operations && mine.counts.bytes <= sizeof mine.bytes);
+    for (uint64_t i = 0; i < mine.counts.operations; i++) {
+        const bes_compared *one = &mine.comparisons[i], *other = &theirs.comparisons[i];
+        CHECK(one->kind == other->kind && other->kind == other->kind_in_text && one->form == other->form);
+        CHECK(one->kind_in_text == one->kind || one->kind_in_text == opposite(one->kind));
+        CHECK(is_same(&mine, one->plain_name_at, one->plain_value_at, &theirs, other->plain_name_at, other->plain_value_at));
+        CHECK(is_same(&mine, one->plain_value_at, one->plain_end, &theirs, other->plain_value_at, other->plain_end));
     }
-    CHECK(!bes_next_comparison(canonical, canonical_length, &other_at, &theirs));
 }
 
 /* A canonical text that isn't too long is a query, whose canonical text it is. */

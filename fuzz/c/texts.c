@@ -7,16 +7,15 @@ enum { CHARACTERS, NUMBER, PATTERN };
 /* The text of a value in a query whose only comparison it is, without its backslashes. */
 static size_t plain_value(const char *query, size_t length, char *plain, size_t room)
 {
-    bes_prepared prepared = BES_PREPARED_INIT;
-    bes_comparison found;
-    char canonical[4096];
-    uint64_t place = 7, count = 0;
-    size_t at = 0;
-    CHECK(bes_prepare((const uint8_t *)query, length, &prepared, &place) == BES_OK);
-    CHECK(bes_prepared_text(&prepared, (uint8_t *)canonical, sizeof canonical, &count) == BES_OK && count <= sizeof canonical);
-    CHECK(bes_next_comparison(canonical, (size_t)count, &at, &found) && at == count && found.kind == BES_ITEM_GE);
-    CHECK(bes_release(&prepared) == BES_OK);
-    return bes_plain(canonical + found.value_at, found.value_length, plain, room);
+    static bes_comparison_list list;
+    const bes_compared *found = &list.comparisons[0];
+    uint64_t place = 7;
+    size_t count;
+    CHECK(bes_list_comparisons(query, length, &list, &place) == BES_OK && list.counts.operations == 1);
+    count = (size_t)(found->plain_end - found->plain_value_at);
+    CHECK(found->at == 0 && found->end == length && found->kind == BES_ITEM_GE && count <= room);
+    memcpy(plain, list.bytes + found->plain_value_at, count);
+    return count;
 }
 
 /* An escaped text stands for itself in each of the ways to write it. */
@@ -35,7 +34,7 @@ static void stands_for_itself(const char *text, const char *escaped)
 /* A helper that writes into too little room writes the front of the text, a zero byte, and no more. */
 static void is_cut(size_t (*helper)(const char *, char *, size_t), const char *text, size_t room)
 {
-    char whole[1100], cut[1101];
+    char whole[3100], cut[3101];
     size_t length = helper(text, whole, sizeof whole);
     CHECK(length < sizeof whole && strlen(whole) == length);
     memset(cut, 0x5a, sizeof cut);
@@ -50,7 +49,7 @@ static void is_cut(size_t (*helper)(const char *, char *, size_t), const char *t
 static void is_pattern(const char *text)
 {
     bes_prepared prepared = BES_PREPARED_INIT;
-    char pattern[1100], query[1200];
+    char pattern[3100], query[3200];
     uint64_t place = 7;
     bes_any_case(text, pattern, sizeof pattern);
     snprintf(query, sizeof query, "a==\"%s\"", pattern);
@@ -64,15 +63,19 @@ static bool is_digit(char c)
 }
 
 /* What spells a number has an optional - and up to 20 digits, and is printed by the C library as the same number. */
-static void spells(const char *text)
+static void spells(const char *text, const char *escaped)
 {
-    char *end;
+    static bes_comparison_list list;
+    char query[1024], *end;
+    uint64_t place = 7;
+    bool is_number;
     const char *digits = text + (text[0] == '-');
-    if (strchr(text, '\\') != NULL)
-        return;
-    saw(NUMBER, bes_spells_number(text, strlen(text)));
+    int length = snprintf(query, sizeof query, "a>=\"%s\"", escaped);
+    CHECK(bes_list_comparisons(query, (size_t)length, &list, &place) == BES_OK);
+    is_number = list.comparisons[0].form == BES_FORM_NUMBER;
+    saw(NUMBER, is_number);
     if (!is_digit(digits[0]) || strspn(digits, "0123456789") != strlen(digits) || strlen(digits) > 20) {
-        CHECK(!bes_spells_number(text, strlen(text)));
+        CHECK(!is_number);
         return;
     }
     errno = 0;
@@ -80,13 +83,13 @@ static void spells(const char *text)
         (void)strtoll(text, &end, 10);
     else
         (void)strtoull(text, &end, 10);
-    CHECK(*end == 0 && bes_spells_number(text, strlen(text)) == (errno == 0));
+    CHECK(*end == 0 && is_number == (errno == 0));
 }
 
 int LLVMFuzzerTestOneInput(const uint8_t *bytes, size_t length)
 {
     fuzz_input input = {bytes, length};
-    size_t room = (size_t)take(&input, 2) % 1100, count;
+    size_t room = (size_t)take(&input, 2) % 3100, count;
     char *text = copy_of(input.bytes, input.length), valid[256], again[256], escaped[520];
     count = bes_to_utf8(text, input.length, valid, sizeof valid);
     CHECK(count == strlen(valid) && bes_to_utf8(valid, count, again, sizeof again) == count && strcmp(valid, again) == 0);
@@ -96,7 +99,7 @@ int LLVMFuzzerTestOneInput(const uint8_t *bytes, size_t length)
     is_cut(bes_escape, valid, room);
     is_cut(bes_any_case, valid, room);
     is_pattern(valid);
-    spells(valid);
+    spells(valid, escaped);
     free(text);
     return 0;
 }

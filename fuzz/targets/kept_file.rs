@@ -27,8 +27,12 @@ bestore_fuzz::target!(|input| {
         // Two entries have one number.
         return;
     }
+    let read = bestore_types::saved::read(&path);
     match open(&path) {
-        Ok(saved) => goes_on(saved, &path),
+        Ok(saved) => {
+            read.expect("a file that opens is read without a store too");
+            goes_on(saved, &path);
+        }
         Err(Error::Differs { .. } | Error::TooLarge { .. }) => {}
         Err(error) => panic!("the file is refused as {error:?}"),
     }

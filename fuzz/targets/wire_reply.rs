@@ -16,7 +16,7 @@ bestore_fuzz::target!(|input| {
 });
 
 /// A reader for each reply. Their order is that of the first bytes in the corpus, so a new one goes to the end.
-const READERS: [fn(&[u8]); 18] = [
+const READERS: [fn(&[u8]); 19] = [
     goes_there_and_back::<wire::Hello>,
     goes_there_and_back::<wire::Written>,
     goes_there_and_back::<wire::LogStatus>,
@@ -35,6 +35,7 @@ const READERS: [fn(&[u8]); 18] = [
     goes_there_and_back::<wire::Push>,
     refuses,
     has_length,
+    goes_there_and_back::<wire::Comparisons>,
 ];
 
 fn goes_there_and_back<T: DeserializeOwned + Serialize + PartialEq + Debug>(line: &[u8]) {

@@ -26,7 +26,7 @@ its own.
 The package has its shared object inside. In the repository it is the one in c/, and BESTORE_LIBRARY names another.
 """
 
-from ._library import VERSION as __version__
+from ._version import VERSION as __version__
 from ._connected_errors import (
     # surface.toml: exceptions of a server
     BadRequest, Expired, NoClient, NoLog, NoWatch, NotAllowed, NotKept, NotLeader, PushesLost,
@@ -44,13 +44,13 @@ from .errors import (
     Conflict, DataLength, Full, HasNul, InUse, IndexExists, NameLength, NoAttribute, NoIndex,
     NoItem, NoKind, NoMemory, NoNode, NoOperation, NoPass, NoRoom, NoValue, NotCovered,
     NotIndexable, NotPinned, NotUTF8, Opened, Pinned, QuerySyntax, TooDeep, TooLong, TooMany,
-    TooManyAttributes, TooManyIndices,
+    TooManyAttributes, TooManyIndices, WrongKind,
     # surface.toml: end
     BadBytes, Error, Forked, Nested, NotReached, NoVolume, OtherStore, OtherVolume, PartialIndex,
-    QueryError, QueryNotUTF8, Refusal, TooManyAttempts, WrongKind,
+    QueryError, QueryNotUTF8, Refusal, TooManyAttempts,
 )
 from .language import Comparison, Hint, any_case, escape
-from .local import open
+from .opening import open
 from .nodes import node_in, number_of, volume_of
 from .operations import (
     MOST_OPERATIONS, Batch, MakeIndex, NewNode, Operation, RemoveIndex, RemoveNode, SetAttribute, UnsetAttribute,
@@ -75,7 +75,7 @@ __all__ = [
     "NoMemory", "NoNode", "NoOperation", "NoPass", "NoRoom", "NoValue", "NoWatch", "NotAllowed",
     "NotCovered", "NotIndexable", "NotKept", "NotLeader", "NotPinned", "NotUTF8", "Opened",
     "Pinned", "PushesLost", "QuerySyntax", "TooDeep", "TooLong", "TooMany", "TooManyAttributes",
-    "TooManyCopies", "TooManyIndices", "TooManyWatches", "Unexpected",
+    "TooManyCopies", "TooManyIndices", "TooManyWatches", "Unexpected", "WrongKind",
     # surface.toml: end
     "Attributes", "BadBytes", "Batch", "BrokenConnection", "Change", "ChangedAttributes", "Changes",
     "Comparison", "Cursor", "Disconnected", "Entry", "Error", "ErrorClass", "ErrorNumber", "Forked", "Held",
@@ -85,7 +85,7 @@ __all__ = [
     "Page", "Pass", "Prepared", "ProtocolError", "QueryError", "QueryNotUTF8", "RAW", "Refusal",
     "RemoveIndex", "RemoveNode", "STRING", "ServerError", "ServerRefusal", "SetAttribute", "Shelf",
     "ShelfVersion", "Status", "TimedOut", "TooManyAttempts", "Typed", "UINT32", "UINT64", "UInt32",
-    "UInt64", "Unavailable", "UnsetAttribute", "Value", "Version", "Watch", "Witness", "WrongKind",
+    "UInt64", "Unavailable", "UnsetAttribute", "Value", "Version", "Watch", "Witness",
     "any_case", "connect", "escape", "node_in", "number_of", "open", "open_shelf", "prepare",
     "prepare_items", "volume_of",
 ]

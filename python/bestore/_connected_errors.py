@@ -6,7 +6,7 @@ from typing import Callable, Dict, List, Optional, Tuple
 
 from . import _saved_errors
 from ._surface import SERVER_MEANINGS, ErrorClass, ErrorNumber
-from .errors import BadCursor, Error, NotReached, NoVolume, OtherVolume, PartialIndex, Refusal, refusal
+from .errors import BadCursor, Error, NotCovered, NotReached, NoVolume, OtherVolume, PartialIndex, Refusal, refusal
 
 
 class ServerError(Error):
@@ -139,15 +139,15 @@ class NoWatch(ServerRefusal):
 
 
 class TooManyWatches(ServerRefusal):
-    """The connection has as many watches as it may have."""
+    """The connection has as many watches as it can have."""
 
 
 class TooManyCopies(ServerRefusal):
-    """As many clients as may are reading copies of snapshots."""
+    """Too many clients are reading copies of snapshots."""
 
 
 class NoClient(ServerRefusal):
-    """Nobody with this number is connected."""
+    """No client with this number is connected."""
 
 
 class NotKept(ServerRefusal):
@@ -155,7 +155,7 @@ class NotKept(ServerRefusal):
 
 
 class NoLog(ServerRefusal):
-    """The server is in no log."""
+    """The server doesn't use a log."""
 
 
 class NotLeader(ServerRefusal):
@@ -228,6 +228,9 @@ def _of_library(number: int, details: Dict[str, object], query: Optional[str]) -
     refused = refusal(number, carried if isinstance(carried, int) else None, query, listed)
     refused.volume = _number(details, "volume")
     refused.error_class = _said_class(details) or refused.error_class
+    if isinstance(refused, NotCovered):
+        missing = details.get("missing")
+        refused.offset, refused.missing = _number(details, "offset"), missing if isinstance(missing, str) else None
     if isinstance(refused, BadCursor):
         refused.reason = str(details.get("message"))
     return refused

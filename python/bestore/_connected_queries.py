@@ -6,8 +6,9 @@ from abc import abstractmethod
 from typing import Callable, List, Optional, Tuple, TypeVar
 
 from ._connected_errors import LineTooLong
-from ._wire import JSON, read_nodes, read_row
+from ._wire import JSON, read_compared, read_nodes, read_row
 from .errors import NoIndex, NotCovered, TooLong, encoded, encoded_query, no_index
+from .language import Hint
 from .pages import Cursor, Order, Page
 from .queries import Prepared, prepare_items
 from .versions import Asked, Query, Row, Version
@@ -42,11 +43,27 @@ class QueriedVersion(Version):
         try:
             return self._ask(command, {"query": text, **others}, read, asked if isinstance(asked, str) else None)
         except NotCovered as error:
-            named = self._not_covered(asked)
-            named.volume = error.volume
-            raise named from None
+            raise self._named(error, asked, text) from None
         except LineTooLong:
             raise TooLong(query=text) from None
+
+    def _named(self, error: NotCovered, asked: Query, text: str) -> NotCovered:
+        """The error of a query that needs another index, with the place that the server has said."""
+        if isinstance(asked, tuple) or error.missing is None:
+            named = self._not_covered(asked)
+            named.volume = error.volume
+            return named
+        error.query, error.indices = text, tuple(self.indices())
+        return error
+
+    def hints(self, query: Asked) -> List[Hint]:
+        """As in a store of this process. The server reads the query's text."""
+        if not self._takes("text"):
+            return super().hints(query)
+        compared = self._ask_query("text", query, _text_of(query), {}, lambda ok: [read_compared(one) for one in ok["comparisons"]])
+        indices = self.indices() if any(one.never for one in compared) else {}
+        return [Hint(one.name, one.value, indices[one.name], one.offset, one.is_number)
+                for one in compared if indices.get(one.name) in one.never]
 
     def _nodes_of(self, asked: Query) -> List[int]:
         return self._first_of(asked, 0, _ALL)
@@ -133,7 +150,7 @@ class QueriedVersion(Version):
 
 
 def _text_of(asked: Query) -> str:
-    """The text that asks a query. Items are asked by their canonical text."""
+    """The text to send for a query. Items are sent as their canonical text."""
     if isinstance(asked, str):
         encoded_query(asked)
         return asked

@@ -6,7 +6,9 @@ import ctypes
 import os
 from typing import Any, List, Optional
 
+from ._version import VERSION
 from .errors import Forked, encoded_query, refusal
+from .values import Kind, Typed, encode_value, kind_mismatch
 
 try:
     from . import _native
@@ -18,7 +20,6 @@ except ImportError as error:
         "compiler and Python.h; or install bestore's wheel (`make -C c wheel`).", name=error.name) from None
 
 SONAME = "libbestore.so.0"
-VERSION = "0.4.0"
 
 
 class Handle(ctypes.Structure):
@@ -102,6 +103,32 @@ class Counts(ctypes.Structure):
     _fields_ = [("operations", ctypes.c_uint64), ("bytes", ctypes.c_uint64)]
 
 
+class Compared(ctypes.Structure):
+    at: int
+    end: int
+    name_at: int
+    name_end: int
+    value_at: int
+    value_end: int
+    plain_name_at: int
+    plain_value_at: int
+    plain_end: int
+    kind: int
+    kind_in_text: int
+    form: int
+    is_never_int32: bool
+    is_never_int64: bool
+    is_never_uint32: bool
+    is_never_uint64: bool
+    _fields_ = [
+        ("at", ctypes.c_uint64), ("end", ctypes.c_uint64), ("name_at", ctypes.c_uint64), ("name_end", ctypes.c_uint64),
+        ("value_at", ctypes.c_uint64), ("value_end", ctypes.c_uint64), ("plain_name_at", ctypes.c_uint64),
+        ("plain_value_at", ctypes.c_uint64), ("plain_end", ctypes.c_uint64), ("kind", ctypes.c_uint32),
+        ("kind_in_text", ctypes.c_uint32), ("form", ctypes.c_uint32), ("is_never_int32", ctypes.c_bool),
+        ("is_never_int64", ctypes.c_bool), ("is_never_uint32", ctypes.c_bool), ("is_never_uint64", ctypes.c_bool),
+    ]
+
+
 def _arguments() -> dict[str, List[Any]]:
     """The types of each call's parameters."""
     handle, word, size, text = ctypes.POINTER(Handle), ctypes.c_uint64, ctypes.c_size_t, ctypes.c_char_p
@@ -139,6 +166,7 @@ def _arguments() -> dict[str, List[Any]]:
         "bes_any": [handle, handle, *put_out],
         "bes_found": [handle, word, *put_out],
         "bes_refresh": [handle, handle, ctypes.POINTER(Updates)],
+        "bes_refresh_changed": [handle, handle, ctypes.POINTER(Updates)],
         "bes_changes": [handle, words, size, words, size],
         "bes_explain": [handle, text, size, text, size, words],
         "bes_nodes": [handle, word, *put_out],
@@ -152,6 +180,16 @@ def _arguments() -> dict[str, List[Any]]:
         "bes_leave": [handle],
         "bes_journal": [handle, text, size, words],
         "bes_journal_from": [handle, word, words, *listed, words],
+        "bes_begin_change": [handle, handle, words, words],
+        "bes_change_any_kind": [handle],
+        "bes_change_add": [handle, ctypes.POINTER(Operation), text, size, words],
+        "bes_change_get": [handle, handle, word, text, size, ctypes.POINTER(Attribute), text, size],
+        "bes_change_batch": [handle, *listed],
+        "bes_end_change": [handle, handle, words],
+        "bes_abandon_change": [handle, handle],
+        "bes_query_comparisons": [text, size, ctypes.POINTER(Counts), ctypes.POINTER(Compared), size, text, size, words],
+        "bes_escape_bytes": [text, size, text, size, words],
+        "bes_any_case_bytes": [text, size, text, size, words],
         "bes_version": [],
     }
 
@@ -208,7 +246,10 @@ def addresses() -> dict[str, int]:
 
 
 _native.use(addresses())
-_native.know(refusal=refusal, forked=Forked, encoded_query=encoded_query)
+_native.know(
+    refusal=refusal, forked=Forked, encoded_query=encoded_query, kinds=tuple(Kind), typed=Typed, encode_value=encode_value,
+    wrong_kind=kind_mismatch)
+os.register_at_fork(after_in_child=_native.after_fork)
 
 
 def check(answer: int, carried: Optional[int] = None, query: Optional[str] = None, listed: Optional[str] = None) -> None:

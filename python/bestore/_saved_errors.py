@@ -11,11 +11,13 @@ if TYPE_CHECKING:
     import sqlite3
 
 # The codes of SQLite, and its messages, which Python before 3.11 has alone.
-_BUSY, _LOCKED, _FULL, _NO_DATABASE = 5, 6, 13, 26
+_BUSY, _LOCKED, _NO_MEMORY, _READ_ONLY, _IO, _CORRUPT, _FULL, _CANT_OPEN, _NO_DATABASE = 5, 6, 7, 8, 10, 11, 13, 14, 26
 _CODES = {
     "database is locked": _BUSY, "database table is locked": _LOCKED, "database or disk is full": _FULL,
-    "file is not a database": _NO_DATABASE,
+    "file is not a database": _NO_DATABASE, "database disk image is malformed": _CORRUPT, "disk I/O error": _IO,
+    "attempt to write a readonly database": _READ_ONLY, "unable to open database file": _CANT_OPEN, "out of memory": _NO_MEMORY,
 }
+_OF_THE_SYSTEM = {_BUSY, _LOCKED, _NO_MEMORY, _READ_ONLY, _IO, _FULL, _CANT_OPEN, _NO_DATABASE}  # and not of what the file has
 
 
 class SavedError(Error):
@@ -148,6 +150,49 @@ class TooLarge(_AtPlace):
     error_class = ErrorClass.FULL
 
 
+class Damaged(_AtPlace):
+    """A part of the file isn't as it was written. If SQLite found it, its error is the `__cause__`."""
+
+    error_class = ErrorClass.GONE
+
+    def __init__(self, path: str, reason: str, entry: Optional[int] = None, batch: Optional[int] = None,
+                 until: Optional[int] = None) -> None:
+        super().__init__(path, reason, entry, batch)
+        self.args += until,
+        self.until = until
+        """The entry up to which `be restore --until` reads the file, or None if that can't read it."""
+
+    @property
+    def place(self) -> str:
+        return "the file" if self.entry is None and self.batch is None else super().place
+
+    @property
+    def summary(self) -> str:
+        advice = "restore a backup"
+        if self.until is not None:
+            advice = f"what comes before it is restored by be restore --until {self.until}"
+        return f"{self.place} is damaged: {self.reason}; {advice}"
+
+
+class CutOff(SavedError):
+    """The file ends earlier than it did: a frame of its WAL is damaged, or the WAL is missing."""
+
+    error_class = ErrorClass.GONE
+
+    def __init__(self, path: str, last: int, had: int) -> None:
+        super().__init__(path, last, had)
+        self.last = last
+        """The last entry that it has."""
+        self.had = had
+        """The last entry that it has had."""
+
+    @property
+    def summary(self) -> str:
+        path = self.path
+        return (f"the file ends with entry {self.last}, and it has had entry {self.had}: {path}-wal is damaged or missing; put it back, "
+                f"or restore what is left by be restore --until {self.last}. If the file is an older copy, remove {path}-last")
+
+
 class NotSaved(SavedError):
     """The write is in memory, and may be in the file or not. The error of the commit is the `__cause__`."""
 
@@ -181,15 +226,29 @@ def _said(error: Optional[BaseException]) -> str:
     return str(error) if summary is None else str(summary)
 
 
+def _code(error: sqlite3.Error) -> Optional[int]:
+    code = getattr(error, "sqlite_errorcode", None)
+    return _CODES.get(str(error)) if code is None else code & 0xff
+
+
 def of_sqlite(path: str, error: sqlite3.Error) -> SavedError:
     """The error of the file for one of SQLite."""
-    code = getattr(error, "sqlite_errorcode", None)
-    code = _CODES.get(str(error)) if code is None else code & 0xff
+    code = _code(error)
     if code in (_BUSY, _LOCKED):
         return Held(path)
     if code == _FULL:
         return DiskFull(path)
+    if code == _CORRUPT:
+        return Damaged(path, str(error))
     return Foreign(path) if code == _NO_DATABASE else SqliteError(path)
+
+
+def of_reading(path: str, error: sqlite3.Error, entry: Optional[int] = None, batch: Optional[int] = None,
+               until: Optional[int] = None) -> SavedError:
+    """The error of a part of the file that SQLite can't read."""
+    if _code(error) in _OF_THE_SYSTEM:
+        return of_sqlite(path, error)
+    return Damaged(path, str(error), entry, batch, until)
 
 
 def refused(path: str, error: Error, entry: Optional[int] = None, batch: Optional[int] = None) -> SavedError:

@@ -10,12 +10,14 @@ from contextlib import contextmanager, suppress
 from itertools import chain
 from typing import Any, ClassVar, Iterable, Iterator, List, NamedTuple, Optional, Sequence, Tuple
 
-from ._saved_errors import Differs, Foreign, Newer, of_sqlite
+from ._saved_checks import LastEntry, of_about, of_entry, of_state, of_token
+from ._saved_errors import CutOff, Damaged, Differs, Foreign, Newer, of_reading, of_sqlite
 
 APPLICATION = 0x62657374
 """"best" in ASCII: the mark in SQLite's header by which the file is recognised."""
-FORMAT = 1
+FORMAT = 2
 """The version of the format."""
+_WITHOUT_CHECKSUMS = 1  # the version before, whose rows have none
 
 _LAST_NUMBER = 2**63 - 1  # of an entry: SQLite's integers end there
 
@@ -25,14 +27,15 @@ _SETTINGS = (
     "PRAGMA journal_mode = WAL", "PRAGMA synchronous = FULL", "PRAGMA journal_size_limit = 8388608", "BEGIN IMMEDIATE", "COMMIT")
 _TABLES = (
     f"PRAGMA application_id = {APPLICATION}", f"PRAGMA user_version = {FORMAT}",
-    "CREATE TABLE about (what TEXT PRIMARY KEY, number INTEGER NOT NULL) WITHOUT ROWID",
-    "INSERT INTO about VALUES ('entries', 0), ('next', 1)",
-    "CREATE TABLE state (place INTEGER PRIMARY KEY, batch BLOB NOT NULL)",
-    "CREATE TABLE entry (number INTEGER PRIMARY KEY, pass INTEGER NOT NULL, batch BLOB NOT NULL)",
+    "CREATE TABLE about (what TEXT PRIMARY KEY, number INTEGER NOT NULL, checksum INTEGER) WITHOUT ROWID",
+    "CREATE TABLE state (place INTEGER PRIMARY KEY, batch BLOB NOT NULL, checksum INTEGER)",
+    "CREATE TABLE entry (number INTEGER PRIMARY KEY, pass INTEGER NOT NULL, batch BLOB NOT NULL, checksum INTEGER)",
 )
 
 # The statements that add so many entries. All of them fit in the cache of the connection.
-_INSERTS = ["INSERT OR IGNORE INTO entry VALUES " + ", ".join(["(?, ?, ?)"] * count) for count in range(65)]
+_INSERTS = ["INSERT OR IGNORE INTO entry VALUES " + ", ".join(["(?, ?, ?, ?)"] * count) for count in range(65)]
+_INSERT_WITHOUT = "INSERT OR IGNORE INTO entry VALUES (?, ?, ?)"
+_WRONG_SUM = "its checksum doesn't fit"
 
 Row = Tuple[int, int, bytes]
 """An entry: its number in the file, the pass that wrote it, and its batch."""
@@ -62,6 +65,9 @@ class File:
         self.path = path
         self._connection: Optional[sqlite3.Connection] = None
         self._reading: List[sqlite3.Cursor] = []
+        self._last: Optional[LastEntry] = None
+        self.has_checksums = True
+        """Whether its rows have checksums. Those of the earlier format have none."""
         with self._translated():
             # SQLite takes ":memory:" and an empty name for no file, and neither has a folder before it.
             within = os.path.join(os.curdir, path)
@@ -91,7 +97,7 @@ class File:
         return None if row is None else row[0]
 
     def _take(self) -> None:
-        """Locks the file, looks whose it is, and makes the tables in an empty one."""
+        """Locks the file, looks whose it is, and makes the tables in an empty one, before it has a WAL that could lose them."""
         with self._translated():
             assert self._connection is not None
             self._connection.text_factory = lambda text: None  # no column that is read has a text
@@ -99,12 +105,24 @@ class File:
             is_new = self._check_format()
             if is_new:
                 self._run("PRAGMA auto_vacuum = FULL")
-            for statement in _SETTINGS:
-                self._run(statement)
+                self._run("PRAGMA synchronous = FULL")
         if is_new:
             with self._transaction():
                 for statement in _TABLES:
                     self._run(statement)
+                self._set_identity()
+                self._set_about(entries=0, next=1)
+        with self._translated():
+            for statement in _SETTINGS:
+                self._run(statement)
+
+    def _set_identity(self) -> None:
+        """Tells this file from all others."""
+        self._set_about(file=int.from_bytes(os.urandom(8), "little") >> 1)
+
+    def _set_about(self, **numbers: int) -> None:
+        for what, number in numbers.items():
+            self._run("INSERT OR REPLACE INTO about (what, number, checksum) VALUES (?, ?, ?)", what, number, of_about(what, number))
 
     def _check_format(self) -> bool:
         """Whether the file is new. One of another program, or of a newer format, is refused."""
@@ -112,7 +130,8 @@ class File:
         application, version = self._number("PRAGMA application_id"), self._number("PRAGMA user_version")
         if application == APPLICATION and version > FORMAT:
             raise Newer(self.path, version, FORMAT)
-        if (application, version) == (APPLICATION, FORMAT):
+        if application == APPLICATION and version in (FORMAT, _WITHOUT_CHECKSUMS):
+            self.has_checksums = version == FORMAT
             return False
         if (application, version) == (0, 0) and not has_tables:
             return True
@@ -141,12 +160,47 @@ class File:
 
     def about(self) -> About:
         """What the file says of its state."""
-        with self._translated():
-            entries = self._number("SELECT number FROM about WHERE what = 'entries'")
-            next_node = self._number("SELECT number FROM about WHERE what = 'next'")
-        if not (isinstance(entries, int) and isinstance(next_node, int) and entries >= 0 and next_node >= 0):
-            raise Differs(self.path, "the file doesn't say what its state contains")
-        return About(entries, next_node)
+        return About(self._about("entries"), self._about("next"))
+
+    def _about(self, what: str) -> int:
+        try:
+            row = self._run(f"SELECT number, {self._checksum} FROM about WHERE what = ?", what).fetchone()
+        except sqlite3.Error as error:
+            raise of_reading(self.path, error) from error
+        if row is None or not isinstance(row[0], int) or row[0] < 0:
+            reason = "the file doesn't say what its state contains"
+            raise Damaged(self.path, reason) if self.has_checksums else Differs(self.path, reason)
+        if self.has_checksums and row[1] != of_about(what, row[0]):
+            raise Damaged(self.path, f"{_WRONG_SUM} at {what!r}")
+        return row[0]
+
+    @property
+    def _checksum(self) -> str:
+        """The column of the checksums in a statement that reads rows."""
+        return "checksum" if self.has_checksums else "NULL"
+
+    def check(self, last: int) -> None:
+        """Refuses a file that ends with this entry and has had later ones, or whose pages SQLite finds damaged."""
+        if self.has_checksums:
+            had = LastEntry(self.path, self._about("file")).read()
+            if had > last:
+                raise CutOff(self.path, last, had)
+        assert self._connection is not None
+        factory, self._connection.text_factory = self._connection.text_factory, str
+        try:
+            found = self._number("PRAGMA quick_check(1)")
+        except sqlite3.Error as error:
+            raise of_reading(self.path, error, until=last) from error
+        finally:
+            self._connection.text_factory = factory
+        if found != "ok":
+            raise Damaged(self.path, str(found).replace("\n", " "), until=last)
+
+    def keep_last(self, last: int) -> None:
+        """From now on the number of the last entry, which is this one, is also kept beside the file."""
+        if self.has_checksums:
+            self._last = LastEntry(self.path, self._about("file"))
+            self._last.begin(last)
 
     def commits_within(self, commits: int) -> int:
         """How many of these transactions a store of this file may accept, so that each entry has a number. Counts those that
@@ -159,39 +213,67 @@ class File:
 
     def state(self) -> Iterator[Tuple[int, bytes]]:
         """Each batch of the state, in their order, with its index."""
-        return self._batches("SELECT place, batch FROM state ORDER BY place")
-
-    def entries(self) -> Iterator[Tuple[int, bytes]]:
-        """The batch of each entry, by rising numbers."""
-        return self._batches("SELECT number, batch FROM entry ORDER BY number")
-
-    def _batches(self, sql: str) -> Iterator[Tuple[int, bytes]]:
-        with self._translated():
-            rows = self._run(sql)
-        self._reading.append(rows)
+        rows = self._rows(f"SELECT place, NULL, batch, {self._checksum} FROM state ORDER BY place")
+        due = 0
         while True:
-            with self._translated():
-                row = rows.fetchone()
-            if row is None:
-                return
-            yield row[0], row[1] if isinstance(row[1], bytes) else b""
+            try:
+                row = next(rows, None)
+                if row is None:
+                    return
+                place, _, batch, found = row
+            except sqlite3.Error as error:
+                raise of_reading(self.path, error, batch=due) from error
+            if self.has_checksums and (not isinstance(batch, bytes) or found != of_state(place, batch)):
+                raise Damaged(self.path, _WRONG_SUM, batch=due)
+            if place != due:
+                raise Differs(self.path, "the batch is missing", batch=due)
+            yield place, batch if isinstance(batch, bytes) else b""
+            due += 1
+
+    def entries(self, after: int) -> Iterator[Tuple[int, bytes]]:
+        """The batch of each entry after this one, by rising numbers."""
+        rows = self._rows(f"SELECT number, pass, batch, {self._checksum} FROM entry ORDER BY number")
+        while True:
+            try:
+                row = next(rows, None)
+                if row is None:
+                    return
+                number, by, batch, found = row
+            except sqlite3.Error as error:
+                raise of_reading(self.path, error, entry=after + 1, until=after) from error
+            if self.has_checksums and (not isinstance(batch, bytes) or found != _sum_of(number, by, batch)):
+                raise Damaged(self.path, _WRONG_SUM, entry=after + 1, until=after)
+            yield number, batch if isinstance(batch, bytes) else b""
+            after = number
+
+    def _rows(self, sql: str) -> Iterator[Tuple[Any, ...]]:
+        rows = self._run(sql)
+        self._reading.append(rows)
+        for row in rows:  # `yield from` would close them, also after the connection
+            yield row
 
     def append(self, rows: Sequence[Row]) -> None:
         """Adds the entries, all in one commit. One that is there already is the same, and stays."""
-        if len(rows) < len(_INSERTS):
+        if self.has_checksums and len(rows) < len(_INSERTS):
             self._append_by_one_statement(rows)
-            return
-        with self._transaction():
-            assert self._connection is not None
-            self._connection.executemany(_INSERTS[1], rows)
+        else:
+            with self._transaction():
+                assert self._connection is not None
+                if self.has_checksums:
+                    self._connection.executemany(_INSERTS[1], map(_checked, rows))
+                else:
+                    self._connection.executemany(_INSERT_WITHOUT, rows)
+        if self._last is not None and rows:
+            self._last.set(rows[-1][0])
 
     def _append_by_one_statement(self, rows: Sequence[Row]) -> None:
         """Adds a few entries. The statement is a transaction of its own, so Python gives other threads the interpreter once."""
         assert self._connection is not None
         if self._connection.in_transaction:  # left open by an exception
             self._roll_back()
+        values = _checked(rows[0]) if len(rows) == 1 else list(chain.from_iterable(map(_checked, rows)))
         try:
-            self._connection.execute(_INSERTS[len(rows)], rows[0] if len(rows) == 1 else list(chain.from_iterable(rows)))
+            self._connection.execute(_INSERTS[len(rows)], values)
         except sqlite3.Error as error:
             self._roll_back()
             raise of_sqlite(self.path, error) from error
@@ -202,10 +284,29 @@ class File:
         with self._transaction():
             assert self._connection is not None
             self._run("DELETE FROM state")
-            self._connection.executemany("INSERT INTO state VALUES (?, ?)", enumerate(batches))
             self._run("DELETE FROM entry WHERE number <= ?", number)
-            self._run("UPDATE about SET number = ? WHERE what = 'entries'", number)
-            self._run("UPDATE about SET number = ? WHERE what = 'next'", next_node)
+            if not self.has_checksums:
+                self._add_checksums()
+            rows = ((place, batch, of_state(place, batch)) for place, batch in enumerate(batches))
+            self._connection.executemany("INSERT INTO state VALUES (?, ?, ?)", rows)
+            self._set_about(entries=number, next=next_node)
+        self.has_checksums = True
+
+    def _add_checksums(self) -> None:
+        """Gives the rows of an earlier format checksums, but for those of `about`."""
+        assert self._connection is not None
+        has_tokens = self._number("SELECT count(*) FROM sqlite_master WHERE name = 'token'") > 0
+        for table in ("about", "state", "entry") + (("token",) if has_tokens else ()):
+            self._run(f"ALTER TABLE {table} ADD COLUMN checksum INTEGER")
+        self._run(f"PRAGMA user_version = {FORMAT}")
+        self._set_identity()
+        rows = self._run("SELECT number, pass, batch FROM entry").fetchall()
+        self._connection.executemany(
+            "UPDATE entry SET checksum = ? WHERE number = ?", [(of_entry(*row), row[0]) for row in rows])
+        if has_tokens:
+            rows = self._run("SELECT number, CAST(token AS BLOB), nodes FROM token").fetchall()
+            self._connection.executemany(
+                "UPDATE token SET checksum = ? WHERE number = ?", [(of_token(*row), row[0]) for row in rows])
 
     def close(self) -> None:
         """Closes the file, and gives it free."""
@@ -215,12 +316,24 @@ class File:
                 for rows in self._reading:  # SQLite keeps the lock while one is open
                     rows.close()
                 connection.close()
+        if self._last is not None:
+            self._last.close()
 
     def _leave_to_parent(self) -> None:
         """In a forked child: keeps SQLite from closing the file, by which it would take the parent's WAL away."""
         if self._connection is not None:
             ctypes.pythonapi.Py_IncRef(ctypes.py_object(self._connection))
             self._connection = None
+
+
+def _sum_of(number: Any, by: Any, batch: bytes) -> Optional[int]:
+    """The checksum that a row of the table `entry` should have. None if the row has other kinds of values."""
+    is_row = isinstance(number, int) and isinstance(by, int) and number >= 0 and by >= 0
+    return of_entry(number, by, batch) if is_row else None
+
+
+def _checked(row: Row) -> Tuple[int, int, bytes, int]:
+    return (*row, of_entry(*row))
 
 
 def _leave_all_to_parent() -> None:

@@ -34,7 +34,7 @@ class Repeater:
         if kept is None:
             repeated = Batch.from_bytes(data)
             made = self._user.apply(repeated, tries=1)[1]
-            return [raw.node if raw.kind == NEW else 0 for raw in repeated._operations], made
+            return [node if kind == NEW else 0 for kind, _, node, *_ in repeated._parts()], made
         count = len(kept)
         answer = self._user._call(
             calls.bes_apply, self._operations, count, texts, len(texts), self._made, count, ctypes.byref(self._number))

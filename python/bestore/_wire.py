@@ -4,7 +4,7 @@ from __future__ import annotations
 
 import base64
 import json
-from typing import Any, Dict, List, Optional
+from typing import Any, Dict, List, NamedTuple, Optional, Tuple
 
 from ._surface import KIND_NAMES
 from .errors import NoKind, NotUTF8, NoValue, decoded
@@ -102,6 +102,23 @@ def read_value(value: object) -> Typed:
     if kind in RANGES:
         return Typed(int(inner), kind)
     return Typed(base64.b64decode(inner, validate=True) if kind == Kind.RAW else str(inner), kind)
+
+
+class Compared(NamedTuple):
+    """A comparison of a query's text, as a server reads it."""
+
+    name: str
+    value: str
+    offset: int
+    is_number: bool
+    never: Tuple[Kind, ...]
+    """The kinds of an index under which it is never true."""
+
+
+def read_compared(one: JSON) -> Compared:
+    """A comparison."""
+    never = tuple(_KINDS[name] for name in one.get("never", ()))
+    return Compared(str(one["name"]), str(one["value"]), int(one["offset"]), one["form"] == "number", never)
 
 
 def read_row(row: List[object]) -> List[Optional[Value]]:

@@ -29,28 +29,29 @@ from typing import Any, Callable, Dict, Iterable, Iterator, List, NamedTuple, Op
 from uuid import uuid4
 from weakref import WeakValueDictionary
 
+from ._connected_change import ConnectedChange
 from ._connected_errors import (
     BrokenConnection, Disconnected, Expired, LineTooLong, NoServer, NotAllowed, NotKept, NoWatch, OtherUser, ProtocolError,
     ServerError, ServerRefusal, TimedOut, TooManyWatches, Unavailable, error_of)
 from ._connected_queries import MOST_NAMES, QueriedVersion
 from ._connection import Connection
 from ._journal import line_of
+from ._refreshes import refreshed
 from ._saved_errors import NotSaved, Stopped
 from ._socket_path import SocketPath
 from ._wire import (
     JSON, PROTOCOL, operations_of, read_entry, read_kind, read_nodes, read_operation, read_row, read_value)
 from .errors import (
-    BadCount, Closed, Error, Forked, NameLength, NoAttribute, NoNode, NoPass, NotCovered, NotPinned, NotReached, NoVolume, Pinned,
-    TooLong, encoded, encoded_query)
+    BadCount, Closed, Error, Forked, NameLength, NoAttribute, NoNode, NoPass, NotCovered, NotPinned, NotReached, NoVolume,
+    PartialIndex, Pinned, TooLong, encoded, encoded_query)
 from .change import Change
 from .handles import LockOwner
-from .local import refreshed
 from .nodes import node_number, within
 from .operations import MOST_OPERATIONS, NEW, Batch
 from .queries import Prepared
 from .store import ATTEMPTS, TRIES, Entry, Held, Status, ThreadPass, Witness
 from .values import RANGES, Kind, Typed, Value
-from .versions import not_covered
+from .versions import Version
 from .watches import Changes, Watch
 
 __all__ = [
@@ -87,7 +88,7 @@ class Server(NamedTuple):
     watches: int
     """How many watches a pass may have."""
     volumes: int = 1
-    """How many volumes there are. `pages` and `commits` are of each."""
+    """How many volumes there are. `pages` and `commits` are for each one."""
     features: Tuple[str, ...] = ()
     """What the server takes that older ones don't, such as the parameter `by` of a query. If it doesn't take that, pages in an order are
     cut here from the whole answer."""
@@ -472,9 +473,26 @@ class ConnectedPass(LockOwner, ThreadPass):
     def change(self, function: Callable[[Change], _Result], attempts: int = ATTEMPTS, *, check_kinds: bool = True,
                tries: int = TRIES, volume: Optional[int] = None) -> _Result:
         def run() -> _Result:
-            return super(ConnectedPass, self).change(function, attempts, check_kinds=check_kinds, tries=tries, volume=volume)
+            # The server itself tries again at Busy and Full.
+            return super(ConnectedPass, self).change(function, attempts, check_kinds=check_kinds, tries=1, volume=volume)
         # A write is sent again until its time is over, so what fails before that has written nothing.
         return self._until_answered(run)
+
+    def _begin_change(self, check_kinds: bool, volume: Optional[int]) -> Change:
+        return ConnectedChange(self.pin(), check_kinds, volume, self.volumes > 1)
+
+    def _change_on(self, version: Version, check_kinds: bool) -> Change:
+        return ConnectedChange(version, check_kinds, None, self.volumes > 1)
+
+    def _commit(self, change: Change) -> int:
+        assert isinstance(change, ConnectedChange)
+        batch, volume = change._collected(), change._volume
+        change.unpin()
+        if self.volumes == 1:
+            return self.apply_if(change.number, batch)[0]
+        if volume is None:
+            raise PartialIndex(0)
+        return self.apply_if(change.numbers[volume], batch, volume=volume)[0]
 
     def _write(self, batch: Batch, tries: int, expected: Optional[int]) -> Tuple[int, List[int]]:
         if expected is None or self.server.volumes == 1:
@@ -500,7 +518,7 @@ class ConnectedPass(LockOwner, ThreadPass):
 
         def read(ok: JSON) -> Tuple[int, List[int]]:
             nodes = read_nodes(ok["nodes"])[::-1]
-            return int(ok["commit"]), [nodes.pop() if raw.kind == NEW else 0 for raw in batch._operations]
+            return int(ok["commit"]), [nodes.pop() if kind == NEW else 0 for kind, *_ in batch._parts()]
         try:
             return self._until_answered(lambda: self._ask("batch", parameters, read, is_write=True))
         except LineTooLong:
@@ -607,8 +625,8 @@ class ConnectedWatch(Watch):
             user._end_watches()
             try:
                 user._ask("watch", parameters, self._read_first, query=query)
-            except NotCovered:
-                raise self._not_covered() from None
+            except NotCovered as error:
+                raise self._named(error) from None
             except LineTooLong:
                 raise TooLong(query=query) from None
 
@@ -650,14 +668,15 @@ class ConnectedWatch(Watch):
         self._created, self._removed, self._is_new, self.commit = set(), set(), False, self._last
         return changes
 
-    def _not_covered(self) -> NotCovered:
-        """The error of a query that needs another index."""
-        return not_covered(self.query or "", self._user._ask("indices", {}, _read_indices))
+    def _named(self, error: NotCovered) -> NotCovered:
+        """The error of a query that needs another index, with the names that there are."""
+        error.indices = tuple(self._user._ask("indices", {}, _read_indices))
+        return error
 
     def _check(self) -> int:
         """The number of the watch. Raises the error that has ended it, or `Closed`."""
         if isinstance(self._error, NotCovered):
-            raise self._not_covered()
+            raise self._named(self._error)
         if self._error is not None:
             raise self._error
         if self._number is None:
@@ -674,8 +693,8 @@ class ConnectedWatch(Watch):
             try:
                 while user._ask("refresh", {"watch": number}, self._take, query=self.query):
                     pass
-            except NotCovered:
-                raise self._not_covered() from None
+            except NotCovered as error:
+                raise self._named(error) from None
             except NoWatch:
                 self._check()
                 raise

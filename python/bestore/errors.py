@@ -46,23 +46,6 @@ class TooManyAttempts(Error):
         return f"other writes came between at each of {self.attempts} attempts; try again, or allow more"
 
 
-class WrongKind(Error, TypeError):
-    """A change sets a value of one kind under a name whose index takes another kind, so no query would find it."""
-
-    def __init__(self, name: str, kind: str, index_kind: str) -> None:
-        super().__init__(name, kind, index_kind)
-        self.name = name
-        """The attribute's name."""
-        self.kind = kind
-        """The name of the value's kind, as "INT64"."""
-        self.index_kind = index_kind
-        """The name of the index's kind."""
-
-    def __str__(self) -> str:
-        return (f'the index "{self.name}" takes values of kind {self.index_kind}, and this one is {self.kind}: '
-                f"set it as {self.index_kind}, or no query finds it")
-
-
 class NoVolume(Error):
     """The store has no such volume, or the call has to say one because there are several."""
 
@@ -169,7 +152,7 @@ class Refusal(Error):
         self.pass_number: Optional[int] = None
         """Of `Busy`: the number of the pass that is writing."""
         self.least: Optional[int] = None
-        """Of `Full`: the commit number of the oldest snapshot that a pass may still read. Its pages are kept."""
+        """For `Full`: the commit number of the oldest snapshot that a pass may still read. Its pages are kept."""
         self.offset: Optional[int] = None
         """Of a `QueryError`: the byte of the query's text, in UTF-8 and from 0, at which the error is."""
         self.item: Optional[int] = None
@@ -321,7 +304,7 @@ class Busy(Refusal, number=ErrorNumber.BUSY):
 
 class NoNode(Refusal, KeyError, number=ErrorNumber.NO_NODE):
     nodes: Tuple[int, ...] = ()
-    """The node that isn't there. Of a write that names several it has all of them."""
+    """The node that isn't there, or every node that the write names if it names several."""
 
     def _carry(self, carried: Optional[int], listed: Optional[str]) -> None:
         if carried is not None and listed is None:
@@ -431,6 +414,24 @@ class NoRoom(Refusal, ValueError, number=ErrorNumber.NO_ROOM):
         return self.meaning if self.limit is None else f"{self.meaning}, and {self.limit} are asked for"
 
 
+class WrongKind(Refusal, TypeError, number=ErrorNumber.WRONG_KIND):
+    """A change sets a value of one kind under a name whose index takes another kind, so no query would find it."""
+
+    name: Optional[str] = None
+    """The attribute's name, if that is known, and then both kinds are."""
+    kind: Optional[str] = None
+    """The name of the value's kind, as "INT64"."""
+    index_kind: Optional[str] = None
+    """The name of the index's kind."""
+
+    @property
+    def summary(self) -> str:
+        if self.name is None:
+            return super().summary
+        return (f'the index "{self.name}" takes values of kind {self.index_kind}, and this one is {self.kind}: '
+                f"set it as {self.index_kind}, or no query finds it")
+
+
 class Conflict(Refusal, number=ErrorNumber.CONFLICT):
     expected: Optional[int] = None
     """How many entries the journal should have had."""
@@ -442,7 +443,7 @@ class Conflict(Refusal, number=ErrorNumber.CONFLICT):
 
     @property
     def _what(self) -> str:
-        return f"{self.meaning} ({self.found} entries, and not {self.expected})"
+        return f"{self.meaning} ({self.found}, not {self.expected})"
 
 
 def no_index(name: str, indices: Iterable[str]) -> NoIndex:
@@ -456,6 +457,13 @@ def bad_cursor(reason: str) -> BadCursor:
     """The error of a cursor from which no page can go on."""
     error = BadCursor()
     error.reason = reason
+    return error
+
+
+def wrong_kind(name: str, kind: str, index_kind: str) -> WrongKind:
+    """The error of a value of this kind under a name whose index takes another."""
+    error = WrongKind()
+    error.name, error.kind, error.index_kind = name, kind, index_kind
     return error
 
 

@@ -2,21 +2,14 @@
 
 from __future__ import annotations
 
-import ctypes
 import os
 import threading
 from types import TracebackType
-from typing import Any, Callable, ClassVar, Optional, Type, TypeVar
+from typing import ClassVar, Optional, Type, TypeVar
 
-from . import _native
-from ._library import Handle
 from .errors import Forked
 
 _Self = TypeVar("_Self", bound="Owner")
-
-PASS, PREPARED, CURSOR, WITNESS = 1, 2, 3, 4
-"""What a handle of the library is of."""
-
 
 class Owner:
     """Owns a handle, and gives it up by `close`, at the end of a `with`, or when it goes itself.
@@ -36,25 +29,6 @@ class Owner:
 
     def __del__(self) -> None:
         self.close()
-
-
-class HandleOwner(_native.Handle, Owner):
-    """Owns a handle of the library."""
-
-    @property
-    def _pointer(self) -> Any:
-        """The handle, as calls of ctypes take it."""
-        return ctypes.byref(Handle.from_address(self._address))
-
-    @property
-    def _is_live(self) -> bool:
-        """Whether the handle is open."""
-        return bool(Handle.from_address(self._address).live)
-
-    def _give_up(self, call: Callable[..., int]) -> None:
-        """Makes a call that ends the handle's use, which a forked child leaves to its parent."""
-        if not self._is_dead:
-            self._call(call)
 
 
 class LockOwner(Owner):
@@ -81,7 +55,6 @@ class LockOwner(Owner):
 
 def _count_fork() -> None:
     LockOwner._forks += 1
-    _native.after_fork()
 
 
 os.register_at_fork(after_in_child=_count_fork)

@@ -5,22 +5,26 @@ from __future__ import annotations
 import ctypes
 import operator
 import sys
-import time
 from typing import Any, Callable, Dict, Iterator, List, Optional, Set, Tuple, TypeVar
 
 from . import _native
+from ._engine import CURSOR, PASS, WITNESS, HandleOwner, NativeBatch, native
 from ._library import Usage, calls, check
-from .commits import Commits
+from ._local_change import LocalChange
+from ._prepared import encode_items
 from ._surface import ErrorNumber
+from .change import Change
+from .commits import Commits
 from .errors import (
-    BadCursor, BadLimits, NoIndex, NotCovered, NoVolume, OtherStore, Refusal, encoded, encoded_query, no_index, refusal)
-from .handles import CURSOR, PASS, WITNESS, HandleOwner
+    BadCursor, BadLimits, Conflict, Full, NoAttribute, NoIndex, NoNode, NotCovered, NoVolume, OtherStore, Refusal, encoded,
+    encoded_query, no_index, refusal)
+from .nodes import name_missing
 from .operations import Batch
-from .pages import Cursor, Order, Page
-from .queries import Prepared, encode_items, prepare
-from .store import PASSES, PAUSES, TRIES, Entry, Held, Pass, StandingBack, Status, Witness
+from .pages import Cursor, Page
+from .queries import Prepared, prepare
+from .store import PASSES, PAUSES, TRIES, Entry, Held, Pass, StandingBack, Status, Witness, pause_at_full
 from .values import RANGES, Kind, Typed, Value
-from .versions import Asked, Query, Version
+from .versions import Query, Version
 
 _Answered = TypeVar("_Answered", bound=Tuple[Any, ...])
 
@@ -85,13 +89,8 @@ class LocalVersion(_native.Reader, Version):
             return super()._any_of(asked, limit)
         return self._any(asked, min(limit, sys.maxsize))
 
-    def _page_of(self, asked: Asked, order: Order, after: Optional[Cursor], limit: Optional[int]) -> Page[int]:
-        if isinstance(asked, str):
-            with prepare(asked) as prepared:
-                return self._page_of(prepared, order, after, limit)
-        if after is None:
-            after = Cursor(order, asked._check)
-        after.check_fits(order, asked._check)
+    def _page_after(self, asked: Prepared, after: Cursor, limit: Optional[int]) -> Page[int]:
+        order = after.order
         most = sys.maxsize if limit is None else min(limit, sys.maxsize)
         try:
             nodes, more, kind, key = self._page(asked, encoded(order.by), order.descending, after.kind or 0, after.key, most)
@@ -112,10 +111,25 @@ class LocalVersion(_native.Reader, Version):
     def refresh(self, prepared: Prepared) -> Tuple[List[int], List[int]]:
         if not isinstance(prepared, Prepared):
             return super().refresh(prepared)  # which raises
+        return self._refreshed(prepared, super().refresh)
+
+    def refresh_changed(self, prepared: Prepared) -> Tuple[List[int], List[int]]:
+        if not isinstance(prepared, Prepared):
+            return super().refresh(prepared)  # which raises
         prepared._check_process()
         with prepared._refreshing:
-            changes = super().refresh(prepared)
-            prepared._is_in_library = True
+            # The library reads the entries since the last refresh, which has to have been in this store.
+            if prepared._refreshed_in is self._user._store:
+                return self._refreshed(prepared, self._refresh_changed)
+            return self.refresh(prepared)
+
+    def _refreshed(
+            self, prepared: Prepared, refresh: Callable[[Prepared], Tuple[List[int], List[int]]]) -> Tuple[List[int], List[int]]:
+        """What changed, by one of the calls that refresh a query in the library."""
+        prepared._check_process()
+        with prepared._refreshing:
+            changes = refresh(prepared)
+            prepared._is_in_library, prepared._refreshed_in = True, self._user._store
             if prepared._seen is not None:
                 return self._changes_since(prepared, prepared._seen)
             return changes
@@ -165,19 +179,6 @@ def seen_in_library(prepared: Prepared) -> Set[int]:
             store.make_index(missing, Kind.STRING)
 
 
-def refreshed(prepared: Prepared, version: Version) -> Tuple[List[int], List[int]]:
-    """Which nodes came and which went since a query was refreshed last, by all that it finds in this version. Python keeps these
-    nodes, and not the library."""
-    prepared._check_process()
-    with prepared._refreshing:
-        found = set(version._nodes_of(prepared))
-        seen = prepared._seen
-        if seen is None:
-            seen = seen_in_library(prepared) if prepared._is_in_library else set()
-        prepared._seen, prepared._is_in_library = found, False
-    return sorted(found - seen), sorted(seen - found)
-
-
 class LocalWitness(HandleOwner, Witness):
     """A witness of a pass of a store in this process."""
 
@@ -225,31 +226,53 @@ class LocalPass(HandleOwner, Pass):
     def _write(self, batch: Batch, tries: int, expected: Optional[int]) -> Tuple[int, List[int]]:
         """Writes a batch: up to so many times while another pass is writing. With more than one try it also waits, when no
         page is free, for other passes to give older snapshots up."""
+        taken = native(batch)
         if expected is None:
             before: Tuple[int, ...] = ()
         else:
             before = (expected if expected in RANGES[Kind.UINT64] else 2**64 - 1,)  # which no journal has
-        answer, number, made = self._apply(batch, *before)
+        answer, number, made = self._apply(taken, *before)
         if answer != 0:
-            return self._written_at_last(tries, answer, number, batch, *before)
+            return self._written_at_last(tries, answer, number, taken, *before)
         return number, made
 
-    def _written_at_last(self, tries: int, answer: int, number: int, batch: Batch, *before: int) -> Tuple[int, List[int]]:
+    def _written_at_last(self, tries: int, answer: int, number: int, batch: NativeBatch, *before: int) -> Tuple[int, List[int]]:
         """The same, once the first try has failed by this."""
         pauses = 0
         made: List[int] = []
         if answer == _BUSY and tries > 1:
             StandingBack().wait()
             answer, number, made = self._repeated(tries - 1, self._apply, batch, *before)
-        while answer == _FULL and tries > 1 and pauses < PAUSES and self._may_be_given_pages(number):
-            time.sleep(min(0.001 * 2**pauses, 0.05))
+        while answer == _FULL and tries > 1 and pauses < PAUSES and self._is_kept_by_another(number):
+            pause_at_full(pauses)
             pauses += 1
             answer, number, made = self._repeated(tries, self._apply, batch, *before)
         if answer != 0:
             raise refusal(answer, number, listed="operation")
         return number, made
 
-    def _may_be_given_pages(self, least: int) -> bool:
+    def _change_on(self, version: Version, check_kinds: bool) -> Change:
+        assert isinstance(version, LocalVersion)
+        return LocalChange(version, check_kinds)
+
+    def _commit(self, change: Change) -> int:
+        assert isinstance(change, LocalChange)
+        version, batch = change._snapshot, change._collected()
+        answer, number = version._end_change()
+        version.unpin()
+        if answer == 0:
+            return number
+        error = refusal(answer, number, listed="operation")
+        if isinstance(error, Conflict):
+            error.expected = version.number
+        elif isinstance(error, (NoNode, NoAttribute)):
+            name_missing(error, batch)
+        raise error
+
+    def _may_be_given_pages(self, error: Full) -> bool:
+        return error.least is not None and self._is_kept_by_another(error.least)
+
+    def _is_kept_by_another(self, least: int) -> bool:
         """Whether pages may come free that a write didn't find, as those of the commit number `least` and later were
         kept: another pass is the oldest active reader, or was it."""
         try:
@@ -349,9 +372,7 @@ _native.know(user=LocalPass)
 
 
 def open(pages: int = 4096, passes: int = PASSES, commits: int = 2**32 - 1) -> LocalPass:
-    """A new store in memory, as its first pass: with so many pages of 4 KiB (8 to 16,384), which are taken at once,
-    so many passes (1 to 64; `store.PASSES` says what one costs), and room for so many writes (1 to 2^32 - 1) in its life.
-    `BadLimits` if one of these is out of its range, or `NoMemory`."""
+    """As `opening.open`."""
     if not all(0 <= operator.index(limit) < 2**64 for limit in (pages, passes, commits)):
         raise BadLimits()
     user = LocalPass()

@@ -2,15 +2,13 @@
 
 from __future__ import annotations
 
-import ctypes
+import operator
 import struct
 from dataclasses import dataclass
-from typing import Callable, Iterator, List, Optional, Sequence, Tuple, Type, Union
+from typing import Callable, ClassVar, Iterable, Iterator, List, Optional, Sequence, Tuple, Type, TypeVar, Union
 
-from . import _native
-from ._library import Counts, Operation as RawOperation
-from .errors import BadBytes, BadCount, DataLength, NameLength, NoKind, decoded
-from .values import KIND_OF, RANGES, Kind, Value, decode_value
+from .errors import BadBytes, BadCount, BadPart, DataLength, NameLength, NoKind, NoNode, decoded, encoded
+from .values import KIND_OF, RANGES, Kind, Value, decode_value, encode_value, plain
 
 NEW, REMOVE, SET, UNSET, MAKE_INDEX, REMOVE_INDEX = range(6)
 MOST_OPERATIONS = 64
@@ -70,12 +68,29 @@ class RemoveIndex:
 Operation = Union[NewNode, RemoveNode, SetAttribute, UnsetAttribute, MakeIndex, RemoveIndex]
 
 
-class Batch(_native.Batch):
+Parts = Tuple[int, int, int, int, bytes, bytes]
+"""An operation's kind, type code, node and number, its name, and its value if that is no number."""
+_Self = TypeVar("_Self", bound="Batch")
+
+
+class Batch:
     """Up to 64 operations, which `Pass.apply` applies all or none. Its calls return the batch, so they can be chained.
 
     `for operation in batch` goes over them, `len(batch)` is how many there are, and `Batch(operations)` has these."""
 
-    __slots__ = ()
+    _made: ClassVar[Optional[Type[Batch]]] = None
+    """What a batch is made as once a store of this process was opened: by the extension, which is faster."""
+
+    def __new__(cls, operations: Iterable[Operation] = ()) -> Batch:
+        return super().__new__(Batch._made or cls if cls is Batch else cls)
+
+    def __init__(self, operations: Iterable[Operation] = ()) -> None:
+        self._list: List[Parts] = []
+        for operation in operations:
+            self.add(operation)
+
+    def __len__(self) -> int:
+        return len(self._list)
 
     def __iter__(self) -> Iterator[Operation]:
         for parts in self._parts():
@@ -85,12 +100,71 @@ class Batch(_native.Batch):
         return f"<batch of {len(self)} operations>"
 
     def __reduce__(self) -> Tuple[Callable[..., Batch], Tuple[Type[Batch], bytes, bytes]]:
-        return _copied, (type(self), self._raw, self._bytes)
+        kind = type(self)
+        if kind.__module__.startswith(f"{__package__}."):
+            kind = Batch  # whatever it is made as where it is read
+        return _copied, (kind, self._raw, self._bytes)
+
+    def _add_encoded(self: _Self, kind: int, node: int, name: bytes, code: int, number: int, value: bytes, /) -> _Self:
+        """Adds an operation by its parts."""
+        self._list.append((kind, code, _node(node), number, name, value))
+        return self
+
+    def _parts(self) -> List[Parts]:
+        """The operations."""
+        return list(self._list)
+
+    def _put(self, operations: bytes, texts: bytes, /) -> None:
+        """Puts operations, as the library has them, in the place of what the batch had."""
+        self._list = []
+        for kind, code, node, number, name_at, name_length, value_at, value_length in _RAW.iter_unpack(operations):
+            if max(name_at + name_length, value_at + value_length) > len(texts):
+                raise BadPart()
+            name, value = texts[name_at:name_at + name_length], texts[value_at:value_at + value_length]
+            self._list.append((kind, code, node, number, name, value))
 
     @property
-    def _operations(self) -> List[RawOperation]:
-        """The operations, as the library takes them."""
-        return list((RawOperation * len(self)).from_buffer_copy(self._raw))
+    def _bytes(self) -> bytes:
+        """The bytes that names and values are parts of."""
+        return b"".join(name + value for *_, name, value in self._list)
+
+    @property
+    def _raw(self) -> bytes:
+        """The operations as the library has them."""
+        at, taken = 0, []
+        for kind, code, node, number, name, value in self._list:
+            taken.append(_RAW.pack(kind, code, node, number, at, len(name), at + len(name), len(value)))
+            at += len(name) + len(value)
+        return b"".join(taken)
+
+    def new_node(self: _Self) -> _Self:
+        """Makes a node."""
+        return self._add_encoded(NEW, 0, b"", 0, 0, b"")
+
+    def remove_node(self: _Self, node: int) -> _Self:
+        """Removes a node and all its attributes."""
+        return self._add_encoded(REMOVE, node, b"", 0, 0, b"")
+
+    def set(self: _Self, node: int, name: str, value: Value, kind: Optional[int] = None) -> _Self:
+        """Sets an attribute. Without a kind a str is STRING, bytes are RAW, an `Int32` and its like are what they say, and another
+        int is INT64."""
+        code, number, taken = encode_value(value, kind)
+        return self._add_encoded(SET, node, _name(name), code, number, taken)
+
+    def unset(self: _Self, node: int, name: str) -> _Self:
+        """Removes an attribute."""
+        return self._add_encoded(UNSET, node, _name(name), 0, 0, b"")
+
+    def make_index(self: _Self, name: str, kind: int) -> _Self:
+        """Makes an index of this name, for values of this kind. It takes the attributes that are set from then on."""
+        code = operator.index(kind)
+        if code not in RANGES[Kind.UINT32]:
+            raise NoKind()
+        return self._add_encoded(MAKE_INDEX, 0, _name(name), code, 0, b"")
+
+    def remove_index(self: _Self, name: str) -> _Self:
+        """Removes the index of this name."""
+        return self._add_encoded(REMOVE_INDEX, 0, _name(name), 0, 0, b"")
 
     def add(self, operation: Operation) -> Batch:
         """Adds an operation, as `for operation in batch` gives it."""
@@ -153,7 +227,22 @@ class Batch(_native.Batch):
         return batch
 
 
-_native.know(batch=Batch)
+def _node(node: int) -> int:
+    """A node as a plain int. A TypeError if it is none, and `NoNode` if 64 bits don't hold it."""
+    try:
+        number = plain(node)
+    except TypeError:
+        raise TypeError(f"{node!r} isn't a node: a node is an int") from None
+    if number not in RANGES[Kind.UINT64]:
+        raise NoNode(number)
+    return number
+
+
+def _name(name: str) -> bytes:
+    """A name in UTF-8. A TypeError if it is none."""
+    if not isinstance(name, str):
+        raise TypeError(f"{name!r} isn't a str")
+    return encoded(name)
 
 
 def _copied(kind: Type[Batch], operations: bytes, texts: bytes) -> Batch:
@@ -161,12 +250,6 @@ def _copied(kind: Type[Batch], operations: bytes, texts: bytes) -> Batch:
     batch = kind()
     batch._put(operations, texts)
     return batch
-
-
-def batch_of(counts: Counts, operations: "ctypes.Array[RawOperation]", texts: "ctypes.Array[ctypes.c_char]") -> Batch:
-    """The batch that a call of the library wrote."""
-    size = counts.operations * ctypes.sizeof(RawOperation)
-    return _copied(Batch, ctypes.string_at(operations, size), texts.raw[:counts.bytes])
 
 
 def _read_back(kind: int, code: int, node: int, number: int, name: bytes, value: bytes) -> Operation:

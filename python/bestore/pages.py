@@ -145,7 +145,7 @@ def decode_key(kind: Kind, key: bytes) -> Tuple[Value, int]:
         return int.from_bytes(front, "big") + RANGES[kind][0], node
     if kind is Kind.STRING and 1 <= len(front) <= 256 and front.index(0) == len(front) - 1:
         return decoded(front[:-1]), node
-    raise ValueError(f"{key.hex()} is no key of an index of kind {kind.name}")
+    raise ValueError(f"{key.hex()} isn't a key of an index of kind {kind.name}")
 
 
 def _bytes_of(text: str) -> bytes:

@@ -11,7 +11,7 @@ power failure if the disk keeps what it has confirmed. Opening the file makes th
 and refuses a file with another outcome. One store at a time has a file. docs/KEPT.md has what is promised, and the
 format, which the crate for Rust shares.
 
-Writers that come at the same time share a commit: one of them saves what all have written, in the order of the journal.
+Concurrent writers share a commit: one of them saves what all have written, in the journal's order.
 A snapshot may show a write that isn't in the file yet, while its call waits; whoever hands it on calls `flush` first. If
 a `KeyboardInterrupt` ends the wait, the write is in memory, and the next commit saves it.
 
@@ -34,17 +34,18 @@ from . import local as _local
 from . import shelf as _shelf
 from ._library import check
 from ._saved_errors import (
-    Differs, DiskFull, Fewer, Foreign, Held, Newer, NoFile, NotSaved, SavedError, SqliteError, Stopped, TooLarge, refused)
+    CutOff, Damaged, Differs, DiskFull, Fewer, Foreign, Held, Newer, NoFile, NotSaved, SavedError, SqliteError, Stopped, TooLarge, refused)
 from ._saved_file import File, Row
 from ._saved_line import Line, Turn
 from ._saved_rows import Repeater
+from .change import Change
 from .errors import BadLimits, CommitsSpent, Error
 from .operations import Batch
 from .store import PASSES
 
 __all__ = [
-    "Differs", "DiskFull", "Fewer", "Foreign", "Held", "Newer", "NoFile", "NotSaved", "Saved", "SavedError", "SavedPass",
-    "SavedShelf", "SqliteError", "Stopped", "TooLarge", "open", "open_shelf",
+    "CutOff", "Damaged", "Differs", "DiskFull", "Fewer", "Foreign", "Held", "Newer", "NoFile", "NotSaved", "Saved", "SavedError",
+    "SavedPass", "SavedShelf", "SqliteError", "Stopped", "TooLarge", "open", "open_shelf",
 ]
 
 _ENDING = ".bestore"  # of the name of a volume's file
@@ -97,8 +98,9 @@ class _Saver:
         if self._failed is not None or self._file is None:
             raise Stopped(self.path) from self._failed
 
-    def keep(self, number: int, by: int, batch: Batch, made: List[int]) -> None:
-        """Saves the write with this commit number, or says to the thread that saves that there is one."""
+    def keep(self, number: int, by: int, batch: Batch, made: Optional[List[int]] = None) -> None:
+        """Saves the write with this commit number, or says to the thread that saves that there is one. Without the nodes that each
+        operation made, the batch has their numbers."""
         if self.is_timed and not self._is_closing:
             self._hand_in_for_later(number, by, batch, made)
             return
@@ -114,7 +116,7 @@ class _Saver:
             if number in self._handed_in and line.saved >= number:
                 self._handed_in.pop(number, None)
 
-    def _hand_in_for_later(self, number: int, by: int, batch: Batch, made: List[int]) -> None:
+    def _hand_in_for_later(self, number: int, by: int, batch: Batch, made: Optional[List[int]]) -> None:
         """For the thread that saves, which reads the journal if there are too many."""
         if len(self._handed_in) < _MOST_ROWS:
             self._handed_in[number] = number + self._shift, by, batch._packed(made)
@@ -246,6 +248,17 @@ class SavedPass(_local.LocalPass):
         saver.keep(written[0], self._own_number, batch, written[1])
         return written
 
+    def _commit(self, change: Change) -> int:
+        self._check_process()
+        saver = self._saver
+        saver.check()
+        if self._own_number is None:
+            self._own_number = self.number
+        batch = change._collected()
+        self._committed = super()._commit(change)
+        saver.keep(self._committed, self._own_number, batch)
+        return self._committed
+
     def another(self) -> SavedPass:
         """A pass of the same store for another thread, by any pass and in any thread. `NoPass` if there is none."""
         other = SavedPass(self._saver, self._first)
@@ -314,7 +327,7 @@ def open(path: Union[str, bytes, "os.PathLike[Any]"], pages: int = 4096, passes:
 
     If the file has entries since its state, the state is written anew; on a full disk the file stays as it is.
 
-    Raises `Foreign`, `Newer`, `Held`; `Differs` and `TooLarge` with the place in the file; `DiskFull` and `SqliteError`;
+    Raises `Foreign`, `Newer`, `Held`; `Damaged` and `CutOff`, if a changed or lost part is found; `Differs` and `TooLarge` with the place in the file; `DiskFull` and `SqliteError`;
     the errors of `bestore.open`; and a ValueError if `every` is below 0."""
     if not 1 <= operator.index(passes) <= 63:
         raise BadLimits()
@@ -329,12 +342,14 @@ def open(path: Union[str, bytes, "os.PathLike[Any]"], pages: int = 4096, passes:
             own.close()
             own = opened.enter_context(_few_commits(file, pages, passes + 1, most))
         last = _load(file, own)
+        file.check(last)
         has_entries = last != file.about().entries
         saver = _Saver(file, own, last, every)
         opened.callback(saver.close)
-        if has_entries:
+        if has_entries or not file.has_checksums:
             with suppress(DiskFull):
                 saver.compact()
+        file.keep_last(last)
         store = Saved(saver)
         opened.pop_all()
     return store
@@ -440,7 +455,7 @@ def _load(file: File, own: _local.LocalPass) -> int:
         if version.next_node != about.next_node:
             raise Differs(file.path, "it has another next node than it says")
     last = about.entries
-    for number, data in file.entries():
+    for number, data in file.entries(last):
         if number != last + 1:
             raise Differs(file.path, "the entry is missing", entry=last + 1)
         kept, made = _repeat(file.path, repeater, data, entry=number)

@@ -29,11 +29,14 @@ from itertools import islice
 from types import TracebackType
 from typing import Callable, Dict, Iterable, Iterator, List, Optional, Sequence, Tuple, Type, TypeVar, Union
 
-from . import local as _local
+from ._refreshes import refreshed
+from ._shelf_change import ShelfChange
+from .change import Change
 from .commits import Commits
-from .errors import BadCount, BadLimits, IndexExists, NoIndex, NoNode, NotCovered, NoVolume, OtherStore, PartialIndex, Refusal, no_index
-from .local import refreshed
-from .nodes import MOST_VOLUMES, NUMBERS, indices_in, node_in, node_number, number_of, of_volume, volume_of, within
+from .errors import (
+    BadCount, BadLimits, Full, IndexExists, NoAttribute, NoIndex, NoNode, NotCovered, NoVolume, OtherStore, PartialIndex, Refusal,
+    no_index)
+from .nodes import MOST_VOLUMES, NUMBERS, indices_in, name_missing, node_in, node_number, number_of, of_volume, volume_of, within
 from .operations import MOST_OPERATIONS, Batch, MakeIndex, Operation
 from .pages import Cursor, Order, Page, decode_key, encode_key
 from .queries import Prepared, prepare
@@ -121,15 +124,13 @@ class ShelfVersion(Version):
         return found
 
     def _page_of(self, asked: Asked, order: Order, after: Optional[Cursor], limit: Optional[int]) -> Page[int]:
-        if isinstance(asked, str):
-            with prepare(asked) as prepared:
-                return self._page_of(prepared, order, after, limit)
         if len(self.volumes) == 1:
             return self.volumes[0]._page_of(asked, order, after, limit)
+        return super()._page_of(asked, order, after, limit)
+
+    def _page_after(self, asked: Prepared, after: Cursor, limit: Optional[int]) -> Page[int]:
+        order = after.order
         kind = self._order_kind(order.by)
-        if after is None:
-            after = Cursor(order, asked._check)
-        after.check_fits(order, asked._check)
         room = None if limit is None else min(max(limit // len(self.volumes) + 1, _LEAST_ASKED), limit)
         volumes = (self._keys_in(volume, asked, kind, _position_in(volume, after), room) for volume in range(len(self.volumes)))
         merged = iter(merge(*volumes, reverse=order.descending))
@@ -363,6 +364,34 @@ class Shelf(ThreadPass):
     def pin(self) -> ShelfVersion:
         return ShelfVersion(self, taken(user.pin for user in self._passes))
 
+    def _begin_change(self, check_kinds: bool, volume: Optional[int]) -> Change:
+        if volume is not None:
+            self._checked(volume)
+        return ShelfChange(self.pin(), self._passes, check_kinds, volume)
+
+    def _change_on(self, version: Version, check_kinds: bool) -> Change:
+        assert isinstance(version, ShelfVersion)
+        return ShelfChange(version, self._passes, check_kinds, None)
+
+    def _commit(self, change: Change) -> int:
+        assert isinstance(change, ShelfChange)
+        batch = change._collected()
+        volume, within = change._end()
+        user = self._passes[volume]
+        try:
+            user._committed = user._commit(within)
+        except Refusal as error:
+            if len(self._passes) > 1:
+                error.volume = volume
+            if isinstance(error, (NoNode, NoAttribute)):
+                name_missing(error, batch)
+            raise
+        user._wake()
+        return user._committed
+
+    def _may_be_given_pages(self, error: Full) -> bool:
+        return self._passes[error.volume or 0]._may_be_given_pages(error)
+
     def status(self, tries: int = TRIES) -> Status:
         found = self.statuses(tries)
         pages, free, retired, entries, commits = (sum(numbers) for numbers in zip(*(status[:5] for status in found)))
@@ -463,4 +492,5 @@ def open(volumes: int, pages: int = 4096, passes: int = PASSES, commits: int = 2
     is this function. `BadLimits` if one is out of its range, or `NoMemory`."""
     if not 1 <= volumes <= MOST_VOLUMES:
         raise BadLimits()
-    return Shelf(taken([partial(_local.open, pages, passes, commits)] * volumes))
+    from . import local  # which needs the library
+    return Shelf(taken([partial(local.open, pages, passes, commits)] * volumes))

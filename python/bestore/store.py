@@ -13,8 +13,9 @@ from typing import Callable, Iterator, List, NamedTuple, Optional, Sequence, Tup
 
 from .change import Change
 from .commits import Commits, waiting
-from .errors import Conflict, Nested, NoAttribute, NoIndex, NoNode, NotReached, NoVolume, PartialIndex, TooManyAttempts
+from .errors import Busy, Conflict, Full, Nested, NoAttribute, NoIndex, NoNode, NotReached, NoVolume, Refusal, TooManyAttempts
 from .handles import Owner
+from .language import all_in
 from .nodes import name_missing, volume_of
 from .operations import MOST_OPERATIONS, Batch, Operation
 from .values import Kind, Value
@@ -29,10 +30,9 @@ PASSES = 63
 TRIES = 10_000
 """How often a call is tried at most while another pass is writing, if nothing else is said: for some seconds at
 least."""
-PAUSES = 100
-"""How often a write waits at most for another pass to give its snapshot up, when no page is free: some five seconds
-in all."""
-ATTEMPTS = 1_000
+PAUSES = 50
+"""How often a write waits at most for another pass to give its snapshot up, when no page is free: about 2 seconds in all."""
+ATTEMPTS = 10_000
 """How often the function of a change is run at most, if nothing else is said."""
 
 
@@ -86,6 +86,35 @@ class StandingBack:
     def wait_by_chance(self) -> None:
         """The same, up to that often: so threads that came at one time come again at different times."""
         self.wait(random.randint(1, self._turns))
+
+
+class _Waits:
+    """How a change waits after an attempt that has written nothing."""
+
+    def __init__(self, user: Pass, tries: int) -> None:
+        self._user, self._tries, self._pauses = user, tries, 0
+        self._back = StandingBack()
+
+    def wait_after(self, error: Refusal) -> bool:
+        """Waits, and returns whether a later attempt may succeed."""
+        if isinstance(error, Full):
+            if self._tries <= 1 or self._pauses == PAUSES or not self._user._may_be_given_pages(error):
+                return False
+            pause_at_full(self._pauses)
+            self._pauses += 1
+        elif isinstance(error, Busy):
+            self._tries -= 1
+            if self._tries < 1:
+                return False
+            self._back.wait()
+        else:
+            self._back.wait_by_chance()
+        return True
+
+
+def pause_at_full(pauses: int) -> None:
+    """Waits for pages, after so many pauses before: 1 to 50 milliseconds."""
+    time.sleep(min(0.001 * 2**pauses, 0.05))
 
 
 class Witness(Owner, ABC):
@@ -229,47 +258,61 @@ class Pass(Owner, ABC):
 
         Returns what the function returned the last time; `committed` is then the commit number. If it collected no
         operation, nothing is written. The function may run up to `attempts` times, so it should do nothing else that
-        can't be done twice. If it raises, nothing is written. The snapshot is given up before the commit.
+        can't be done twice. If it raises, nothing is written.
 
         Of several volumes it reads all and writes one: the given one, otherwise that of its first operation. A new node
         is made in the volume with the most free pages if the volume isn't known by then. It is committed if nothing else
         was written to that volume; what it read of others may have changed. `OtherVolume` if it writes to another.
 
-        Raises `TooManyAttempts` if other writes came between each time; `Pinned` if this pass is pinned; `Nested` if
-        the function writes by this pass; and the errors of `apply`. `Change.set` says what `check_kinds` does;
-        `tries` is as in `apply`."""
-        back = StandingBack()
-        conflict: Optional[Conflict] = None
-        for _ in range(max(attempts, 1)):
-            change = Change(self, check_kinds, volume)
-            result = self._run(function, change)
-            if change.room == MOST_OPERATIONS:
-                return result
-            try:
-                self._commit(change, tries)
-                return result
-            except Conflict as error:
-                conflict = error
-            back.wait_by_chance()
-        raise TooManyAttempts(max(attempts, 1)) from conflict
+        It also runs the function again if another pass is writing, up to `tries` times, and with more than one try at `Full`
+        while another pass has the oldest snapshot, for about 2 seconds: by then the snapshot is mostly no longer the current one.
 
-    def _commit(self, change: Change, tries: int) -> None:
-        """Writes what a change has collected, if nothing was written to its volume since."""
-        if self.volumes == 1:
-            self.apply_if(change.number, change._batch, tries)
-        elif change._volume is None:
-            raise PartialIndex(0)
-        else:
-            self.apply_if(change.numbers[change._volume], change._batch, tries, change._volume)
+        Raises `TooManyAttempts` if other writes came between each time; `Pinned` if this pass is pinned; `Nested` if
+        the function writes by this pass; and the errors of `apply`. `Change.set` says what `check_kinds` does."""
+        waits, left = _Waits(self, tries), max(attempts, 1)
+        while True:
+            with self._begin_change(check_kinds, volume) as change:
+                result = self._run(function, change)
+                if change._count == 0:
+                    return result
+                try:
+                    self._committed = self._commit(change)
+                    self._wake()
+                    return result
+                except (Conflict, Busy, Full) as error:
+                    failed = error
+            left -= 1
+            if left == 0 and isinstance(failed, Conflict):
+                raise TooManyAttempts(max(attempts, 1)) from failed
+            if left == 0 or not waits.wait_after(failed):
+                raise failed
+
+    def _begin_change(self, check_kinds: bool, volume: Optional[int]) -> Change:
+        """A change on the current version. `NoVolume` if it is to write a volume that isn't there."""
+        if volume:
+            raise NoVolume(volume, 1)
+        return self._change_on(self.pin(), check_kinds)
+
+    @abstractmethod
+    def _change_on(self, version: Version, check_kinds: bool) -> Change:
+        """A change on a version of this pass, which has one volume."""
+
+    @abstractmethod
+    def _commit(self, change: Change) -> int:
+        """Writes what a change has collected, if nothing was written to its volume since, and gives its snapshot up. Returns the
+        commit number. While another pass is writing it is `Busy` at once, and at `Full` too it doesn't wait."""
 
     def _run(self, function: Callable[[Change], _Result], change: Change) -> _Result:
-        """Runs the function of a change, and gives the snapshot up."""
-        with change:
-            self._is_changing = True
-            try:
-                return function(change)
-            finally:
-                self._is_changing = False
+        """Runs the function of a change."""
+        self._is_changing = True
+        try:
+            return function(change)
+        finally:
+            self._is_changing = False
+
+    def _may_be_given_pages(self, error: Full) -> bool:
+        """Whether pages may come free that a write didn't find, because another pass has to give its snapshot up."""
+        return False
 
     def apply(self, batch: Batch, tries: int = TRIES, volume: Optional[int] = None) -> Tuple[int, List[int]]:
         """Applies a batch, all or none, whatever other passes have written meanwhile. Returns the commit number, and
@@ -370,7 +413,7 @@ class Pass(Owner, ABC):
             kind = version.indices().get(name)
             if kind is None:
                 raise NoIndex()
-            held = set(version.query_items(*version._all_in(name, kind)))
+            held = set(version.query(all_in(name, kind)))
             lacking = [node for node in version if node not in held and version.kind(node, name) == kind]
         volumes = (list(nodes) for _, nodes in groupby(lacking, volume_of))
         parts = [nodes[first:first + MOST_OPERATIONS] for nodes in volumes for first in range(0, len(nodes), MOST_OPERATIONS)]
@@ -405,4 +448,4 @@ def _set_again(name: str, kind: Kind, nodes: List[int], change: Change) -> int:
         typed = change.typed(node, name)
         if typed is not None and typed.kind == kind:
             change.set(node, name, *typed)
-    return MOST_OPERATIONS - change.room
+    return change._count

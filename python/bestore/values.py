@@ -7,8 +7,7 @@ import operator
 import reprlib
 from typing import ClassVar, NamedTuple, Optional, SupportsIndex, Tuple, Type, TypeVar, Union
 
-from . import _native
-from .errors import NoKind, NoValue, decoded, encoded
+from .errors import NoKind, NoValue, WrongKind, decoded, encoded, wrong_kind
 
 Value = Union[str, bytes, int]
 """A text, raw bytes, or a number."""
@@ -153,4 +152,6 @@ def typed_value(code: int, number: int, value: bytes) -> Typed:
     return Typed(decode_value(code, number, value), KIND_OF[code])
 
 
-_native.know(kinds=tuple(Kind), typed=Typed, encode_value=encode_value)
+def kind_mismatch(name: str, kind: int, index_kind: int) -> WrongKind:
+    """The error of an attribute whose value has another kind than the index of its name, by their codes."""
+    return wrong_kind(name, Kind(kind).name, Kind(index_kind).name)

@@ -30,7 +30,7 @@ class Watch(ABC):
             for came, went in unread:
                 print(came, went)
 
-    What the calls on it return, taken together, is what the query finds at `commit`. Changes of several commits come as one.
+    What the calls on it return, taken together, is what the query finds at `commit`. Changes from several commits arrive as one.
     Without a query each commit is awaited, and nodes are never returned."""
 
     def __init__(self, query: Optional[str]) -> None:
@@ -71,7 +71,7 @@ class Watch(ABC):
 
 class LocalWatch(Watch):
     """A watch of a store in this process. A pass that writes wakes who waits, so nobody looks again and again. Each look pins the
-    pass: `Pinned` if that is pinned."""
+    pass: `Pinned` if that is pinned. It asks the query by `Version.refresh_changed`, since between two looks little is written."""
 
     def __init__(self, user: Pass, query: Optional[str]) -> None:
         super().__init__(query)
@@ -90,7 +90,7 @@ class LocalWatch(Watch):
         with self._user.pin() as version:
             if version.numbers == self._seen:
                 return None
-            changes = Changes([], []) if self._live is None else Changes(*version.refresh(self._live))
+            changes = Changes([], []) if self._live is None else Changes(*version.refresh_changed(self._live))
             self._seen, self.commit = version.numbers, version.number
         return changes
 

@@ -6,6 +6,7 @@ import enum
 from typing import List, Mapping, Optional
 
 import bestore
+from bestore.language import quoted
 
 from . import columns
 
@@ -58,7 +59,7 @@ def everything(indices: Mapping[str, bestore.Kind]) -> Optional[str]:
 def _quoted(attribute: str) -> str:
     """An attribute's name as a query has it."""
     is_word = attribute.replace("_", "").replace(":", "").isalnum()
-    return attribute if is_word else f'"{bestore.escape(attribute)}"'
+    return attribute if is_word else quoted(attribute)
 
 
 def query_of(attribute: str, relation: Relation, typed: str) -> str:

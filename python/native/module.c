@@ -16,8 +16,11 @@ typedef struct Named {
 
 static const Named calls[] = {
     CALL(pin), CALL(unpin), CALL(close), CALL(release), CALL(leave), CALL(dismiss), CALL(next), CALL(apply), CALL(apply_if),
-    CALL(query), CALL(query_items), CALL(query_prepared), CALL(ordered), CALL(first), CALL(any), CALL(found), CALL(refresh), CALL(changes), CALL(nodes), CALL(get), CALL(check_name),
-    CALL(columns), CALL(attributes), CALL(indices), CALL(state), CALL(journal_from),
+    CALL(query), CALL(query_items), CALL(query_prepared), CALL(ordered), CALL(first), CALL(any), CALL(found), CALL(refresh),
+    CALL(refresh_changed), CALL(changes), CALL(nodes), CALL(get), CALL(check_name), CALL(columns), CALL(attributes), CALL(indices),
+    CALL(state), CALL(journal_from),
+    CALL(begin_change), CALL(change_any_kind), CALL(change_add), CALL(change_get), CALL(change_batch), CALL(end_change),
+    CALL(abandon_change),
 };
 
 /* Takes the calls of the library that was loaded: a dict of their names and addresses. */
@@ -46,20 +49,23 @@ static void keep(PyObject **place, PyObject *object)
 /* Takes what the module knows of the package: some of it at a time, as the package's modules are imported. */
 static PyObject *know(PyObject *module, PyObject *arguments, PyObject *names)
 {
-    static char *parameters[] = { "refusal", "forked", "encoded_query", "encode_value", "typed", "batch", "user", "kinds", NULL };
+    static char *parameters[] = { "refusal", "forked", "encoded_query", "encode_value", "typed", "batch", "user",
+                                  "wrong_kind", "kinds", NULL };
     PyObject **places[] = {
         &known.refusal, &known.forked, &known.encoded_query, &known.encode_value, &known.typed, &known.batch, &known.user,
+        &known.wrong_kind,
     };
-    PyObject *given[8] = { NULL };
+    enum { PLACES = sizeof places / sizeof *places };
+    PyObject *given[PLACES + 1] = { NULL };
     (void)module;
-    if (!PyArg_ParseTupleAndKeywords(arguments, names, "|$OOOOOOOO:know", parameters, &given[0], &given[1], &given[2], &given[3],
-                                     &given[4], &given[5], &given[6], &given[7]))
+    if (!PyArg_ParseTupleAndKeywords(arguments, names, "|$OOOOOOOOO:know", parameters, &given[0], &given[1], &given[2], &given[3],
+                                     &given[4], &given[5], &given[6], &given[7], &given[PLACES]))
         return NULL;
-    for (size_t at = 0; at < sizeof places / sizeof *places; at++)
+    for (size_t at = 0; at < PLACES; at++)
         if (given[at] != NULL)
             keep(places[at], given[at]);
-    for (Py_ssize_t at = 0; given[7] != NULL && at < KINDS; at++) {
-        PyObject *kind = PySequence_GetItem(given[7], at);
+    for (Py_ssize_t at = 0; given[PLACES] != NULL && at < KINDS; at++) {
+        PyObject *kind = PySequence_GetItem(given[PLACES], at);
         if (kind == NULL)
             return NULL;
         keep(&known.kinds[at], kind);

@@ -18,6 +18,10 @@ enum {
     MOST_OPERATIONS = 64,
     BYTES_OF_A_BATCH = MOST_OPERATIONS * (63 + 255),
     BYTES_OF_A_VALUE = 255,
+    /* A write of no more is made with the GIL: that takes microseconds, and the wait for the GIL beside a thread that computes takes
+     * milliseconds. */
+    SHORT_OPERATIONS = 8,
+    SHORT_BYTES = 2048,
 };
 
 /* The calls of the library, as the loaded one has them. */
@@ -41,6 +45,7 @@ typedef struct Library {
     uint32_t (*any)(bes_pass *, bes_prepared *, uint64_t *, size_t, uint64_t *);
     uint32_t (*found)(bes_prepared *, uint64_t, uint64_t *, size_t, uint64_t *);
     uint32_t (*refresh)(bes_pass *, bes_prepared *, bes_updates *);
+    uint32_t (*refresh_changed)(bes_pass *, bes_prepared *, bes_updates *);
     uint32_t (*changes)(bes_prepared *, uint64_t *, size_t, uint64_t *, size_t);
     uint32_t (*nodes)(bes_pass *, uint64_t, uint64_t *, size_t, uint64_t *);
     uint32_t (*get)(bes_pass *, uint64_t, const uint8_t *, size_t, bes_attribute *, uint8_t *, size_t);
@@ -52,6 +57,13 @@ typedef struct Library {
     uint32_t (*state)(bes_pass *, bes_place *, bes_counts *, bes_operation *, size_t, uint8_t *, size_t);
     uint32_t (*journal_from)(
         bes_pass *, uint64_t, uint64_t *, bes_counts *, bes_operation *, size_t, uint8_t *, size_t, uint64_t *);
+    uint32_t (*begin_change)(bes_pass *, bes_draft *, uint64_t *, uint64_t *);
+    uint32_t (*change_any_kind)(bes_draft *);
+    uint32_t (*change_add)(bes_draft *, const bes_operation *, const uint8_t *, size_t, uint64_t *);
+    uint32_t (*change_get)(bes_pass *, bes_draft *, uint64_t, const uint8_t *, size_t, bes_attribute *, uint8_t *, size_t);
+    uint32_t (*change_batch)(bes_draft *, bes_counts *, bes_operation *, size_t, uint8_t *, size_t);
+    uint32_t (*end_change)(bes_pass *, bes_draft *, uint64_t *);
+    uint32_t (*abandon_change)(bes_pass *, bes_draft *);
 } Library;
 
 extern Library library;
@@ -69,6 +81,7 @@ typedef struct Known {
     PyObject *typed;         /* a class of pairs */
     PyObject *batch;         /* the class */
     PyObject *user;          /* the class of passes whose writes need nothing besides */
+    PyObject *wrong_kind;    /* makes the error of a value of another kind than its index */
     PyObject *kinds[KINDS];  /* by the order of kind_index */
 } Known;
 
@@ -144,6 +157,7 @@ Handle *handle_of(PyObject *object, enum Sort sort);
 /* Values: values.c. Each raises, and returns NULL or false, if it can't do it. */
 PyObject *refused(uint32_t answer);
 PyObject *refused_at(uint32_t answer, uint64_t carried, const char *listed);
+PyObject *refused_kind(PyObject *name, uint32_t kind, uint32_t index_kind);
 bool read_in_range(PyObject *object, uint64_t *number);
 bool read_number(PyObject *object, uint64_t *number);
 bool read_node_in_range(PyObject *object, uint64_t *node);
@@ -178,7 +192,7 @@ bool add_operation(Batch *batch, bes_operation operation, const uint8_t *name, s
                    size_t value_length);
 PyObject *batch_of(const Listed *listed);
 
-/* What the types have: handle.c, batch.c, reader.c, queries.c, writes.c. */
+/* What the types have: handle.c, batch.c, reader.c, queries.c, drafts.c, writes.c. */
 extern PyType_Spec handle_spec, batch_spec, reader_spec;
 PyObject *after_fork(PyObject *module, PyObject *nothing);
 PyObject *handle_apply(PyObject *self, PyObject *const *given, Py_ssize_t count);

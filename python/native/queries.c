@@ -417,9 +417,12 @@ typedef struct Changes {
     uint64_t *nodes; /* those that came, and after them those that went */
 } Changes;
 
-static uint32_t refresh_now(bes_pass *pass, bes_prepared *prepared, Changes *it)
+/* A call of the library that refreshes a query. */
+typedef uint32_t (*Refresh)(bes_pass *, bes_prepared *, bes_updates *);
+
+static uint32_t refresh_now(Refresh refresh, bes_pass *pass, bes_prepared *prepared, Changes *it)
 {
-    uint32_t answer = library.refresh(pass, prepared, &it->updates);
+    uint32_t answer = refresh(pass, prepared, &it->updates);
     if (answer != BES_OK)
         return answer;
     it->nodes = malloc((it->updates.created + it->updates.removed + 1) * sizeof *it->nodes);
@@ -440,19 +443,19 @@ static PyObject *changes_of(const Changes *it)
     return result;
 }
 
-PyObject *reader_refresh(PyObject *self, PyObject *const *given, Py_ssize_t count, PyObject *names)
+static PyObject *refreshed(PyObject *self, PyObject *prepared, Refresh refresh)
 {
-    PyObject *prepared, *result;
+    PyObject *result;
     Asked asked;
     Changes it = { { 0, 0 }, NULL };
     uint32_t answer = 0;
     Handle *user;
-    if (!read_arguments(&of_refresh, given, count, names, &prepared) || !read_prepared(prepared, &asked) || !enter(asked.prepared))
+    if (!read_prepared(prepared, &asked) || !enter(asked.prepared))
         return NULL;
     user = enter_pinned((Reader *)self);
     if (user != NULL) {
         Py_BEGIN_ALLOW_THREADS
-        answer = refresh_now(&user->held.pass, &asked.prepared->held.prepared, &it);
+        answer = refresh_now(refresh, &user->held.pass, &asked.prepared->held.prepared, &it);
         Py_END_ALLOW_THREADS
         leave(user);
     }
@@ -464,6 +467,17 @@ PyObject *reader_refresh(PyObject *self, PyObject *const *given, Py_ssize_t coun
     result = it.nodes == NULL ? PyErr_NoMemory() : changes_of(&it);
     free(it.nodes);
     return result;
+}
+
+PyObject *reader_refresh(PyObject *self, PyObject *const *given, Py_ssize_t count, PyObject *names)
+{
+    PyObject *prepared;
+    return read_arguments(&of_refresh, given, count, names, &prepared) ? refreshed(self, prepared, library.refresh) : NULL;
+}
+
+PyObject *reader_refresh_changed(PyObject *self, PyObject *prepared)
+{
+    return refreshed(self, prepared, library.refresh_changed);
 }
 
 PyObject *reader_nodes_from(PyObject *self, PyObject *arguments)

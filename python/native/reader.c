@@ -22,6 +22,16 @@ Handle *enter_pinned(Reader *reader)
 static const Signature of_get = { "get", { "node", "name" }, 2, 2 };
 static const Signature of_attributes = { "attributes", { "node", "kinds" }, 2, 1 };
 
+/* What the operations of the reader's draft leave of an attribute, if it has one, and otherwise that of the snapshot. */
+static uint32_t read_attribute(Reader *reader, Handle *user, uint64_t node, const uint8_t *name, size_t length, Found *found)
+{
+    bes_pass *pass = &user->held.pass;
+    if (reader->draft.live)
+        return library.change_get(
+            pass, &reader->draft, node, name, length, &found->attribute, found->bytes, BYTES_OF_A_VALUE);
+    return library.get(pass, node, name, length, &found->attribute, found->bytes, BYTES_OF_A_VALUE);
+}
+
 /* Reads a node's attribute. False, and an exception, for what can't be asked. */
 static bool find(PyObject *self, PyObject *const *given, Py_ssize_t count, PyObject *names, Found *found)
 {
@@ -41,7 +51,7 @@ static bool find(PyObject *self, PyObject *const *given, Py_ssize_t count, PyObj
     user = enter_pinned((Reader *)self);
     if (user == NULL)
         return false;
-    found->answer = library.get(&user->held.pass, node, name, length, &found->attribute, found->bytes, BYTES_OF_A_VALUE);
+    found->answer = read_attribute((Reader *)self, user, node, name, length, found);
     leave(user);
     if (found->answer == BES_OK || found->answer == BES_NO_ATTRIBUTE)
         return true;
@@ -203,6 +213,7 @@ static PyObject *reader_unpin(PyObject *self, PyObject *nothing)
     if (!enter(reader->user))
         return NULL;
     if (reader->is_pinned) {
+        abandon_draft(reader);
         reader->is_pinned = false;
         unpin(reader->user);
     }
@@ -217,6 +228,7 @@ static void give_pin_up(Reader *reader)
     Handle *user = reader->user;
     if (!reader->is_pinned || user == NULL || is_dead(user))
         return;
+    abandon_draft(reader);
     reader->is_pinned = false;
     if (user->depth == 0 || user->owner == PyThread_get_thread_ident())
         unpin(user);
@@ -297,6 +309,12 @@ static PyObject *get_is_pinned(PyObject *self, void *nothing)
     return PyBool_FromLong(((Reader *)self)->is_pinned);
 }
 
+static PyObject *get_count(PyObject *self, void *nothing)
+{
+    (void)nothing;
+    return PyLong_FromSize_t(((Reader *)self)->count);
+}
+
 #define FAST(function) (PyCFunction)(void (*)(void))function, METH_FASTCALL
 #define METHOD(function) (PyCFunction)(void (*)(void))function, METH_FASTCALL | METH_KEYWORDS
 
@@ -340,6 +358,8 @@ static PyMethodDef methods[] = {
       "Which nodes came and which went since the prepared query was refreshed last: two lists, ascending. At\n"
       "first all of its nodes come. Refresh a query in versions of one store, or of another that its state was\n"
       "carried on to: nodes are compared by their numbers. After an error the query is as it was." },
+    { "_refresh_changed", reader_refresh_changed, METH_O,
+      "The same, by what was written since the last refresh, which has to have been in this store." },
     { "unpin", reader_unpin, METH_NOARGS, "unpin($self, /)\n--\n\nGives the pin up, if it is still there." },
     { "_read", METHOD(reader_read), "A node's attribute with its kind. `NoAttribute` if it isn't there." },
     { "_value", METHOD(reader_value), "A node's attribute. `NoAttribute` if it isn't there." },
@@ -351,6 +371,17 @@ static PyMethodDef methods[] = {
     { "_count_items", reader_count_items, METH_VARARGS, "How many nodes these are." },
     { "_nodes_from", reader_nodes_from, METH_VARARGS, "So many nodes from a number on, by one call." },
     { "_state", reader_state, METH_O, "The next batch of those that make the snapshot again, or None at their end." },
+    { "_take_any_kind", reader_take_any_kind, METH_NOARGS, "Its change sets values of any kind from now on." },
+    { "_new_node", reader_new_node, METH_NOARGS, "Collects: makes a node. Returns its number." },
+    { "_remove_node", reader_remove_node, METH_O, "Collects: removes a node and all its attributes." },
+    { "_set_attribute", FAST(reader_set_attribute), "Collects: sets an attribute, with a node, a name, a value, and a kind or None." },
+    { "_unset", FAST(reader_unset), "Collects: removes an attribute, of a node and a name." },
+    { "_make_index", FAST(reader_make_index), "Collects: makes an index, of a name and a kind." },
+    { "_remove_index", reader_remove_index, METH_O, "Collects: removes an index." },
+    { "_collected", reader_collected, METH_NOARGS, "The batch of what was collected, in which new nodes have their numbers." },
+    { "_end_change", reader_end_change, METH_NOARGS,
+      "Writes what was collected, if nothing was written since this snapshot: what the library returned, and the commit\n"
+      "number or what goes with the error. Nothing is collected then." },
     { "_call", FAST(reader_call), "Makes a call on the pass while it has this pin, and not a later one." },
     { NULL, NULL, 0, NULL },
 };
@@ -359,6 +390,7 @@ static PyGetSetDef fields[] = {
     { "number", get_number, NULL, "The commit number of the last write that it has: how many writes it contains.", NULL },
     { "_user", get_user, NULL, "The pass.", NULL },
     { "_is_pinned", get_is_pinned, NULL, "Whether the pin is there.", NULL },
+    { "_collected_count", get_count, NULL, "How many operations were collected.", NULL },
     { NULL, NULL, NULL, NULL, NULL },
 };
 

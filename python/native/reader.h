@@ -10,6 +10,10 @@ typedef struct Reader {
     uint64_t number; /* the commit number of the last write that it has */
     uint64_t most;   /* how many nodes a query can find: all numbers below the next node's */
     bool is_pinned;
+    bool takes_any_kind; /* whether its draft does */
+    bes_draft draft;     /* the operations of a change on this snapshot, if it is open */
+    size_t count;        /* how many they are */
+    size_t length;       /* how many bytes their names and values have */
 } Reader;
 
 /* Waits until no other thread is at the pass, and looks that it has this pin, and not a later one. Otherwise it raises, and
@@ -25,7 +29,20 @@ PyObject *reader_any(PyObject *self, PyObject *arguments);
 PyObject *reader_count(PyObject *self, PyObject *const *given, Py_ssize_t count, PyObject *names);
 PyObject *reader_count_items(PyObject *self, PyObject *arguments);
 PyObject *reader_refresh(PyObject *self, PyObject *const *given, Py_ssize_t count, PyObject *names);
+PyObject *reader_refresh_changed(PyObject *self, PyObject *prepared);
 PyObject *reader_nodes_from(PyObject *self, PyObject *arguments);
+
+/* What a change collects: drafts.c. */
+void abandon_draft(Reader *reader);
+PyObject *reader_take_any_kind(PyObject *self, PyObject *nothing);
+PyObject *reader_new_node(PyObject *self, PyObject *nothing);
+PyObject *reader_remove_node(PyObject *self, PyObject *node);
+PyObject *reader_set_attribute(PyObject *self, PyObject *const *given, Py_ssize_t count);
+PyObject *reader_unset(PyObject *self, PyObject *const *given, Py_ssize_t count);
+PyObject *reader_make_index(PyObject *self, PyObject *const *given, Py_ssize_t count);
+PyObject *reader_remove_index(PyObject *self, PyObject *name);
+PyObject *reader_collected(PyObject *self, PyObject *nothing);
+PyObject *reader_end_change(PyObject *self, PyObject *nothing);
 
 PyObject *reader_column(PyObject *self, PyObject *const *given, Py_ssize_t count, PyObject *names);
 PyObject *reader_columns(PyObject *self, PyObject *const *given, Py_ssize_t count, PyObject *names);

@@ -20,6 +20,17 @@ PyObject *refused_at(uint32_t answer, uint64_t carried, const char *listed)
     return raise_refusal(Py_BuildValue("(IKOz)", answer, (unsigned long long)carried, Py_None, listed));
 }
 
+/* Raises the error of an attribute whose value has another kind than the index of its name. */
+PyObject *refused_kind(PyObject *name, uint32_t kind, uint32_t index_kind)
+{
+    PyObject *error = PyObject_CallFunction(known.wrong_kind, "OII", name, kind, index_kind);
+    if (error != NULL) {
+        PyErr_SetObject((PyObject *)Py_TYPE(error), error);
+        Py_DECREF(error);
+    }
+    return NULL;
+}
+
 /* Reads an integer that 64 bits hold. Without an exception it is out of their range. */
 bool read_in_range(PyObject *object, uint64_t *number)
 {

@@ -3,10 +3,6 @@
 
 #include <string.h>
 
-/* A batch of no more is written with the GIL: that takes microseconds, and the wait for the GIL beside a thread that computes takes
- * milliseconds. */
-enum { SHORT_OPERATIONS = 8, SHORT_BYTES = 2048 };
-
 /* What a write is called with, and what it returns. */
 typedef struct Write {
     Handle *handle;

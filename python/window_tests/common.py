@@ -4,6 +4,7 @@ from __future__ import annotations
 
 import atexit
 import functools
+import gc
 import os
 import time
 import unittest
@@ -23,6 +24,10 @@ except ImportError:
     HAS_TK = False
 
 PATIENCE = 30.0  # seconds that anything may take on a busy machine
+
+# Only the thread that runs Tk may free Tk's objects, but Python collects cycles in any thread. So the tests collect them only in the
+# main thread, after each test with a window.
+gc.disable()
 
 
 def write(path: str, text: str) -> None:
@@ -99,6 +104,7 @@ class OnDisplay(unittest.TestCase):
 
     def show(self, source: Source, **options: object) -> "Window":
         """A window over a source, which goes at the end of the test."""
+        self.addCleanup(gc.collect)
         root = tkinter.Tk()
         root.geometry(display.SIZE)
         window = Window(root, source, **options)  # type: ignore[arg-type]

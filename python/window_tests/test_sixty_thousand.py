@@ -2,7 +2,8 @@
 
     PYTHONPATH=python:python/window_tests python3 python/window_tests/test_sixty_thousand.py --print
 
-prints the longest time of each phase, and after `--nodes 83000` those of so many nodes. On a machine that others load the bound is a second, since the loop then waits for a processor.
+prints the longest time of each phase, and after `--nodes 83000` those of so many nodes; it expects a tenth of a second at most, so it
+wants a machine with nothing else to do. Among other tests the bound is a second, since the loop then waits for a processor.
 """
 
 from __future__ import annotations
@@ -28,9 +29,9 @@ if HAS_TK:
 NODES = 60_000
 VOLUMES = 5
 STEP = 10      # nodes that a batch makes
-LONGEST = 0.1  # seconds, on a machine of which half is free
-LOADED = 1.0   # seconds, on another one
-TRIES = 3      # on a machine on which others run too
+LONGEST = 0.1  # seconds, of a run that prints them
+LOADED = 1.0   # seconds, among other tests
+TRIES = 3      # on a machine with other work
 PATIENCE = 120.0
 
 
@@ -219,8 +220,7 @@ class SixtyThousand(OnDisplay):
         if "--print" in PRINTS:
             for phase, seconds in best.items():
                 print(f"{seconds * 1000:6.1f} ms  {phase}")
-        half_free = os.getloadavg()[0] < (os.cpu_count() or 1) / 2
-        self.assertLess(max(best.values()), LONGEST if half_free else LOADED, best)
+        self.assertLess(max(best.values()), LONGEST if "--print" in PRINTS else LOADED, best)
 
     def test_in_this_process(self) -> None:
         with bestore.open_shelf(VOLUMES, 16384, 16) as store:

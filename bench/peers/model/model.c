@@ -4,6 +4,7 @@
 #include <string.h>
 
 #include "../holds.h"
+#include "../paging.h"
 #include "volume.h"
 
 #define LIST_MOST 64
@@ -182,8 +183,7 @@ static bool holds(struct pass *pass, const struct comparison *it, uint64_t node)
     return value_holds(it, stored, length);
 }
 
-/* The nodes that a walk over the picked index finds, in its order, behind `count` of them. */
-static size_t walk(struct pass *pass, const struct query *query, uint64_t *nodes, size_t count, size_t most) {
+static size_t walk(struct pass *pass, const struct query *query, uint64_t *nodes, size_t count, size_t most, size_t stop) {
     const struct comparison *pick = &query->comparisons[query->pick];
     struct cursor cursor;
     uint8_t from[VALUE_MOST], to[VALUE_MOST], bytes[VALUE_MOST + 16];
@@ -191,7 +191,7 @@ static size_t walk(struct pass *pass, const struct query *query, uint64_t *nodes
     const struct index *index = index_of(&pass->version, pick->name);
     uint32_t length = walk_bounds(query, index->kind, from, to);
     struct key key = key_of(from, length);
-    for (bool more = seek(&cursor, &pass->store->pool, index->root, &key); more; more = step(&cursor)) {
+    for (bool more = seek(&cursor, &pass->store->pool, index->root, &key); more && count < stop; more = step(&cursor)) {
         uint32_t found = key_at(&cursor, bytes);
         if (memcmp(bytes, to, length) > 0) break;
         if (scans && !text_holds(pick, key_text(bytes, found))) continue;
@@ -204,11 +204,54 @@ static size_t walk(struct pass *pass, const struct query *query, uint64_t *nodes
 size_t ask(struct pass *pass, struct query *query, uint64_t *nodes, size_t most) {
     size_t count = 0;
     load_version(&pass->version, &pass->store->pool, pass->pinned);
-    if (!query->is_any) count = walk(pass, query, nodes, 0, most);
+    if (!query->is_any) count = walk(pass, query, nodes, 0, most, SIZE_MAX);
     else
-        for (query->pick = 0; query->pick < query->count; query->pick++) count = walk(pass, query, nodes, count, most);
+        for (query->pick = 0; query->pick < query->count; query->pick++) count = walk(pass, query, nodes, count, most, SIZE_MAX);
     sort_nodes(nodes, count);
     return query->is_any ? without_doubles(nodes, count) : count;
+}
+
+size_t ask_some(struct pass *pass, struct query *query, uint64_t *nodes, size_t most) {
+    load_version(&pass->version, &pass->store->pool, pass->pinned);
+    return walk(pass, query, nodes, 0, most, most);
+}
+
+/* About as many as there are nodes. */
+static uint64_t keys_in(struct pass *pass, struct text by) {
+    (void)by;
+    return pass->version.next;
+}
+
+/* Moves a cursor to the last key before a place, or to the last one of all. */
+static bool move_before(struct pass *pass, struct cursor *cursor, uint64_t root, const struct place *after) {
+    uint8_t from[16];
+    if (!after) return seek_last(cursor, &pass->store->pool, root);
+    put_place(from, after);
+    struct key key = key_of(from, sizeof from);
+    return seek_before(cursor, &pass->store->pool, root, &key);
+}
+
+static size_t walk_down(struct pass *pass, const struct query *query, struct text by, bool is_picked, const struct place *after, uint64_t *nodes,
+                        size_t most) {
+    const struct comparison *pick = &query->comparisons[query->pick];
+    bool scans = is_picked && is_scan(pick);
+    struct cursor cursor;
+    uint8_t bytes[VALUE_MOST + 16];
+    size_t count = 0;
+    uint64_t root = index_of(&pass->version, by)->root;
+    for (bool more = move_before(pass, &cursor, root, after); more && count < most; more = step_back(&cursor)) {
+        uint32_t found = key_at(&cursor, bytes);
+        if (scans && !text_holds(pick, key_text(bytes, found))) continue;
+        if (is_picked && !scans && is_below(pick, bytes)) break;
+        uint64_t node = take_number(bytes + found - 8);
+        if ((is_picked || holds(pass, pick, node)) && all_hold(pass, query, node)) nodes[count++] = node;
+    }
+    return count;
+}
+
+size_t ask_page(struct pass *pass, struct query *query, struct text by, const struct place *after, uint64_t hits, uint64_t *nodes, size_t most) {
+    load_version(&pass->version, &pass->store->pool, pass->pinned);
+    return page(pass, query, by, after, hits, nodes, most);
 }
 
 /* By a walk over each node's attributes. */

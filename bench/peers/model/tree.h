@@ -35,6 +35,11 @@ uint64_t tree_remove(struct write *write, uint64_t root, const struct key *key);
 bool seek(struct cursor *cursor, const struct pool *pool, uint64_t root, const struct key *key);
 bool step(struct cursor *cursor);
 
+/* To the last item of all, to the last one before a key, and to the one before. False where there is none. */
+bool seek_last(struct cursor *cursor, const struct pool *pool, uint64_t root);
+bool seek_before(struct cursor *cursor, const struct pool *pool, uint64_t root, const struct key *key);
+bool step_back(struct cursor *cursor);
+
 /* Whether the key is there, and its payload: up to 7 bytes are written behind it. */
 bool find(const struct pool *pool, uint64_t root, const struct key *key, uint8_t *payload, uint32_t *length);
 

@@ -43,6 +43,40 @@ bool step(struct cursor *cursor) {
     return settle(cursor);
 }
 
+/* To the last item of a page and of all below it, from a level down. */
+static void settle_last(struct cursor *cursor, int level, uint64_t page) {
+    for (;; level--) {
+        cursor->pages[level] = page;
+        cursor->counts[level] = word_at(cursor->pool, page, 1);
+        cursor->places[level] = cursor->counts[level] - 1;
+        if (level == 0) return;
+        page = child_at(cursor->pool, page, cursor->places[level]);
+    }
+}
+
+bool seek_last(struct cursor *cursor, const struct pool *pool, uint64_t root) {
+    if (!root) return false;
+    cursor->pool = pool;
+    cursor->top = word_at(pool, root - 1, 0);
+    settle_last(cursor, cursor->top, root - 1);
+    return true;
+}
+
+bool step_back(struct cursor *cursor) {
+    int level = 0;
+    while (cursor->places[level] == 0)
+        if (++level > cursor->top) return false;
+    cursor->places[level]--;
+    if (level > 0) settle_last(cursor, level - 1, child_at(cursor->pool, cursor->pages[level], cursor->places[level]));
+    return true;
+}
+
+bool seek_before(struct cursor *cursor, const struct pool *pool, uint64_t root, const struct key *key) {
+    if (!root) return false;
+    descend(cursor, pool, root, key);
+    return step_back(cursor);
+}
+
 uint32_t key_at(const struct cursor *cursor, uint8_t *to) {
     uint32_t length = item_head(cursor->pool, cursor->pages[0], cursor->places[0]) >> 32;
     copy_bytes(cursor->pool, cursor->pages[0], cursor->places[0], 0, length, to);

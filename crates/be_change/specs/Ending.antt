@@ -5,7 +5,7 @@ use Rattle.std.specs.declared.result.Result.TheVariants.{Ok, Err}
 use Rattle.be_table.specs.declared.pass.Knowledge.{Knowledge}
 use Rattle.be_value.specs.declared.refusals.Refusal.{Refusal}
 use Rattle.be_volume.specs.declared.ops.Done.{Done}
-use Rattle.be_store.specs.Conditional.{AcceptsAt, IsConflict, IsLastUnapplied}
+use Rattle.be_store.specs.Conditional.{AcceptsAt, IsConflict, IsLastUnapplied, IsUnapplied}
 use Rattle.be_store.specs.History.{Pins, Unpins}
 use Rattle.be_store.specs.Passes.{HasRead, IsPinnedTo, volume_pinned}
 use Rattle.be_store.specs.declared.conditional.ApplyIfError.TheVariants.{Refused}
@@ -49,11 +49,17 @@ Wrote change a c n = ((change.ops ≡ []) × (c ≡ a) × (n ≡ change.number))
 
 -- How a change ends, that is tried up to so many times while another pass holds the lock, before
 -- its pin is released. If it has to be made again, another write came between, and nothing is
--- written; nor is anything if it is refused.
+-- written, and the journal's length is returned; nor is anything if it is refused.
 abbrev pub Ends : ℕ → Changing → (a c : Knowledge) → Result Ended Refusal → Type 0
 Ends tries change a c (Ok (Accepted n)) = Wrote change a c n
-Ends tries change a c (Ok Again) = (found : ℕ) × IsConflict a c change.number found
+Ends tries change a c (Ok (Again found)) = IsConflict a c change.number found
 Ends tries change a c (Err e) = IsLastUnapplied tries a c change.number change.ops (Refused e)
+
+-- how a change ends by a single try, before its pin is released
+abbrev pub EndsOnce : Changing → (a c : Knowledge) → Result Ended Refusal → Type 0
+EndsOnce change a c (Ok (Accepted n)) = Wrote change a c n
+EndsOnce change a c (Ok (Again found)) = IsConflict a c change.number found
+EndsOnce change a c (Err e) = IsUnapplied a c change.number change.ops (Refused e)
 
 -- a pin that the change made is released, and another stays
 abbrev pub Releases : Bool → Knowledge → Knowledge → Type 0

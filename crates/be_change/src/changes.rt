@@ -1,6 +1,6 @@
 //! A change: the snapshot on which it is made, and the operations that it collects.
 ghost use Rattle.std.specs.Prelude.{◌≡◌, ◌⊎◌, ◌≤◌, ◌<◌, ◌+◌, ◌^◌, [], ◌∷◌, ◌++◌, true, IfOk, IfErr};
-ghost use Rattle.std.specs.Prelude.{OnOk, length, unwrap_or};
+ghost use Rattle.std.specs.Prelude.{OnOk, false, length, unwrap_or};
 ghost use Rattle.be_value.specs.Value.{kind_of};
 ghost use Rattle.be_volume.specs.Reading.{attribute, index_kind};
 ghost use Rattle.be_volume.specs.Volume.{State};
@@ -93,6 +93,20 @@ impl Change {
         ensures { result ≡ self.now.number }
     {
         self.number
+    }
+
+    /// The number that the first new node gets.
+    pub fn first_node(&self) -> u64
+        ensures { result ≡ self.now.first }
+    {
+        self.first
+    }
+
+    /// Takes values of any kind from here on.
+    pub fn take_any_kind(&mut self)
+        ensures { self.new ≡ record self.old { checks = false } }
+    {
+        self.checks_kinds = false;
     }
 
     /// Whether the change has pinned its pass itself.

@@ -21,8 +21,9 @@ pub enum Ended {
     /// It is written, and this is its commit number. A change that collected nothing writes
     /// nothing; the number is then the snapshot's.
     Accepted(u64),
-    /// Another write came between, and nothing is written: begin anew, on a new snapshot.
-    Again,
+    /// Another write came between, and nothing is written: begin anew, on a new snapshot. This is
+    /// how many entries the journal has.
+    Again(u64),
 }
 
 /// Whether a change refuses a value that the index of its name doesn't take. The store would keep
@@ -178,13 +179,13 @@ fn write(change: &Change, store: &Store, pass: &mut Pass, tries: u64) -> Result<
     }
     match store.apply_if_or_retry(pass, change.number(), ops, tries) {
         Ok((number, _)) => Ok(Ended::Accepted(number)),
-        Err(ApplyIfError::Conflict(_)) => Ok(Ended::Again),
+        Err(ApplyIfError::Conflict(found)) => Ok(Ended::Again(found)),
         Err(ApplyIfError::Refused(refusal)) => Err(refusal),
     }
 }
 
 /// Unpins the pass, if the change had pinned it.
-fn release(pins: bool, store: &Store, pass: &mut Pass)
+pub(crate) fn release(pins: bool, store: &Store, pass: &mut Pass)
     requires pass { IsPassOf store.now pass.old }
     requires pinned { (n : ℕ) × IsPinnedTo pass.old.knows n }
     ensures pass { IsPassOf store.now pass.new }

@@ -6,6 +6,7 @@ mod changes;
 mod ending;
 mod errors;
 pub mod laws;
+mod once;
 mod overlay;
 
 pub use changes::{Change, MOST_OPERATIONS};

@@ -35,7 +35,7 @@ fn reads_its_own_operations(rt: HostRuntime) -> Result<(), Fail> {
     Ok(())
 }
 
-/// A set is refused by the index that the operations before it leave, and by that alone.
+/// A set is checked against the index that the operations before it leave, and against no other.
 #[test]
 fn refuses_the_wrong_kind(rt: HostRuntime) -> Result<(), Fail> {
     let taken = again!(kinds_taken(rt.alloc()));

@@ -1,18 +1,16 @@
 -- An index in its order, and the nodes of it of which a query is true.
-use Rattle.std.proofs.Common.{◌≡◌, ◌⊎◌, ◌<◌, ◌≤◌, ◌+◌, ℕ, zero, suc, Bool, true, false, cond, List, [], ◌∷◌, ◌++◌, refl, sym, ap, ◌∙◌, subst, arith, Some, None, inl, inr, take, drop, length, filter, length-append, append-nil, append_assoc, nat_lt, min, if◌then◌else◌}
+use Rattle.std.proofs.Common.{◌≡◌, ◌⊎◌, ◌<◌, ◌+◌, ℕ, zero, suc, Bool, true, false, cond, List, [], ◌∷◌, ◌++◌, refl, sym, ap, ◌∙◌, subst, arith, Some, None, inl, inr, take, drop, length, filter, length-append, append-nil, append_assoc, nat_lt, min, if◌then◌else◌}
 use Rattle.std.specs.Prelude.{T}
 use Rattle.std.specs.List.{Contains, flat_map}
 use Rattle.std.specs.Option.{option_map}
-use Rattle.std.specs.Ordering.{is_lt}
 use Rattle.std.specs.Result.{result_map_both}
 use Rattle.std.proofs.Math.ListN.{drop_of_length-le}
-use Rattle.std.proofs.lemmas.Bool.{ltb-true, lt-ltb}
+use Rattle.std.proofs.lemmas.Bool.{lt-ltb}
 use Rattle.std.proofs.lemmas.List.{take-append-drop, take-append-le, take_all}
 use Rattle.std.proofs.lemmas.List.Elements.{Contains-append_right, filter-append}
 use Rattle.std.specs.FinMap as fin
 use Rattle.std.specs.FinMap.Entries.{find, is_sorted, is_sorted-where_key}
 use Rattle.std.specs.declared.option.Option.{Option}
-use Rattle.std.specs.declared.cmp.Ordering.{Ordering}
 use Rattle.std.specs.declared.cmp.Ordering.TheVariants.{Less}
 use Rattle.std.specs.declared.result.Result.TheVariants.{Ok, Err}
 use Rattle.be_value.specs.Key.{key}
@@ -20,8 +18,6 @@ use Rattle.be_value.specs.declared.refusals.Refusal.TheVariants.{NoSuchIndex, No
 use Rattle.be_value.specs.declared.values.Kind.{Kind}
 use Rattle.be_value.specs.declared.values.Value.{Value}
 use Rattle.be_query.specs.Grammar.{Formula}
-use Rattle.be_volume.specs.Keys.{IsKey}
-use Rattle.be_volume.specs.Maps.{name_cmp}
 use Rattle.be_volume.specs.Query.{covered, sat, scan, sees}
 use Rattle.be_volume.specs.Reading.{index_kind}
 use Rattle.be_volume.specs.Sound.{IsSound, IsPaired}
@@ -66,7 +62,7 @@ module _ (s : State) (sound : IsSound s) (by : List ℕ) (kind : Kind) (is : ind
   sorted_rest cursor nodes = is_sorted-where_key (key_cmp descending) (is_after descending cursor) _ (fin.entries_sorted (fin.from_entries {R = key_cmp descending} (flat_map (keyed s by) nodes)))
 
   -- what is found in the rest is the key of one of the nodes, and comes after the cursor
-  there_is : (cursor : Option (List ℕ)) (nodes q : List ℕ) (n : ℕ) → find (key_cmp descending) q (rest_of cursor nodes) ≡ Some n →
+  pub there_is : (cursor : Option (List ℕ)) (nodes q : List ℕ) (n : ℕ) → find (key_cmp descending) q (rest_of cursor nodes) ≡ Some n →
       (is_after descending cursor q ≡ true) × IsOneOf s sound by kind is descending nodes q n
   there_is cursor nodes q n h = step (is_after descending cursor q) refl (sym (found_after descending cursor (flat_map (keyed s by) nodes) q) ∙ h)
     where
@@ -74,7 +70,7 @@ module _ (s : State) (sound : IsSound s) (by : List ℕ) (kind : Kind) (is : ind
       step false e g = cc
       step true e g = (e, found_is s sound by kind is descending nodes q n g)
 
-  is_there : (cursor : Option (List ℕ)) (nodes q : List ℕ) (n : ℕ) → is_after descending cursor q ≡ true → IsOneOf s sound by kind is descending nodes q n →
+  pub is_there : (cursor : Option (List ℕ)) (nodes q : List ℕ) (n : ℕ) → is_after descending cursor q ≡ true → IsOneOf s sound by kind is descending nodes q n →
       find (key_cmp descending) q (rest_of cursor nodes) ≡ Some n
   is_there cursor nodes q n e one =
       found_after descending cursor (flat_map (keyed s by) nodes) q

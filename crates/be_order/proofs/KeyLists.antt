@@ -1,9 +1,9 @@
 -- Keys in the order of an index: lists in that order with the same members are equal.
-use Rattle.std.proofs.Common.{◌≡◌, ◌<◌, ◌≤◌, ℕ, zero, suc, Bool, true, false, ◌&&◌, ◌||◌, cond, List, [], ◌∷◌, refl, sym, ap, ◌∙◌, subst, arith, Some, None, is_some, map, filter, unwrap_or}
+use Rattle.std.proofs.Common.{◌≡◌, ℕ, zero, suc, Bool, true, false, ◌&&◌, ◌||◌, cond, List, [], ◌∷◌, refl, sym, ap, ◌∙◌, arith, Some, None, is_some, map, unwrap_or}
 use Rattle.std.specs.Prelude.{T}
 use Rattle.std.specs.List.{Contains, list_any, AllByRecursion}
 use Rattle.std.specs.List.Sorted.{IsStrictlySortedBy}
-use Rattle.std.specs.Ordering.{nat_cmp, is_eq, is_lt, eq_by_cmp}
+use Rattle.std.specs.Ordering.{is_eq, is_lt, eq_by_cmp}
 use Rattle.std.specs.Cmp.{IsTotalOrder, back_total, tied_itself, both_ways}
 use Rattle.std.specs.Cmp.Lexicographic.{nat_list_cmp_total}
 use Rattle.std.specs.FinMap as fin
@@ -12,7 +12,6 @@ use Rattle.std.specs.FinMap.Entries.{find, is_sorted, below_all, where_key, same
 use Rattle.std.specs.declared.option.Option.{Option}
 use Rattle.std.specs.declared.cmp.Ordering.{Ordering}
 use Rattle.std.specs.declared.cmp.Ordering.TheVariants.{Less, Equal, Greater}
-use Rattle.be_volume.specs.Maps.{name_cmp}
 use Rattle.be_order.specs.Ordered.{key_cmp, after, is_after, keys_of}
 
 pub key_total : (descending : Bool) → IsTotalOrder (key_cmp descending)

@@ -1,3 +1,4 @@
+pub mod Anys
 pub mod Cursors
 pub mod Filters
 pub mod Fronts
@@ -7,3 +8,4 @@ pub mod PageKeys
 pub mod Some
 pub mod Walked
 pub mod WalkedPages
+pub mod Wholes

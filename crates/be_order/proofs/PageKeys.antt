@@ -1,12 +1,12 @@
 -- The keys of a page: what is made of the nodes of an answer.
-use Rattle.std.proofs.Common.{◌≡◌, ◌<◌, ◌≤◌, ◌+◌, ◌^◌, ℕ, zero, suc, Bool, true, false, cond, ◌||◌, List, [], ◌∷◌, ◌++◌, refl, sym, ap, ◌∙◌, subst, arith, Some, None, is_some, map, filter, unwrap_or, take, length, length-append, nat_lt, nat_eq, append-nil}
-use Rattle.std.specs.List.{All, Contains, AllByRecursion, flat_map, dedup}
+use Rattle.std.proofs.Common.{◌≡◌, ◌<◌, ◌≤◌, ◌^◌, ℕ, zero, suc, Bool, true, false, cond, ◌||◌, List, [], ◌∷◌, ◌++◌, refl, sym, ap, ◌∙◌, subst, arith, Some, None, map, unwrap_or, take, length, length-append, nat_lt, nat_eq, append-nil}
+use Rattle.std.specs.List.{Contains, AllByRecursion, flat_map, dedup}
 use Rattle.std.specs.List.Retain.{IsFiltered, DiffersFromLast}
 use Rattle.std.specs.List.Sorted.{IsPermutation, IsSortedBy, IsStrictlySortedBy}
 use Rattle.std.specs.Option.{option_map, option_map_or}
 use Rattle.std.specs.Int.{to_be_bytes, w64}
-use Rattle.std.specs.Ordering.{nat_cmp, is_eq, is_lt, eq_by_cmp}
-use Rattle.std.specs.Cmp.{IsTotalOrder, IsEquivalence, on_total, on_equiv}
+use Rattle.std.specs.Ordering.{is_eq, is_lt, eq_by_cmp}
+use Rattle.std.specs.Cmp.{on_total, on_equiv}
 use Rattle.std.specs.Cmp.Lexicographic.{pointwise, texts_ties}
 use Rattle.std.proofs.lemmas.Cmp.{nat_list_eq_equiv}
 use Rattle.std.proofs.lemmas.Grind.{flat_map-append}
@@ -15,7 +15,7 @@ use Rattle.std.proofs.lemmas.List.Filters.{dedup_is}
 use Rattle.std.proofs.lemmas.List.Kept.{IsStrictlySortedBy-dedup, Contains-dedup, Contains-from_dedup}
 use Rattle.std.proofs.lemmas.List.Sorted.{Contains-permutation, IsPermutation-sym}
 use Rattle.std.specs.FinMap as fin
-use Rattle.std.specs.FinMap.Entries.{find, is_some-find}
+use Rattle.std.specs.FinMap.Entries.{find}
 use Rattle.std.specs.declared.option.Option.{Option}
 use Rattle.std.specs.declared.cmp.Ordering.{Ordering}
 use Rattle.std.specs.declared.cmp.Ordering.TheVariants.{Less, Equal, Greater}
@@ -23,13 +23,12 @@ use Rattle.arrayvec.specs.ArrayVec.{ArrayVec}
 use Rattle.be_value.specs.Key.{key, value_key}
 use Rattle.be_value.specs.declared.values.Kind.{Kind}
 use Rattle.be_value.specs.declared.values.Value.{Value}
-use Rattle.be_volume.specs.Maps.{name_cmp}
 use Rattle.be_volume.specs.Query.{sees, seen_in}
 use Rattle.be_volume.specs.Reading.{attribute, index_kind}
 use Rattle.be_volume.specs.Sound.{IsSound, IsPaired}
 use Rattle.be_volume.specs.Volume.{State}
 use Rattle.be_volume.specs.declared.maps.Index.{Index}
-use Rattle.be_order.specs.Ordered.{after, bytes_of, cursor_at, in_order, is_after, key_after, key_cmp, keyed, keys_of, nodes_of, page_of, page_with, EndsWith, Page}
+use Rattle.be_order.specs.Ordered.{after, bytes_of, cursor_at, in_order, is_after, key_after, key_cmp, keyed, keys_of, nodes_of, page_of, page_with, EndsWith}
 use Rattle.be_order.proofs.KeyLists.{key_total, is_same, is_key_in, is_in_contained, same_members, node_for, with_nodes, in_order_is}
 
 module _ {X Y : Type 0} (f : X → Y) where

@@ -1,5 +1,5 @@
 -- A walk over an index in its order, whose range decides a query, finds the front of the answer.
-use Rattle.std.proofs.Common.{◌≡◌, ◌⊎◌, ◌<◌, ◌≤◌, ◌+◌, ◌^◌, ℕ, zero, suc, Bool, true, false, ◌||◌, cond, List, [], ◌∷◌, ◌++◌, refl, sym, ap, ◌∙◌, subst, arith, Some, None, is_some, inl, inr, take, length, filter, nat_lt, if◌then◌else◌}
+use Rattle.std.proofs.Common.{◌≡◌, ◌⊎◌, ◌<◌, ◌+◌, ◌^◌, ℕ, zero, suc, Bool, true, false, cond, List, [], ◌∷◌, ◌++◌, refl, sym, ap, ◌∙◌, subst, arith, Some, None, is_some, inl, inr, take, length, filter, if◌then◌else◌}
 use Rattle.std.specs.List.{Contains, flat_map}
 use Rattle.std.specs.Option.{option_and_then, option_map, option_map_or}
 use Rattle.std.proofs.lemmas.Option.{same_Some}
@@ -8,7 +8,7 @@ use Rattle.std.specs.FinMap as fin
 use Rattle.std.specs.FinMap.Entries.{find, is_sorted-where_key}
 use Rattle.std.specs.declared.option.Option.{Option}
 use Rattle.std.specs.declared.cmp.Ordering.{Ordering}
-use Rattle.std.specs.declared.cmp.Ordering.TheVariants.{Less, Equal, Greater}
+use Rattle.std.specs.declared.cmp.Ordering.TheVariants.{Less}
 use Rattle.std.specs.declared.result.Result.TheVariants.{Ok, Err}
 use Rattle.be_value.specs.Key.{key}
 use Rattle.be_value.specs.declared.values.Kind.{Kind}
@@ -17,7 +17,7 @@ use Rattle.be_query.specs.Grammar.{Formula, Leaf, And, Or, comparisons}
 use Rattle.be_value.specs.declared.refusals.Refusal.TheVariants.{NotCovered}
 use Rattle.be_volume.specs.Keys.{IsKey}
 use Rattle.be_volume.specs.Maps.{Attributes}
-use Rattle.be_volume.specs.Query.{covered, holds, sat, scan, sees, seen_in}
+use Rattle.be_volume.specs.Query.{holds, sat, scan, sees, seen_in}
 use Rattle.be_volume.specs.Reading.{attribute, index_kind}
 use Rattle.be_volume.specs.Sound.{IsSound, IsPaired}
 use Rattle.be_volume.specs.Volume.{State}
@@ -29,7 +29,7 @@ use Rattle.be_plan.proofs.Seen.{key_node, left_key}
 use Rattle.be_plan.proofs.Rising.{contains_of_is_in, from_filter, in_by_place, in_filter}
 use Rattle.be_plan.proofs.Sides.{named_rests}
 use Rattle.be_plan.proofs.Ways.{and_first, and_second}
-use Rattle.be_order.specs.Ordered.{after, in_order, is_after, key_cmp, keyed, keys_of, nodes_of}
+use Rattle.be_order.specs.Ordered.{after, in_order, is_after, key_cmp, keyed}
 use Rattle.be_order.specs.Walks.{AreFirst, IsEntry}
 use Rattle.be_order.proofs.KeyLists.{found_after, is_itself, is_same}
 use Rattle.be_order.proofs.PageKeys.{entry}

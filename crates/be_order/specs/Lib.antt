@@ -1,4 +1,5 @@
 pub mod Asked
 pub mod Firsts
 pub mod Ordered
+pub mod Pages
 pub mod Walks

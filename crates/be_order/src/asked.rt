@@ -1,8 +1,8 @@
 //! Pages by a walk over the index, of whose nodes the query is asked.
 //!
 //! The walk goes in parts, each twice as long as the one before it. It ends when the page is full
-//! or the index has no more. If too few of the nodes pass, it gives up: then the answer is small
-//! beside the index, and it is cheaper to find all of it and to sort.
+//! or the index has no more. Once it costs more than the query's own way, it gives up: then it is
+//! cheaper to find the whole answer and to sort.
 ghost use Rattle.std.specs.Prelude.{◌≡◌, ◌++◌, ◌∷◌, [], None, Ok, OnErr, OnOk, IfErr, IfOk, IfSome};
 ghost use Rattle.std.specs.Prelude.{Some, filter, true};
 ghost use Rattle.be_value.specs.declared.refusals.Refusal.TheVariants.{OutOfMemory};
@@ -13,6 +13,7 @@ ghost use Rattle.be_volume.specs.Volume.{State};
 ghost use Rattle.be_order.specs.Asked.{HasFront, IsPart, true_after};
 ghost use Rattle.be_order.specs.Ordered.{cursor_bytes, page, page_with};
 
+use crate::costs::OwnCost;
 use crate::keys::Index;
 use crate::prepared::keep_first;
 use crate::{Order, OrderedKeys, OrderedSource};
@@ -22,14 +23,12 @@ use be_query::{Query, Tree};
 use be_value::Refusal;
 use std::alloc::{AllocError, Global};
 
-/// How many nodes are asked first.
-const FIRST_PART: usize = 32;
+/// How many nodes the first part has at most. It has one more than the page, so that a page whose
+/// nodes all pass takes one part.
+const FIRST_PART: usize = 64;
 
-/// Of how many nodes asked one has to pass, so that the walk goes on.
-const ONE_OF: usize = 32;
-
-/// How many parts a walk has at most: 2^20 nodes and more.
-const PARTS: usize = 16;
+/// How many parts a walk has at most: 2^24 nodes and more.
+const PARTS: usize = 24;
 
 /// Puts the nodes of the next keys of an index into a list, in place of what it had, and moves the
 /// cursor to the last of these keys. Returns whether there may be more, and None if the source
@@ -118,6 +117,7 @@ fn ask_parts<S: OrderedSource>(
     source: &mut S,
     index: Index<'_>,
     order: Order<'_>,
+    own_cost: OwnCost,
     cursor: Option<ArrayVec<u8, 264>>,
     found: &mut Vec<u64>,
 ) -> Result<bool, Refusal>
@@ -133,7 +133,8 @@ fn ask_parts<S: OrderedSource>(
 {
     found.clear();
     let mut at = cursor;
-    let mut count = FIRST_PART;
+    let mut count = order.most.saturating_add(1).min(FIRST_PART);
+    let mut asked: u64 = 0;
     let mut nodes = Vec::with_capacity(alloc, FIRST_PART)?;
     for _ in 0..PARTS {
         let walked = next_part(source, index, order.descending, count, &mut at, &mut nodes)?;
@@ -147,7 +148,8 @@ fn ask_parts<S: OrderedSource>(
         if found.len() > order.most {
             return Ok(true);
         }
-        if found.len() < count / ONE_OF {
+        asked = asked.saturating_add(count as u64);
+        if own_cost.is_spent(asked, found.len()) {
             return Ok(false);
         }
         count = count.saturating_mul(2);
@@ -181,14 +183,15 @@ fn rests_on_index<S: Source>(alloc: Global, query: &Query, source: &mut S) -> bo
 }
 
 /// A page of a query, by a walk over the index of the order of whose nodes the query is asked. None
-/// if another way is right: the source doesn't walk so, too few nodes pass, or the query rests on
-/// no index.
+/// if another way is right: the source doesn't walk so, the query rests on no index, or its own way
+/// is cheaper. It is if the whole answer fits into the page, and then nothing is walked.
 pub(crate) fn ask_page<S: OrderedSource>(
     alloc: Global,
     query: &Query,
     source: &mut S,
     index: Index<'_>,
     order: Order<'_>,
+    own_cost: OwnCost,
     cursor: &mut Option<ArrayVec<u8, 264>>,
     found: &mut Vec<u64>,
 ) -> Result<Option<bool>, Refusal>
@@ -205,11 +208,14 @@ pub(crate) fn ask_page<S: OrderedSource>(
     ensures stays { S.kept source.new ≡ S.kept source.old }
     ensures answers { S.answers_for source.new volume }
 {
+    if own_cost.fits(order.most) {
+        return Ok(None);
+    }
     if !rests_on_index(alloc, query, source) {
         return Ok(None);
     }
     let from = copy_of(cursor);
-    if !ask_parts(alloc, query, source, index, order, from, found)? {
+    if !ask_parts(alloc, query, source, index, order, own_cost, from, found)? {
         return Ok(None);
     }
     let more = found.len() > order.most;

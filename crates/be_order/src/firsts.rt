@@ -1,13 +1,21 @@
 //! The first of an answer by number, and any few of it.
-ghost use Rattle.std.specs.Prelude.{◌≡◌, IfErr, OnOk, filter, nat_le, take};
+ghost use Rattle.std.specs.Prelude.{◌≡◌, IfErr, IfOk, OnOk, Some, filter, nat_le, take, true};
+ghost use Rattle.std.specs.Option.{option_copied};
 ghost use Rattle.be_value.specs.Refusal.{Answers};
+ghost use Rattle.be_value.specs.declared.refusals.Refusal.TheVariants.{OutOfMemory};
+ghost use Rattle.be_query.specs.Grammar.{Formula};
 ghost use Rattle.be_volume.specs.Query.{scan};
+ghost use Rattle.be_volume.specs.Reading.{index_kind};
 ghost use Rattle.be_volume.specs.Volume.{State};
+ghost use Rattle.be_plan.specs.Prepared.{Decides};
+ghost use Rattle.be_plan.specs.Walk.{AreAllOn};
 ghost use Rattle.be_order.specs.Firsts.{IsAnyOf, from_number};
 
-use be_plan::{PreparedQuery, Source, answer_into};
+use crate::costs::meet_own;
+use crate::{OrderedKeys, OrderedSource};
+use be_plan::{KeyRange, PreparedQuery, Source, answer_into};
 use be_query::Query;
-use be_value::Refusal;
+use be_value::{Kind, Refusal};
 use std::alloc::Global;
 
 /// Keeps the numbers from the first on, up to so many.
@@ -85,8 +93,41 @@ pub fn first_prepared_into<S: Source>(
     first_by_number(alloc, prepared.query(), source, first, most, found)
 }
 
-/// Any few of a prepared query's answer, as `any_into` has them of a query.
-pub fn any_prepared_into<S: Source>(
+/// Any few nodes of the keys of a range that decides a query, by one walk, if the source walks so.
+fn walk_any<S: OrderedSource>(
+    source: &mut S,
+    keys: KeyRange<'_>,
+    kind: Kind,
+    most: usize,
+    found: &mut Vec<u64>,
+) -> Result<bool, Refusal>
+    ghost volume: { State }
+    requires answers { S.answers_for source.old volume }
+    requires kind { index_kind volume keys.name.now ≡ Some kind }
+    ensures any { IfOk result (λ walked. walked ≡ true → (f : Formula)
+        → AreAllOn f keys.entry.name.now
+        → Decides f kind keys.entry.low.now (option_copied keys.entry.high)
+        → IsAnyOf (scan volume f) most found.new.items) }
+    ensures memory { IfErr result (λ e. e ≡ OutOfMemory) }
+    ensures stays { S.kept source.new ≡ S.kept source.old }
+    ensures answers { S.answers_for source.new volume }
+{
+    found.clear();
+    let cursor = None;
+    let walk = OrderedKeys {
+        keys,
+        descending: false,
+        cursor: &cursor,
+    };
+    let walked = source.first_nodes(walk, most, found)?;
+    Ok(walked)
+}
+
+/// Any few of a prepared query's answer, as `any_into` has them of a query. If a range of one index
+/// decides the query and the source walks in order, they are the first of the range, by a walk over
+/// as many keys; then it takes no memory but for the list. Otherwise it costs what the whole answer
+/// does.
+pub fn any_prepared_into<S: OrderedSource>(
     alloc: Global,
     prepared: &mut PreparedQuery,
     source: &mut S,
@@ -102,5 +143,13 @@ pub fn any_prepared_into<S: Source>(
     ensures stays { S.kept source.new ≡ S.kept source.old }
     ensures answers { S.answers_for source.new volume }
 {
+    if let Some(kind) = meet_own(prepared, source) {
+        if let Some(keys) = prepared.keys_for(kind) {
+            let walked = walk_any(source, keys, kind, most, found)?;
+            if walked {
+                return Ok(());
+            }
+        }
+    }
     any_into(alloc, prepared.query(), source, most, found)
 }

@@ -1,18 +1,40 @@
-//! A law of pages.
+//! Laws of pages.
 //!
-//! The function does nothing; its contract is the law.
-ghost use Rattle.std.specs.Prelude.{◌≡◌, ℕ, Bool, List, drop};
+//! The functions do nothing; their contracts are the laws.
+ghost use Rattle.std.specs.Prelude.{◌≡◌, ◌≢◌, ◌<◌, ℕ, Bool, List, None, Ok, Some, drop, length};
+ghost use Rattle.std.specs.Prelude.{slice_index};
 ghost use Rattle.std.specs.declared.option.Option.{Option};
+ghost use Rattle.be_query.specs.Grammar.{Formula};
+ghost use Rattle.be_value.specs.declared.values.Kind.{Kind};
+ghost use Rattle.be_volume.specs.Reading.{index_kind};
+ghost use Rattle.be_volume.specs.Sound.{IsSound};
 ghost use Rattle.be_volume.specs.Volume.{State};
-ghost use Rattle.be_order.specs.Ordered.{after, in_order, page_of};
+ghost use Rattle.be_order.specs.Ordered.{Page, after, in_order, nodes_of, ordered, page_of};
+ghost use Rattle.be_order.specs.Pages.{ArePages, nodes_in};
 
-/// Pages one after the other are the whole list, each node once: what comes after the cursor that
-/// a page leaves is what came after its own cursor, without the page. So at the same snapshot the
-/// next page begins with the node after its last one.
+/// What comes after the cursor that a page leaves is what came after its own cursor, without the
+/// page. So at the same snapshot the next page begins with the node after its last one.
 pub fn next_page_goes_on()
     ensures { (s : State) (by nodes : List ℕ) (descending : Bool) (cursor : Option (List ℕ))
         (most : ℕ) →
         let list = in_order s by descending nodes in
         let ahead = after descending cursor list in
         after descending (page_of cursor most ahead).cursor list ≡ drop most ahead }
+{}
+
+/// The pages of one snapshot, each asked from the cursor that the one before it left, are the whole
+/// list in its order, and have each node once. With at least one node a page, they come to an end.
+pub fn pages_are_the_whole()
+    ensures whole { (s : State) (f : Formula) (by : List ℕ) (descending : Bool) (most : ℕ)
+        (list : List (List ℕ × ℕ)) (pages : List Page) → ordered s f by descending ≡ Ok list
+        → ArePages s f by descending most None pages
+        → nodes_in pages ≡ nodes_of list }
+    ensures once { (s : State) (f : Formula) (by : List ℕ) (kind : Kind) (descending : Bool)
+        (list : List (List ℕ × ℕ)) → IsSound s → index_kind s by ≡ Some kind
+        → ordered s f by descending ≡ Ok list
+        → (i j : ℕ) → i < j → j < length (nodes_of list)
+        → slice_index (nodes_of list) i ≢ slice_index (nodes_of list) j }
+    ensures end { (s : State) (f : Formula) (by : List ℕ) (descending : Bool) (most : ℕ)
+        (list : List (List ℕ × ℕ)) → ordered s f by descending ≡ Ok list → 0 < most
+        → (pages : List Page) × ArePages s f by descending most None pages }
 {}

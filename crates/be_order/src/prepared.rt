@@ -14,6 +14,7 @@ ghost use Rattle.be_plan.specs.Walk.{AreAllOn};
 ghost use Rattle.be_order.specs.Ordered.{cursor_bytes, page, page_with};
 
 use crate::asked::ask_page;
+use crate::costs::{meet_own, own_cost};
 use crate::keys::{Index, key_in};
 use crate::{Order, OrderedKeys, OrderedSource, ordered_into};
 use arrayvec::ArrayVec;
@@ -94,8 +95,10 @@ fn walk_page<S: OrderedSource>(
 /// Puts a page of a prepared query into a list, as `ordered_into` does of a query. If the range of
 /// the query on the order's own index decides it, and the source walks in order, the page costs one
 /// walk over as many keys as the page has nodes, and one more; then it takes no memory but for the
-/// list. Otherwise it walks the index and asks the query of each node until the page is full. If
-/// too few nodes pass, it costs what `ordered_into` does, and what it had asked before.
+/// list. Otherwise it walks the index from the cursor and asks the query of each node until the
+/// page is full: a question for each node that is passed. That ends once it has cost about what
+/// `ordered_into` does, which then answers. So a page costs at most about twice what the cheaper of
+/// both ways does.
 pub fn ordered_prepared_into<S: OrderedSource>(
     alloc: Global,
     prepared: &mut PreparedQuery,
@@ -117,8 +120,7 @@ pub fn ordered_prepared_into<S: OrderedSource>(
     let Some(kind) = source.kind_of(order.by) else {
         return Err(Refusal::NoSuchIndex);
     };
-    let place = prepared.place();
-    prepared.meet(place, kind);
+    let own = meet_own(prepared, source);
     if let Some(keys) = prepared.keys_for(kind) {
         if *keys.name == *order.by {
             let walked = walk_page(source, keys, kind, order, cursor, found)?;
@@ -127,12 +129,13 @@ pub fn ordered_prepared_into<S: OrderedSource>(
             }
         }
     }
+    let own_cost = own_cost(prepared, own, source);
     let query = prepared.query();
     let index = Index {
         name: order.by,
         kind,
     };
-    let asked = ask_page(alloc, query, source, index, order, cursor, found)?;
+    let asked = ask_page(alloc, query, source, index, order, own_cost, cursor, found)?;
     if let Some(more) = asked {
         return Ok(more);
     }

@@ -43,4 +43,14 @@ pub trait OrderedSource: Source {
     {
         Ok(false)
     }
+
+    /// About how many keys the range has. It decides only which way a page goes, so any number is
+    /// right. A source with no body of its own gives the largest.
+    fn about(&mut self, _keys: KeyRange<'_>) -> u64
+        requires { (volume : State) × Self.answers_for self.old volume }
+        ensures stays { Self.kept self.new ≡ Self.kept self.old }
+        ensures answers { StillAnswers Self.answers_for self.old self.new }
+    {
+        u64::MAX
+    }
 }

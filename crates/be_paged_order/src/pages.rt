@@ -6,7 +6,7 @@ ghost use Rattle.std.specs.Prelude.{◌≡◌, Some};
 ghost use Rattle.be_volume.specs.Volume.{State};
 ghost use Rattle.be_paged_reading.specs.Version.{HasVersion, IsVersion};
 
-use crate::walks::walk_keys;
+use crate::walks::{about_keys, walk_keys};
 use arrayvec::ArrayVec;
 use be_order::{OrderedKeys, OrderedSource};
 use be_paged_reading::{PagedSource, source};
@@ -145,5 +145,16 @@ impl<L: Look> OrderedSource for OrderedPages<L> {
         let None = taken else { unreachable!() };
         walked?;
         Ok(true)
+    }
+
+    fn about(&mut self, keys: KeyRange<'_>) -> u64 {
+        let Some(reader) = self.reader.take() else {
+            return 0;
+        };
+        let mut look = reader.into_look();
+        let count = about_keys(&mut look, self.page, keys);
+        let taken = mem::replace(&mut self.reader, Some(source(look, self.page)));
+        let None = taken else { unreachable!() };
+        count
     }
 }

@@ -15,7 +15,8 @@ use crate::ways::way_of;
 use be_order::OrderedKeys;
 use be_paged_reading::{Version, fill_version, index_at, search};
 use be_pages::Look;
-use be_tree_reading::numbers_in_order;
+use be_plan::KeyRange;
+use be_tree_reading::{about_within, numbers_in_order};
 use be_value::{Name, Refusal};
 
 /// The root of the tree of the index of a name; none without an index.
@@ -62,4 +63,15 @@ pub(crate) fn walk_keys<L: Look>(
     let way = way_of(keys.keys.low, keys.keys.high, keys.descending, keys.cursor);
     numbers_in_order(look, root, way, most, found)?;
     Ok(())
+}
+
+/// About how many keys a range has. It costs two descents, and is exact for a range within a leaf.
+pub(crate) fn about_keys<L: Look>(look: &mut L, version_page: u64, keys: KeyRange<'_>) -> u64
+    requires version { HasVersion L.standing L.words look.old version_page }
+    ensures unchanged { IsUnchanged L.kept L.standing L.words look.old look.new }
+{
+    match root_of(look, version_page, keys.name) {
+        Some(root) => about_within(look, root, keys.low, keys.high),
+        None => 0,
+    }
 }

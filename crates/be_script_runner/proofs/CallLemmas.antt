@@ -6,9 +6,13 @@ use Rattle.std.specs.declared.result.Result.{Result}
 use Rattle.be_value.specs.declared.refusals.Refusal.{Refusal}
 use Rattle.be_volume.specs.declared.ops.Done.{Done}
 use Rattle.be_volume.specs.declared.ops.Op.{Op}
-use Rattle.be_store.specs.Calls.{Call, Calls}
+use Rattle.be_store.specs.Calls.{Call}
 use Rattle.be_store.specs.History.{Accepts, IsLastReason, Learns}
 use Rattle.be_store.specs.Passes.{HasRead}
+use Rattle.be_store.specs.SmallMachine.{Step, Apply, Learn}
+use Rattle.be_store.specs.Views.{volume}
+use Rattle.be_store.proofs.Calls.{calls_both, calls_more}
+use Rattle.be_table.specs.Steps.{entry_by}
 use Rattle.be_table.specs.declared.pass.Knowledge.{Knowledge}
 use Rattle.be_script_language.specs.Reply.{none}
 use Rattle.be_script_language.specs.Request.{Request, silent, lines_of}
@@ -22,17 +26,9 @@ use Rattle.be_script_runner.proofs.EndLemmas.{nothing_asked}
 use Rattle.be_script_runner.proofs.ReplyLemmas.{serves_at_once}
 use Rattle.be_script_runner.proofs.RunLemmas.{none_written, written_both}
 
-calls_more : (a : Knowledge) (cs : List Knowledge) (b c : Knowledge) → Calls a cs b → Call b c → Calls a (cs ++ c ∷ []) c
-calls_more a [] b c h k = (subst (λ (x : Knowledge). Call x c) (sym h) k, refl)
-calls_more a (x ∷ cs) b c h k = (h.0, calls_more x cs b c h.1 k)
-
-calls_both : (a : Knowledge) (cs : List Knowledge) (b : Knowledge) (ds : List Knowledge) (c : Knowledge) → Calls a cs b → Calls b ds c → Calls a (cs ++ ds) c
-calls_both a [] b ds c h k = subst (λ (x : Knowledge). Calls x ds c) (sym h) k
-calls_both a (x ∷ cs) b ds c h k = (h.0, calls_both x cs b ds c h.1 k)
-
 -- one call more, and none
-pub leads_more : (a b c : Knowledge) → LeadTo a b → Call b c → LeadTo a c
-leads_more a b c h k = (h.0 ++ c ∷ [], calls_more a h.0 b c h.1 k)
+pub leads_more : (a b : Knowledge) (s : Step volume) (c : Knowledge) → LeadTo a b → Call b s c → LeadTo a c
+leads_more a b s c h k = (h.0 ++ s ∷ [], calls_more a h.0 b s c h.1 k)
 
 pub leads_both : (a b c : Knowledge) → LeadTo a b → LeadTo b c → LeadTo a c
 leads_both a b c h k = (h.0 ++ k.0, calls_both a h.0 b k.0 c h.1 k.1)
@@ -40,15 +36,15 @@ leads_both a b c h k = (h.0 ++ k.0, calls_both a h.0 b k.0 c h.1 k.1)
 pub leads_nowhere : (a : Knowledge) → LeadTo a a
 leads_nowhere a = ([], refl)
 
--- a read is a call
+-- a read is a call, whatever it answers
 pub leads_read : (a b c : Knowledge) → LeadTo a b → HasRead b c → LeadTo a c
-leads_read a b c h k = leads_more a b c h (inr (inr (inr (inr (inl k)))))
+leads_read a b c h k = leads_more a b Learn c h (inr (inr k))
 
 -- a write is one, accepted or refused
 pub writes_call : {X : Type 0} (a c : Knowledge) (tries : ℕ) (dones_of : X → List Done) (ops : List Op) (r : Result (ℕ × X) Refusal) → IfOk r (λ x. Accepts a c ops x.0 (dones_of x.1)) →
-    IfErr r (λ e. Learns a c × IsLastReason tries a c ops e) → Call a c
-writes_call a c tries dones_of ops (Ok x) ok err = inl (ops, x.0, dones_of x.1, ok)
-writes_call a c tries dones_of ops (Err e) ok err = inr (inl err.0)
+    IfErr r (λ e. Learns a c × IsLastReason tries a c ops e) → LeadTo a c
+writes_call a c tries dones_of ops (Ok x) ok err = (Apply (entry_by a ops (dones_of x.1)) x.0 ∷ [], (c, (ops, dones_of x.1, refl, ok), refl))
+writes_call a c tries dones_of ops (Err e) ok err = (Learn ∷ [], (c, inl err.0, refl))
 
 -- ## Lines
 

@@ -2,6 +2,8 @@
 use Rattle.std.specs.Prelude.{◌≡◌, ℕ, List, [], ◌∷◌, ◌++◌}
 use Rattle.be_store.specs.Calls.{Calls}
 use Rattle.be_store.specs.Passes.{IsPassOf}
+use Rattle.be_store.specs.SmallMachine.{Step}
+use Rattle.be_store.specs.Views.{volume}
 use Rattle.be_table.specs.Place.{Opened, SeatFacts}
 use Rattle.be_table.specs.declared.pass.Knowledge.{Knowledge}
 use Rattle.be_script_language.specs.Request.{lines_of}
@@ -10,7 +12,7 @@ use Rattle.be_script_runner.specs.Served.{known}
 
 -- calls of a pass lead from what it knew to what it knows then
 abbrev pub LeadTo : Knowledge → Knowledge → Type 0
-LeadTo a c = (calls : List Knowledge) × Calls a calls c
+LeadTo a c = (steps : List (Step volume)) × Calls a steps c
 
 -- a pass of this store, to which calls led from what it was at first
 abbrev pub IsLedFrom : SeatFacts → Opened → SeatFacts → Type 0

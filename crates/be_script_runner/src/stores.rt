@@ -12,7 +12,6 @@ ghost use Rattle.be_journal_text.specs.Dump.{state_dump};
 ghost use Rattle.be_journal_text.specs.History.{CanBeOp};
 ghost use Rattle.be_plan.specs.Cover.{chosen};
 ghost use Rattle.be_plan.specs.Explain.{are_places};
-ghost use Rattle.be_store.specs.Calls.{Call};
 ghost use Rattle.be_store.specs.History.{IsLastReason};
 ghost use Rattle.be_store.specs.Passes.{IsPassOf};
 ghost use Rattle.be_value.specs.Refusal.{Answers};
@@ -161,7 +160,7 @@ fn apply_at_last(
     requires count { (1 ≤ length ops.now) × (length ops.now ≤ 64) }
     ensures pass { IsPassOf store.now pass.new }
     ensures number { pass.new.knows.number ≡ pass.old.knows.number }
-    ensures call { Call pass.old.knows pass.new.knows }
+    ensures call { LeadTo pass.old.knows pass.new.knows }
     ensures writes { Meanwhile (known pass.old.knows)
         (λ store. MayWrite (λ dones. dones.items) store ops.now result (known pass.new.knows)) }
     ensures tries { IfErr result (λ e. IsLastReason MAX_TRIES pass.old.knows pass.new.knows ops.now

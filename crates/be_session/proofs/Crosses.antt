@@ -7,6 +7,7 @@ use Rattle.atomic_table.proofs.badge.Badge.TheSendSync.{the_send as badge_send}
 use Rattle.atomic_table.proofs.send_lease.SendLease.TheSendSync.{the_send as lease_send, the_sync as lease_sync}
 use Rattle.atomic_table.proofs.shared.Shared.TheSendSync.{the_send as table_send, the_sync as table_sync}
 use Rattle.counted_slot.proofs.Counted.TheSendSync.{the_send as counted_send, the_sync as counted_sync}
+use Rattle.be_change.specs.contracts.changes.Change as Change
 use Rattle.be_journal.specs.contracts.journals.Journal as Journal
 use Rattle.be_store.specs.contracts.store.Store as Store
 use Rattle.be_table.specs.contracts.seat.Seat as Seat
@@ -51,3 +52,7 @@ session = search (sendable, crosses, pass_send, shared_send, shared_sync) depth 
 -- and so may a witness
 pub witness : IsSend Witness.the_row
 witness = search (sendable, crosses, badge_send) depth 20
+
+-- and so may a change
+pub change : IsSend Change.the_row
+change = search (sendable, crosses) depth 100 fits 20000

@@ -1,10 +1,10 @@
 -- The cursor of a page: it is at a key, which is at least as long as a node, or where it was.
-use Rattle.std.proofs.Common.{◌≡◌, ◌<◌, ◌≤◌, ℕ, zero, suc, Bool, true, false, cond, List, [], ◌∷◌, ◌++◌, refl, sym, ap, ◌∙◌, subst, arith, Ok, Err, IfErr, Some, None, is_some, filter, take, length, length-append}
+use Rattle.std.proofs.Common.{◌≡◌, ◌≤◌, ℕ, zero, suc, Bool, true, false, cond, List, [], ◌∷◌, ◌++◌, refl, sym, ap, ◌∙◌, subst, arith, Ok, Err, IfErr, Some, None, is_some, take, length, length-append}
 use Rattle.std.specs.List.{Contains, AllByRecursion, flat_map}
 use Rattle.std.specs.Option.{option_map_or}
 use Rattle.std.specs.Result.{result_map_both}
 use Rattle.std.specs.FinMap as fin
-use Rattle.std.specs.FinMap.Entries.{find, is_some-find}
+use Rattle.std.specs.FinMap.Entries.{is_some-find}
 use Rattle.std.specs.Int.{to_be_bytes, w64}
 use Rattle.std.specs.declared.option.Option.{Option}
 use Rattle.std.specs.declared.result.Result.{Result}

@@ -1,6 +1,10 @@
 -- The numbers of errors.
 use Rattle.std.specs.Prelude.{ℕ, unwrap_or}
+use Rattle.be_change.specs.declared.errors.CollectError.{CollectError}
+use Rattle.be_change.specs.declared.errors.CollectError.TheVariants as uncollected
 use Rattle.be_value.specs.Refusal.{carried, refusal_number}
+use Rattle.be_value.specs.Value.{code_of}
+use Rattle.be_value.specs.declared.refusals.Refusal.TheVariants.{OutOfMemory}
 use Rattle.be_store.specs.declared.conditional.ApplyIfError.{ApplyIfError}
 use Rattle.be_store.specs.declared.conditional.ApplyIfError.TheVariants as errors
 use Rattle.be_session.specs.declared.faults.Fault.{Fault}
@@ -8,7 +12,7 @@ use Rattle.be_session.specs.declared.faults.Fault.TheVariants.{NotPinned, Alread
 use Rattle.be_session.specs.declared.faults.Fault.TheVariants.{BadCount}
 use Rattle.be_session.specs.declared.faults.Fault.TheVariants.{NotUtf8, NoOperation, NoKind}
 use Rattle.be_session.specs.declared.faults.Fault.TheVariants.{NoValue, BadPart, NoItem, Conflict}
-use Rattle.be_session.specs.declared.faults.Fault.TheVariants.{InUse, BadCursor, NoRoom}
+use Rattle.be_session.specs.declared.faults.Fault.TheVariants.{InUse, BadCursor, NoRoom, WrongKind}
 use Rattle.be_session.specs.declared.faults.Fault.TheVariants.{Refused}
 
 -- the number by which other languages know an error: a refusal's own, and from 66 on those of a
@@ -28,10 +32,11 @@ fault_code (Conflict length) = 76
 fault_code InUse = 77
 fault_code BadCursor = 78
 fault_code NoRoom = 79
+fault_code (WrongKind index) = 80
 fault_code (Refused e) = refusal_number e
 
 -- the number that an error carries: what a refusal carries, the journal's length for a conflict,
--- and otherwise 0
+-- the type code of the index's kind for a value of another, and otherwise 0
 abbrev pub fault_carried : Fault → ℕ
 fault_carried NotPinned = 0
 fault_carried AlreadyPinned = 0
@@ -47,9 +52,16 @@ fault_carried (Conflict length) = length
 fault_carried InUse = 0
 fault_carried BadCursor = 0
 fault_carried NoRoom = 0
+fault_carried (WrongKind index) = code_of index
 fault_carried (Refused e) = unwrap_or (carried e) 0
 
 -- the error of a conditional write that the store did not make
 abbrev pub fault_of : ApplyIfError → Fault
 fault_of (errors.Conflict length) = Conflict length
 fault_of (errors.Refused e) = Refused e
+
+-- the error of an operation that a change did not collect
+abbrev pub fault_of_collecting : CollectError → Fault
+fault_of_collecting uncollected.TooMany = BadCount
+fault_of_collecting (uncollected.WrongKind index value) = WrongKind index
+fault_of_collecting uncollected.OutOfMemory = Refused OutOfMemory

@@ -1,3 +1,4 @@
+pub mod Changes
 pub mod Cursors
 pub mod Fault
 pub mod Meaning

@@ -53,12 +53,12 @@ IsMeant number node name code value_number bytes (RmIndex called) = (number ≡ 
 abbrev pub IsNoKind : ℕ → Type 0
 IsNoKind code = (kind : Kind) → code_of kind ≢ code
 
--- why bytes are no name: they are no UTF-8, or what they say is none
+-- why bytes aren't a name: they aren't valid UTF-8, or the text isn't a valid name
 abbrev pub IsNoName : List ℕ → Fault → Type 0
 IsNoName name e = ((e ≡ NotUtf8) × (¬ (IsUtf8 name)))
     ⊎ (IsUtf8 name × (why : Refusal) × (e ≡ Refused why) × (name_from name ≡ Err why))
 
--- why bytes are no text of a value, by the same order
+-- why bytes aren't the text of a value, in the same order
 abbrev pub IsNoText : List ℕ → Fault → Type 0
 IsNoText bytes e = ((e ≡ NotUtf8) × (¬ (IsUtf8 bytes)))
     ⊎ (IsUtf8 bytes × (why : Refusal) × (e ≡ Refused why) × (text_from bytes ≡ Err why))

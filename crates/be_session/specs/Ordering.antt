@@ -15,7 +15,7 @@ use Rattle.be_session.specs.declared.cursors.Cursor.{Cursor}
 use Rattle.be_session.specs.declared.faults.Fault.{Fault}
 use Rattle.be_session.specs.declared.faults.Fault.TheVariants.{BadCursor, NoRoom, Refused}
 
--- there is no index of that name, since the bytes are no name or the volume has none
+-- the volume has no index of that name; if the bytes aren't a valid name, none can have it
 abbrev pub LacksIndex : State → List ℕ → Type 0
 LacksIndex volume by = ((e : Fault) × IsNoName by e) ⊎ (index_kind volume by ≡ None)
 
@@ -32,16 +32,16 @@ pub record IsPageRead (volume : State) (f : Formula) (by : List ℕ) (descending
   pub page_is : page volume f by descending (cursor_key cursor) most
       ≡ Ok (page_with nodes (cursor_key moved) more)
 
--- why there is no page in an index of this kind: the cursor isn't of the kind, or the query has no
--- answer, or the call ran out of memory
+-- why no page of an index of this kind was read: the cursor is of another kind, the query can't be
+-- answered, or memory ran out
 abbrev pub IsNoPageIn : Kind → State → Formula → List ℕ → Bool → ℕ → Cursor → Fault → Type 0
 IsNoPageIn kind volume f by descending most cursor e =
     ((¬ (IsCursorOf kind cursor)) × (e ≡ BadCursor))
     ⊎ (IsCursorOf kind cursor
     × IsUnanswered (page volume f by descending (cursor_key cursor) most) e)
 
--- why no page was read, by the first reason that holds: no node is wanted, there is no such index,
--- or there is no page in that index
+-- Why no page was read: the caller wants no node, there is no such index, or no page of that index
+-- was read. The first of these that is true is reported.
 abbrev pub IsNoPage : State → Formula → List ℕ → Bool → ℕ → Cursor → Fault → Type 0
 IsNoPage volume f by descending most cursor e =
     ((most ≡ 0) × (e ≡ NoRoom))
@@ -49,7 +49,7 @@ IsNoPage volume f by descending most cursor e =
     ⊎ ((1 ≤ most) × (kind : Kind) × (index_kind volume by ≡ Some kind)
     × IsNoPageIn kind volume f by descending most cursor e)
 
--- why a few nodes of an answer weren't read: none is wanted, or the query has no such answer, or
--- the call ran out of memory
+-- why a few nodes of an answer weren't read: the caller wants none, the query can't be answered, or
+-- memory ran out
 abbrev pub AreUnread : {Y : Type 0} → Result Y Refusal → ℕ → Fault → Type 0
 AreUnread meant most e = ((most ≡ 0) × (e ≡ NoRoom)) ⊎ ((1 ≤ most) × IsUnanswered meant e)

@@ -137,8 +137,8 @@ abbrev pub IsUnread : Option ℕ → Type 0 → Fault → Type 0
 IsUnread None why e = e ≡ NotPinned
 IsUnread (Some n) why e = why
 
--- why bytes are no text of a query: they are no UTF-8, the text has this error, or the call runs
--- out of memory
+-- why bytes aren't a query's text: they aren't valid UTF-8, the text has this error, or memory runs
+-- out
 abbrev pub IsNoQuery : List ℕ → Fault → Type 0
 IsNoQuery text e = ((e ≡ NotUtf8) × (¬ (IsUtf8 text)))
     ⊎ ((why : Refusal) × (e ≡ Refused why) × IsMemory why (fault text ≡ Some why))

@@ -1,10 +1,11 @@
 //! Why a call of a session did nothing.
 ghost use Rattle.std.specs.Prelude.{◌≡◌};
 ghost use Rattle.be_value.specs.declared.refusals.Refusal.TheVariants.{OutOfMemory};
-ghost use Rattle.be_session.specs.Fault.{fault_carried, fault_code, fault_of};
+ghost use Rattle.be_session.specs.Fault.{fault_carried, fault_code, fault_of, fault_of_collecting};
 ghost use Rattle.be_session.specs.declared.faults.Fault.TheVariants.{Refused};
 
-use be_store::{ApplyIfError, Refusal};
+use be_change::CollectError;
+use be_store::{ApplyIfError, Kind, Refusal};
 use std::alloc::{AllocError, AllocFailed};
 
 /// Why a call of a session did nothing. A refused write may have shown the pass more of the
@@ -38,19 +39,22 @@ pub enum Fault {
     BadCursor,
     /// No room for a node.
     NoRoom,
+    /// The index of that name takes values of this kind, and the value has another.
+    WrongKind(Kind),
     Refused(Refusal),
 }
 
 impl Fault {
     /// The number that the error carries: what its refusal carries, such as the pass that is
-    /// writing or the offset of a byte in a text; for a conflict the journal's length; and
-    /// otherwise 0.
+    /// writing or the offset of a byte in a text; for a conflict the journal's length; for a value
+    /// of another kind than the index's the type code of the index; and otherwise 0.
     pub fn carried(&self) -> u64
         ensures { result ≡ fault_carried self.now }
     {
         match self {
             Fault::Refused(refusal) => refusal.carried().unwrap_or(0),
             Fault::Conflict(length) => *length,
+            Fault::WrongKind(index) => u64::from(index.code()),
             _ => 0,
         }
     }
@@ -75,6 +79,7 @@ impl Fault {
             Fault::InUse => 77,
             Fault::BadCursor => 78,
             Fault::NoRoom => 79,
+            Fault::WrongKind(_) => 80,
         }
     }
 }
@@ -103,6 +108,18 @@ impl From<ApplyIfError> for Fault {
         match error {
             ApplyIfError::Conflict(length) => Fault::Conflict(length),
             ApplyIfError::Refused(refusal) => Fault::Refused(refusal),
+        }
+    }
+}
+
+impl From<CollectError> for Fault {
+    ghost from_gives = { λ error fault. fault ≡ fault_of_collecting error };
+
+    fn from(error: CollectError) -> Fault {
+        match error {
+            CollectError::TooMany => Fault::BadCount,
+            CollectError::WrongKind(index, _) => Fault::WrongKind(index),
+            CollectError::OutOfMemory => Fault::Refused(Refusal::OutOfMemory),
         }
     }
 }

@@ -5,6 +5,7 @@
 //! thread between two calls. The store goes with its last session.
 #![tactic(auto)]
 
+mod changing;
 mod cursors;
 mod explaining;
 mod faults;
@@ -21,6 +22,7 @@ mod shared;
 mod spellings;
 mod states;
 
+pub use changing::collect_operation;
 pub use cursors::Cursor;
 pub use faults::{Fault, ListFault};
 pub use finishing::Unfinished;
@@ -31,5 +33,7 @@ pub use meanings::{name, spelled};
 pub use ordering::HeldOrder;
 pub use preparing::{Prepared, prepare, prepare_items};
 pub use session::{Session, may_move, query_of, sent};
-pub use spellings::{Spelling, attributes_spelled, entry_spelled, indices_spelled};
+pub use spellings::{
+    Spelling, attributes_spelled, entry_spelled, indices_spelled, operations_spelled,
+};
 pub use states::StatePlace;

@@ -44,7 +44,7 @@ pub(crate) fn part(bytes: &[u8], at: u32, len: u32) -> Option<&[u8]>
 
 /// The operation that is encoded here. BadPart if a part isn't within the bytes; otherwise the
 /// error of `operation`.
-fn one(spelled: &Operation, bytes: &[u8]) -> Result<Op, Fault>
+pub(crate) fn one(spelled: &Operation, bytes: &[u8]) -> Result<Op, Fault>
     ensures ok { IfOk result (λ op. ArePartsWithin spelled.now (length bytes.now)
         × IsMeantBy spelled.now bytes.now op) }
     ensures err { IfErr result (λ e. IsMisspeltAt spelled.now bytes.now e) }

@@ -142,7 +142,7 @@ fn spell(bytes: &mut Vec<u8>, op: &Op) -> Result<Operation, Fault>
 }
 
 /// Encodes operations in the list's order. OutOfMemory.
-pub(crate) fn operations_spelled(alloc: Global, list: &[Op]) -> Result<Spelling, Fault>
+pub fn operations_spelled(alloc: Global, list: &[Op]) -> Result<Spelling, Fault>
     ensures ok { IfOk result (λ s. AreSpelled s.operations.items s.bytes.items list.now) }
     ensures err { IfErr result (λ e. e ≡ Refused OutOfMemory) }
 {

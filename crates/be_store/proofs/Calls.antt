@@ -1,5 +1,5 @@
 -- What a pass has seen stays a beginning of the journal through all its calls.
-use Rattle.std.proofs.Common.{◌≡◌, ◌≤◌, ◌-◌, ◌⊎◌, inl, inr, List, [], ◌∷◌, ◌++◌, length, take, Some, sym, ap, ◌∙◌, subst, arith, length-append}
+use Rattle.std.proofs.Common.{◌≡◌, ◌≤◌, ◌-◌, ◌⊎◌, inl, inr, List, [], ◌∷◌, ◌++◌, length, take, Some, refl, sym, ap, ◌∙◌, subst, arith, length-append}
 use Rattle.std.specs.Prelude.{All, slice_get}
 use Rattle.std.proofs.Math.Seq.{get_or-append_seam}
 use Rattle.std.proofs.lemmas.List.{append_assoc, append-nil, length-map, take-append-le}
@@ -18,13 +18,16 @@ use Rattle.be_table.specs.Steps.{KeepsSeen, entry_by}
 use Rattle.be_volume.specs.Volume.{empty}
 use Rattle.be_table.specs.declared.limits.Limits.{Limits}
 use Rattle.be_table.specs.declared.pass.Move.{Move}
-use Rattle.be_table.specs.declared.pass.Move.TheVariants.{Look, Announce, LookAgain, Unpin, Lock, Publish, Unlock}
+use Rattle.be_table.specs.declared.pass.Move.TheVariants as move
+use Rattle.be_table.specs.declared.pass.Move.TheVariants.{Look, Announce, LookAgain, Lock, Publish, Unlock}
 use Rattle.be_table.specs.Trace.{AllRest, HasTrace, Makes}
 use Rattle.be_table.proofs.Scans.{makes_starts}
 use Rattle.be_table.proofs.Worked.{works_start}
 use Rattle.be_store.specs.Calls.{AreInOneTrace, Call, Calls, HasFronts, HasWrites, ReadsFronts}
 use Rattle.be_store.specs.History.{LocksOnly}
 use Rattle.be_store.specs.Passes.{volume_pinned}
+use Rattle.be_store.specs.SmallMachine.{Step, Apply, Learn, Pin, Unpin, Read}
+use Rattle.be_store.specs.Views.{volume}
 use Rattle.be_store.proofs.Applied.{entries_append}
 use Rattle.be_store.proofs.Passes.{pinned_phase}
 
@@ -37,24 +40,34 @@ starts_trans xs ys zs more first = (first.0 ++ more.0, more.1 ∙ (ap (λ l. l +
 same_starts : (a c : Knowledge) → c.seen ≡ a.seen → StartsWith c.seen a.seen
 same_starts a c same = subst (λ l. StartsWith l a.seen) (sym same) (starts_refl a.seen)
 
-call_seen : (a c : Knowledge) → Call a c → StartsWith c.seen a.seen
-call_seen a c (inl (ops, n, dones, h)) = (h.others ++ h.commit ∷ [], h.seen ∙ append_assoc a.seen h.others (h.commit ∷ []))
-call_seen a c (inr (inl h)) = h.more
-call_seen a c (inr (inr (inl (n, h)))) = h.more
-call_seen a c (inr (inr (inr (inl h)))) = same_starts a c (ap (λ (k : Knowledge). k.seen) h.0)
-call_seen a c (inr (inr (inr (inr (inl h))))) = same_starts a c (ap (λ (k : Knowledge). k.seen) h)
-call_seen a c (inr (inr (inr (inr (inr (log, more, h)))))) = subst (λ l. StartsWith l a.seen) (sym (ap (λ (k : Knowledge). k.seen) h)) more
+call_seen : (a : Knowledge) (s : Step volume) (c : Knowledge) → Call a s c → StartsWith c.seen a.seen
+call_seen a (Apply e n) c (ops, dones, is, h) = (h.others ++ h.commit ∷ [], h.seen ∙ append_assoc a.seen h.others (h.commit ∷ []))
+call_seen a Learn c (inl h) = h.more
+call_seen a Learn c (inr (inl (log, more, h))) = subst (λ l. StartsWith l a.seen) (sym (ap (λ (k : Knowledge). k.seen) h)) more
+call_seen a Learn c (inr (inr h)) = same_starts a c (ap (λ (k : Knowledge). k.seen) h)
+call_seen a (Pin n) c h = h.more
+call_seen a Unpin c h = same_starts a c (ap (λ (k : Knowledge). k.seen) h.0)
+call_seen a (Read q r) c (n, pin, is, h) = same_starts a c (ap (λ (k : Knowledge). k.seen) h)
 
-pub calls_seen : (a : Knowledge) (cs : List Knowledge) (z : Knowledge) → Calls a cs z → StartsWith z.seen a.seen
+pub calls_seen : (a : Knowledge) (steps : List (Step volume)) (z : Knowledge) → Calls a steps z → StartsWith z.seen a.seen
 calls_seen a [] z h = same_starts a z (ap (λ (k : Knowledge). k.seen) (sym h))
-calls_seen a (c ∷ cs) z h = starts_trans a.seen c.seen z.seen (calls_seen c cs z h.1) (call_seen a c h.0)
+calls_seen a (s ∷ steps) z (c, h, more) = starts_trans a.seen c.seen z.seen (calls_seen c steps z more) (call_seen a s c h)
+
+-- one call more, and some more
+pub calls_more : (a : Knowledge) (steps : List (Step volume)) (b : Knowledge) (s : Step volume) (c : Knowledge) → Calls a steps b → Call b s c → Calls a (steps ++ s ∷ []) c
+calls_more a [] b s c h k = (c, subst (λ (x : Knowledge). Call x s c) (sym h) k, refl)
+calls_more a (t ∷ steps) b s c (d, h, more) k = (d, h, calls_more d steps b s c more k)
+
+pub calls_both : (a : Knowledge) (steps : List (Step volume)) (b : Knowledge) (later : List (Step volume)) (c : Knowledge) → Calls a steps b → Calls b later c → Calls a (steps ++ later) c
+calls_both a [] b later c h k = subst (λ (x : Knowledge). Calls x later c) (sym h) k
+calls_both a (s ∷ steps) b later c (d, h, more) k = (d, h, calls_both d steps b later c more k)
 
 entries_start : (log seen : List Commit) → StartsWith log seen → StartsWith (entries log) (entries seen)
 entries_start log seen h = (entries h.0, ap entries h.1 ∙ entries_append seen h.0)
 
 -- the journal begins with what the pass had seen after any of its calls
-reaches : (log : List Entry) (a : Knowledge) (cs : List Knowledge) (z : Knowledge) → StartsWith log (entries z.seen) → Calls a cs z → StartsWith log (entries a.seen)
-reaches log a cs z more h = starts_trans (entries a.seen) (entries z.seen) log more (entries_start z.seen a.seen (calls_seen a cs z h))
+reaches : (log : List Entry) (a : Knowledge) (steps : List (Step volume)) (z : Knowledge) → StartsWith log (entries z.seen) → Calls a steps z → StartsWith log (entries a.seen)
+reaches log a steps z more h = starts_trans (entries a.seen) (entries z.seen) log more (entries_start z.seen a.seen (calls_seen a steps z h))
 
 pub stands_at_seam : {A : Type 0} (log xs : List A) (y : A) (rest : List A) → log ≡ xs ++ y ∷ rest → slice_get log (length xs) ≡ Some y
 stands_at_seam log xs y rest is =
@@ -110,19 +123,20 @@ locks_start a c (inl none) = same_history a c none
 locks_start a c (inr l) =
     worked_start a c l.locked l.worked (Unlock a.number ∷ []) l.lock (works_start a.limits a.number l.locked l.worked l.work) l.unlock
 
-call_history : (a c : Knowledge) → Call a c → StartsWith c.history a.history
-call_history a c (inl (ops, n, dones, h)) =
+call_history : (a : Knowledge) (s : Step volume) (c : Knowledge) → Call a s c → StartsWith c.history a.history
+call_history a (Apply e n) c (ops, dones, is, h) =
     let m = h.moves in
     worked_start a c m.locked m.worked (Publish a.number h.commit.page m.given ∷ Unlock a.number ∷ []) m.lock (works_start a.limits a.number m.locked m.worked m.work) m.publish
-call_history a c (inr (inl h)) = locks_start a c h.moves
-call_history a c (inr (inr (inl (n, h)))) = makes_starts a.number a.history (Look a.number ∷ Announce a.number ∷ LookAgain a.number ∷ []) c.history h.moves.made
-call_history a c (inr (inr (inr (inl h)))) = makes_starts a.number a.history (Unpin a.number ∷ []) c.history h.1
-call_history a c (inr (inr (inr (inr (inl h))))) = same_history a c (ap (λ (k : Knowledge). k.history) h)
-call_history a c (inr (inr (inr (inr (inr (log, more, h)))))) = same_history a c (ap (λ (k : Knowledge). k.history) h)
+call_history a Learn c (inl h) = locks_start a c h.moves
+call_history a Learn c (inr (inl (log, more, h))) = same_history a c (ap (λ (k : Knowledge). k.history) h)
+call_history a Learn c (inr (inr h)) = same_history a c (ap (λ (k : Knowledge). k.history) h)
+call_history a (Pin n) c h = makes_starts a.number a.history (Look a.number ∷ Announce a.number ∷ LookAgain a.number ∷ []) c.history h.moves.made
+call_history a Unpin c h = makes_starts a.number a.history (move.Unpin a.number ∷ []) c.history h.1
+call_history a (Read q r) c (n, pin, is, h) = same_history a c (ap (λ (k : Knowledge). k.history) h)
 
-calls_history : (a : Knowledge) (cs : List Knowledge) (z : Knowledge) → Calls a cs z → StartsWith z.history a.history
+calls_history : (a : Knowledge) (steps : List (Step volume)) (z : Knowledge) → Calls a steps z → StartsWith z.history a.history
 calls_history a [] z h = same_history a z (ap (λ (k : Knowledge). k.history) (sym h))
-calls_history a (c ∷ cs) z h = starts_trans a.history c.history z.history (calls_history c cs z h.1) (call_history a c h.0)
+calls_history a (s ∷ steps) z (c, h, more) = starts_trans a.history c.history z.history (calls_history c steps z more) (call_history a s c h)
 
 all_traced : (trace : List Move) (passes : List Knowledge) → AllRest trace passes → All (HasFronts trace) passes
 all_traced trace [] rests = All-nil (HasFronts trace)

@@ -7,7 +7,7 @@ use Rattle.std.proofs.lemmas.List.Elements.{All-head, All-tail, All-get_or, filt
 use mathlib.Core.Logic.{dite}
 use native.Mathlib.Decide.{dec_lt}
 use Rattle.be_table.specs.History.{StartsWith}
-use Rattle.be_store.specs.Machine.{Object, View, Step, Apply, Learn, Pin, Unpin, Read, Leads, Run, first_view, state_of, entries_by, IsLegalFor}
+use Rattle.be_store.specs.SmallMachine.{Object, PassView, Step, Apply, Learn, Pin, Unpin, Read, Leads, AreSteps, first_view, state_of, entries_by, IsLegalFor}
 use Rattle.be_store.specs.OneHistory.{PassRun, HasRun}
 
 -- ## Sums of how many entries a pass has seen of its own, and of how many it has written
@@ -58,15 +58,15 @@ none_yet : 0 ≤ 0
 none_yet = omega arith
 
 module _ (o : Object) where
-  pub step_number : (a : View o) (s : Step o) (c : View o) → Leads o a s c → c.number ≡ a.number
-  step_number a (Apply e n) c l = ap (λ (v : View o). v.number) l.3
-  step_number a Learn c l = ap (λ (v : View o). v.number) l.1
-  step_number a (Pin n) c l = ap (λ (v : View o). v.number) l.1
-  step_number a Unpin c l = ap (λ (v : View o). v.number) l
-  step_number a (Read s) c l = ap (λ (v : View o). v.number) l.3
+  pub step_number : (a : PassView o) (s : Step o) (c : PassView o) → Leads o a s c → c.number ≡ a.number
+  step_number a (Apply e n) c l = ap (λ (v : PassView o). v.number) l.3
+  step_number a Learn c l = ap (λ (v : PassView o). v.number) l.1
+  step_number a (Pin n) c l = ap (λ (v : PassView o). v.number) l.1
+  step_number a Unpin c l = ap (λ (v : PassView o). v.number) l
+  step_number a (Read q r) c l = ap (λ (v : PassView o). v.number) l.3
 
-  pub run_number : (a : View o) (steps : List (Step o × View o)) (z : View o) → Run o a steps z → z.number ≡ a.number
-  run_number a [] z h = ap (λ (v : View o). v.number) (sym h)
+  pub run_number : (a : PassView o) (steps : List (Step o × PassView o)) (z : PassView o) → AreSteps o a steps z → z.number ≡ a.number
+  run_number a [] z h = ap (λ (v : PassView o). v.number) (sym h)
   run_number a (x ∷ rest) z h = run_number x.1 rest z h.1 ∙ step_number a x.0 x.1 h.0
 
   -- how many entries are by the pass k
@@ -108,49 +108,49 @@ module _ (o : Object) where
       let whole : take i (xs ++ now ∷ []) ≡ xs = take-append-le i xs (now ∷ []) (omega (arith, at)) ∙ take_all i xs (omega (arith, at)) in
       subst (λ (l : List o.Entry). o.Accepts (state_of o l) e) (sym whole) (subst (o.Accepts (state_of o xs)) (sym same) accepted))
 
-  step_grows : (k : ℕ) (a : View o) (s : Step o) (c : View o) → a.number ≡ k → Leads o a s c → length c.mine + own k a.seen ≤ own k c.seen + length a.mine
+  step_grows : (k : ℕ) (a : PassView o) (s : Step o) (c : PassView o) → a.number ≡ k → Leads o a s c → length c.mine + own k a.seen ≤ own k c.seen + length a.mine
   step_grows k a (Apply e n) c number l =
       write_sum (length c.mine) (own k c.seen) (length a.mine) (own k a.seen) (own k l.0) (own k (a.seen ++ l.0)) (own k (e ∷ []))
-      (ap (λ (v : View o). own k v.seen) l.3 ∙ own_append k (a.seen ++ l.0) (e ∷ [])) (own_append k a.seen l.0) (own_one k e (l.1 ∙ number))
-      (ap (λ (v : View o). length v.mine) l.3 ∙ length-append a.mine (e ∷ []))
+      (ap (λ (v : PassView o). own k v.seen) l.3 ∙ own_append k (a.seen ++ l.0) (e ∷ [])) (own_append k a.seen l.0) (own_one k e (l.1 ∙ number))
+      (ap (λ (v : PassView o). length v.mine) l.3 ∙ length-append a.mine (e ∷ []))
   step_grows k a Learn c number l =
       learn_sum (length c.mine) (own k c.seen) (length a.mine) (own k a.seen) (own k l.0)
-      (ap (λ (v : View o). own k v.seen) l.1 ∙ own_append k a.seen l.0) (ap (λ (v : View o). length v.mine) l.1)
+      (ap (λ (v : PassView o). own k v.seen) l.1 ∙ own_append k a.seen l.0) (ap (λ (v : PassView o). length v.mine) l.1)
   step_grows k a (Pin n) c number l =
       learn_sum (length c.mine) (own k c.seen) (length a.mine) (own k a.seen) (own k l.0)
-      (ap (λ (v : View o). own k v.seen) l.1 ∙ own_append k a.seen l.0) (ap (λ (v : View o). length v.mine) l.1)
+      (ap (λ (v : PassView o). own k v.seen) l.1 ∙ own_append k a.seen l.0) (ap (λ (v : PassView o). length v.mine) l.1)
   step_grows k a Unpin c number l =
-      still_sum (length c.mine) (own k c.seen) (length a.mine) (own k a.seen) (ap (λ (v : View o). own k v.seen) l) (ap (λ (v : View o). length v.mine) l)
-  step_grows k a (Read s) c number l =
-      still_sum (length c.mine) (own k c.seen) (length a.mine) (own k a.seen) (ap (λ (v : View o). own k v.seen) l.3) (ap (λ (v : View o). length v.mine) l.3)
+      still_sum (length c.mine) (own k c.seen) (length a.mine) (own k a.seen) (ap (λ (v : PassView o). own k v.seen) l) (ap (λ (v : PassView o). length v.mine) l)
+  step_grows k a (Read q r) c number l =
+      still_sum (length c.mine) (own k c.seen) (length a.mine) (own k a.seen) (ap (λ (v : PassView o). own k v.seen) l.3) (ap (λ (v : PassView o). length v.mine) l.3)
 
-  run_grows : (k : ℕ) (a : View o) (steps : List (Step o × View o)) (z : View o) → a.number ≡ k → Run o a steps z → length z.mine + own k a.seen ≤ own k z.seen + length a.mine
+  run_grows : (k : ℕ) (a : PassView o) (steps : List (Step o × PassView o)) (z : PassView o) → a.number ≡ k → AreSteps o a steps z → length z.mine + own k a.seen ≤ own k z.seen + length a.mine
   run_grows k a [] z number h =
-      subst (λ (v : View o). length v.mine + own k a.seen ≤ own k v.seen + length a.mine) h (same_sum (length a.mine) (own k a.seen))
+      subst (λ (v : PassView o). length v.mine + own k a.seen ≤ own k v.seen + length a.mine) h (same_sum (length a.mine) (own k a.seen))
   run_grows k a (x ∷ rest) z number h =
       longer_sum (length z.mine) (own k z.seen) (length x.1.mine) (own k x.1.seen) (length a.mine) (own k a.seen)
       (run_grows k x.1 rest z (step_number a x.0 x.1 h.0 ∙ number) h.1) (step_grows k a x.0 x.1 number h.0)
 
-  learned_legal : (k : ℕ) (a c : View o) (others : List o.Entry) → c.seen ≡ a.seen ++ others → c.mine ≡ a.mine → own k c.seen ≤ length c.mine → length a.mine ≤ own k a.seen → IsOwnLegal k a.seen → IsOwnLegal k c.seen
+  learned_legal : (k : ℕ) (a c : PassView o) (others : List o.Entry) → c.seen ≡ a.seen ++ others → c.mine ≡ a.mine → own k c.seen ≤ length c.mine → length a.mine ≤ own k a.seen → IsOwnLegal k a.seen → IsOwnLegal k c.seen
   learned_legal k a c others seen mine full enough legal =
       let none = none_learned (length c.mine) (own k c.seen) (length a.mine) (own k a.seen) (own k others) (ap (own k) seen ∙ own_append k a.seen others) (ap length mine) full enough in
       subst (IsOwnLegal k) (sym seen) (more_legal k a.seen others legal none)
 
-  step_legal : (k : ℕ) (a : View o) (s : Step o) (c : View o) → a.number ≡ k → Leads o a s c → own k c.seen ≤ length c.mine → length a.mine ≤ own k a.seen → IsOwnLegal k a.seen → IsOwnLegal k c.seen
+  step_legal : (k : ℕ) (a : PassView o) (s : Step o) (c : PassView o) → a.number ≡ k → Leads o a s c → own k c.seen ≤ length c.mine → length a.mine ≤ own k a.seen → IsOwnLegal k a.seen → IsOwnLegal k c.seen
   step_legal k a (Apply e n) c number l full enough legal =
       let none = none_at_write (length c.mine) (own k c.seen) (length a.mine) (own k a.seen) (own k l.0) (own k (a.seen ++ l.0)) (own k (e ∷ []))
-      (ap (λ (v : View o). own k v.seen) l.3 ∙ own_append k (a.seen ++ l.0) (e ∷ [])) (own_append k a.seen l.0) (own_one k e (l.1 ∙ number))
-      (ap (λ (v : View o). length v.mine) l.3 ∙ length-append a.mine (e ∷ [])) full enough in
-      subst (IsOwnLegal k) (sym (ap (λ (v : View o). v.seen) l.3)) (push_legal k (a.seen ++ l.0) e (more_legal k a.seen l.0 legal none) l.2)
+      (ap (λ (v : PassView o). own k v.seen) l.3 ∙ own_append k (a.seen ++ l.0) (e ∷ [])) (own_append k a.seen l.0) (own_one k e (l.1 ∙ number))
+      (ap (λ (v : PassView o). length v.mine) l.3 ∙ length-append a.mine (e ∷ [])) full enough in
+      subst (IsOwnLegal k) (sym (ap (λ (v : PassView o). v.seen) l.3)) (push_legal k (a.seen ++ l.0) e (more_legal k a.seen l.0 legal none) l.2)
   step_legal k a Learn c number l full enough legal =
-      learned_legal k a c l.0 (ap (λ (v : View o). v.seen) l.1) (ap (λ (v : View o). v.mine) l.1) full enough legal
+      learned_legal k a c l.0 (ap (λ (v : PassView o). v.seen) l.1) (ap (λ (v : PassView o). v.mine) l.1) full enough legal
   step_legal k a (Pin n) c number l full enough legal =
-      learned_legal k a c l.0 (ap (λ (v : View o). v.seen) l.1) (ap (λ (v : View o). v.mine) l.1) full enough legal
-  step_legal k a Unpin c number l full enough legal = subst (IsOwnLegal k) (sym (ap (λ (v : View o). v.seen) l)) legal
-  step_legal k a (Read s) c number l full enough legal = subst (IsOwnLegal k) (sym (ap (λ (v : View o). v.seen) l.3)) legal
+      learned_legal k a c l.0 (ap (λ (v : PassView o). v.seen) l.1) (ap (λ (v : PassView o). v.mine) l.1) full enough legal
+  step_legal k a Unpin c number l full enough legal = subst (IsOwnLegal k) (sym (ap (λ (v : PassView o). v.seen) l)) legal
+  step_legal k a (Read q r) c number l full enough legal = subst (IsOwnLegal k) (sym (ap (λ (v : PassView o). v.seen) l.3)) legal
 
-  run_legal : (k : ℕ) (a : View o) (steps : List (Step o × View o)) (z : View o) → a.number ≡ k → Run o a steps z → own k z.seen ≤ length z.mine → length a.mine ≤ own k a.seen → IsOwnLegal k a.seen → IsOwnLegal k z.seen
-  run_legal k a [] z number h full enough legal = subst (λ (v : View o). IsOwnLegal k v.seen) h legal
+  run_legal : (k : ℕ) (a : PassView o) (steps : List (Step o × PassView o)) (z : PassView o) → a.number ≡ k → AreSteps o a steps z → own k z.seen ≤ length z.mine → length a.mine ≤ own k a.seen → IsOwnLegal k a.seen → IsOwnLegal k z.seen
+  run_legal k a [] z number h full enough legal = subst (λ (v : PassView o). IsOwnLegal k v.seen) h legal
   run_legal k a (x ∷ rest) z number h full enough legal =
       let next = step_number a x.0 x.1 h.0 ∙ number in
       let full_then = full_before (length z.mine) (own k z.seen) (length x.1.mine) (own k x.1.seen) (run_grows k x.1 rest z next h.1) full in
@@ -169,10 +169,10 @@ module _ (o : Object) where
       let seen = run_legal k (first_view o k) r.steps z refl r.run full none_yet (λ i e lt. absurd (omega arith)) in
       subst (IsOwnLegal k) (sym more.1) (more_legal k z.seen more.0 seen none)
 
-  abbrev Owns : List o.Entry → View o → Type 0
+  abbrev Owns : List o.Entry → PassView o → Type 0
   Owns journal z = entries_by o z.number journal ≡ z.mine
 
-  abbrev Begins : List o.Entry → View o → Type 0
+  abbrev Begins : List o.Entry → PassView o → Type 0
   Begins journal z = StartsWith journal z.seen
 
   all_legal : (journal : List o.Entry) (runs : List (PassRun o)) → All (Begins journal) (map (λ (r : PassRun o). r.last) runs) → All (Owns journal) (map (λ (r : PassRun o). r.last) runs) → (k : ℕ) → HasRun o runs k → IsOwnLegal k journal

@@ -1,10 +1,10 @@
 -- What the journal says in the end of each step of the small machine.
-use Rattle.std.proofs.Common.{◌≡◌, ◌≤◌, ◌-◌, ℕ, inl, inr, List, [], ◌∷◌, ◌++◌, length, take, Option, Some, None, sym, ap, ◌∙◌, subst, arith, length-append}
+use Rattle.std.proofs.Common.{◌≡◌, ◌≤◌, ℕ, suc, inl, inr, List, [], ◌∷◌, ◌++◌, length, take, Option, Some, None, sym, ap, ◌∙◌, subst, arith, length-append}
 use Rattle.std.specs.Prelude.{All, map, slice_get}
 use Rattle.std.proofs.lemmas.List.{append_assoc, append-nil, take-append-le, take_all}
 use Rattle.std.proofs.lemmas.List.Elements.{All-cons, All-nil, All-head, All-tail, All-weaker}
 use Rattle.be_table.specs.History.{StartsWith}
-use Rattle.be_store.specs.Machine.{Object, View, Step, Apply, Learn, Pin, Unpin, Read, Leads, Run, Closes, HasNumber, first_view, state_of, entries_by}
+use Rattle.be_store.specs.SmallMachine.{Object, PassView, Step, Apply, Learn, Pin, Unpin, Read, Leads, AreSteps, Closes, HasNumber, first_view, state_of, entries_by}
 use Rattle.be_store.specs.OneHistory.{PassRun, IsKept, AreKept, HasRun, IsOneHistory, written, written_by}
 use Rattle.be_store.proofs.Legality.{journal_legal, run_number}
 use Rattle.be_store.proofs.Calls.{starts_refl, starts_trans, stands_at_seam}
@@ -15,49 +15,49 @@ number_or d (Some n) = n
 
 module _ (o : Object) where
   -- a pass is pinned to entries that it has seen
-  abbrev IsInTime : View o → Type 0
+  abbrev IsInTime : PassView o → Type 0
   IsInTime a = (n : ℕ) → a.pin ≡ Some n → n ≤ length a.seen
 
   first_in_time : (k : ℕ) → IsInTime (first_view o k)
   first_in_time k n e = absurd cc
 
-  step_seen : (a : View o) (s : Step o) (c : View o) → Leads o a s c → StartsWith c.seen a.seen
-  step_seen a (Apply e n) c l = (l.0 ++ e ∷ [], ap (λ (v : View o). v.seen) l.3 ∙ append_assoc a.seen l.0 (e ∷ []))
-  step_seen a Learn c l = (l.0, ap (λ (v : View o). v.seen) l.1)
-  step_seen a (Pin n) c l = (l.0, ap (λ (v : View o). v.seen) l.1)
-  step_seen a Unpin c l = subst (λ (k : List o.Entry). StartsWith k a.seen) (sym (ap (λ (v : View o). v.seen) l)) (starts_refl a.seen)
-  step_seen a (Read s) c l = subst (λ (k : List o.Entry). StartsWith k a.seen) (sym (ap (λ (v : View o). v.seen) l.3)) (starts_refl a.seen)
+  step_seen : (a : PassView o) (s : Step o) (c : PassView o) → Leads o a s c → StartsWith c.seen a.seen
+  step_seen a (Apply e n) c l = (l.0 ++ e ∷ [], ap (λ (v : PassView o). v.seen) l.3 ∙ append_assoc a.seen l.0 (e ∷ []))
+  step_seen a Learn c l = (l.0, ap (λ (v : PassView o). v.seen) l.1)
+  step_seen a (Pin n) c l = (l.0, ap (λ (v : PassView o). v.seen) l.1)
+  step_seen a Unpin c l = subst (λ (k : List o.Entry). StartsWith k a.seen) (sym (ap (λ (v : PassView o). v.seen) l)) (starts_refl a.seen)
+  step_seen a (Read q r) c l = subst (λ (k : List o.Entry). StartsWith k a.seen) (sym (ap (λ (v : PassView o). v.seen) l.3)) (starts_refl a.seen)
 
-  run_seen : (a : View o) (steps : List (Step o × View o)) (z : View o) → Run o a steps z → StartsWith z.seen a.seen
-  run_seen a [] z h = subst (λ (v : View o). StartsWith v.seen a.seen) h (starts_refl a.seen)
+  run_seen : (a : PassView o) (steps : List (Step o × PassView o)) (z : PassView o) → AreSteps o a steps z → StartsWith z.seen a.seen
+  run_seen a [] z h = subst (λ (v : PassView o). StartsWith v.seen a.seen) h (starts_refl a.seen)
   run_seen a (x ∷ rest) z h = starts_trans a.seen x.1.seen z.seen (run_seen x.1 rest z h.1) (step_seen a x.0 x.1 h.0)
 
-  same_pin : (a c : View o) → StartsWith c.seen a.seen → c.pin ≡ a.pin → IsInTime a → IsInTime c
+  same_pin : (a c : PassView o) → StartsWith c.seen a.seen → c.pin ≡ a.pin → IsInTime a → IsInTime c
   same_pin a c more same h n e =
       let long = ap length more.1 in let parts = length-append a.seen more.0 in
       let at = h n (sym same ∙ e) in omega (arith, long, parts, at)
 
-  pinned_in_time : (c : View o) (n : ℕ) → c.pin ≡ Some n → n ≡ length c.seen → IsInTime c
+  pinned_in_time : (c : PassView o) (n : ℕ) → c.pin ≡ Some n → n ≡ length c.seen → IsInTime c
   pinned_in_time c n is long m e = let same : n ≡ m = ap (number_or n) (sym is ∙ e) in omega (arith, long, same)
 
-  unpinned_in_time : (c : View o) → c.pin ≡ None → IsInTime c
+  unpinned_in_time : (c : PassView o) → c.pin ≡ None → IsInTime c
   unpinned_in_time c is m e = absurd (let none : None ≡ Some m = sym is ∙ e in cc)
 
-  step_in_time : (a : View o) (s : Step o) (c : View o) → Leads o a s c → IsInTime a → IsInTime c
-  step_in_time a (Apply e n) c l h = same_pin a c (step_seen a (Apply e n) c l) (ap (λ (v : View o). v.pin) l.3) h
-  step_in_time a Learn c l h = same_pin a c (step_seen a Learn c l) (ap (λ (v : View o). v.pin) l.1) h
-  step_in_time a (Pin n) c l h = pinned_in_time c n (ap (λ (v : View o). v.pin) l.1) l.2
-  step_in_time a Unpin c l h = unpinned_in_time c (ap (λ (v : View o). v.pin) l)
-  step_in_time a (Read s) c l h = subst IsInTime (sym l.3) h
+  step_in_time : (a : PassView o) (s : Step o) (c : PassView o) → Leads o a s c → IsInTime a → IsInTime c
+  step_in_time a (Apply e n) c l h = same_pin a c (step_seen a (Apply e n) c l) (ap (λ (v : PassView o). v.pin) l.3) h
+  step_in_time a Learn c l h = same_pin a c (step_seen a Learn c l) (ap (λ (v : PassView o). v.pin) l.1) h
+  step_in_time a (Pin n) c l h = pinned_in_time c n (ap (λ (v : PassView o). v.pin) l.1) l.2
+  step_in_time a Unpin c l h = unpinned_in_time c (ap (λ (v : PassView o). v.pin) l)
+  step_in_time a (Read q r) c l h = subst IsInTime (sym l.3) h
 
-  step_kept : (journal : List o.Entry) (a : View o) (s : Step o) (c : View o) → Leads o a s c → StartsWith journal c.seen → IsInTime a → IsKept o journal a s
+  step_kept : (journal : List o.Entry) (a : PassView o) (s : Step o) (c : PassView o) → Leads o a s c → StartsWith journal c.seen → IsInTime a → IsKept o journal a s
   step_kept journal a (Apply e n) c l more h =
       let front = a.seen ++ l.0 in
-      let is : journal ≡ front ++ e ∷ more.0 = more.1 ∙ (ap (λ (v : View o). v.seen ++ more.0) l.3 ∙ append_assoc front (e ∷ []) more.0) in
-      let long : length c.seen ≡ length (front ++ e ∷ []) = ap (λ (v : View o). length v.seen) l.3 in
+      let is : journal ≡ front ++ e ∷ more.0 = more.1 ∙ (ap (λ (v : PassView o). v.seen ++ more.0) l.3 ∙ append_assoc front (e ∷ []) more.0) in
+      let long : length c.seen ≡ length (front ++ e ∷ []) = ap (λ (v : PassView o). length v.seen) l.3 in
       let parts = length-append front (e ∷ []) in
-      let at : n - 1 ≡ length front = omega (arith, l.4, long, parts) in
-      ap (slice_get journal) at ∙ stands_at_seam journal front e more.0 is
+      let at : n ≡ suc (length front) = omega (arith, l.4, long, parts) in
+      (length front, at, stands_at_seam journal front e more.0 is)
   step_kept journal a Learn c l more h = tt
   step_kept journal a (Pin n) c l more h =
       let long = ap length more.1 in let parts = length-append c.seen more.0 in
@@ -65,25 +65,25 @@ module _ (o : Object) where
       ap (take n) more.1 ∙ (take-append-le n c.seen more.0 (omega (arith, l.2)) ∙ take_all n c.seen (omega (arith, l.2))) in
       (omega (arith, l.2, long, parts), subst (λ (k : List o.Entry). StartsWith k a.seen) (sym whole) (step_seen a (Pin n) c l))
   step_kept journal a Unpin c l more h = tt
-  step_kept journal a (Read s) c l more h =
-      let here : journal ≡ a.seen ++ more.0 = more.1 ∙ ap (λ (v : View o). v.seen ++ more.0) l.3 in
-      (l.0, l.1, l.2 ∙ ap (state_of o) (sym (take-append-le l.0 a.seen more.0 (h l.0 l.1)) ∙ ap (take l.0) (sym here)))
+  step_kept journal a (Read q r) c l more h =
+      let here : journal ≡ a.seen ++ more.0 = more.1 ∙ ap (λ (v : PassView o). v.seen ++ more.0) l.3 in
+      (l.0, l.1, l.2 ∙ ap (λ k. o.answer q (state_of o k)) (sym (take-append-le l.0 a.seen more.0 (h l.0 l.1)) ∙ ap (take l.0) (sym here)))
 
-  run_kept : (journal : List o.Entry) (a : View o) (steps : List (Step o × View o)) (z : View o) → Run o a steps z → StartsWith journal z.seen → IsInTime a → AreKept o journal a steps
+  run_kept : (journal : List o.Entry) (a : PassView o) (steps : List (Step o × PassView o)) (z : PassView o) → AreSteps o a steps z → StartsWith journal z.seen → IsInTime a → AreKept o journal a steps
   run_kept journal a [] z h more t = tt
   run_kept journal a (x ∷ rest) z h more t =
       let begun = starts_trans x.1.seen z.seen journal more (run_seen x.1 rest z h.1) in
       (step_kept journal a x.0 x.1 h.0 begun t, run_kept journal x.1 rest z h.1 more (step_in_time a x.0 x.1 h.0 t))
 
-  step_mine : (a : View o) (s : Step o) (c : View o) → Leads o a s c → c.mine ≡ a.mine ++ written_by o s
-  step_mine a (Apply e n) c l = ap (λ (v : View o). v.mine) l.3
-  step_mine a Learn c l = ap (λ (v : View o). v.mine) l.1 ∙ sym (append-nil a.mine)
-  step_mine a (Pin n) c l = ap (λ (v : View o). v.mine) l.1 ∙ sym (append-nil a.mine)
-  step_mine a Unpin c l = ap (λ (v : View o). v.mine) l ∙ sym (append-nil a.mine)
-  step_mine a (Read s) c l = ap (λ (v : View o). v.mine) l.3 ∙ sym (append-nil a.mine)
+  step_mine : (a : PassView o) (s : Step o) (c : PassView o) → Leads o a s c → c.mine ≡ a.mine ++ written_by o s
+  step_mine a (Apply e n) c l = ap (λ (v : PassView o). v.mine) l.3
+  step_mine a Learn c l = ap (λ (v : PassView o). v.mine) l.1 ∙ sym (append-nil a.mine)
+  step_mine a (Pin n) c l = ap (λ (v : PassView o). v.mine) l.1 ∙ sym (append-nil a.mine)
+  step_mine a Unpin c l = ap (λ (v : PassView o). v.mine) l ∙ sym (append-nil a.mine)
+  step_mine a (Read q r) c l = ap (λ (v : PassView o). v.mine) l.3 ∙ sym (append-nil a.mine)
 
-  run_mine : (a : View o) (steps : List (Step o × View o)) (z : View o) → Run o a steps z → z.mine ≡ a.mine ++ written o steps
-  run_mine a [] z h = ap (λ (v : View o). v.mine) (sym h) ∙ sym (append-nil a.mine)
+  run_mine : (a : PassView o) (steps : List (Step o × PassView o)) (z : PassView o) → AreSteps o a steps z → z.mine ≡ a.mine ++ written o steps
+  run_mine a [] z h = ap (λ (v : PassView o). v.mine) (sym h) ∙ sym (append-nil a.mine)
   run_mine a (x ∷ rest) z h =
       run_mine x.1 rest z h.1
       ∙ (ap (λ k. k ++ written o rest) (step_mine a x.0 x.1 h.0) ∙ append_assoc a.mine (written_by o x.0) (written o rest))
@@ -94,10 +94,10 @@ module _ (o : Object) where
   abbrev KeepsSteps : List o.Entry → PassRun o → Type 0
   KeepsSteps journal r = AreKept o journal (first_view o r.number) r.steps
 
-  abbrev OwnOf : List o.Entry → View o → Type 0
+  abbrev OwnOf : List o.Entry → PassView o → Type 0
   OwnOf journal z = entries_by o z.number journal ≡ z.mine
 
-  abbrev SeenOf : List o.Entry → View o → Type 0
+  abbrev SeenOf : List o.Entry → PassView o → Type 0
   SeenOf journal z = StartsWith journal z.seen
 
   all_written : (journal : List o.Entry) (runs : List (PassRun o)) → All (OwnOf journal) (map (λ (r : PassRun o). r.last) runs) → All (HasWritten journal) runs

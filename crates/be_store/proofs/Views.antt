@@ -3,28 +3,29 @@ use Rattle.std.proofs.Common.{◌≡◌, ◌<◌, ◌+◌, ℕ, inl, inr, List, 
 use Rattle.std.specs.Prelude.{All, map}
 use Rattle.std.specs.Option.{option_map_or}
 use Rattle.std.proofs.lemmas.List.{append-nil, length-map}
-use Rattle.std.proofs.lemmas.List.Elements.{All-cons, All-nil, All-head, All-tail}
+use Rattle.std.proofs.lemmas.List.Elements.{All-cons, All-nil}
 use Rattle.be_journal.specs.declared.entries.Entry.{Entry}
 use Rattle.be_journal.specs.Journal.{Agrees, by_pass, replay}
 use Rattle.be_table.specs.declared.pass.Commit.{Commit}
 use Rattle.be_table.specs.declared.pass.Knowledge.{Knowledge}
 use Rattle.be_table.specs.History.{AreOfPasses, StartsWith}
-use Rattle.be_table.specs.Rule.{entries, newcomer, one_step_on}
+use Rattle.be_table.specs.Rule.{entries, one_step_on}
 use Rattle.be_table.specs.Seats.{pinned_number}
 use Rattle.be_table.specs.Steps.{Has, KeepsSeen, entry_by, met}
-use Rattle.be_volume.specs.Volume.{empty}
+use Rattle.be_volume.specs.Volume.{State, empty}
 use Rattle.be_volume.specs.declared.ops.Done.{Done}
 use Rattle.be_volume.specs.declared.ops.Op.{Op}
-use Rattle.be_store.specs.Calls.{Call, Calls}
+use Rattle.be_store.specs.Calls.{Call, Calls, PassCalls}
 use Rattle.be_store.specs.Conditional.{AcceptsAt, IsUnapplied}
 use Rattle.be_store.specs.declared.conditional.ApplyIfError.{ApplyIfError}
 use Rattle.be_store.specs.declared.conditional.ApplyIfError.TheVariants.{Conflict, Refused}
 use Rattle.be_store.specs.History.{Accepts, Learns, Pins, Unpins}
-use Rattle.be_store.specs.Machine.{View, Step, Apply, Learn, Pin, Unpin, Read, Run, Closes, HasNumber}
-use Rattle.be_store.specs.OneHistory.{PassRun, IsOneHistory}
+use Rattle.be_store.specs.SmallMachine.{PassView, Step, Apply, Learn, Pin, Unpin, Read, AreSteps, Closes, HasNumber, first_view}
+use Rattle.be_store.specs.OneHistory.{PassRun, IsOneHistory, steps_of}
 use Rattle.be_store.specs.Passes.{HasRead, IsPinnedTo, volume_pinned}
-use Rattle.be_store.specs.Views.{HasBegunNew, IsClosed, IsStep, view_of, volume}
+use Rattle.be_store.specs.Views.{Answer, IsClosed, IsStep, view_of, volume}
 use Rattle.be_store.proofs.Applied.{entries_append}
+use Rattle.be_store.proofs.Legality.{run_number}
 use Rattle.be_store.proofs.OneHistory.{one_history}
 
 pub write_step : (a c : Knowledge) (ops : List Op) (n : ℕ) (dones : List Done) → Accepts a c ops n dones → IsStep a (Apply (entry_by a ops dones) n) c
@@ -57,10 +58,16 @@ pin_step a c n h =
 pub unpin_step : (a c : Knowledge) → Unpins a c → IsStep a Unpin c
 unpin_step a c h = ap view_of h.0
 
-pub read_step : (a c : Knowledge) (n : ℕ) → IsPinnedTo a n → HasRead a c → IsStep a (Read (volume_pinned a)) c
-read_step a c n pin h =
+pub read_step : (a c : Knowledge) (n : ℕ) (ask : State → Answer) → IsPinnedTo a n → HasRead a c → IsStep a (Read ask (ask (volume_pinned a))) c
+read_step a c n ask pin h =
     let read : volume_pinned a ≡ replay (take n (entries a.seen)) = ap (λ o. option_map_or (λ m. replay (take m (entries a.seen))) o empty) pin in
-    (n, pin, read, ap view_of h)
+    (n, pin, ap ask read, ap view_of h)
+
+-- a live query that is refreshed by what changed: the pass learns, and then reads at the pin that it had
+pub refresh_steps : (a c : Knowledge) (n : ℕ) (ask : State → Answer) → Learns a c → IsPinnedTo a n → volume_pinned c ≡ volume_pinned a → IsStep a Learn c × IsStep c (Read ask (ask (volume_pinned a))) c
+refresh_steps a c n ask h pin same =
+    let pinned : IsPinnedTo c n = ap pinned_number h.pin ∙ pin in
+    (learn_step a c h, subst (λ (v : State). IsStep c (Read ask (ask v)) c) same (read_step c c n ask pinned refl))
 
 pub meeting_step : (a c : Knowledge) (log : List Commit) → StartsWith log a.seen → c ≡ met a log → IsStep a Learn c
 meeting_step a c log more h =
@@ -84,31 +91,31 @@ pub refused_if_step : (a c : Knowledge) (number : ℕ) (ops : List Op) (e : Appl
 refused_if_step a c number ops (Conflict found) h = learn_step a c h.learns
 refused_if_step a c number ops (Refused e) h = learn_step a c h.0
 
-read_or_still : (a c : Knowledge) (pin : Option ℕ) → pinned_number a.phase ≡ pin → HasRead a c → (s : Step volume) × IsStep a s c
-read_or_still a c None is h = (Learn, still_step a c (ap view_of h))
-read_or_still a c (Some n) is h = (Read (volume_pinned a), read_step a c n is h)
+pub call_step : (a : Knowledge) (s : Step volume) (c : Knowledge) → Call a s c → IsStep a s c
+call_step a (Apply e n) c (ops, dones, is, h) = subst (λ (x : Entry). IsStep a (Apply x n) c) (sym is) (write_step a c ops n dones h)
+call_step a Learn c (inl h) = learn_step a c h
+call_step a Learn c (inr (inl (log, more, h))) = meeting_step a c log more h
+call_step a Learn c (inr (inr h)) = still_step a c (ap view_of h)
+call_step a (Pin n) c h = pin_step a c n h
+call_step a Unpin c h = unpin_step a c h
+call_step a (Read ask r) c (n, pin, is, h) = subst (λ (x : Answer). IsStep a (Read ask x) c) (sym is) (read_step a c n ask pin h)
 
-pub call_step : (a c : Knowledge) → Call a c → (s : Step volume) × IsStep a s c
-call_step a c (inl (ops, n, dones, h)) = (Apply (entry_by a ops dones) n, write_step a c ops n dones h)
-call_step a c (inr (inl h)) = (Learn, learn_step a c h)
-call_step a c (inr (inr (inl (n, h)))) = (Pin n, pin_step a c n h)
-call_step a c (inr (inr (inr (inl h)))) = (Unpin, unpin_step a c h)
-call_step a c (inr (inr (inr (inr (inl h))))) = read_or_still a c (pinned_number a.phase) refl h
-call_step a c (inr (inr (inr (inr (inr (log, more, h)))))) = (Learn, meeting_step a c log more h)
-
-pub calls_run : (a : Knowledge) (cs : List Knowledge) (z : Knowledge) → Calls a cs z
-    → (steps : List (Step volume × View volume)) × Run volume (view_of a) steps (view_of z) × (map (λ (x : Step volume × View volume). x.1) steps ≡ map view_of cs)
+pub calls_run : (a : Knowledge) (steps : List (Step volume)) (z : Knowledge) → Calls a steps z
+    → (run : List (Step volume × PassView volume)) × AreSteps volume (view_of a) run (view_of z) × (map (λ (x : Step volume × PassView volume). x.0) run ≡ steps)
 calls_run a [] z h = ([], ap view_of h, refl)
-calls_run a (c ∷ cs) z h =
-    let s = call_step a c h.0 in let r = calls_run c cs z h.1 in
-    ((s.0, view_of c) ∷ r.0, (s.1, r.1), ap (λ l. view_of c ∷ l) r.2)
+calls_run a (s ∷ steps) z (c, h, more) =
+    let r = calls_run c steps z more in ((s, view_of c) ∷ r.0, (call_step a s c h, r.1), ap (λ l. s ∷ l) r.2)
+
+-- calls leave the pass its number
+pub calls_number : (a : Knowledge) (steps : List (Step volume)) (z : Knowledge) → Calls a steps z → z.number ≡ a.number
+calls_number a steps z h = let r = calls_run a steps z h in run_number volume (view_of a) r.0 (view_of z) r.1
 
 -- ## The journal at the end
 
-abbrev SeenIn : List Entry → View volume → Type 0
+abbrev SeenIn : List Entry → PassView volume → Type 0
 SeenIn log z = StartsWith log z.seen
 
-abbrev OwnIn : List Entry → View volume → Type 0
+abbrev OwnIn : List Entry → PassView volume → Type 0
 OwnIn log z = by_pass z.number log ≡ z.mine
 
 all_seen : (log : List Entry) (passes : List Knowledge) → KeepsSeen log passes → All (SeenIn log) (map view_of passes)
@@ -138,14 +145,28 @@ closing count log passes h = let kept = h.keeps in record { authors = all_by cou
 pub given_runs : (count : ℕ) (log : List Entry) (passes : List Knowledge) (runs : List (PassRun volume)) → IsClosed count log passes → map (λ (r : PassRun volume). r.last) runs ≡ map view_of passes → IsOneHistory volume log runs
 given_runs count log passes runs h same = one_history volume log runs (subst (Closes volume log) (sym same) (closing count log passes h))
 
-runs_of : (passes : List Knowledge) → All HasBegunNew passes → (runs : List (PassRun volume)) × (map (λ (r : PassRun volume). r.last) runs ≡ map view_of passes)
-runs_of [] begun = ([], refl)
-runs_of (z ∷ passes) begun =
-    let b = All-head HasBegunNew z passes begun in
-    let r = calls_run (newcomer b.0 b.1 b.2) b.3 z b.4 in
-    let more = runs_of passes (All-tail HasBegunNew z passes begun) in
-    (record { number = b.2; steps = r.0; last = view_of z; run = r.1 } ∷ more.0, ap (λ l. view_of z ∷ l) more.1)
+-- the runs of these passes, in their order
+pub record AreRunsOf (passes : List PassCalls) (runs : List (PassRun volume)) : Type 0 where
+  pub numbers : map (λ (r : PassRun volume). r.number) runs ≡ map (λ (p : PassCalls). p.first.number) passes
+  pub steps : map (steps_of volume) runs ≡ map (λ (p : PassCalls). p.steps) passes
+  pub last : map (λ (r : PassRun volume). r.last) runs ≡ map view_of (map (λ (p : PassCalls). p.last) passes)
 
-pub some_runs : (count : ℕ) (log : List Entry) (passes : List Knowledge) → IsClosed count log passes → All HasBegunNew passes
-    → (runs : List (PassRun volume)) × (map (λ (r : PassRun volume). r.last) runs ≡ map view_of passes) × IsOneHistory volume log runs
-some_runs count log passes h begun = let r = runs_of passes begun in (r.0, r.1, given_runs count log passes r.0 h r.1)
+runs_of : (passes : List PassCalls) → (runs : List (PassRun volume)) × AreRunsOf passes runs
+runs_of [] = ([], record { numbers = refl; steps = refl; last = refl })
+runs_of (p ∷ passes) =
+    let made = calls_run p.first p.steps p.last p.made in
+    let run : AreSteps volume (first_view volume p.first.number) made.0 (view_of p.last) = subst (λ (v : PassView volume). AreSteps volume v made.0 (view_of p.last)) p.new made.1 in
+    let more = runs_of passes in (
+      record { number = p.first.number; steps = made.0; last = view_of p.last; run = run } ∷ more.0,
+      record {
+        numbers = ap (λ l. p.first.number ∷ l) more.1.numbers;
+        steps = (λ j. made.2 j ∷ more.1.steps j);
+        last = ap (λ l. view_of p.last ∷ l) more.1.last;
+      },
+    )
+
+pub some_runs : (count : ℕ) (log : List Entry) (passes : List PassCalls) → IsClosed count log (map (λ (p : PassCalls). p.last) passes) → (runs : List (PassRun volume))
+    × (map (λ (r : PassRun volume). r.number) runs ≡ map (λ (p : PassCalls). p.first.number) passes) × (map (steps_of volume) runs ≡ map (λ (p : PassCalls). p.steps) passes)
+    × IsOneHistory volume log runs
+some_runs count log passes h =
+    let r = runs_of passes in (r.0, r.1.numbers, r.1.steps, given_runs count log (map (λ (p : PassCalls). p.last) passes) r.0 h r.1.last)

@@ -13,40 +13,53 @@ use Rattle.be_volume.specs.declared.ops.Done.{Done}
 use Rattle.be_volume.specs.declared.ops.Op.{Op}
 use Rattle.be_store.specs.History.{Accepts, Learns, Pins, Unpins}
 use Rattle.be_store.specs.Passes.{HasRead, IsPinnedTo, volume_pinned}
+use Rattle.be_store.specs.SmallMachine.{Step, Apply, Learn, Pin, Unpin, Read, first_view}
+use Rattle.be_store.specs.Views.{view_of, volume}
 
--- One call of a pass: an accepted write; a refused one, the journal's text, or its entries; a pin;
--- an unpin; a read at the pin, or a witness that it makes; a meeting with another pass or with a
--- witness.
-abbrev pub Call : Knowledge → Knowledge → Type 0
-Call a c =
-    ((ops : List Op) × (n : ℕ) × (dones : List Done) × Accepts a c ops n dones)
-    ⊎ Learns a c
-    ⊎ ((n : ℕ) × Pins a c n)
-    ⊎ Unpins a c
-    ⊎ HasRead a c
+-- The call of a pass that knew a before and knows c after, by the step that it is. Learn is a
+-- refused write, or the journal's text or entries; a meeting with another pass or with a witness;
+-- or a witness that is made, or a read that ran out of memory.
+abbrev pub Call : Knowledge → Step volume → Knowledge → Type 0
+Call a (Apply e n) c = (ops : List Op) × (dones : List Done) × (e ≡ entry_by a ops dones)
+    × Accepts a c ops n dones
+Call a Learn c = Learns a c
     ⊎ ((log : List Commit) × StartsWith log a.seen × (c ≡ met a log))
+    ⊎ HasRead a c
+Call a (Pin n) c = Pins a c n
+Call a Unpin c = Unpins a c
+Call a (Read q r) c = (n : ℕ) × IsPinnedTo a n × (r ≡ volume.answer q (volume_pinned a))
+    × HasRead a c
 
--- Calls of a pass, one after the other: what it knows after each of them, and after all.
-abbrev pub Calls : Knowledge → List Knowledge → Knowledge → Type 0
+-- Calls of a pass, one after the other, that are these steps: it knew a at first and knows z at
+-- last.
+abbrev pub Calls : Knowledge → List (Step volume) → Knowledge → Type 0
 Calls a [] z = a ≡ z
-Calls a (c ∷ cs) z = Call a c × Calls c cs z
+Calls a (s ∷ steps) z = (c : Knowledge) × Call a s c × Calls c steps z
+
+-- all calls of a pass that had seen nothing at first, by their steps
+pub record PassCalls : Type 0 where
+  pub first : Knowledge
+  pub steps : List (Step volume)
+  pub last : Knowledge
+  pub new : view_of first ≡ first_view volume first.number
+  pub made : Calls first steps last
 
 -- Each write of the pass that was accepted with the number n is the n-th entry of the journal: by
 -- this pass, with these operations and outcomes, whatever was called after it.
 abbrev pub HasWrites : List Entry → Knowledge → Type 0
-HasWrites log z = (a c : Knowledge) (cs : List Knowledge) (ops : List Op) (n : ℕ)
+HasWrites log z = (a c : Knowledge) (steps : List (Step volume)) (ops : List Op) (n : ℕ)
     (dones : List Done) →
-    Accepts a c ops n dones → Calls c cs z → slice_get log (n - 1) ≡ Some (entry_by a ops dones)
+    Accepts a c ops n dones → Calls c steps z → slice_get log (n - 1) ≡ Some (entry_by a ops dones)
 
 -- Whenever the pass was pinned to n, the volume that it read is that after the journal's first n
 -- entries.
 abbrev pub ReadsFronts : List Entry → Knowledge → Type 0
-ReadsFronts log z = (a : Knowledge) (cs : List Knowledge) (n : ℕ) → IsPass a → IsPinnedTo a n
-    → Calls a cs z → volume_pinned a ≡ replay (take n log)
+ReadsFronts log z = (a : Knowledge) (steps : List (Step volume)) (n : ℕ) → IsPass a
+    → IsPinnedTo a n → Calls a steps z → volume_pinned a ≡ replay (take n log)
 
 -- After each of its calls the history of the pass was a prefix of this list of moves.
 abbrev pub HasFronts : List Move → Knowledge → Type 0
-HasFronts trace z = (c : Knowledge) (cs : List Knowledge) → Calls c cs z
+HasFronts trace z = (c : Knowledge) (steps : List (Step volume)) → Calls c steps z
     → StartsWith trace c.history
 
 -- The calls of all passes are in one list of moves of the machine: after each call its pass's

@@ -8,7 +8,7 @@ pub mod Marks
 pub mod Named
 pub mod Alone
 pub mod Calls
-pub mod Machine
+pub mod SmallMachine
 pub mod OneHistory
 pub mod Views
 pub mod Told

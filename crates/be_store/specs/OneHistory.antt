@@ -1,29 +1,34 @@
 -- The promise of the whole: one journal explains all that the calls of a store returned.
-use Rattle.std.specs.Prelude.{◌≡◌, ◌≤◌, ◌-◌, ◌⊎◌, ℕ, List, [], ◌∷◌, ◌++◌, All, length, take, Some}
-use Rattle.std.specs.Prelude.{slice_get}
+use Rattle.std.specs.Prelude.{◌≡◌, ◌≤◌, ◌⊎◌, ℕ, suc, List, [], ◌∷◌, ◌++◌, All, length, take, Some}
+use Rattle.std.specs.Prelude.{map, slice_get}
 use Rattle.be_table.specs.History.{StartsWith}
-use Rattle.be_store.specs.Machine.{Object, View, Step, Apply, Learn, Pin, Unpin, Read, Run}
-use Rattle.be_store.specs.Machine.{IsLegalFor, entries_by, first_view, state_of}
+use Rattle.be_store.specs.SmallMachine.{Object, PassView, Step, Apply, Learn, Pin, Unpin, Read}
+use Rattle.be_store.specs.SmallMachine.{AreSteps, IsLegalFor, entries_by, first_view, state_of}
 
 -- all that one pass did, from the view that it had at first
 pub record PassRun (o : Object) : Type 0 where
   pub number : ℕ
-  pub steps : List (Step o × View o)
-  pub last : View o
-  pub run : Run o (first_view o number) steps last
+  pub steps : List (Step o × PassView o)
+  pub last : PassView o
+  pub run : AreSteps o (first_view o number) steps last
 
--- What the journal says of a step that was made from the view a. A write is the entry at the number
--- that it returned. A pin names a prefix that begins with all that its pass had seen. What was read
--- is the state after the prefix that the pin names.
-abbrev pub IsKept : (o : Object) → List o.Entry → View o → Step o → Type 0
-IsKept o journal a (Apply e n) = slice_get journal (n - 1) ≡ Some e
+-- its steps, without the views
+abbrev pub steps_of : (o : Object) → PassRun o → List (Step o)
+steps_of o r = map (λ (x : Step o × PassView o). x.0) r.steps
+
+-- What the journal says of a step that was made from the view a. A write that returned the number n
+-- is the n-th entry, counted from 1. A pin names a prefix that begins with all that its pass had
+-- seen. The answer of a read is that of the state after the prefix that the pin names.
+abbrev pub IsKept : (o : Object) → List o.Entry → PassView o → Step o → Type 0
+IsKept o journal a (Apply e n) = (i : ℕ) × (n ≡ suc i) × (slice_get journal i ≡ Some e)
 IsKept o journal a Learn = Unit {0}
 IsKept o journal a (Pin n) = (n ≤ length journal) × StartsWith (take n journal) a.seen
 IsKept o journal a Unpin = Unit {0}
-IsKept o journal a (Read s) = (n : ℕ) × (a.pin ≡ Some n) × (s ≡ state_of o (take n journal))
+IsKept o journal a (Read q r) = (n : ℕ) × (a.pin ≡ Some n)
+    × (r ≡ o.answer q (state_of o (take n journal)))
 
 -- the same of each step of a run from the view a on
-abbrev pub AreKept : (o : Object) → List o.Entry → View o → List (Step o × View o) → Type 0
+abbrev pub AreKept : (o : Object) → List o.Entry → PassView o → List (Step o × PassView o) → Type 0
 AreKept o journal a [] = Unit {0}
 AreKept o journal a (x ∷ rest) = IsKept o journal a x.0 × AreKept o journal x.1 rest
 
@@ -33,9 +38,9 @@ written_by o (Apply e n) = e ∷ []
 written_by o Learn = []
 written_by o (Pin n) = []
 written_by o Unpin = []
-written_by o (Read s) = []
+written_by o (Read q r) = []
 
-abbrev pub written : (o : Object) → List (Step o × View o) → List o.Entry
+abbrev pub written : (o : Object) → List (Step o × PassView o) → List o.Entry
 written o [] = []
 written o (x ∷ rest) = written_by o x.0 ++ written o rest
 

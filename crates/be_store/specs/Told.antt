@@ -7,6 +7,8 @@ use Rattle.be_volume.specs.declared.ops.Done.{Done}
 use Rattle.be_volume.specs.declared.ops.Op.{Op}
 use Rattle.be_store.specs.Calls.{Calls}
 use Rattle.be_store.specs.History.{Accepts, Pins}
+use Rattle.be_store.specs.SmallMachine.{Step}
+use Rattle.be_store.specs.Views.{volume}
 
 -- The call after which its pass knew `c` ended before the call after which its pass knew `d`, in
 -- one list of moves: the history of `d` begins with that of `c`.
@@ -16,7 +18,8 @@ EndedBefore c d = StartsWith d.history c.history
 -- All that the pass does from here on comes after these commits: each pin is at a prefix of the
 -- journal that has them, and each accepted write has a later number.
 pub record ComesAfter (told : List Commit) (d : Knowledge) : Type 0 where
-  pub pins : (a z : Knowledge) (cs : List Knowledge) (n : ℕ) → Calls d cs a → Pins a z n
+  pub pins : (a z : Knowledge) (steps : List (Step volume)) (n : ℕ) → Calls d steps a → Pins a z n
       → StartsWith z.seen told × (length told ≤ n)
-  pub writes : (a z : Knowledge) (cs : List Knowledge) (ops : List Op) (n : ℕ) (dones : List Done)
-      → Calls d cs a → Accepts a z ops n dones → StartsWith z.seen told × (length told < n)
+  pub writes : (a z : Knowledge) (steps : List (Step volume)) (ops : List Op) (n : ℕ)
+      (dones : List Done) → Calls d steps a → Accepts a z ops n dones → StartsWith z.seen told
+      × (length told < n)

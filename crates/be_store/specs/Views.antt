@@ -1,31 +1,47 @@
 -- The volume as the object of the small machine, and what a pass knows as one of its views.
 use Rattle.std.specs.Prelude.{ℕ, ◌<◌, List}
+use Rattle.std.specs.declared.option.Option.{Option}
+use Rattle.std.specs.declared.result.Result.{Result}
 use Rattle.be_journal.specs.declared.entries.Entry.{Entry}
 use Rattle.be_journal.specs.Journal.{Agrees}
 use Rattle.be_table.specs.declared.pass.Knowledge.{Knowledge}
-use Rattle.be_table.specs.declared.limits.Limits.{Limits}
 use Rattle.be_table.specs.History.{AreOfPasses}
-use Rattle.be_table.specs.Rule.{entries, newcomer}
+use Rattle.be_table.specs.Rule.{entries}
 use Rattle.be_table.specs.Seats.{pinned_number}
 use Rattle.be_table.specs.Steps.{Has, KeepsSeen}
+use Rattle.be_value.specs.declared.refusals.Refusal.{Refusal}
+use Rattle.be_value.specs.declared.values.Kind.{Kind}
+use Rattle.be_value.specs.declared.values.Value.{Value}
 use Rattle.be_volume.specs.Ahead.{state_after}
 use Rattle.be_volume.specs.Volume.{State, empty}
-use Rattle.be_store.specs.Calls.{Calls}
-use Rattle.be_store.specs.Machine.{Object, View, Step, Leads}
+use Rattle.be_store.specs.SmallMachine.{Object, PassView, Step, Leads}
 
--- the volume: it accepts an entry whose outcomes are those of its operations
+-- What a read returns: nodes, or why there are none; an attribute of a node; all of its attributes;
+-- the indices; a number.
+pub data Answer : Type 0 where
+  Nodes : Result (List ℕ) Refusal → Answer
+  Attribute : Option Value → Answer
+  Attributes : Result (List (List ℕ × Value)) Refusal → Answer
+  Indices : List (List ℕ × Kind) → Answer
+  Number : ℕ → Answer
+
+-- The volume. It accepts an entry whose outcomes are those of its operations. A question is any
+-- function of it, as the scan of a query.
 abbrev pub volume : Object
 volume = record {
   State = State;
   Entry = Entry;
+  Question = State → Answer;
+  Answer = Answer;
   by = λ e. e.by;
   empty = empty;
   Accepts = Agrees;
   after = λ s e. state_after s e.ops;
+  answer = λ ask s. ask s;
 }
 
 -- what a pass knows, without its pages, its words and its moves
-abbrev pub view_of : Knowledge → View volume
+abbrev pub view_of : Knowledge → PassView volume
 view_of a = record {
   number = a.number;
   seen = entries a.seen;
@@ -37,12 +53,8 @@ view_of a = record {
 abbrev pub IsStep : Knowledge → Step volume → Knowledge → Type 0
 IsStep a s c = Leads volume (view_of a) s (view_of c)
 
--- this is what a pass knows after calls that it began as a new pass of a store
-abbrev pub HasBegunNew : Knowledge → Type 0
-HasBegunNew z = (limits : Limits) × (steps : ℕ) × (k : ℕ) × (cs : List Knowledge)
-    × Calls (newcomer limits steps k) cs z
-
--- What `close` ensures of the passes of a store of so many, and of its journal.
+-- What is so where a store of so many passes was closed. `close` requires that each pass is among
+-- those that it takes, and ensures the rest of these passes and of the journal.
 pub record IsClosed (count : ℕ) (log : List Entry) (passes : List Knowledge) : Type 0 where
   pub all : (k : ℕ) → k < count → Has passes k
   pub by : AreOfPasses count log

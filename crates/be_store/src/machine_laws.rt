@@ -1,27 +1,37 @@
 //! Each call of a pass is a step of one small machine, and what a whole run of it promises.
 //!
 //! Each law does nothing; its contract is the law. The contract of a public call says what its pass
-//! knew before and after: the law makes that one step of the machine (`specs/Machine.antt`), over
-//! what the pass has seen, has written and is pinned to (`specs/Views.antt`). The last law is the
-//! promise of the whole (`specs/OneHistory.antt`).
-ghost use Rattle.std.specs.Prelude.{◌≡◌, ◌+◌, ℕ, List, All, map};
+//! knew before and after: the law makes that one step of the machine (`specs/SmallMachine.antt`),
+//! over what the pass has seen, has written and is pinned to (`specs/Views.antt`). Calls one after
+//! the other make a run, whose steps are theirs (`specs/Calls.antt`). The last law is the promise
+//! of the whole (`specs/OneHistory.antt`); a program that ensures it is example_history.
+ghost use Rattle.std.specs.Prelude.{◌≡◌, ◌+◌, ℕ, List, map};
 ghost use Rattle.be_journal.specs.declared.entries.Entry.{Entry};
 ghost use Rattle.be_journal.specs.Journal.{Agrees};
 ghost use Rattle.be_table.specs.History.{StartsWith};
-ghost use Rattle.be_table.specs.Rule.{one_step_on};
+ghost use Rattle.be_table.specs.Rule.{newcomer, one_step_on};
 ghost use Rattle.be_table.specs.Steps.{entry_by, met};
+ghost use Rattle.be_table.specs.declared.limits.Limits.{Limits};
 ghost use Rattle.be_table.specs.declared.pass.Commit.{Commit};
 ghost use Rattle.be_table.specs.declared.pass.Knowledge.{Knowledge};
+ghost use Rattle.be_volume.specs.Volume.{State};
 ghost use Rattle.be_volume.specs.declared.ops.Done.{Done};
 ghost use Rattle.be_volume.specs.declared.ops.Op.{Op};
-ghost use Rattle.be_store.specs.Calls.{Calls};
+ghost use Rattle.be_store.specs.Calls.{Call, Calls, PassCalls};
 ghost use Rattle.be_store.specs.Conditional.{AcceptsAt, IsUnapplied};
 ghost use Rattle.be_store.specs.History.{Accepts, Learns, Pins, Unpins};
-ghost use Rattle.be_store.specs.Machine.{View, Step, Apply, Learn, Pin, Unpin, Read, Run, Closes};
-ghost use Rattle.be_store.specs.OneHistory.{PassRun, IsOneHistory};
+ghost use Rattle.be_store.specs.SmallMachine.{AreSteps, Closes, PassView, first_view};
+ghost use Rattle.be_store.specs.SmallMachine.{Step, Apply, Learn, Pin, Unpin, Read};
+ghost use Rattle.be_store.specs.OneHistory.{IsOneHistory, PassRun, steps_of};
 ghost use Rattle.be_store.specs.Passes.{HasRead, IsPinnedTo, volume_pinned};
 ghost use Rattle.be_store.specs.declared.conditional.ApplyIfError.{ApplyIfError};
-ghost use Rattle.be_store.specs.Views.{HasBegunNew, IsClosed, IsStep, view_of, volume};
+ghost use Rattle.be_store.specs.Views.{Answer, IsClosed, IsStep, view_of, volume};
+
+/// A pass that `open` returns has the first view.
+pub fn new_pass_has_first_view()
+    ensures { (limits : Limits) (steps k : ℕ) → view_of (newcomer limits steps k)
+        ≡ first_view volume k }
+{}
 
 /// An accepted write is the step Apply, of its entry at the number that it returned.
 pub fn write_is_step()
@@ -55,41 +65,57 @@ pub fn unpin_is_step()
     ensures { (a c : Knowledge) → Unpins a c → IsStep a Unpin c }
 {}
 
-/// A read of a pinned pass is the step Read, from the volume of which its contract speaks.
+/// A read of a pinned pass is the step Read, whatever it asked of the volume of which its contract
+/// speaks: its answer is what that volume answers.
 pub fn read_is_step()
-    ensures { (a c : Knowledge) (n : ℕ) → IsPinnedTo a n → HasRead a c
-        → IsStep a (Read (volume_pinned a)) c }
+    ensures { (a c : Knowledge) (n : ℕ) (ask : State → Answer) → IsPinnedTo a n → HasRead a c
+        → IsStep a (Read ask (ask (volume_pinned a))) c }
 {}
 
-/// A meeting or a join is the step Learn; so is a witness, which changes nothing.
+/// A live query that is refreshed by what changed makes two steps: its pass learns, and then reads
+/// at the pin, which has stayed.
+pub fn changed_refresh_is_steps()
+    ensures { (a c : Knowledge) (n : ℕ) (ask : State → Answer) → Learns a c → IsPinnedTo a n
+        → volume_pinned c ≡ volume_pinned a → IsStep a Learn c
+        × IsStep c (Read ask (ask (volume_pinned a))) c }
+{}
+
+/// A join is the step Learn, and a meeting is that step of both passes. So is a witness, which
+/// changes nothing.
 pub fn meeting_is_step()
     ensures meets { (a c : Knowledge) (log : List Commit) → StartsWith log a.seen → c ≡ met a log
         → IsStep a Learn c }
     ensures witness { (a c : Knowledge) → c ≡ one_step_on a → IsStep a Learn c }
 {}
 
-/// The calls of one pass are a run of the machine, with the same views after each.
+/// The calls of one pass are a run of the machine, with the same steps.
 pub fn calls_are_run()
-    ensures { (a : Knowledge) (cs : List Knowledge) (z : Knowledge) → Calls a cs z
-        → (steps : List (Step volume × View volume)) × Run volume (view_of a) steps (view_of z)
-        × (map (λ (x : Step volume × View volume). x.1) steps ≡ map view_of cs) }
+    ensures one { (a : Knowledge) (s : Step volume) (c : Knowledge) → Call a s c → IsStep a s c }
+    ensures all { (a : Knowledge) (steps : List (Step volume)) (z : Knowledge) → Calls a steps z
+        → (run : List (Step volume × PassView volume))
+        × AreSteps volume (view_of a) run (view_of z)
+        × (map (λ (x : Step volume × PassView volume). x.0) run ≡ steps) }
 {}
 
-/// A store that was closed is the last step: what `close` ensures of its passes and its journal.
+/// A store that was closed is the last step: what holds of its passes and its journal then.
 pub fn close_is_step()
     ensures { (count : ℕ) (log : List Entry) (passes : List Knowledge) → IsClosed count log passes
         → Closes volume log (map view_of passes) }
 {}
 
 /// The journal that `close` returns explains all runs of its passes: `given`, of whatever runs end
-/// in what these passes know; `made`, of the calls that each of them made as a new pass.
+/// in what these passes know; `made`, of the calls that each of them made as a new pass, by their
+/// steps.
 pub fn one_history()
     ensures given { (count : ℕ) (log : List Entry) (passes : List Knowledge)
         (runs : List (PassRun volume)) → IsClosed count log passes
         → map (λ (r : PassRun volume). r.last) runs ≡ map view_of passes
         → IsOneHistory volume log runs }
-    ensures made { (count : ℕ) (log : List Entry) (passes : List Knowledge)
-        → IsClosed count log passes → All HasBegunNew passes → (runs : List (PassRun volume))
-        × (map (λ (r : PassRun volume). r.last) runs ≡ map view_of passes)
+    ensures made { (count : ℕ) (log : List Entry) (passes : List PassCalls)
+        → IsClosed count log (map (λ (p : PassCalls). p.last) passes)
+        → (runs : List (PassRun volume))
+        × (map (λ (r : PassRun volume). r.number) runs
+        ≡ map (λ (p : PassCalls). p.first.number) passes)
+        × (map (steps_of volume) runs ≡ map (λ (p : PassCalls). p.steps) passes)
         × IsOneHistory volume log runs }
 {}

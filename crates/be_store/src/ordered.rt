@@ -128,8 +128,14 @@ impl Store {
     ///
     /// NoSuchIndex if that version has no index of the order's name; then NotCovered if the query
     /// rests on no index of it; OutOfMemory. An error leaves the cursor as it was, and the list has
-    /// any numbers. It costs what `query_prepared` costs, two descents for each node that is found,
-    /// and a sort. It takes memory for the keys after the cursor.
+    /// any numbers.
+    ///
+    /// It costs the cheaper of three ways, or up to about twice that. If all comparisons are on the
+    /// order's name and their range decides the query: a walk over the page's keys and one more,
+    /// and no memory but for the list. Otherwise a walk over the order's index from the cursor, and
+    /// a question for each node that it passes until the page is full. If that costs more than the
+    /// whole answer: what `query_prepared` costs, two descents for each node that is found, and a
+    /// sort; it takes memory for the keys after the cursor.
     pub fn ordered(
         &self,
         alloc: Global,
@@ -158,7 +164,8 @@ impl Store {
     /// to `most` of them, in place of what it had. The next call goes on from the number after the
     /// last of these.
     ///
-    /// Errors are those of `query_prepared`. After an error the list has any numbers.
+    /// Errors are those of `query_prepared`, and so is the cost. After an error the list has any
+    /// numbers.
     pub fn first(
         &self,
         alloc: Global,
@@ -184,7 +191,9 @@ impl Store {
     /// Puts any nodes of the query's answer into a list, in place of what it had: none twice,
     /// `most` of them or as many as there are.
     ///
-    /// Errors are those of `query_prepared`. After an error the list has any numbers.
+    /// Errors are those of `query_prepared`. After an error the list has any numbers. It costs a
+    /// walk over `most` keys if the range of one index decides the query, and otherwise what
+    /// `query_prepared` costs.
     pub fn any(
         &self,
         alloc: Global,

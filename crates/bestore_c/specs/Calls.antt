@@ -1,5 +1,5 @@
 -- What calls do to handles.
-use Rattle.std.specs.Prelude.{◌≡◌, ◌⊎◌, ◌<◌, ℕ, ◌+◌, ◌*◌, ◌^◌, IsUtf8, List, [], drop, length, map}
+use Rattle.std.specs.Prelude.{◌≡◌, ◌⊎◌, ◌<◌, ℕ, ◌*◌, ◌^◌, IsUtf8, List, [], drop, length, map}
 use Rattle.std.specs.Prelude.{slice_get, Option, None, Some, Ok, Err}
 use Rattle.std.specs.declared.result.Result.{Result}
 use Rattle.be_journal.specs.declared.entries.Entry.{Entry}
@@ -29,7 +29,6 @@ use Rattle.be_table.specs.Rule.{IsWithin, entries}
 use Rattle.be_table.specs.Seats.{pinned_number}
 use Rattle.be_table.specs.Works.{IsOpenRefused}
 use Rattle.be_table.specs.declared.limits.Limits.{Limits}
-use Rattle.be_table.specs.declared.pass.Knowledge.{Knowledge}
 use Rattle.be_value.specs.Name.{name_from}
 use Rattle.be_value.specs.Refusal.{refusal_number}
 use Rattle.be_value.specs.declared.refusals.Refusal.{Refusal}

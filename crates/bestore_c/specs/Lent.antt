@@ -1,6 +1,8 @@
 -- What a handle owns, while it is borrowed.
 use Rattle.std.specs.Prelude.{Some}
 use Rattle.std.specs.Borrow.{Lends, MutBor, Fml}
+use Rattle.be_change.specs.Changing.{Changing}
+use Rattle.be_change.specs.contracts.changes.Change as change
 use Rattle.be_session.specs.Prepared.{PreparedQuery}
 use Rattle.be_session.specs.Sitting.{Sitting}
 use Rattle.be_session.specs.contracts.preparing.Prepared as prepared
@@ -10,10 +12,12 @@ use Rattle.be_session.specs.declared.states.StatePlace.{StatePlace}
 use Rattle.be_table.specs.Place.{WitnessFacts}
 use Rattle.be_table.specs.contracts.witness.Witness as witness
 use Rattle.bestore_c.specs.contracts.owned.Owned as owned
+use Rattle.bestore_c.specs.contracts.owned_draft.OwnedDraft as owned_draft
 use Rattle.bestore_c.specs.contracts.owned_place.OwnedPlace as owned_place
 use Rattle.bestore_c.specs.contracts.owned_query.OwnedQuery as owned_query
 use Rattle.bestore_c.specs.contracts.owned_witness.OwnedWitness as owned_witness
 use Rattle.bestore_c.specs.declared.owned.Owned.{Owned}
+use Rattle.bestore_c.specs.declared.owned_draft.OwnedDraft.{OwnedDraft}
 use Rattle.bestore_c.specs.declared.owned_place.OwnedPlace.{OwnedPlace}
 use Rattle.bestore_c.specs.declared.owned_query.OwnedQuery.{OwnedQuery}
 use Rattle.bestore_c.specs.declared.owned_witness.OwnedWitness.{OwnedWitness}
@@ -46,3 +50,10 @@ with_witness o w = record o { value = Some w }
 
 abbrev pub LendsWitness : MutBor OwnedWitness → MutBor WitnessFacts → Fml
 LendsWitness o w = Lends owned_witness.the_row witness.the_row o w (with_witness o.now)
+
+-- and for a change
+abbrev pub with_draft : OwnedDraft → Changing → OwnedDraft
+with_draft o c = record o { value = Some c }
+
+abbrev pub LendsDraft : MutBor OwnedDraft → MutBor Changing → Fml
+LendsDraft o c = Lends owned_draft.the_row change.the_row o c (with_draft o.now)

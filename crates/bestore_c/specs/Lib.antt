@@ -4,6 +4,8 @@ pub mod Places
 pub mod Calls
 pub mod Usage
 pub mod States
+pub mod Texts
 pub mod Witnesses
+pub mod Drafts
 pub mod Finishing
 pub mod Ordering

@@ -2,6 +2,7 @@
 ghost use Rattle.std.specs.Prelude.{◌≡◌, is_some};
 
 use crate::owned::Owned;
+use crate::owned_draft::OwnedDraft;
 use crate::owned_place::OwnedPlace;
 use crate::owned_query::OwnedQuery;
 use crate::owned_witness::OwnedWitness;
@@ -45,6 +46,15 @@ pub struct WitnessHandle {
     ghost full: { live ≡ is_some owned.value },
 }
 
+/// What C holds of a change: closed, or open with the change. Zero bytes are a closed one.
+#[repr(C)]
+#[derive(Drop)]
+pub struct DraftHandle {
+    pub live: bool,
+    pub owned: OwnedDraft,
+    ghost full: { live ≡ is_some owned.value },
+}
+
 /// A law of the handle: it may go to another thread, with what it holds. It does nothing.
 pub fn may_move(pass: Handle) -> Handle
     ensures { result ≡ pass }
@@ -57,6 +67,13 @@ pub fn witness_may_move(witness: WitnessHandle) -> WitnessHandle
     ensures { result ≡ witness }
 {
     sent(witness)
+}
+
+/// The same of the handle of a change.
+pub fn draft_may_move(draft: DraftHandle) -> DraftHandle
+    ensures { result ≡ draft }
+{
+    sent(draft)
 }
 
 /// What C gets of a value: its type code, its length in bytes, and the number that it is, or 0. A

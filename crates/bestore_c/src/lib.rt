@@ -25,6 +25,8 @@ ghost use Rattle.bestore_c.specs.Calls.{PrintsPrepared, PutsOutAtPin, Reads, Ref
 ghost use Rattle.bestore_c.specs.Calls.{Refuses, ShowsFound};
 ghost use Rattle.bestore_c.specs.Calls.{HoldsName, ReadsHeld, ShowsChanges, TellsAtPin, TellsEntry};
 ghost use Rattle.bestore_c.specs.Calls.{TellsJournal, TellsNumber, WritesSpelled, WritesSpelledIf};
+ghost use Rattle.bestore_c.specs.Drafts.{AbandonsDraft, AddsSpelled, BeginsDraft, EndsDraft};
+ghost use Rattle.bestore_c.specs.Drafts.{ListsDraft, ReadsDraft, TakesAnyKind};
 ghost use Rattle.bestore_c.specs.Finishing.{Finishes};
 ghost use Rattle.bestore_c.specs.Ordering.{AnyFew, First, IsRefreshedHere, Ordered};
 ghost use Rattle.bestore_c.specs.Ordering.{ReadsPrepared, RefreshesByWrites};
@@ -33,6 +35,7 @@ ghost use Rattle.bestore_c.specs.Usage.{TellsUsage};
 ghost use Rattle.bestore_c.specs.Witnesses.{AreOfOneStore, JoinsWitness, Vouches};
 
 mod asking;
+mod drafts;
 mod entries;
 mod finishing;
 mod handle;
@@ -40,6 +43,7 @@ mod listing;
 mod loose;
 mod ordering;
 mod owned;
+mod owned_draft;
 mod owned_place;
 mod owned_query;
 mod owned_witness;
@@ -48,21 +52,25 @@ mod reading;
 mod refusing;
 mod states;
 mod telling;
+pub mod texts;
 
 use asking::{find_prepared, put_text, query_for, refresh_prepared, tell, tell_text};
 use be_session::{
-    Cursor, HeldOrder, Operation, PredicateItem, Session, held_name, operations, prepare,
-    prepare_items, query_of_items,
+    Cursor, HeldOrder, Operation, PredicateItem, Session, collect_operation, held_name, name,
+    operations, operations_spelled, prepare, prepare_items, query_of_items,
 };
 use be_store::{ArrayVec, Cell, HeldName, Limits};
+use drafts::{read_changed, take_change};
 use entries::tell_entry;
 use finishing::{end, last_text};
 use handle::{
-    Attribute, Counts, Handle, PlaceHandle, PreparedHandle, UpdateCounts, Usage, WitnessHandle,
+    Attribute, Counts, DraftHandle, Handle, PlaceHandle, PreparedHandle, UpdateCounts, Usage,
+    WitnessHandle,
 };
-use listing::{tell_attributes, tell_indices};
+use listing::{put_spelled, tell_attributes, tell_indices};
 use ordering::{find_any, find_first, find_ordered, refresh_changed};
 use owned::Owned;
+use owned_draft::OwnedDraft;
 use owned_place::OwnedPlace;
 use owned_query::OwnedQuery;
 use owned_witness::OwnedWitness;
@@ -431,6 +439,213 @@ pub extern "C" fn bes_apply_if(
         }
         Err(fault) => refuse(fault, entries),
     }
+}
+
+/// Begins a change on the pinned snapshot, and opens the handle with it. A pass that isn't pinned
+/// is pinned now, until the change ends. Returns the snapshot's number, and that of the first new
+/// node.
+#[unsafe(no_mangle)]
+pub extern "C" fn bes_begin_change(
+    alloc: Global,
+    pass: &mut Handle,
+    draft: &mut DraftHandle,
+    number: &mut u64,
+    next: &mut u64,
+) -> u32
+    ensures pass { Calls pass.old.owned.value pass.new.owned.value
+        (IsClosed number.new result × (draft.new.owned.value ≡ draft.old.owned.value))
+        (λ s t. BeginsDraft s t draft.old.owned.value draft.new.owned.value number.new next.new
+        result) }
+    ensures kept { (result ≡ 0) ⊎ (next.new ≡ next.old) }
+{
+    *number = 0;
+    if !pass.live {
+        return CLOSED;
+    }
+    if draft.live {
+        return OPEN;
+    }
+    match pass.owned.lent().begin_change(alloc) {
+        Ok(change) => {
+            *number = change.number();
+            *next = change.first_node();
+            *draft = DraftHandle {
+                live: true,
+                owned: OwnedDraft::of(change),
+            };
+            DONE
+        }
+        Err(fault) => refuse(fault, number),
+    }
+}
+
+/// The change takes values of any kind from here on.
+#[unsafe(no_mangle)]
+pub extern "C" fn bes_change_any_kind(draft: &mut DraftHandle) -> u32
+    ensures { TakesAnyKind draft.old.owned.value draft.new.owned.value result }
+{
+    if !draft.live {
+        return CLOSED;
+    }
+    draft.owned.lent().take_any_kind();
+    DONE
+}
+
+/// Collects an operation, which is written once the change ends. Returns the number of the node
+/// that it will make, or 0.
+#[unsafe(no_mangle)]
+pub extern "C" fn bes_change_add(
+    draft: &mut DraftHandle,
+    spelled: &Operation,
+    bytes: &[u8],
+    node: &mut u64,
+) -> u32
+    ensures { AddsSpelled draft.old.owned.value draft.new.owned.value spelled.now bytes.now node.new
+        result }
+{
+    *node = 0;
+    if !draft.live {
+        return CLOSED;
+    }
+    match collect_operation(draft.owned.lent(), spelled, bytes) {
+        Ok(made) => {
+            *node = made;
+            DONE
+        }
+        Err(fault) => refuse(fault, node),
+    }
+}
+
+/// Reads a node's attribute as the change's operations leave it, as `bes_get` does.
+#[unsafe(no_mangle)]
+pub extern "C" fn bes_change_get(
+    pass: &mut Handle,
+    draft: &mut DraftHandle,
+    node: u64,
+    name_bytes: &[u8],
+    attribute: &mut Attribute,
+    bytes: &mut [u8],
+) -> u32
+    ensures pass { Calls pass.old.owned.value pass.new.owned.value (result ≡ 64)
+        (λ s t. ReadsDraft s t draft.old.owned.value node name_bytes.now attribute.new bytes.old
+        bytes.new result) }
+    ensures draft { draft.new.owned.value ≡ draft.old.owned.value }
+    ensures kept { (result ≡ 0) ⊎ ((attribute.new ≡ attribute.old) × (bytes.new ≡ bytes.old)) }
+{
+    if !pass.live {
+        return CLOSED;
+    }
+    if !draft.live {
+        return CLOSED;
+    }
+    match &name(name_bytes) {
+        Ok(called) => {
+            let change = draft.owned.lent();
+            read_changed(pass.owned.lent(), change, node, called, attribute, bytes)
+        }
+        Err(fault) => fault.code(),
+    }
+}
+
+/// Lists the operations that the change has collected. Returns how many they are and how many bytes
+/// their parts take, and of both as much as there is room for.
+#[unsafe(no_mangle)]
+pub extern "C" fn bes_change_batch(
+    alloc: Global,
+    draft: &mut DraftHandle,
+    counts: &mut Counts,
+    listed: &mut [Operation],
+    bytes: &mut [u8],
+) -> u32
+    ensures draft { draft.new.owned.value ≡ draft.old.owned.value }
+    ensures listed { ListsDraft draft.old.owned.value counts.new listed.old listed.new bytes.old
+        bytes.new result }
+    ensures kept { (result ≡ 0) ⊎ ((counts.new ≡ counts.old) × (listed.new ≡ listed.old)
+        × (bytes.new ≡ bytes.old)) }
+{
+    if !draft.live {
+        return CLOSED;
+    }
+    let spelled = operations_spelled(alloc, draft.owned.lent().operations());
+    put_spelled(spelled, counts, listed, bytes)
+}
+
+/// Ends the change: writes what it has collected if no other write came since its snapshot, and
+/// unpins the pass if `bes_begin_change` pinned it. The handle is closed then, also after an error.
+/// Returns the commit number, or the snapshot's if nothing was collected.
+#[unsafe(no_mangle)]
+pub extern "C" fn bes_end_change(
+    alloc: Global,
+    pass: &mut Handle,
+    draft: &mut DraftHandle,
+    number: &mut u64,
+) -> u32
+    ensures pass { Calls pass.old.owned.value pass.new.owned.value (IsClosed number.new result)
+        (λ s t. EndsDraft s t draft.old.owned.value number.new result) }
+    ensures closed { draft.new.owned.value ≡ None }
+{
+    *number = 0;
+    let taken = take_change(alloc, draft);
+    if !pass.live {
+        return CLOSED;
+    }
+    let Some(change) = taken else {
+        return CLOSED;
+    };
+    match pass.owned.lent().end_change(change) {
+        Ok(written) => {
+            *number = written;
+            DONE
+        }
+        Err(fault) => refuse(fault, number),
+    }
+}
+
+/// Ends the change without writing, and unpins the pass if `bes_begin_change` pinned it. The handle
+/// is closed then, also if the pass is closed.
+#[unsafe(no_mangle)]
+pub extern "C" fn bes_abandon_change(
+    alloc: Global,
+    pass: &mut Handle,
+    draft: &mut DraftHandle,
+) -> u32
+    ensures pass { Calls pass.old.owned.value pass.new.owned.value (result ≡ 64)
+        (λ s t. AbandonsDraft s t draft.old.owned.value result) }
+    ensures closed { draft.new.owned.value ≡ None }
+{
+    let taken = take_change(alloc, draft);
+    if !pass.live {
+        return CLOSED;
+    }
+    let Some(change) = taken else {
+        return CLOSED;
+    };
+    pass.owned.lent().abandon_change(change);
+    DONE
+}
+
+/// Moves what the handle of a change holds into one that is closed, and closes it.
+#[unsafe(no_mangle)]
+pub extern "C" fn bes_move_draft(
+    alloc: Global,
+    draft: &mut DraftHandle,
+    other: &mut DraftHandle,
+) -> u32
+    ensures { MovesHandle draft.old.owned.value other.old.owned.value draft.new.owned.value
+        other.new.owned.value result }
+{
+    if !draft.live {
+        return CLOSED;
+    }
+    if other.live {
+        return OPEN;
+    }
+    let closed = DraftHandle {
+        live: false,
+        owned: OwnedDraft::none(alloc),
+    };
+    *other = mem::replace(draft, closed);
+    DONE
 }
 
 /// Returns the number of the handle's pass.

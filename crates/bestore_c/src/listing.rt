@@ -41,7 +41,7 @@ pub(crate) fn put_spelling(
 }
 
 /// Writes encoded operations, as far as there is room.
-fn put_spelled(
+pub(crate) fn put_spelled(
     spelled: Result<Spelling, Fault>,
     counts: &mut Counts,
     operations: &mut [Operation],

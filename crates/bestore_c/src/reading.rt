@@ -14,7 +14,7 @@ use be_session::{Fault, Session};
 use be_store::{Cell, HeldName};
 
 /// No attribute of this name: the refusal's number.
-const NO_ATTRIBUTE: u32 = 3;
+pub(crate) const NO_ATTRIBUTE: u32 = 3;
 
 /// What C gets of a value, from its cell.
 fn attribute_of(cell: Cell) -> Attribute

@@ -39,7 +39,7 @@ _be_options() {
     info) echo --json ;;
     clients) echo --json ;;
     backup) echo --json ;;
-    restore) echo --json ;;
+    restore) printf '%s\n' --json --until ;;
     esac
     printf '%s\n' --socket --wait --timeout --help
 }

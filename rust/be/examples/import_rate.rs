@@ -4,8 +4,8 @@
 //! `cargo build --release && cargo run --release -p be --example import_rate [FOLDER [VOLUMES]]`. The folder is /usr/share if none
 //! is named, and there is a volume for 10,000 files. Each row is printed as docs/MEASURED.md has it.
 
-use bestore::Value;
 use bestore_client::{Client, Query};
+use bestore_types::Value;
 use std::collections::BTreeSet;
 use std::path::{Path, PathBuf};
 use std::process::{Child, Command, Stdio};

@@ -4,10 +4,10 @@ use crate::command_line::Backup as Line;
 use crate::failure::Failure;
 use crate::output::Output;
 use crate::state::{each_batch, volumes, Shown};
-use bestore::saved::Backup;
-use bestore::Batch;
 use bestore_client::wire::{self, Command, Hello, Nothing};
 use bestore_client::{Client, Error};
+use bestore_types::saved::Backup;
+use bestore_types::Batch;
 
 /// Writes a snapshot into a file.
 pub fn make(client: &mut Client, line: &Line, output: &mut Output) -> Result<(), Failure> {
@@ -33,7 +33,7 @@ fn to_volume(batch: &Batch, volume: Option<u32>) -> Result<Batch, Failure> {
     match volume {
         None => Ok(batch.clone()),
         Some(_) => {
-            let within = batch.to_volume(volume).map_err(bestore::saved::Error::Store)?;
+            let within = batch.to_volume(volume).map_err(bestore_types::saved::Error::Store)?;
             Ok(within.1)
         }
     }

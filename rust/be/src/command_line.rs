@@ -287,6 +287,9 @@ pub struct Restore {
     /// Print JSON
     #[arg(long)]
     pub json: bool,
+    /// Restore what the file had with its entry N, as when a later one is damaged; of a folder, for each such volume
+    #[arg(long, value_name = "[VOLUME:]N", value_parser = until)]
+    pub until: Vec<(u32, u64)>,
     /// The backup, or the file of a server that has ended
     pub file: PathBuf,
 }
@@ -299,6 +302,15 @@ fn seconds(text: &str) -> Result<Duration, String> {
     match text.parse() {
         Ok(seconds) if (0.0..=MOST_SECONDS).contains(&seconds) => Ok(Duration::from_secs_f64(seconds)),
         _ => Err(format!("a time has 0 to {MOST_SECONDS} seconds")),
+    }
+}
+
+/// Reads a volume, which is 0 if none is given, and the number of an entry.
+fn until(text: &str) -> Result<(u32, u64), String> {
+    let (volume, entry) = text.split_once(':').unwrap_or(("0", text));
+    match (volume.parse(), entry.parse()) {
+        (Ok(volume), Ok(entry)) => Ok((volume, entry)),
+        _ => Err("this is the number of an entry, such as 17, or a volume and an entry, such as 2:17".into()),
     }
 }
 

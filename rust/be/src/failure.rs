@@ -4,9 +4,9 @@ use crate::import::follow;
 use crate::kind::shown_name;
 use crate::text::{escaped, pointed};
 use crate::typed_query::BadDate;
-use bestore::saved;
 use bestore_client::wire::Refusal;
 use bestore_client::{Error, ErrorName, SocketPath};
+use bestore_types::saved::{self, Place};
 use std::collections::BTreeMap;
 use std::io::Write as _;
 use std::path::{Path, PathBuf};
@@ -42,6 +42,8 @@ pub enum Failure {
     Output(io::Error),
     /// A backup can't be written or read.
     Backup(saved::Error),
+    /// The server refuses a batch of a backup.
+    Restore { place: Place, refusal: Box<Refusal> },
     /// A backup has another number of volumes than the server.
     Volumes { backup: usize, server: u32 },
     /// A backup is restored into a store that isn't empty.
@@ -134,11 +136,11 @@ impl fmt::Display for Failure {
                 writeln!(f, "{}: the file has no node", shown(path))?;
                 write!(f, "  be import FOLDER makes one for each file of a folder")
             }
-            Failure::LongPath(path) => write!(f, "{}: a path has up to 255 bytes, and this one has more", shown(path)),
+            Failure::LongPath(path) => write!(f, "{}: a path has up to 255 bytes, but this one has more", shown(path)),
             Failure::Watch(folder, error) => f.write_str(&follow::shown(folder, error)),
             Failure::Gone(folder) => write!(f, "{} is gone, and nothing was removed from the store", shown(folder)),
             Failure::Another(folder) => {
-                writeln!(f, "{} is another folder than before, and is empty", shown(folder))?;
+                writeln!(f, "{} isn't the same folder as before, and is empty", shown(folder))?;
                 write!(
                     f,
                     "  nothing was removed from the store; be import --reread removes the nodes of its files"
@@ -146,6 +148,13 @@ impl fmt::Display for Failure {
             }
             Failure::Output(error) => write!(f, "the output can't be written: {error}"),
             Failure::Backup(error) => f.write_str(&escaped(&error.to_string())),
+            Failure::Restore { place, refusal } => {
+                writeln!(f, "{place}: {}", escaped(&refusal.message))?;
+                write!(
+                    f,
+                    "  the server has only what comes before; restore into another one once this is fixed"
+                )
+            }
             Failure::Volumes { backup, server } => {
                 writeln!(f, "the backup has {backup} volumes, and the server has {server}")?;
                 write!(f, "  start a server with --volumes {backup}")

@@ -5,8 +5,8 @@ use crate::failure::Failure;
 use crate::kind::shown_name;
 use crate::output::Output;
 use crate::server;
-use bestore::Batch;
 use bestore_client::Client;
+use bestore_types::Batch;
 
 pub fn make(client: &mut Client, line: &MakeIndex) -> Result<(), Failure> {
     Ok(server::apply(

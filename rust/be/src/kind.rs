@@ -1,7 +1,7 @@
 //! The types of values by the names that the tools have for them.
 
 use crate::failure::Failure;
-use bestore::{Kind, Value};
+use bestore_types::{Kind, Value};
 use clap::ValueEnum;
 
 /// The type of a value.

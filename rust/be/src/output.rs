@@ -2,7 +2,7 @@
 
 use crate::failure::Failure;
 use crate::text::{escaped, escaped_bytes, escaped_json, width};
-use bestore::Value;
+use bestore_types::Value;
 use serde::Serialize;
 use std::borrow::Cow;
 use std::io::{self, BufWriter, StdoutLock, Write};

@@ -4,9 +4,9 @@ use crate::failure::Failure;
 use crate::import::content::{name_in, NAME, PARENT, ROOT, STAT};
 use crate::import::stat::Stat;
 use crate::server::pinned;
-use bestore::Value;
 use bestore_client::wire::Json;
 use bestore_client::{Client, ErrorName, Query};
+use bestore_types::Value;
 use std::collections::HashMap;
 use std::ffi::OsString;
 use std::fs;
@@ -55,7 +55,7 @@ fn node_of(client: &mut Client, path: &Path) -> Result<u64, Failure> {
     let failed = |error| Failure::File(path.into(), error);
     let about = fs::symlink_metadata(path).map_err(failed)?;
     let whole = whole_path(path).map_err(failed)?;
-    let name = bestore::escape(&crate::import::mail::cut(&name_in(&whole).to_string_lossy()));
+    let name = bestore_types::escape(&crate::import::mail::cut(&name_in(&whole).to_string_lossy()));
     let identity = Stat::from(&about).identity;
     let text = format!("name==\"{name}\" && {STAT}==\"{identity}:*\"");
     let found = pinned(client, |client| match client.query(&text) {

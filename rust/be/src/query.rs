@@ -10,9 +10,9 @@ use crate::paths::paths_of;
 use crate::server::{self, pinned};
 use crate::text::{escaped, pointed};
 use crate::typed_query::TypedQuery;
-use bestore::Value;
 use bestore_client::wire::{self, kind_named, Command, Hits, Json, Push};
 use bestore_client::{Client, Error, ErrorName};
+use bestore_types::Value;
 use serde::Serialize;
 use std::path::PathBuf;
 use std::time::Duration;
@@ -38,12 +38,18 @@ pub fn run(client: &mut Client, line: &Line, output: &mut Output) -> Result<(), 
 
 /// Says which comparisons of a query that the server has accepted no node can meet.
 fn warn(client: &mut Client, query: &TypedQuery) -> Result<(), Failure> {
-    if !hints::may_be(&query.sent) {
+    let compared = match client.comparisons(&query.sent) {
+        // The server is older, and can't say.
+        Err(error) if error.is(ErrorName::BadRequest) => return Ok(()),
+        compared => compared?,
+    };
+    if compared.iter().all(|one| one.never.is_empty()) {
         return Ok(());
     }
     let indices = server::indices(client)?;
     let kind = |(name, kind): (String, String)| kind_named(&kind).map(|kind| (name, kind));
-    for hint in hints::hints(&query.sent, &indices.into_iter().filter_map(kind).collect()) {
+    let indices = indices.into_iter().filter_map(kind).collect();
+    for hint in hints::hints(&query.sent, &compared, &indices) {
         let place = pointed(&query.typed, query.place_of(hint.offset));
         complain(&format!("warning: {}{place}", escaped(&hint.message)));
     }

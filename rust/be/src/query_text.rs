@@ -1,5 +1,4 @@
-//! The tokens and the comparisons of a query's text. The server reads the text itself; what is found here serves to replace dates,
-//! and to warn.
+//! The tokens and the comparisons of a query as it is typed, with dates between `%`. The server reads what is made of it.
 
 /// What a token is.
 #[derive(Clone, Copy, Debug, PartialEq, Eq)]
@@ -11,9 +10,7 @@ pub enum Form {
     Word,
     /// An operator such as `==`.
     Compares,
-    /// `&&` or `||`.
-    Joins,
-    /// `!`, `(` or `)`.
+    /// What joins or turns comparisons.
     Sign,
 }
 
@@ -31,8 +28,6 @@ pub struct Comparison<'a> {
     pub name: Token<'a>,
     pub operator: Token<'a>,
     pub value: Token<'a>,
-    /// Whether it is inside an odd number of `!`, which turn the operator.
-    pub is_negated: bool,
 }
 
 impl<'a> Token<'a> {
@@ -50,22 +45,6 @@ impl<'a> Token<'a> {
 
     fn is_text(&self) -> bool {
         matches!(self.form, Form::Word | Form::Quoted)
-    }
-}
-
-impl Comparison<'_> {
-    /// The operator that the comparison has once no `!` is left.
-    pub fn turned_operator(&self) -> &str {
-        match (self.is_negated, self.operator.text) {
-            (false, "=") => "==",
-            (true, "=" | "==") => "!=",
-            (true, "!=") => "==",
-            (true, "<") => ">=",
-            (true, "<=") => ">",
-            (true, ">") => "<=",
-            (true, ">=") => "<",
-            (_, operator) => operator,
-        }
     }
 }
 
@@ -98,7 +77,7 @@ fn first_token(text: &str, may_be_date: bool) -> Option<(Form, usize)> {
         }
         [b'=' | b'!' | b'<' | b'>', b'=', ..] => Some((Form::Compares, 2)),
         [b'=' | b'<' | b'>', ..] => Some((Form::Compares, 1)),
-        [b'&', b'&', ..] | [b'|', b'|', ..] => Some((Form::Joins, 2)),
+        [b'&', b'&', ..] | [b'|', b'|', ..] => Some((Form::Sign, 2)),
         [b'!' | b'(' | b')', ..] => Some((Form::Sign, 1)),
         _ => {
             let length =
@@ -130,45 +109,14 @@ fn whole_length(text: &str) -> usize {
 /// The comparisons of a text that is a query, from left to right.
 pub fn comparisons(text: &str) -> Vec<Comparison<'_>> {
     let tokens = tokens(text);
-    let mut found = Vec::new();
-    // Whether what is read is negated, and whether what is round each open parenthesis was.
-    let (mut is_negated, mut round) = (false, Vec::new());
-    for (at, token) in tokens.iter().enumerate() {
-        match (token.form, token.text) {
-            (Form::Sign, "!") => is_negated = !is_negated,
-            (Form::Sign, "(") => round.push(is_negated),
-            (Form::Sign, _) => drop(round.pop()),
-            _ => {}
+    let three = tokens.windows(3).filter_map(|tokens| match tokens {
+        [name, operator, value] => {
+            let is_value = value.is_text() || value.form == Form::Date;
+            let is_one = name.is_text() && operator.form == Form::Compares && is_value;
+            let (name, operator, value) = (*name, *operator, *value);
+            is_one.then_some(Comparison { name, operator, value })
         }
-        if let [name, operator, value] = tokens[at..].get(..3).unwrap_or_default() {
-            if name.is_text() && operator.form == Form::Compares && (value.is_text() || value.form == Form::Date) {
-                let (name, operator, value) = (*name, *operator, *value);
-                found.push(Comparison {
-                    name,
-                    operator,
-                    value,
-                    is_negated,
-                });
-            }
-        }
-        // A `!` ends with the comparison, or with the parentheses, that it is before.
-        let ends = token.text == ")" && token.form == Form::Sign || token.form == Form::Joins;
-        if ends {
-            is_negated = round.last().copied().unwrap_or(false);
-        }
-    }
-    found
-}
-
-/// A name or a value, each of its backslashes taken away and the character after it left.
-pub fn without_backslashes(text: &str) -> String {
-    let mut characters = text.chars();
-    let mut plain = String::with_capacity(text.len());
-    while let Some(character) = characters.next() {
-        plain.extend(match character {
-            '\\' => characters.next(),
-            other => Some(other),
-        });
-    }
-    plain
+        _ => None,
+    });
+    three.collect()
 }

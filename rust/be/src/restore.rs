@@ -4,25 +4,23 @@ use crate::command_line::Restore as Line;
 use crate::failure::Failure;
 use crate::output::Output;
 use crate::state::{volumes, Shown};
-use bestore::saved::{self, Options};
-use bestore::{Batch, Limits, ShelfPass, State};
 use bestore_client::wire::{self, Command, Numbers, Written};
 use bestore_client::{Client, Error};
+use bestore_types::saved::{self, Contents, Place};
+use bestore_types::{Batch, Node, Operation};
 use std::collections::VecDeque;
-
-/// As many pages as a store may have.
-const PAGES: u64 = 16_384;
 
 /// How many batches are sent before the reply to the first one is read.
 const AHEAD: usize = 64;
 
 /// Writes what a backup has into the server, whose store has to be empty. Nobody else can write meanwhile without ending it.
 pub fn restore(client: &mut Client, line: &Line, output: &mut Output) -> Result<(), Failure> {
-    let mut pass = load(line)?;
+    // All of it is read and checked before anything is written.
+    let backup = saved::read_until(&line.file, &line.until.iter().copied().collect())?;
     let hello = client.hello()?;
-    if hello.volumes as usize != pass.volumes().len() {
+    if hello.volumes as usize != backup.len() {
         return Err(Failure::Volumes {
-            backup: pass.volumes().len(),
+            backup: backup.len(),
             server: hello.volumes,
         });
     }
@@ -30,42 +28,112 @@ pub fn restore(client: &mut Client, line: &Line, output: &mut Output) -> Result<
     if entries > 0 {
         return Err(Failure::NotEmpty { entries });
     }
-    let snapshot = pass.pin().map_err(saved::Error::Store)?;
     let mut count = 0;
-    for (volume, of_volume) in volumes(&hello).zip(snapshot.volumes()) {
-        count += write(client, volume, of_volume.state())?;
+    for (volume, contents) in volumes(&hello).zip(&backup) {
+        count += Restoring::new(client, volume).write(contents)?;
     }
     let file = output.path_bytes(&line.file);
     let shown = Shown::new(&hello, client.next_node()?, count);
     shown.print(&String::from_utf8_lossy(&file), line.json, output)
 }
 
-/// Reads and checks the backup.
-fn load(line: &Line) -> Result<ShelfPass, saved::Error> {
-    let mut options = Options::new();
-    options.limits(Limits {
-        pages: PAGES,
-        ..Limits::default()
-    });
-    Ok(options.load(&line.file)?.pass()?)
+/// A batch that was sent, and whose reply is still to come.
+struct Sent<'b> {
+    id: u64,
+    place: Place,
+    batch: &'b Batch,
 }
 
-/// Writes the batches of a volume. Returns how many.
-fn write(client: &mut Client, volume: Option<u32>, batches: State<'_>) -> Result<u64, Failure> {
-    let mut sent = VecDeque::new();
-    let mut count = 0;
-    for batch in batches {
-        let batch = batch.map_err(saved::Error::Store)?;
-        sent.push_back(send(client, volume, count, batch)?);
-        count += 1;
-        if sent.len() == AHEAD {
-            receive(client, sent.pop_front())?;
+/// A volume that is written.
+struct Restoring<'b, 'c> {
+    client: &'c mut Client,
+    volume: Option<u32>,
+    sent: VecDeque<Sent<'b>>,
+    count: u64,
+}
+
+impl<'b, 'c> Restoring<'b, 'c> {
+    fn new(client: &'c mut Client, volume: Option<u32>) -> Self {
+        Self {
+            client,
+            volume,
+            sent: VecDeque::new(),
+            count: 0,
         }
     }
-    while !sent.is_empty() {
-        receive(client, sent.pop_front())?;
+
+    /// Writes the batches of the volume. Returns how many.
+    fn write(mut self, contents: &'b Contents) -> Result<u64, Failure> {
+        let mut is_state = true;
+        for (place, batch) in contents.batches() {
+            if is_state && matches!(place, Place::Entry(_)) {
+                self.end_state(contents)?;
+                is_state = false;
+            }
+            let id = send(self.client, self.volume, self.count, batch.clone())?;
+            self.sent.push_back(Sent { id, place, batch });
+            self.count += 1;
+            if self.sent.len() == AHEAD {
+                self.receive()?;
+            }
+        }
+        match is_state {
+            true => self.end_state(contents)?,
+            false => self.receive_all()?,
+        }
+        Ok(self.count)
     }
-    Ok(count)
+
+    /// Looks whether the state makes the next node that the file says.
+    fn end_state(&mut self, contents: &Contents) -> Result<(), Failure> {
+        self.receive_all()?;
+        let next = self.client.next_node()?;
+        let found = match self.volume {
+            None => Some(next.next),
+            Some(volume) => next.nexts.get(volume as usize).copied(),
+        };
+        match found.map(|node| Node::from(node).number) == Some(contents.about.next) {
+            true => Ok(()),
+            false => Err(differs(Place::State(0), "the state has another next node than it says")),
+        }
+    }
+
+    fn receive_all(&mut self) -> Result<(), Failure> {
+        while !self.sent.is_empty() {
+            self.receive()?;
+        }
+        Ok(())
+    }
+
+    /// Reads the reply to the first batch that was sent, and compares the nodes that it made with those that the file has.
+    fn receive(&mut self) -> Result<(), Failure> {
+        let Sent { id, place, batch } = match self.sent.pop_front() {
+            Some(sent) => sent,
+            None => return Ok(()),
+        };
+        let written: Written = match self.client.receive(id) {
+            Err(Error::Refused(refusal)) => {
+                return Err(Failure::Restore {
+                    place,
+                    refusal: Box::new(refusal),
+                })
+            }
+            written => written?,
+        };
+        let made = batch.operations().filter_map(|operation| match operation {
+            Operation::NewNode { node } if matches!(place, Place::Entry(_)) => Some(node),
+            _ => None,
+        });
+        let is_same = |(node, made): (u64, &u64)| node == Node::from(*made).number;
+        match made.zip(&written.nodes).all(is_same) {
+            true => Ok(()),
+            false => Err(differs(place, "it makes other nodes now")),
+        }
+    }
+}
+
+fn differs(place: Place, why: &str) -> Failure {
+    saved::Error::differs(place, why).into()
 }
 
 /// Sends a batch, which is written if the volume has so many entries.
@@ -80,11 +148,4 @@ fn send(client: &mut Client, volume: Option<u32>, expected: u64, batch: Batch) -
         volume,
         ..wire::Write::default()
     }))
-}
-
-fn receive(client: &mut Client, id: Option<u64>) -> Result<(), Error> {
-    match id {
-        Some(id) => client.receive::<Written>(id).map(drop),
-        None => Ok(()),
-    }
 }

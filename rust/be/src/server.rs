@@ -2,9 +2,9 @@
 
 use crate::command_line::ServerOptions;
 use crate::failure::{complain, message, Failure};
-use bestore::Batch;
 use bestore_client::wire::{Command, Indices, Nothing};
 use bestore_client::{Client, Error, ErrorName, Options, SocketPath};
+use bestore_types::Batch;
 use std::collections::BTreeMap;
 
 /// How often a write is tried again if another client is writing.

@@ -2,10 +2,10 @@
 
 use crate::failure::Failure;
 use crate::output::Output;
-use bestore::saved::About;
-use bestore::{Batch, Node};
 use bestore_client::wire::{self, Command, Hello, Next};
 use bestore_client::Client;
+use bestore_types::saved::About;
+use bestore_types::{Batch, Node};
 use serde::Serialize;
 
 /// A snapshot of a server, for people and programs.

@@ -24,7 +24,7 @@ pub struct TypedQuery {
 #[derive(Debug)]
 pub struct BadDate {
     pub typed: String,
-    /// The byte of what was typed at which it begins.
+    /// The byte of the typed text where it begins.
     pub offset: usize,
     pub why: NotADate,
 }
@@ -60,7 +60,7 @@ impl TypedQuery {
         Ok(Self { typed, sent, parts })
     }
 
-    /// The byte of what was typed that a byte of what is sent comes from. In a date it is the first of its comparison.
+    /// The byte of the typed text that a byte of the sent text comes from. In a date it is the first byte of its comparison.
     pub fn place_of(&self, mut offset: usize) -> usize {
         for part in &self.parts {
             if offset < part.start {

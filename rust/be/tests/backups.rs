@@ -4,6 +4,7 @@ use crate::common::{Said, Server};
 use bestore::saved::Options;
 use bestore::{Batch, ShelfPass};
 use bestore_client::Client;
+use rusqlite::Connection;
 use serde_json::Value;
 use std::fs;
 use std::os::unix::fs::PermissionsExt;
@@ -113,6 +114,85 @@ fn what_is_no_backup_is_not_restored() {
     assert_eq!(Client::connect(server.socket()).unwrap().status().unwrap().entries, 0);
 }
 
+/// A server's own file has the entries since its state, whose nodes keep their numbers too.
+#[test]
+fn a_kept_file_with_entries_is_restored() {
+    let mut server = server!(Server::start_with(&["--keep", "kept"]));
+    server.done(&["mkindex", "name"]);
+    for name in ["a", "b", "c"] {
+        server.done(&["addattr", "--new", "name", name]);
+    }
+    // Opening it again writes the state; what comes then are entries.
+    server.end();
+    server.start_again();
+    Client::connect(server.socket())
+        .unwrap()
+        .apply(Batch::new().remove_node(2))
+        .unwrap();
+    server.done(&["addattr", "--new", "name", "d"]);
+    let batches = dump(&server).1;
+    server.end();
+    let restored = server!(Server::start());
+    restored.done(&["restore", text(&file(&server, "kept"))]);
+    assert_eq!(dump(&restored).1, batches);
+    assert_eq!(restored.done(&["query", "name>=\"c\""]), "3\n4\n");
+    assert_eq!(restored.done(&["addattr", "--new", "name", "e"]), "5\n");
+}
+
+/// Makes a file one of the first format, whose rows have no checksums.
+const REMOVE_CHECKSUMS: &str = "
+    ALTER TABLE about DROP COLUMN checksum;
+    ALTER TABLE state DROP COLUMN checksum;
+    ALTER TABLE entry DROP COLUMN checksum;
+    PRAGMA user_version = 1;
+";
+
+/// Changes a backup of three nodes, which then is refused. Returns how many entries the server that should get it has.
+fn restore_changed(change: &str, why: &str) -> Option<u64> {
+    let server = Server::with_three()?;
+    let path = file(&server, "backup");
+    back_up(&server, &path);
+    Connection::open(&path).unwrap().execute_batch(change).unwrap();
+    let other = Server::start()?;
+    refused(&other.be(&["restore", text(&path)]), why);
+    Some(Client::connect(other.socket()).unwrap().status().unwrap().entries)
+}
+
+#[test]
+fn a_changed_backup_is_refused_with_the_place() {
+    for (change, why, is_written) in [
+        (
+            "UPDATE state SET batch = X'42' WHERE place = 0",
+            "batch 0 of the state: ",
+            false,
+        ),
+        (
+            "INSERT INTO entry (number, pass, batch) VALUES (99, 0, X'4245420100')",
+            "the entry is missing",
+            false,
+        ),
+        (
+            "UPDATE about SET number = 9 WHERE what = 'next'",
+            "another next node",
+            true,
+        ),
+        // One that removes node 77.
+        (
+            "INSERT INTO state (place, batch) VALUES ((SELECT count(*) FROM state), X'4245420101014D00000000000000')",
+            "there is no such node\n  the server has only what comes before",
+            true,
+        ),
+    ] {
+        if let Some(entries) = restore_changed(change, "is damaged: its checksum doesn't fit") {
+            assert_eq!(entries, 0, "{change}");
+        }
+        let change = format!("{REMOVE_CHECKSUMS}{change}");
+        if let Some(entries) = restore_changed(&change, why) {
+            assert_eq!(entries > 0, is_written, "{change}");
+        }
+    }
+}
+
 #[test]
 fn several_volumes_are_a_folder() {
     let options = ["--volumes", "3", "--pages", "256"];
@@ -135,6 +215,31 @@ fn several_volumes_are_a_folder() {
     assert_eq!(dump(&restored).1, dump(&server).1);
     let other = server!(Server::start());
     refused(&other.be(&["restore", text(&path)]), "start a server with --volumes 3");
+}
+
+#[test]
+fn what_comes_before_a_damaged_entry_is_restored() {
+    let mut server = server!(Server::start_with(&["--keep", "kept"]));
+    server.done(&["mkindex", "name"]);
+    for name in ["a", "b", "c"] {
+        server.done(&["addattr", "--new", "name", name]);
+    }
+    server.end();
+    let kept = file(&server, "kept");
+    let damage =
+        "UPDATE entry SET batch = CAST(substr(batch, 1, 20) || 'x' || substr(batch, 22) AS BLOB) WHERE number = 3";
+    Connection::open(&kept).unwrap().execute_batch(damage).unwrap();
+
+    let restored = server!(Server::start());
+    refused(
+        &restored.be(&["restore", text(&kept)]),
+        "kept: entry 3 is damaged: its checksum doesn't fit; what comes before it is restored by be restore --until 2",
+    );
+    refused(&restored.be(&["restore", "--until", "3", text(&kept)]), "--until 2");
+    let said = restored.be(&["restore", "--until", "x", text(&kept)]);
+    assert!(said.status == 2 && said.error.contains("such as 17"), "{said:?}");
+    restored.done(&["restore", "--until", "0:2", text(&kept)]);
+    assert_eq!(restored.done(&["query", "name==\"*\""]), "1\n");
 }
 
 /// What the clients that write know: how many of each one's writes were answered.

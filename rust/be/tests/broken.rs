@@ -121,10 +121,12 @@ fn a_snapshot_that_was_taken_back_is_followed_by_another() {
         let lines = numbered.map(|(reply, id)| format!("{{\"id\":{id},{reply}}}\n"));
         format!("{HELLO}\n{}", lines.collect::<String>()).into_bytes()
     };
-    let bytes = lines(&[pin, expired, r#""ok":{}"#, pin, hits, r#""ok":{}"#]);
+    let nothing = r#""ok":{}"#;
+    // The last reply is about the query's text.
+    let bytes = lines(&[pin, expired, nothing, pin, hits, nothing, r#""ok":{"comparisons":[]}"#]);
     let said = told(201, bytes, &["query", "a==1"]);
     assert_eq!((said.status, said.out.as_str(), said.error.as_str()), (0, "1\n", ""));
-    let said = told(202, lines(&[pin, expired, r#""ok":{}"#].repeat(9)), &["query", "a==1"]);
+    let said = told(202, lines(&[pin, expired, nothing].repeat(9)), &["query", "a==1"]);
     assert_eq!((said.status, said.error.as_str()), (1, "be: taken back\n"));
 }
 

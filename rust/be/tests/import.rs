@@ -436,7 +436,7 @@ fn an_empty_folder_in_the_place_of_another_removes_nothing() {
     let said = server.be(&["import", &folder.all()]);
     assert_eq!(said.status, 1);
     assert!(
-        said.error.contains("is another folder than before, and is empty"),
+        said.error.contains("isn't the same folder as before, and is empty"),
         "{said:?}"
     );
     assert_eq!(server.done(&["query", "--count", "name==\"*\""]), "6\n");

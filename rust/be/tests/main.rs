@@ -3,6 +3,7 @@
 #[macro_use]
 mod common;
 mod activity;
+mod alone;
 mod backups;
 mod broken;
 mod follow;

@@ -117,7 +117,7 @@ fn what_can_not_be_sorted_is_said() {
         error(&["-s", "kind"]),
         (
             1,
-            "be: an order needs an index, and there is none of the name \"kind\"\n  \
+            "be: an order needs an index, but there is none named \"kind\"\n  \
              the indices are: name (string), size (int64)\n"
                 .into()
         )

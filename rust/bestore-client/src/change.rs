@@ -2,7 +2,7 @@
 
 use crate::wire::{self, kind_named, Command, ErrorName, Indices, Nothing, Numbers};
 use crate::{Client, Error, Result};
-use bestore::{Batch, Kind, Node, Operation};
+use bestore_types::{Batch, Kind, Node, Operation};
 use std::collections::BTreeMap;
 use std::time::Instant;
 

@@ -3,7 +3,7 @@
 use crate::pushes::Pushes;
 use crate::wire::{self, Command, Json, Nothing, Numbers, Push, Refusal, Request};
 use crate::{Error, Options, Result, SocketPath};
-use bestore::{Batch, Value, Written};
+use bestore_types::{Batch, Value, Written};
 use serde::de::DeserializeOwned;
 use serde::Deserialize;
 use std::borrow::Cow;
@@ -90,7 +90,8 @@ fn wait_of(command: &Command<'_>) -> Option<Duration> {
 /// The text of the query that the server is asked.
 fn query_of<'a>(command: &'a Command<'_>) -> Option<&'a str> {
     match command {
-        Command::Query(wire::Query { query, .. }) | Command::Explain(wire::QueryText { query }) => Some(query),
+        Command::Query(wire::Query { query, .. }) => Some(query),
+        Command::Explain(wire::QueryText { query }) | Command::Text(wire::QueryText { query }) => Some(query),
         Command::Watch(watch) => watch.query.as_deref(),
         _ => None,
     }

@@ -1,7 +1,7 @@
 //! Why a call failed.
 
 use crate::wire::{ErrorName, Refusal};
-use bestore::{Class, Kind};
+use bestore_types::{Class, Kind};
 use std::path::PathBuf;
 use std::time::Duration;
 use std::{fmt, io};
@@ -58,7 +58,7 @@ impl Error {
     /// ```
     /// use bestore_client::wire::{ErrorName, Refusal};
     /// let error = bestore_client::Error::Refused(Refusal::new(ErrorName::Conflict, ""));
-    /// assert!(error.is(ErrorName::Conflict) && error.class() == bestore::Class::Retry);
+    /// assert!(error.is(ErrorName::Conflict) && error.class() == bestore_client::Class::Retry);
     /// ```
     #[must_use]
     pub fn is(&self, name: ErrorName) -> bool {
@@ -101,7 +101,7 @@ impl fmt::Display for Error {
             ),
             Error::KindMismatch { name, index, value } => {
                 let (name, index, value) = (name.clone(), *index, *value);
-                bestore::Error::KindMismatch { name, index, value }.fmt(f)
+                bestore_types::Error::KindMismatch { name, index, value }.fmt(f)
             }
         }
     }

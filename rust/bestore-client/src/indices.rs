@@ -1,35 +1,12 @@
 //! What a client does about indices by several requests.
 
-use crate::wire::{self, Command, ErrorName, Nothing, Refusal};
+use crate::wire::{self, Command, ErrorName, Form, Nothing, Refusal};
 use crate::{Client, Error, Result};
-use bestore::{attribute, Hint, Kind, Node, Value};
+use bestore_types::{all_in, Hint, Kind, Node, Value};
 use std::collections::BTreeMap;
-use std::io;
 
 /// The most operations of a batch, and how many nodes are asked for before the first reply is read.
 const OPERATIONS: usize = 64;
-
-/// An error of the library in this process.
-fn local(error: bestore::Error) -> Error {
-    match error {
-        bestore::Error::Query(query) => Error::Refused(Refusal {
-            details: query
-                .offset()
-                .map(|at| ("offset".into(), at.into()))
-                .into_iter()
-                .collect(),
-            query: Some(query.text().into()),
-            ..Refusal::new(ErrorName::Syntax, query.fault().to_string())
-        }),
-        error => Error::Io(io::Error::new(io::ErrorKind::Other, error)),
-    }
-}
-
-/// The query for all that is in an index.
-fn all_of(name: &str, kind: Kind) -> Result<String> {
-    let prepared = attribute(name).any(kind).prepare();
-    prepared.and_then(|prepared| prepared.text()).map_err(local)
-}
 
 /// How many of these nodes, which ascend, a batch can be about: those of the volume of the first one.
 fn of_a_batch(nodes: &[u64]) -> usize {
@@ -67,16 +44,41 @@ impl Client {
     /// `NoIndex`; otherwise as [`call`](Self::call).
     pub fn pairs(&mut self, name: &str) -> Result<u64> {
         let kind = self.index(name)?;
-        self.count(&all_of(name, kind)?)
+        self.count(&all_in(name, kind))
     }
 
-    /// The comparisons of a query that are never true in a store with these indices, as `size>1.5`.
+    /// The comparisons of a query, from left to right. The server reads the text alone, and nothing of its store.
     ///
     /// # Errors
-    /// `Syntax`: the text is no query. Otherwise as [`call`](Self::call).
+    /// `Syntax`, `BadPattern`, `TooLong`, `TooDeep` or `TooMany`: the text is no query. `BadRequest`: the server is older, and
+    /// [`has`](Self::has) no `text`. Otherwise as [`call`](Self::call).
+    pub fn comparisons(&mut self, query: &str) -> Result<Vec<wire::Comparison>> {
+        let query = query.into();
+        let read: wire::Comparisons = self.call(Command::Text(wire::QueryText { query }))?;
+        Ok(read.comparisons)
+    }
+
+    /// The comparisons of a query that are never true in the store with its indices, as `size>1.5`.
+    ///
+    /// # Errors
+    /// As [`comparisons`](Self::comparisons).
     pub fn hints(&mut self, query: &str) -> Result<Vec<Hint>> {
+        let compared = self.comparisons(query)?;
+        if compared.iter().all(|one| one.never.is_empty()) {
+            return Ok(Vec::new());
+        }
         let indices = self.indices()?;
-        bestore::hints(query, |name| indices.get(name).copied()).map_err(local)
+        let hint = |one: wire::Comparison| {
+            let kind = *indices.get(&one.name).filter(|kind| one.is_never(**kind))?;
+            Some(Hint {
+                name: one.name,
+                value: one.value,
+                kind,
+                offset: usize::try_from(one.offset).unwrap_or(usize::MAX),
+                is_number: one.form == Form::Number,
+            })
+        };
+        Ok(compared.into_iter().filter_map(hint).collect())
     }
 
     /// Sets again, to the values that they have, the attributes that the index of this name lacks, because they were set before it was
@@ -105,7 +107,7 @@ impl Client {
 
     /// The nodes with an attribute of this name and kind that the index of the name lacks.
     fn not_indexed(&mut self, name: &str, kind: Kind) -> Result<Vec<u64>> {
-        let held = self.query(&all_of(name, kind)?)?;
+        let held = self.query(&all_in(name, kind))?;
         let (mut lacking, mut from) = (Vec::new(), Some(0));
         while let Some(first) = from {
             let page: wire::Nodes = self.call(Command::Nodes(wire::NodesFrom {

@@ -1,8 +1,7 @@
 //! A client of bestored, which shares a store of attributes between the programs of a user.
 //!
 //! ```no_run
-//! use bestore::{Batch, Kind};
-//! use bestore_client::Client;
+//! use bestore_client::{Batch, Client, Kind};
 //!
 //! let mut client = Client::connect("/run/user/1000/bestore/socket")?;
 //! client.apply(Batch::new().make_index("MAIL:from", Kind::Text))?;
@@ -17,7 +16,8 @@
 //! # Ok::<(), bestore_client::Error>(())
 //! ```
 //!
-//! [`wire`] has the lines of the protocol, and [`Client::call`] sends any of them.
+//! [`wire`] has the lines of the protocol, and [`Client::call`] sends any of them. A client has no store of its own, and loads nothing of
+//! libbestore: what it needs of a query's text it asks the server.
 #![warn(missing_docs, missing_debug_implementations, rust_2018_idioms)]
 #![deny(unsafe_code)]
 
@@ -33,6 +33,10 @@ mod repeat;
 pub mod socket;
 pub mod wire;
 
+pub use bestore_types::{
+    all_in, caret, escape, Batch, Class, Cursor, CursorFault, Hint, Kind, Node, Operation, Operations, Order, Page,
+    Value, Written,
+};
 pub use change::Change;
 pub use client::{Client, Query};
 pub use error::{Error, Result};

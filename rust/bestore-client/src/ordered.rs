@@ -2,7 +2,7 @@
 
 use crate::wire::{self, Columns, Command, Json, NODES};
 use crate::{Client, Error, Result};
-use bestore::{Cursor, Order, Page, Value};
+use bestore_types::{Cursor, Order, Page, Paging, Value};
 use std::borrow::Cow;
 
 /// A page in an order, with the values that each node has in the columns.
@@ -14,28 +14,27 @@ pub struct PageOfRows {
     pub rows: Vec<Vec<Option<Value>>>,
 }
 
-/// How many nodes the first page of an iterator has, and how many the longest.
-const FIRST_PAGE: usize = 64;
-const LARGEST_PAGE: usize = 4096;
-
 /// What a query finds in an order, by [`Client::ordered`]: the nodes, page after page, each twice as long as the last one. An error
 /// ends them. Pages of different snapshots go on where the last one ended; of one snapshot they are if the client is pinned.
 #[derive(Debug)]
 pub struct Ordered<'c> {
+    asking: Asking<'c>,
+    paging: Paging,
+}
+
+/// Who is asked for pages of which query, in which order.
+#[derive(Debug)]
+struct Asking<'c> {
     client: &'c mut Client,
     text: String,
     order: Order,
-    after: Option<Cursor>,
-    most: usize,
-    read: std::vec::IntoIter<u64>,
-    is_over: bool,
 }
 
 impl Ordered<'_> {
     /// The nodes after this cursor, which a page of the same query and order left.
     #[must_use]
     pub fn after(mut self, cursor: Cursor) -> Self {
-        self.after = Some(cursor);
+        self.paging.set_after(cursor);
         self
     }
 
@@ -44,7 +43,7 @@ impl Ordered<'_> {
     /// # Errors
     /// As [`Client::page`].
     pub fn page(&mut self, most: usize) -> Result<Page> {
-        Ok(self.ask(most, &[])?.page)
+        Ok(self.rows(most, &[])?.page)
     }
 
     /// As [`page`](Self::page), with these attributes of each node, in one request. It has fewer nodes if the rows of all don't fit
@@ -53,17 +52,19 @@ impl Ordered<'_> {
     /// # Errors
     /// As [`Client::page`].
     pub fn rows(&mut self, most: usize, columns: &[&str]) -> Result<PageOfRows> {
-        self.ask(most, columns)
+        self.asking.rows(self.paging.position(), most, columns)
     }
+}
 
-    fn ask(&mut self, most: usize, columns: &[&str]) -> Result<PageOfRows> {
+impl Asking<'_> {
+    fn rows(&mut self, after: Option<&Cursor>, most: usize, columns: &[&str]) -> Result<PageOfRows> {
         let columns: Vec<_> = columns.iter().map(|name| Cow::from(*name)).collect();
         let read: wire::Page = self.client.call(Command::Query(wire::Query {
             query: (&self.text).into(),
             columns: (!columns.is_empty()).then_some(Columns(columns)),
             by: Some(self.order.name().into()),
             descending: self.order.is_descending(),
-            after: self.after.as_ref().map(|cursor| cursor.to_string().into()),
+            after: after.map(|cursor| cursor.to_string().into()),
             limit: Some(most as u64),
             ..wire::Query::default()
         }))?;
@@ -75,22 +76,12 @@ impl Ordered<'_> {
                 more: read.more,
                 cursor: cursor
                     .parse()
-                    .map_err(|error: bestore::Error| Error::BadLine(error.to_string()))?,
+                    .map_err(|error: bestore_types::Error| Error::BadLine(error.to_string()))?,
             },
             rows: rows
                 .map(|row| row.into_iter().map(|value| value.map(|Json(value)| value)).collect())
                 .collect(),
         })
-    }
-
-    fn read_on(&mut self) -> Result<()> {
-        self.is_over = true;
-        let page = self.page(self.most)?;
-        self.is_over = !page.more;
-        self.after = Some(page.cursor);
-        self.most = (2 * self.most).min(LARGEST_PAGE);
-        self.read = page.nodes.into_iter();
-        Ok(())
     }
 }
 
@@ -98,16 +89,8 @@ impl Iterator for Ordered<'_> {
     type Item = Result<u64>;
 
     fn next(&mut self) -> Option<Result<u64>> {
-        if let Some(node) = self.read.next() {
-            return Some(Ok(node));
-        }
-        if self.is_over {
-            return None;
-        }
-        match self.read_on() {
-            Ok(()) => self.read.next().map(Ok),
-            Err(error) => Some(Err(error)),
-        }
+        let Self { asking, paging } = self;
+        paging.next(|after, most| Ok(asking.rows(after, most, &[])?.page))
     }
 }
 
@@ -118,7 +101,7 @@ impl Client {
     /// isn't among them.
     ///
     /// ```no_run
-    /// # use bestore::Order;
+    /// # use bestore_client::Order;
     /// # let mut client = bestore_client::Client::connect_default()?;
     /// let newest = client.ordered("MAIL:to==ann", Order::by("MAIL:when").descending()).rows(50, &["MAIL:subject"])?;
     /// let cursor = newest.page.cursor;
@@ -127,13 +110,12 @@ impl Client {
     /// ```
     pub fn ordered(&mut self, text: &str, order: Order) -> Ordered<'_> {
         Ordered {
-            client: self,
-            text: text.into(),
-            order,
-            after: None,
-            most: FIRST_PAGE,
-            read: Vec::new().into_iter(),
-            is_over: false,
+            asking: Asking {
+                client: self,
+                text: text.into(),
+                order,
+            },
+            paging: Paging::default(),
         }
     }
 
@@ -144,7 +126,9 @@ impl Client {
     /// now. `BadRequest`: `most` isn't 1 to 50,000. Otherwise as [`call`](Self::call).
     pub fn page(&mut self, text: &str, order: &Order, after: Option<&Cursor>, most: usize) -> Result<Page> {
         let mut ordered = self.ordered(text, order.clone());
-        ordered.after = after.cloned();
+        if let Some(cursor) = after {
+            ordered.paging.set_after(cursor.clone());
+        }
         ordered.page(most)
     }
 

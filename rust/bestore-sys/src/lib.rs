@@ -63,6 +63,7 @@ constants! {
     BES_IN_USE = 77;
     BES_BAD_CURSOR = 78;
     BES_NO_ROOM = 79;
+    BES_WRONG_KIND = 80;
 
     BES_CLASS_NONE = 0;
     BES_CLASS_RETRY = 1;
@@ -130,6 +131,8 @@ handles! {
     bes_place, BES_PLACE_INIT;
     /// What a pass has seen, for a pass of the same store in another thread.
     bes_witness, BES_WITNESS_INIT;
+    /// A change that is begun and not ended yet.
+    bes_draft, BES_DRAFT_INIT;
 }
 
 /// An operation, whose name and value lie in the bytes that go with all operations of a batch.
@@ -233,6 +236,28 @@ pub struct bes_counts {
     pub bytes: u64,
 }
 
+/// A comparison of a query's text.
+#[repr(C)]
+#[derive(Clone, Copy, Debug, Default, PartialEq, Eq)]
+pub struct bes_compared {
+    pub at: u64,
+    pub end: u64,
+    pub name_at: u64,
+    pub name_end: u64,
+    pub value_at: u64,
+    pub value_end: u64,
+    pub plain_name_at: u64,
+    pub plain_value_at: u64,
+    pub plain_end: u64,
+    pub kind: u32,
+    pub kind_in_text: u32,
+    pub form: u32,
+    pub is_never_int32: bool,
+    pub is_never_int64: bool,
+    pub is_never_uint32: bool,
+    pub is_never_uint64: bool,
+}
+
 extern "C" {
     pub fn bes_open(pages: u64, passes: u64, commits: u64, pass: *mut bes_pass) -> u32;
     pub fn bes_another(pass: *mut bes_pass, other: *mut bes_pass) -> u32;
@@ -270,6 +295,36 @@ extern "C" {
         made_room: usize,
         number: *mut u64,
     ) -> u32;
+    pub fn bes_begin_change(pass: *mut bes_pass, draft: *mut bes_draft, number: *mut u64, next: *mut u64) -> u32;
+    pub fn bes_change_any_kind(draft: *mut bes_draft) -> u32;
+    pub fn bes_change_add(
+        draft: *mut bes_draft,
+        operation: *const bes_operation,
+        bytes: *const u8,
+        bytes_count: usize,
+        node: *mut u64,
+    ) -> u32;
+    pub fn bes_change_get(
+        pass: *mut bes_pass,
+        draft: *mut bes_draft,
+        node: u64,
+        name: *const u8,
+        name_length: usize,
+        attribute: *mut bes_attribute,
+        bytes: *mut u8,
+        bytes_room: usize,
+    ) -> u32;
+    pub fn bes_change_batch(
+        draft: *mut bes_draft,
+        counts: *mut bes_counts,
+        operations: *mut bes_operation,
+        operations_room: usize,
+        bytes: *mut u8,
+        bytes_room: usize,
+    ) -> u32;
+    pub fn bes_end_change(pass: *mut bes_pass, draft: *mut bes_draft, number: *mut u64) -> u32;
+    pub fn bes_abandon_change(pass: *mut bes_pass, draft: *mut bes_draft) -> u32;
+    pub fn bes_move_draft(draft: *mut bes_draft, other: *mut bes_draft) -> u32;
     pub fn bes_query(
         pass: *mut bes_pass,
         text: *const u8,
@@ -351,6 +406,30 @@ extern "C" {
     ) -> u32;
     pub fn bes_explain(
         pass: *mut bes_pass,
+        text: *const u8,
+        text_length: usize,
+        bytes: *mut u8,
+        bytes_room: usize,
+        count: *mut u64,
+    ) -> u32;
+    pub fn bes_query_comparisons(
+        text: *const u8,
+        text_length: usize,
+        counts: *mut bes_counts,
+        compared: *mut bes_compared,
+        compared_room: usize,
+        bytes: *mut u8,
+        bytes_room: usize,
+        place: *mut u64,
+    ) -> u32;
+    pub fn bes_escape_bytes(
+        text: *const u8,
+        text_length: usize,
+        bytes: *mut u8,
+        bytes_room: usize,
+        count: *mut u64,
+    ) -> u32;
+    pub fn bes_any_case_bytes(
         text: *const u8,
         text_length: usize,
         bytes: *mut u8,

@@ -30,6 +30,7 @@ fn layouts() -> Vec<Layout> {
         bes_prepared { live, at }
         bes_place { live, at }
         bes_witness { live, at }
+        bes_draft { live, at }
         bes_operation { kind, code, node, number, name_at, name_length, value_at, value_length }
         bes_item { kind, at, length, number }
         bes_attribute { code, length, number }
@@ -39,6 +40,10 @@ fn layouts() -> Vec<Layout> {
         bes_usage { pages, free, retired, entries, commits, is_held, oldest, holder }
         bes_updates { created, removed }
         bes_counts { operations, bytes }
+        bes_compared {
+            at, end, name_at, name_end, value_at, value_end, plain_name_at, plain_value_at, plain_end, kind, kind_in_text, form,
+            is_never_int32, is_never_int64, is_never_uint32, is_never_uint64
+        }
     }
 }
 

@@ -7,13 +7,15 @@ use std::thread;
 const JOBS: i64 = 200;
 const WORKERS: usize = 4;
 
-/// Claims the waiting job that is most urgent, or none if there is none.
+/// Claims the waiting job that is most urgent, or none if there is none. A claimed job loses its
+/// urgency, so that the next claim doesn't pass it on its way to a waiting one.
 fn claim(pass: &mut Pass, waiting: &Prepared, urgent_first: &Order) -> Result<Option<u64>> {
     pass.change(|change| {
         let page = change.snapshot().page(waiting, urgent_first, None, 1)?;
         let job = page.nodes.first().copied();
         if let Some(job) = job {
             change.set(job, "job:state", "claimed")?;
+            change.unset(job, "job:urgency");
         }
         Ok(job)
     })

@@ -1,27 +1,37 @@
 //! Changes: reading and writing as one.
 
-use crate::pass::StandBack;
+use crate::pass::Waits;
+use crate::raw::{Parts, RawDraft, Refused};
+use crate::refused::of_write;
 use crate::{Batch, Error, Kind, Pass, Result, Snapshot, Value};
-use std::collections::BTreeMap;
+use bestore_sys as sys;
 
-/// What the closure of [`Pass::change`] reads, and the operations that it collects.
+/// What the closure of [`Pass::change`] reads, and the operations that it collects, up to 64.
 ///
-/// Reads see the snapshot, and none of the operations that were collected.
+/// [`get`](Self::get) reads the snapshot as the operations so far leave it, and [`snapshot`](Self::snapshot) what they are made on.
 #[derive(Debug)]
 pub struct Change<'a> {
     snapshot: &'a Snapshot<'a>,
+    draft: RawDraft,
+    /// What the draft has.
     batch: Batch,
+    /// The nodes that it makes, and the number of the next one.
+    nodes: Vec<u64>,
     next: u64,
-    indices: Option<BTreeMap<String, Kind>>,
+    /// Why an operation isn't collected whose call returns no error. It is the change's error.
+    refused: Option<Error>,
 }
 
 impl<'a> Change<'a> {
     pub(crate) fn new(snapshot: &'a Snapshot<'a>) -> Result<Self> {
+        let (draft, next) = snapshot.pass().raw().begin_change()?;
         Ok(Self {
             snapshot,
+            draft,
             batch: Batch::new(),
-            next: snapshot.next_node()?,
-            indices: None,
+            nodes: Vec::new(),
+            next,
+            refused: None,
         })
     }
 
@@ -43,21 +53,45 @@ impl<'a> Change<'a> {
         &self.batch
     }
 
-    pub(crate) fn into_batch(self) -> Batch {
-        self.batch
+    /// An attribute as the operations so far leave it, or `None` if the node or the attribute doesn't exist then.
+    ///
+    /// # Errors
+    /// As [`Snapshot::get`].
+    pub fn get(&self, node: u64, name: &str) -> Result<Option<Value>> {
+        let mut bytes = [0; 255];
+        let answer = self
+            .snapshot
+            .pass()
+            .raw()
+            .change_get(&self.draft, node, name, &mut bytes);
+        crate::snapshot::value_read(answer, &bytes)
     }
 
-    /// Makes a node, and returns the number that it will have.
+    /// Accepts values of any kind from now on. At first a value under an index of another kind is an error, since no query would find
+    /// it.
+    pub fn any_kind(&mut self) -> &mut Self {
+        // Fails in a forked child alone, where each other call does.
+        let _ = self.draft.any_kind();
+        self
+    }
+
+    /// Makes a node, and returns the number that it will have. The 65th operation, here and in the calls below, is the change's
+    /// [`Error::BadCount`].
     pub fn new_node(&mut self) -> u64 {
         let node = self.next;
         self.next += 1;
-        self.batch.new_node();
+        if self.collect_or_keep_error(sys::BES_NEW_NODE, 0, "") {
+            self.nodes.push(node);
+            self.batch.new_node();
+        }
         node
     }
 
     /// Removes the node and all its attributes.
     pub fn remove_node(&mut self, node: u64) -> &mut Self {
-        self.batch.remove_node(node);
+        if self.collect_or_keep_error(sys::BES_REMOVE_NODE, node, "") {
+            self.batch.remove_node(node);
+        }
         self
     }
 
@@ -65,20 +99,21 @@ impl<'a> Change<'a> {
     ///
     /// # Errors
     /// [`Error::KindMismatch`] if an index of this name takes values of another kind. The attribute would be set, and no
-    /// query would find it.
+    /// query would find it. [`Error::NameLength`], [`Error::DataLength`], [`Error::HasNul`], [`Error::BadCount`],
+    /// [`Error::OutOfMemory`]. Nothing is collected then.
     pub fn set(&mut self, node: u64, name: &str, value: impl Into<Value>) -> Result<&mut Self> {
         let value = value.into();
-        match self.indices()?.get(name) {
-            Some(index) if *index != value.kind() => Err(Error::KindMismatch {
-                name: name.into(),
-                index: *index,
-                value: value.kind(),
-            }),
-            _ => {
-                self.batch.set(node, name, value);
-                Ok(self)
-            }
-        }
+        let bytes = value.as_bytes().unwrap_or_default();
+        self.collect(&Parts {
+            kind: sys::BES_SET,
+            node,
+            name,
+            code: value.kind().code(),
+            number: value.number(),
+            value: bytes,
+        })?;
+        self.batch.set(node, name, value);
+        Ok(self)
     }
 
     /// Sets the attributes of these nodes to the values that they have, if those are of this kind. Returns how many are.
@@ -98,16 +133,18 @@ impl<'a> Change<'a> {
 
     /// Removes the attribute.
     pub fn unset(&mut self, node: u64, name: &str) -> &mut Self {
-        self.batch.unset(node, name);
+        if self.collect_or_keep_error(sys::BES_UNSET, node, name) {
+            self.batch.unset(node, name);
+        }
         self
     }
 
     /// Makes an index of this name for values of this kind.
     ///
     /// # Errors
-    /// Those of [`Snapshot::indices`].
+    /// [`Error::NameLength`], [`Error::HasNul`], [`Error::BadCount`], [`Error::OutOfMemory`]. Nothing is collected then.
     pub fn make_index(&mut self, name: &str, kind: Kind) -> Result<&mut Self> {
-        self.indices()?.insert(name.into(), kind);
+        self.collect(&of_index(sys::BES_MAKE_INDEX, name, kind.code()))?;
         self.batch.make_index(name, kind);
         Ok(self)
     }
@@ -115,48 +152,93 @@ impl<'a> Change<'a> {
     /// Removes the index of this name.
     ///
     /// # Errors
-    /// Those of [`Snapshot::indices`].
+    /// As [`make_index`](Self::make_index).
     pub fn remove_index(&mut self, name: &str) -> Result<&mut Self> {
-        self.indices()?.remove(name);
+        self.collect(&of_index(sys::BES_REMOVE_INDEX, name, 0))?;
         self.batch.remove_index(name);
         Ok(self)
     }
 
-    /// The indices of the snapshot, with those that were made and without those that were removed.
-    fn indices(&mut self) -> Result<&mut BTreeMap<String, Kind>> {
-        if self.indices.is_none() {
-            self.indices = Some(self.snapshot.indices()?.into_iter().collect());
+    /// Adds an operation to the draft.
+    fn collect(&mut self, parts: &Parts<'_>) -> Result<()> {
+        let (index, refused) = match self.draft.add(parts) {
+            Ok(_) => return Ok(()),
+            Err(refused) => (self.batch.len(), refused),
+        };
+        if refused.code == sys::BES_WRONG_KIND {
+            let kind = |code| Kind::from_code(code).unwrap_or(Kind::Raw);
+            return Err(Error::KindMismatch {
+                name: parts.name.into(),
+                index: kind(u32::try_from(refused.carried).unwrap_or_default()),
+                value: kind(parts.code),
+            });
         }
-        Ok(self.indices.get_or_insert_with(BTreeMap::new))
+        let at_operation = Refused {
+            carried: index as u64,
+            ..refused
+        };
+        Err(of_write(at_operation, index + 1, None))
+    }
+
+    /// Adds an operation without a value, and returns whether it is added. The first one that isn't ends the change by its error, and
+    /// so nothing is added after it.
+    fn collect_or_keep_error(&mut self, kind: u32, node: u64, name: &str) -> bool {
+        if self.refused.is_some() {
+            return false;
+        }
+        let parts = Parts {
+            node,
+            ..of_index(kind, name, 0)
+        };
+        self.refused = self.collect(&parts).err();
+        self.refused.is_none()
+    }
+
+    /// Whether there is something to write.
+    ///
+    /// # Errors
+    /// Why an operation wasn't collected, if its call has returned no error.
+    pub(crate) fn has_operations(&mut self) -> Result<bool> {
+        match self.refused.take() {
+            Some(error) => Err(error),
+            None => Ok(!self.batch.is_empty()),
+        }
+    }
+
+    /// Writes the operations, if nothing else was written since the snapshot. Returns the number for `end_write`.
+    pub(crate) fn end(self) -> Result<u64> {
+        let pass = self.snapshot.pass();
+        pass.end_change(&self.draft, self.snapshot.number(), &self.batch, self.nodes)
     }
 
     /// Runs the closure on one snapshot after the other, until its operations are written on the one that it has read.
     pub(crate) fn run<T>(pass: &mut Pass, closure: &mut impl FnMut(&mut Change<'_>) -> Result<T>) -> Result<T> {
-        let mut stand_back = StandBack::new();
-        let mut left = if pass.held().is_some() {
-            0
-        } else {
-            pass.retry().conflict
-        };
+        let mut waits = Waits::of(pass);
         loop {
             let snapshot = pass.pin()?;
             let mut change = Change::new(&snapshot)?;
             let value = closure(&mut change)?;
-            let batch = change.batch;
-            if batch.is_empty() {
+            if !change.has_operations()? {
                 return Ok(value);
             }
-            match snapshot.pass().begin_write(Some(snapshot.number()), &batch) {
-                Ok((_, number)) => {
-                    drop(snapshot);
-                    pass.end_write(number)?;
-                    return Ok(value);
-                }
-                Err(Error::Conflict { .. }) if left > 0 => left -= 1,
-                Err(error) => return Err(error),
-            }
+            let ended = change.end();
             drop(snapshot);
-            stand_back.wait();
+            match ended {
+                Ok(number) => return pass.end_write(number).map(|()| value),
+                Err(error) => waits.after(pass, error)?,
+            }
         }
+    }
+}
+
+/// The parts of an operation that has no value and names no node.
+fn of_index(kind: u32, name: &str, code: u32) -> Parts<'_> {
+    Parts {
+        kind,
+        node: 0,
+        name,
+        code,
+        number: 0,
+        value: &[],
     }
 }

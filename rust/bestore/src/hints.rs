@@ -1,34 +1,77 @@
-//! Comparisons that are never true.
+//! The comparisons of a query, and which of them are never true.
 
 use crate::text::{comparisons, has_wildcard, without_backslashes, Comparing, Comparison};
-use crate::{Kind, Prepared, Result};
-use std::fmt;
+use crate::{Hint, Kind, Prepared, Result};
 use std::ops::RangeInclusive;
 
-/// A comparison that is never true: its name has an index of integers, and its value is no integer or out of their range. So is
-/// `size>1.5`.
-#[derive(Clone, Debug, PartialEq, Eq)]
-pub struct Hint {
-    /// The name of the attribute.
-    pub name: String,
-    /// What is compared with.
-    pub value: String,
-    /// The kind of the index.
-    pub kind: Kind,
-    /// The byte of the query at which the comparison begins.
-    pub offset: usize,
-    /// Whether the value is a whole number, but out of the kind's range.
-    pub is_number: bool,
+/// What the value of a comparison is.
+#[derive(Clone, Copy, Debug, PartialEq, Eq)]
+pub enum Form {
+    /// A whole number from -2^63 to 2^64 - 1.
+    Number,
+    /// Another text.
+    Text,
+    /// A pattern, which matches more than one text.
+    Pattern,
 }
 
-impl fmt::Display for Hint {
-    fn fmt(&self, f: &mut fmt::Formatter<'_>) -> fmt::Result {
-        let Self { name, value, kind, .. } = self;
-        write!(f, "never true: {name:?} is {kind}, and {value:?} ")?;
-        f.write_str(match self.is_number {
-            true => "is out of its range",
-            false => "isn't a whole number",
-        })
+/// A comparison of a query, by [`compared`].
+#[derive(Clone, Debug, PartialEq, Eq)]
+pub struct Compared {
+    /// The name of the attribute.
+    pub name: String,
+    /// `==`, `!=`, `<`, `<=`, `>` or `>=`, as the text has it.
+    pub operator: &'static str,
+    /// What is compared with.
+    pub value: String,
+    /// What that is.
+    pub form: Form,
+    /// The byte of the query at which the comparison begins.
+    pub offset: usize,
+    /// How many bytes it has.
+    pub length: usize,
+    /// Whether a `!` turns it.
+    pub is_negated: bool,
+    /// The kinds of indices under which no node meets it, such as those of integers for `size>1.5`.
+    pub never: Vec<Kind>,
+}
+
+/// The comparisons of a query, from left to right. No store is read.
+///
+/// ```
+/// use bestore::{compared, Form, Kind};
+/// let found = compared("name==a* && !(size<=1.5)")?;
+/// assert_eq!((found[0].operator, found[0].form, found[1].form), ("==", Form::Pattern, Form::Text));
+/// assert!(found[1].is_negated && found[1].never.contains(&Kind::Int64));
+/// # Ok::<(), bestore::Error>(())
+/// ```
+///
+/// # Errors
+/// [`Error::Query`](crate::Error::Query): the text is no query. [`Error::OutOfMemory`](crate::Error::OutOfMemory).
+pub fn compared(query: &str) -> Result<Vec<Compared>> {
+    // The canonical text has the same comparisons in the same order, and no `!`, which would turn their operators.
+    let canonical = Prepared::new(query)?.text()?;
+    let both = comparisons(query).into_iter().zip(comparisons(&canonical));
+    Ok(both.map(|(asked, canonical)| compare(asked, &canonical)).collect())
+}
+
+fn compare(asked: Comparison<'_>, canonical: &Comparison<'_>) -> Compared {
+    let number = number_in(canonical);
+    let is_never =
+        |kind: &Kind| range_of(*kind).map_or(false, |range| is_never_true(canonical.operator, number, &range));
+    Compared {
+        operator: asked.operator.sign(),
+        value: without_backslashes(asked.value),
+        form: match number {
+            Some(_) => Form::Number,
+            None if is_pattern(canonical) => Form::Pattern,
+            None => Form::Text,
+        },
+        offset: asked.offset,
+        length: asked.end - asked.offset,
+        is_negated: asked.operator != canonical.operator,
+        never: Kind::ALL.into_iter().filter(is_never).collect(),
+        name: asked.name,
     }
 }
 
@@ -43,25 +86,24 @@ impl fmt::Display for Hint {
 /// ```
 ///
 /// # Errors
-/// [`Error::Query`](crate::Error::Query): the text is no query. [`Error::OutOfMemory`](crate::Error::OutOfMemory).
+/// As [`compared`].
 pub fn hints(query: &str, kind_of: impl Fn(&str) -> Option<Kind>) -> Result<Vec<Hint>> {
-    // The canonical text has the same comparisons in the same order, and no `!`, which would turn their operators.
-    let canonical = Prepared::new(query)?.text()?;
-    let both = comparisons(query).into_iter().zip(comparisons(&canonical));
-    let found = both.filter_map(|(asked, canonical)| hint(&asked, &canonical, kind_of(&asked.name)?));
-    Ok(found.collect())
+    let hint = |one: Compared| {
+        let kind = kind_of(&one.name).filter(|kind| one.never.contains(kind))?;
+        Some(Hint {
+            name: one.name,
+            value: one.value,
+            kind,
+            offset: one.offset,
+            is_number: one.form == Form::Number,
+        })
+    };
+    Ok(compared(query)?.into_iter().filter_map(hint).collect())
 }
 
-fn hint(asked: &Comparison<'_>, canonical: &Comparison<'_>, kind: Kind) -> Option<Hint> {
-    let range = range_of(kind)?;
-    let number = number_in(canonical);
-    is_never_true(canonical.operator, number, &range).then(|| Hint {
-        name: asked.name.clone(),
-        value: without_backslashes(asked.value),
-        kind,
-        offset: asked.offset,
-        is_number: number.is_some(),
-    })
+/// Whether the value is a pattern with a wildcard. Other operators take a text as it is.
+fn is_pattern(comparison: &Comparison<'_>) -> bool {
+    matches!(comparison.operator, Comparing::Eq | Comparing::Ne) && has_wildcard(comparison.value)
 }
 
 fn range_of(kind: Kind) -> Option<RangeInclusive<i128>> {
@@ -74,10 +116,9 @@ fn range_of(kind: Kind) -> Option<RangeInclusive<i128>> {
     }
 }
 
-/// The number from -2^63 to 2^64 - 1 that the value is. A pattern with a wildcard is none.
+/// The value as a number from -2^63 to 2^64 - 1. A pattern with a wildcard isn't a number.
 fn number_in(comparison: &Comparison<'_>) -> Option<i128> {
-    let is_pattern = matches!(comparison.operator, Comparing::Eq | Comparing::Ne);
-    if is_pattern && has_wildcard(comparison.value) {
+    if is_pattern(comparison) {
         return None;
     }
     let text = without_backslashes(comparison.value);
@@ -138,6 +179,37 @@ mod tests {
         ] {
             assert_eq!(offsets(query), expected, "{query}");
         }
+    }
+
+    #[test]
+    fn comparisons_have_their_parts() {
+        let query = r#"!("a b" = 'x\'y' || n<=5) && (größe!=*.c)"#;
+        let found = compared(query).unwrap();
+        let parts: Vec<_> = found
+            .iter()
+            .map(|one| {
+                (
+                    &query[one.offset..][..one.length],
+                    one.operator,
+                    &*one.value,
+                    one.form,
+                    one.is_negated,
+                )
+            })
+            .collect();
+        let expected = [
+            (r#""a b" = 'x\'y'"#, "==", "x'y", Form::Text, true),
+            ("n<=5", "<=", "5", Form::Number, true),
+            ("größe!=*.c", "!=", "*.c", Form::Pattern, false),
+        ];
+        assert_eq!(parts, expected);
+        assert_eq!((&*found[0].name, &*found[2].name), ("a b", "größe"));
+        let integers = [Kind::Int32, Kind::Int64, Kind::Uint32, Kind::Uint64];
+        assert_eq!(
+            [&found[0].never[..], &found[1].never, &found[2].never],
+            [&integers[..], &[], &integers]
+        );
+        assert_eq!(compared("n>4294967295").unwrap()[0].never, [Kind::Int32, Kind::Uint32]);
     }
 
     #[test]

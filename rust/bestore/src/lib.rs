@@ -63,47 +63,37 @@
 #![warn(missing_docs, missing_debug_implementations, rust_2018_idioms)]
 #![deny(unsafe_code)]
 
-mod batch;
-mod bytes;
 mod change;
-mod class;
-mod cursor;
-mod error;
 mod hints;
 mod journal;
-mod kind;
 mod page;
 mod pass;
 mod predicate;
 mod prepared;
 mod raw;
+mod refused;
 #[cfg(feature = "saved")]
 pub mod saved;
 pub mod shelf;
 mod snapshot;
 mod store;
 mod text;
-mod value;
 
-pub use batch::{Batch, Operation, Operations};
+pub use bestore_types::{
+    caret, escape, Batch, Class, Cursor, CursorFault, Error, Hint, Kind, Limits, Node, Operation, Operations, Order,
+    Page, QueryError, QueryFault, Result, Value, Written, MOST_VOLUMES,
+};
 pub use change::Change;
-pub use class::Class;
-pub use cursor::{Cursor, CursorFault, Order};
-pub use error::{Error, QueryError, QueryFault, Result};
-pub use hints::{hints, Hint};
+pub use hints::{compared, hints, Compared, Form};
 pub use journal::{Entries, Entry};
-pub use kind::Kind;
-pub use page::{Ordered, Page};
-pub use pass::{Keeper, Oldest, Pass, Retry, Status, Witness, Written};
+pub use page::Ordered;
+pub use pass::{Keeper, Oldest, Pass, Retry, Status, Witness};
 pub use predicate::{attribute, Attribute, Operand, Predicate};
 pub use prepared::{Live, Prepared, Updates};
-pub use shelf::{
-    Node, Shelf, ShelfChange, ShelfLive, ShelfNodes, ShelfPass, ShelfSnapshot, ShelfWritten, MOST_VOLUMES,
-};
+pub use shelf::{Shelf, ShelfChange, ShelfLive, ShelfNodes, ShelfPass, ShelfSnapshot, ShelfWritten};
 pub use snapshot::{Nodes, Snapshot, State};
-pub use store::{Limits, Store};
-pub use text::{any_case, caret, escape};
-pub use value::Value;
+pub use store::Store;
+pub use text::any_case;
 
 /// The version of the library that runs: major, minor and patch.
 #[must_use]

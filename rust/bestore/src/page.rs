@@ -1,20 +1,10 @@
 //! Parts of an answer: pages in the order of an index, the first nodes by number, and any few.
 
-use crate::cursor::{CursorFault, Order};
-use crate::raw::Refused;
-use crate::{Cursor, Error, Prepared, Result, ShelfSnapshot, Snapshot};
+use crate::raw::{cursor_of, of_cursor, Refused};
+use crate::refused::no_order;
+use crate::{Cursor, CursorFault, Error, Order, Page, Prepared, Result, ShelfSnapshot, Snapshot};
 use bestore_sys as sys;
-
-/// Some of the nodes that a query finds, in an order, by [`Snapshot::page`].
-#[derive(Clone, Debug, PartialEq, Eq)]
-pub struct Page {
-    /// The nodes.
-    pub nodes: Vec<u64>,
-    /// Whether others come after these.
-    pub more: bool,
-    /// The position of the last node, for the next page. Of an empty page it is where that began.
-    pub cursor: Cursor,
-}
+use bestore_types::Paging;
 
 impl Snapshot<'_> {
     /// The nodes that the query finds, in an order: an iterator, which asks for page after page.
@@ -56,14 +46,14 @@ impl Snapshot<'_> {
 
     /// The page after a cursor, which is one of this query.
     pub(crate) fn page_after(&self, prepared: &Prepared, after: &Cursor, most: usize) -> Result<Page> {
-        let mut raw = after.to_raw();
+        let mut raw = cursor_of(after);
         let order = after.order();
         let answer = self.pass().raw().ordered(prepared.raw(), order, &mut raw, most);
         let (nodes, more) = answer.map_err(|refused| self.page_error(refused, prepared, after))?;
         Ok(Page {
             nodes,
             more,
-            cursor: Cursor::of_raw(order.clone(), prepared.check()?, &raw),
+            cursor: of_cursor(order, prepared.check()?, &raw),
         })
     }
 
@@ -71,7 +61,7 @@ impl Snapshot<'_> {
         let name = after.order().name();
         match refused.code {
             sys::BES_NO_INDEX => match self.indices() {
-                Ok(indices) => Error::no_order(name, indices),
+                Ok(indices) => no_order(name, indices),
                 Err(error) => error,
             },
             sys::BES_BAD_CURSOR => match (self.index(name), after.value()) {
@@ -137,10 +127,6 @@ pub(crate) fn begin(order: &Order, check: u32, after: Option<&Cursor>, most: usi
     }
 }
 
-/// How many nodes the first page of an iterator has, and how many a page has at most.
-const FIRST_PAGE: usize = 64;
-const LARGEST_PAGE: usize = 4096;
-
 #[derive(Clone, Copy, Debug)]
 enum Source<'a> {
     One(&'a Snapshot<'a>),
@@ -154,10 +140,7 @@ pub struct Ordered<'a> {
     source: Source<'a>,
     prepared: Prepared,
     order: Order,
-    after: Option<Cursor>,
-    most: usize,
-    read: std::vec::IntoIter<u64>,
-    is_over: bool,
+    paging: Paging,
 }
 
 impl<'a> Ordered<'a> {
@@ -166,10 +149,7 @@ impl<'a> Ordered<'a> {
             source,
             prepared,
             order,
-            after: None,
-            most: FIRST_PAGE,
-            read: Vec::new().into_iter(),
-            is_over: false,
+            paging: Paging::default(),
         }
     }
 
@@ -180,7 +160,7 @@ impl<'a> Ordered<'a> {
     /// The nodes after this cursor, which a page of the same query and order left.
     #[must_use]
     pub fn after(mut self, cursor: Cursor) -> Self {
-        self.after = Some(cursor);
+        self.paging.set_after(cursor);
         self
     }
 
@@ -189,21 +169,17 @@ impl<'a> Ordered<'a> {
     /// # Errors
     /// As [`Snapshot::page`].
     pub fn page(&self, most: usize) -> Result<Page> {
-        let after = self.after.as_ref();
-        match self.source {
-            Source::One(snapshot) => snapshot.page(&self.prepared, &self.order, after, most),
-            Source::Shelf(snapshot) => snapshot.page(&self.prepared, &self.order, after, most),
-        }
+        let after = self.paging.position();
+        self.source.page(&self.prepared, &self.order, after, most)
     }
+}
 
-    fn read_on(&mut self) -> Result<()> {
-        self.is_over = true;
-        let page = self.page(self.most)?;
-        self.is_over = !page.more;
-        self.after = Some(page.cursor);
-        self.most = (2 * self.most).min(LARGEST_PAGE);
-        self.read = page.nodes.into_iter();
-        Ok(())
+impl Source<'_> {
+    fn page(self, prepared: &Prepared, order: &Order, after: Option<&Cursor>, most: usize) -> Result<Page> {
+        match self {
+            Source::One(snapshot) => snapshot.page(prepared, order, after, most),
+            Source::Shelf(snapshot) => snapshot.page(prepared, order, after, most),
+        }
     }
 }
 
@@ -211,16 +187,13 @@ impl Iterator for Ordered<'_> {
     type Item = Result<u64>;
 
     fn next(&mut self) -> Option<Result<u64>> {
-        if let Some(node) = self.read.next() {
-            return Some(Ok(node));
-        }
-        if self.is_over {
-            return None;
-        }
-        match self.read_on() {
-            Ok(()) => self.read.next().map(Ok),
-            Err(error) => Some(Err(error)),
-        }
+        let Self {
+            source,
+            prepared,
+            order,
+            paging,
+        } = self;
+        paging.next(|after, most| source.page(prepared, order, after, most))
     }
 }
 

@@ -1,14 +1,16 @@
 //! Passes: one thread's handle on a store.
 
-use crate::raw::{Answer, RawPass, RawWitness, OPERATIONS};
-use crate::{Batch, Change, Entries, Error, Kind, Result, Snapshot, Value};
+use crate::raw::{Answer, RawDraft, RawPass, RawWitness};
+use crate::refused::of_write;
+use crate::{Batch, Change, Entries, Error, Kind, Result, Snapshot, Value, Written};
 use bestore_sys as sys;
+use bestore_types::raw::OPERATIONS;
 use std::fmt;
 use std::sync::Arc;
 use std::thread;
 use std::time::Duration;
 
-/// How often a call is tried again before its error is returned.
+/// How often a call is tried again before its error is returned. [`Pass::change`] runs its closure again each time.
 #[derive(Clone, Copy, Debug, PartialEq, Eq)]
 pub struct Retry {
     /// While another pass is writing. Between two tries other threads run, twice as often each time, up to 1,024 times.
@@ -29,14 +31,62 @@ impl Retry {
 }
 
 impl Default for Retry {
-    /// 10,000 times at busy, which takes some seconds; 10 times at full, which takes some .3 seconds; 1,000 times at a conflict.
+    /// 10,000 times at busy and at a conflict, which takes a few seconds; 40 times at full, which takes about 2 seconds.
     fn default() -> Self {
         Self {
             busy: 10_000,
-            full: 10,
-            conflict: 1_000,
+            full: 40,
+            conflict: 10_000,
         }
     }
+}
+
+/// How a change waits after an attempt that has written nothing.
+pub(crate) struct Waits {
+    left: Retry,
+    pauses: u32,
+    stand_back: StandBack,
+}
+
+impl Waits {
+    /// If a snapshot is held, a conflict is final, since each attempt would read that one.
+    pub(crate) fn of(pass: &Pass) -> Self {
+        let mut left = pass.retry();
+        if pass.held().is_some() {
+            left.conflict = 0;
+        }
+        Self {
+            left,
+            pauses: 0,
+            stand_back: StandBack::new(),
+        }
+    }
+
+    /// Waits after an error, or returns it if no later attempt is made.
+    pub(crate) fn after(&mut self, pass: &Pass, error: Error) -> Result<()> {
+        let left = match error {
+            Error::Conflict { .. } => &mut self.left.conflict,
+            Error::Busy { .. } => &mut self.left.busy,
+            Error::Full { .. } if self.left.full > 0 && pass.is_held_by_another()? => &mut self.left.full,
+            error => return Err(error),
+        };
+        if *left == 0 {
+            return Err(error);
+        }
+        *left -= 1;
+        if matches!(error, Error::Full { .. }) {
+            pause_at_full(self.pauses);
+            self.pauses += 1;
+        } else {
+            self.stand_back.wait();
+        }
+        Ok(())
+    }
+}
+
+/// Waits for pages, after so many pauses before.
+fn pause_at_full(pauses: u32) {
+    thread::sleep(Duration::from_millis(1 << pauses.min(6)));
 }
 
 /// Lets other threads run between two tries, twice as often each time.
@@ -55,15 +105,6 @@ impl StandBack {
             self.0 *= 2;
         }
     }
-}
-
-/// An accepted transaction.
-#[derive(Clone, Debug, PartialEq, Eq)]
-pub struct Written {
-    /// Its commit number: how many entries the journal had with it.
-    pub number: u64,
-    /// The nodes that it made, in the order of the operations.
-    pub nodes: Vec<u64>,
 }
 
 /// What a pass has seen of its store, for a pass of the same store in another thread: [`Pass::witness`] makes one, and
@@ -304,11 +345,27 @@ impl Pass {
             };
             match written {
                 Err(Error::Full { .. }) if full < self.retry.full && self.is_held_by_another()? => {
-                    thread::sleep(Duration::from_millis(1 << full.min(6)));
+                    pause_at_full(full);
                     full += 1;
                 }
                 written => return written,
             }
+        }
+    }
+
+    /// Writes the draft of a change in memory, whose operations are those of the batch, and make these nodes. It is tried once. Returns
+    /// the number for `end_write`.
+    pub(crate) fn end_change(&self, draft: &RawDraft, expected: u64, batch: &Batch, nodes: Vec<u64>) -> Result<u64> {
+        let mut write = || match self.raw.end_change(draft) {
+            Ok(number) => Ok(Written {
+                number,
+                nodes: nodes.clone(),
+            }),
+            Err(refused) => Err(of_write(refused, batch.len(), Some(expected))),
+        };
+        match &self.keeper {
+            None => write().map(|_| 0),
+            Some(keeper) => keeper.keep(self.number()?, batch, &mut write).map(|(_, number)| number),
         }
     }
 
@@ -319,12 +376,12 @@ impl Pass {
 
     fn write_now(&self, expected: Option<u64>, batch: &Batch) -> Result<Written> {
         let mut made = vec![0; batch.len()];
-        match self.tried(|| self.raw.apply(expected, &batch.list, &mut made)) {
+        match self.tried(|| self.raw.apply(expected, batch.raw(), &mut made)) {
             Ok(number) => {
                 made.retain(|node| *node != 0);
                 Ok(Written { number, nodes: made })
             }
-            Err(refused) => Err(Error::of_write(refused, batch.len(), expected)),
+            Err(refused) => Err(of_write(refused, batch.len(), expected)),
         }
     }
 
@@ -346,7 +403,8 @@ impl Pass {
     }
 
     /// Reads and writes as one: runs the closure on the current snapshot, and writes the operations that it collects if no
-    /// other write came between. Otherwise it runs the closure again, on the next snapshot.
+    /// other write came between. Otherwise it runs the closure again, on the next snapshot; and so if another pass is writing, or no page
+    /// is free while another pass holds an older snapshot.
     ///
     /// ```
     /// # use bestore::{Limits, Store, Kind};
@@ -357,7 +415,7 @@ impl Pass {
     ///     Ok(node)
     /// })?;
     /// pass.change(|change| {
-    ///     let read = change.snapshot().get(letter, "reads")?.and_then(|value| value.as_i64());
+    ///     let read = change.get(letter, "reads")?.and_then(|value| value.as_i64());
     ///     change.set(letter, "reads", read.unwrap_or(0) + 1)?;
     ///     Ok(())
     /// })?;
@@ -370,8 +428,8 @@ impl Pass {
     /// [`Error::other`] makes one of any error.
     ///
     /// # Errors
-    /// Those of the closure; [`Error::Conflict`] after as many tries as [`Retry::conflict`] says; otherwise as
-    /// [`apply`](Self::apply).
+    /// Those of the closure; [`Error::Conflict`], [`Error::Busy`] and [`Error::Full`] after as many tries as [`Retry`] says;
+    /// otherwise as [`apply`](Self::apply).
     pub fn change<T>(&mut self, mut change: impl FnMut(&mut Change<'_>) -> Result<T>) -> Result<T> {
         Change::run(self, &mut change)
     }

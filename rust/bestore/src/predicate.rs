@@ -1,7 +1,9 @@
 //! Queries that are built, and not parsed.
 
+use crate::refused::{of_query, without_offset};
 use crate::{Error, Kind, Prepared, Result};
 use bestore_sys as sys;
+use bestore_types::raw::narrow;
 use std::ops::{BitAnd, BitOr, Not};
 use sys::bes_item;
 
@@ -81,11 +83,9 @@ impl Attribute {
     /// The attribute is in the index of this name, which has this kind.
     #[must_use]
     pub fn any(self, kind: Kind) -> Predicate {
-        match kind {
-            Kind::Int32 => self.ge(i32::MIN),
-            Kind::Int64 => self.ge(i64::MIN),
-            Kind::Uint32 | Kind::Uint64 => self.ge(0_u32),
-            Kind::Text | Kind::Mime | Kind::Raw => self.eq("*"),
+        match kind.least() {
+            Some(least) => self.ge(least),
+            None => self.eq("*"),
         }
     }
 
@@ -102,8 +102,8 @@ impl Attribute {
 
 impl Predicate {
     fn push(&mut self, kind: u32, text: &str, number: u64) {
-        let at = crate::batch::narrow(self.bytes.len());
-        let length = crate::batch::narrow(text.len());
+        let at = narrow(self.bytes.len());
+        let length = narrow(text.len());
         self.bytes.extend_from_slice(text.as_bytes());
         self.items.push(bes_item {
             kind,
@@ -119,7 +119,7 @@ impl Predicate {
     }
 
     fn joined(mut self, other: &Predicate, operator: u32) -> Self {
-        let shift = crate::batch::narrow(self.bytes.len());
+        let shift = narrow(self.bytes.len());
         self.bytes.extend_from_slice(&other.bytes);
         self.items.extend(other.items.iter().map(|item| bes_item {
             at: item.at + shift,
@@ -137,7 +137,7 @@ impl Predicate {
         let answer = crate::raw::RawPrepared::build(&self.items, &self.bytes);
         answer.map(Prepared::of_raw).map_err(|refused| match refused.code {
             sys::BES_BAD_RPN => Error::HasNul { operation: None },
-            _ => Error::of_query(refused, || self.pattern_before(refused.carried)).without_offset(),
+            _ => without_offset(of_query(refused, || self.pattern_before(refused.carried))),
         })
     }
 

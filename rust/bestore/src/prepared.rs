@@ -1,8 +1,9 @@
 //! Queries that are parsed once.
 
-use crate::cursor::crc32;
 use crate::raw::{RawPass, RawPrepared, RawUpdates};
+use crate::refused::of_query;
 use crate::{Error, Result, Snapshot};
+use bestore_types::raw::crc32;
 use std::cell::Cell;
 use std::fmt;
 
@@ -30,7 +31,7 @@ impl Prepared {
     pub fn new(text: &str) -> Result<Self> {
         match RawPrepared::parse(text) {
             Ok(prepared) => Ok(Self::of_raw(prepared)),
-            Err(refused) => Err(Error::of_query(refused, || text.into())),
+            Err(refused) => Err(of_query(refused, || text.into())),
         }
     }
 
@@ -131,7 +132,8 @@ impl Live {
     }
 
     /// Asks the query, and compares with its answer at the last refresh. Snapshots of one store, or of another to which its
-    /// state was carried: nodes are compared by their numbers.
+    /// state was carried: nodes are compared by their numbers. It asks the whole query and takes no lock, so no write of another pass
+    /// is [`Error::Busy`] because of it.
     ///
     /// # Errors
     /// As [`Snapshot::query`]. The query stays as it was.
@@ -140,8 +142,8 @@ impl Live {
     }
 
     /// Returns what [`refresh`](Self::refresh) does. It asks the query only of the nodes that were written since the last refresh,
-    /// and takes less time where the answer is large and little was written. It reads the journal's entries since then, and other
-    /// passes get [`Error::Busy`] meanwhile. After many writes it asks the whole query.
+    /// and takes less time where the answer has 96 nodes or more and few were written. It reads the journal's entries since then, and
+    /// other passes get [`Error::Busy`] meanwhile. Otherwise, and in another store than at the last refresh, it asks the whole query.
     ///
     /// # Errors
     /// As `refresh`.

@@ -5,26 +5,30 @@
 //! - a handle takes one call at a time: `Handle` isn't `Sync`, and no call of the library calls back;
 //! - a slice has a pointer that isn't null, even with a length of 0;
 //! - of a list the library writes as many items as it counts, up to the room that it is given;
+//! - a `RawOperation` has the layout of a `bes_operation`;
 //! - a pass and a witness have the number of their store, and are joined only if it is the same;
 //! - a `Live` has the number of the store of its last refresh, and is refreshed by what changed only in that one.
 #![allow(unsafe_code)]
 #![deny(unsafe_op_in_unsafe_fn)]
 
-use crate::Order;
+use crate::{Cursor, Kind, Order};
 use bestore_sys as sys;
+use bestore_types::raw::{List, RawOperation, OPERATIONS};
 use std::cell::Cell;
 use std::marker::PhantomData;
+use std::mem::{align_of, size_of};
 use std::ptr::NonNull;
 use std::sync::atomic::{AtomicU64, Ordering};
 use std::sync::Once;
-use sys::{bes_counts, bes_cursor, bes_operation, bes_pass, bes_place, bes_prepared, bes_updates, bes_witness};
+use sys::{
+    bes_counts, bes_cursor, bes_draft, bes_operation, bes_pass, bes_place, bes_prepared, bes_updates, bes_witness,
+};
 
 /// The code of a call in a forked child, which no call of the library returns.
 pub(crate) const FORKED: u32 = u32::MAX;
 
-/// The most operations of a batch, and the most bytes of their names and values.
-pub(crate) const OPERATIONS: usize = 64;
-pub(crate) const BYTES: usize = OPERATIONS * (63 + 255);
+/// The most bytes of the names and values of a batch.
+const BYTES: usize = OPERATIONS * (63 + 255);
 
 /// A code that isn't `BES_OK`, and the number that goes with it.
 #[derive(Clone, Copy, Debug, PartialEq, Eq)]
@@ -38,12 +42,11 @@ pub(crate) type Answer<T> = Result<T, Refused>;
 /// The nodes that came and those that went.
 pub(crate) type RawUpdates = Answer<(Vec<u64>, Vec<u64>)>;
 
-/// Operations with the bytes of their names and values.
-#[derive(Clone, Debug, Default)]
-pub(crate) struct List {
-    pub(crate) operations: Vec<bes_operation>,
-    pub(crate) bytes: Vec<u8>,
-}
+/// The layout of an operation is that of C, so a list of one is a list of the other.
+const _: () = assert!(
+    size_of::<RawOperation>() == size_of::<bes_operation>()
+        && align_of::<RawOperation>() == align_of::<bes_operation>()
+);
 
 fn check(code: u32, carried: u64) -> Answer<()> {
     if code == sys::BES_OK {
@@ -116,6 +119,17 @@ macro_rules! close_by {
 close_by!(
     bes_pass by bes_close, bes_prepared by bes_release, bes_place by bes_leave, bes_witness by bes_dismiss
 );
+
+impl CloseHandle for bes_draft {
+    const CLOSED: Self = Self::INIT;
+
+    unsafe fn close(at: *mut Self) {
+        // With a pass that is closed the call closes just the draft, whatever its own pass does.
+        let mut none = bes_pass::INIT;
+        // SAFETY: as the trait asks; the pass is of this call alone.
+        unsafe { sys::bes_abandon_change(&mut none, at) };
+    }
+}
 
 /// A handle at one address, which is closed at the end. In a forked child it is dead, and is left as it is.
 #[derive(Debug)]
@@ -197,7 +211,7 @@ fn listed(
             bytes: Vec::with_capacity(bytes_room),
         };
         let mut counts = bes_counts::default();
-        let operations = list.operations.as_mut_ptr();
+        let operations = list.operations.as_mut_ptr().cast();
         let bytes = list.bytes.as_mut_ptr();
         call(&mut counts, operations, operations_room, bytes, bytes_room)?;
         let (operations, bytes) = (counts.operations as usize, counts.bytes as usize);
@@ -218,7 +232,7 @@ fn listed(
 /// # Safety
 /// `pass` points to a handle that no other call uses.
 unsafe fn apply(pass: *mut bes_pass, expected: Option<u64>, list: &List, made: &mut [u64], number: &mut u64) -> u32 {
-    let (operations, count) = (list.operations.as_ptr(), list.operations.len());
+    let (operations, count) = (list.operations.as_ptr().cast(), list.operations.len());
     let (bytes, length) = (list.bytes.as_ptr(), list.bytes.len());
     let (nodes, room) = (made.as_mut_ptr(), made.len());
     // SAFETY: the slices are three, and outlive the call.
@@ -351,6 +365,48 @@ impl RawPass {
         // SAFETY: as the module says.
         let code = unsafe { apply(self.handle.get()?, expected, list, made, &mut number) };
         check(code, number).map(|()| number)
+    }
+
+    /// Begins a change on the snapshot to which the pass is pinned. Returns its draft, and the number that the first new node gets.
+    pub(crate) fn begin_change(&self) -> Answer<(RawDraft, u64)> {
+        let draft = RawDraft(Handle::new());
+        let (mut number, mut next) = (0, 0);
+        // SAFETY: as the module says; the handles are two.
+        let code = unsafe { sys::bes_begin_change(self.handle.get()?, draft.0.get()?, &mut number, &mut next) };
+        check(code, 0).map(|()| (draft, next))
+    }
+
+    /// Writes the draft, and closes it, also after an error.
+    pub(crate) fn end_change(&self, draft: &RawDraft) -> Answer<u64> {
+        let mut number = 0;
+        // SAFETY: as the module says; the draft is one of this pass, since a change has both.
+        let code = unsafe { sys::bes_end_change(self.handle.get()?, draft.0.get()?, &mut number) };
+        check(code, number).map(|()| number)
+    }
+
+    /// An attribute as the draft's operations leave it, whose bytes are put into `bytes`.
+    pub(crate) fn change_get(
+        &self,
+        draft: &RawDraft,
+        node: u64,
+        name: &str,
+        bytes: &mut [u8; 255],
+    ) -> Answer<sys::bes_attribute> {
+        let mut attribute = sys::bes_attribute::default();
+        // SAFETY: as the module says; the draft is one of this pass, since a change has both.
+        let code = unsafe {
+            sys::bes_change_get(
+                self.handle.get()?,
+                draft.0.get()?,
+                node,
+                name.as_ptr(),
+                name.len(),
+                &mut attribute,
+                bytes.as_mut_ptr(),
+                bytes.len(),
+            )
+        };
+        check(code, 0).map(|()| attribute)
     }
 
     pub(crate) fn query(&self, text: &str) -> Answer<Vec<u64>> {
@@ -646,6 +702,54 @@ impl RawPrepared {
     }
 }
 
+/// The operations of a change.
+#[derive(Debug)]
+pub(crate) struct RawDraft(Handle<bes_draft>);
+
+/// An operation by its parts.
+pub(crate) struct Parts<'a> {
+    pub(crate) kind: u32,
+    pub(crate) node: u64,
+    pub(crate) name: &'a str,
+    pub(crate) code: u32,
+    pub(crate) number: u64,
+    pub(crate) value: &'a [u8],
+}
+
+impl RawDraft {
+    /// Takes values of any kind from now on.
+    pub(crate) fn any_kind(&self) -> Answer<()> {
+        // SAFETY: as the module says.
+        check(unsafe { sys::bes_change_any_kind(self.0.get()?) }, 0)
+    }
+
+    /// Adds an operation. Returns the node that it makes, or 0. What goes with an error is the type code of the index that doesn't take
+    /// the value.
+    pub(crate) fn add(&self, parts: &Parts<'_>) -> Answer<u64> {
+        let bytes = [parts.name.as_bytes(), parts.value].concat();
+        let name_length = length_of(parts.name.as_bytes());
+        let operation = bes_operation {
+            kind: parts.kind,
+            code: parts.code,
+            node: parts.node,
+            number: parts.number,
+            name_at: 0,
+            name_length,
+            value_at: name_length,
+            value_length: length_of(parts.value),
+        };
+        let mut made = 0;
+        // SAFETY: as the module says; the operation and the bytes outlive the call.
+        let code = unsafe { sys::bes_change_add(self.0.get()?, &operation, bytes.as_ptr(), bytes.len(), &mut made) };
+        check(code, made).map(|()| made)
+    }
+}
+
+/// A length as the library takes it. What is longer is refused there.
+fn length_of(bytes: &[u8]) -> u32 {
+    u32::try_from(bytes.len()).unwrap_or(u32::MAX)
+}
+
 /// What a pass has seen.
 #[derive(Debug)]
 pub(crate) struct RawWitness {
@@ -663,8 +767,74 @@ impl RawPlace {
     }
 }
 
+/// The cursor as the library takes it.
+pub(crate) fn cursor_of(cursor: &Cursor) -> bes_cursor {
+    let mut raw = bes_cursor::BEGINNING;
+    if let Some((kind, key)) = cursor.key() {
+        raw.kind = kind.code();
+        raw.length = key.len() as u32;
+        raw.key[..key.len()].copy_from_slice(&key);
+    }
+    raw
+}
+
+/// The cursor that the library has written.
+pub(crate) fn of_cursor(order: &Order, check: u32, raw: &bes_cursor) -> Cursor {
+    let key = raw.key.get(..raw.length as usize).unwrap_or_default();
+    Cursor::of_key(order.clone(), check, Kind::from_code(raw.kind), key)
+}
+
+/// A pattern that matches the text in upper and lower case.
+pub(crate) fn any_case(text: &str) -> Answer<Vec<u8>> {
+    whole(12 * text.len(), |bytes, room, count| {
+        // SAFETY: as the module says.
+        unsafe { sys::bes_any_case_bytes(text.as_ptr(), text.len(), bytes, room, count) }
+    })
+}
+
 /// The version of the library that runs, as `BES_VERSION_NUMBER` of its header.
 pub(crate) fn version() -> u32 {
     // SAFETY: the call takes nothing.
     unsafe { sys::bes_version() }
+}
+
+#[cfg(test)]
+mod tests {
+    use super::*;
+
+    #[test]
+    fn an_operation_has_the_layout_of_c() {
+        let ours = RawOperation {
+            kind: 1,
+            code: 2,
+            node: 3,
+            number: 4,
+            name_at: 5,
+            name_length: 6,
+            value_at: 7,
+            value_length: 8,
+        };
+        // SAFETY: both are structs of C without padding, and of the same size.
+        let theirs: bes_operation = unsafe { std::mem::transmute(ours) };
+        let fields = [
+            theirs.kind,
+            theirs.code,
+            theirs.name_at,
+            theirs.name_length,
+            theirs.value_at,
+            theirs.value_length,
+        ];
+        assert_eq!((fields, theirs.node, theirs.number), ([1, 2, 5, 6, 7, 8], 3, 4));
+    }
+
+    #[test]
+    fn a_cursor_goes_to_the_library_and_back() {
+        let order = Order::by("n").descending();
+        for value in [i64::MIN.into(), u32::MAX.into(), "größe".into(), crate::Value::from("")] {
+            let mut cursor = Cursor::beginning(order.clone(), 7);
+            assert_eq!(of_cursor(&order, 7, &cursor_of(&cursor)), cursor);
+            cursor.move_to(value, u64::MAX);
+            assert_eq!(of_cursor(&order, 7, &cursor_of(&cursor)), cursor);
+        }
+    }
 }

@@ -1,8 +1,10 @@
 //! Snapshots: what a pass reads while it is pinned.
 
-use crate::raw::{checked_name, List, RawPlace, Refused};
+use crate::raw::{checked_name, Answer, RawPlace, Refused};
+use crate::refused::{of_query, with_missing};
 use crate::{attribute, hints, Batch, Error, Hint, Kind, Pass, Prepared, Result, Value};
 use bestore_sys as sys;
+use bestore_types::raw::{List, RawOperation};
 use std::collections::BTreeMap;
 
 /// A pinned snapshot: the store after the first [`number`](Self::number) entries of its journal, whatever is written meanwhile.
@@ -129,12 +131,12 @@ impl<'a> Snapshot<'a> {
 
     /// The error of a query, with the first index that is missing.
     pub(crate) fn query_error(&self, refused: Refused, text: impl FnOnce() -> String) -> Error {
-        let error = Error::of_query(refused, text);
+        let error = of_query(refused, text);
         if refused.code != sys::BES_NOT_COVERED {
             return error;
         }
         match self.indices() {
-            Ok(indices) => error.with_missing(|name| indices.iter().any(|(index, _)| index == name)),
+            Ok(indices) => with_missing(error, |name| indices.iter().any(|(index, _)| index == name)),
             Err(_) => error,
         }
     }
@@ -185,15 +187,8 @@ impl<'a> Snapshot<'a> {
     /// [`Error::NameLength`], [`Error::HasNul`], [`Error::Forked`].
     pub fn get(&self, node: u64, name: &str) -> Result<Option<Value>> {
         let mut bytes = [0; 255];
-        match self.pass.raw().get(node, name, &mut bytes) {
-            Ok(attribute) => {
-                let kind = Kind::from_code(attribute.code).unwrap_or(Kind::Raw);
-                let length = (attribute.length as usize).min(bytes.len());
-                Ok(Some(Value::of_parts(kind, attribute.number, &bytes[..length])))
-            }
-            Err(refused) if refused.code == sys::BES_NO_ATTRIBUTE => Ok(None),
-            Err(refused) => Err(refused.into()),
-        }
+        let answer = self.pass.raw().get(node, name, &mut bytes);
+        value_read(answer, &bytes)
     }
 
     /// The attributes of this name of many nodes: the value of each node, or `None` if it has none.
@@ -277,7 +272,20 @@ impl Drop for Snapshot<'_> {
     }
 }
 
-fn named<T>(list: &List, read: impl Fn(&sys::bes_operation) -> T) -> Vec<(String, T)> {
+/// The value of an attribute that was read, if it is there, and whose bytes are at the front of these.
+pub(crate) fn value_read(answer: Answer<sys::bes_attribute>, bytes: &[u8; 255]) -> Result<Option<Value>> {
+    match answer {
+        Ok(attribute) => {
+            let kind = Kind::from_code(attribute.code).unwrap_or(Kind::Raw);
+            let length = (attribute.length as usize).min(bytes.len());
+            Ok(Some(Value::of_parts(kind, attribute.number, &bytes[..length])))
+        }
+        Err(refused) if refused.code == sys::BES_NO_ATTRIBUTE => Ok(None),
+        Err(refused) => Err(refused.into()),
+    }
+}
+
+fn named<T>(list: &List, read: impl Fn(&RawOperation) -> T) -> Vec<(String, T)> {
     list.operations
         .iter()
         .map(|operation| (list.name(operation).to_owned(), read(operation)))

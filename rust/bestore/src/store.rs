@@ -1,40 +1,9 @@
-//! Stores, and how large they may grow.
+//! Stores.
 
 use crate::raw::{Birthplace, RawPass};
-use crate::{Error, Pass, Result};
+use crate::{Error, Limits, Pass, Result};
+use bestore_types::MOST_PASSES;
 use std::sync::{Arc, Mutex, MutexGuard, PoisonError};
-
-/// The most passes of a store, beside its own.
-const MOST_PASSES: u64 = 63;
-
-/// How large a store may grow.
-///
-/// ```
-/// use bestore::{Limits, Store};
-/// let store = Store::open(Limits { pages: 64, ..Limits::default() })?;
-/// # Ok::<(), bestore::Error>(())
-/// ```
-#[derive(Clone, Copy, Debug, PartialEq, Eq)]
-pub struct Limits {
-    /// Pages of 4 KiB, which are all taken at once: 8 to 16,384.
-    pub pages: u64,
-    /// Passes that are open at the same time: 1 to 63. The store itself has one more. Each takes 89 bytes, and 13 instructions of a
-    /// write, of some 12,000; a pin and a query cost the same with 8 and with 63 (28 November 2026).
-    pub passes: u64,
-    /// Entries of the journal: 1 to 4,294,967,295.
-    pub commits: u64,
-}
-
-impl Default for Limits {
-    /// 4,096 pages, and as many passes and entries as there may be.
-    fn default() -> Self {
-        Self {
-            pages: 4096,
-            passes: MOST_PASSES,
-            commits: u32::MAX.into(),
-        }
-    }
-}
 
 /// A store in memory. Clones are the same store, and each thread may make its pass from one.
 ///

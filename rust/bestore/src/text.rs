@@ -1,70 +1,19 @@
-//! Texts of queries.
+//! Texts of queries: what they compare, and patterns for texts in any case.
 
-/// The text with a backslash before each character that a query or a pattern may take for more than itself.
-///
-/// It is the text itself both as a word of a query and between quotes. An empty text needs the quotes.
-///
-/// ```
-/// assert_eq!(bestore::escape("[draft].txt"), r"\[draft\]\.txt");
-/// ```
-#[must_use]
-pub fn escape(text: &str) -> String {
-    let mut escaped = String::with_capacity(text.len() + 8);
-    for character in text.chars() {
-        push_escaped(&mut escaped, character);
-    }
-    escaped
-}
+use crate::raw;
 
-/// A pattern that matches the text in upper and lower case, as `BQuery` makes it. Each other character matches itself.
+/// A pattern that matches the text in upper and lower case, by Unicode's simple case folding. Each other character matches itself.
 ///
 /// ```
 /// assert_eq!(bestore::any_case("Ab*"), r"[aA][bB]\*");
 /// ```
+///
+/// # Panics
+/// If memory runs out.
 #[must_use]
 pub fn any_case(text: &str) -> String {
-    let mut pattern = String::with_capacity(4 * text.len());
-    for character in text.chars() {
-        match cases(character) {
-            Some((lower, upper)) => pattern.extend(['[', lower, upper, ']']),
-            None => push_escaped(&mut pattern, character),
-        }
-    }
-    pattern
-}
-
-fn push_escaped(text: &mut String, character: char) {
-    if character.is_ascii() && !character.is_ascii_alphanumeric() {
-        text.push('\\');
-    }
-    text.push(character);
-}
-
-/// The character in lower and in upper case, if these are two single characters.
-fn cases(character: char) -> Option<(char, char)> {
-    let lower = only(character.to_lowercase())?;
-    let upper = only(character.to_uppercase())?;
-    (lower != upper).then_some((lower, upper))
-}
-
-fn only(mut characters: impl Iterator<Item = char>) -> Option<char> {
-    let first = characters.next()?;
-    characters.next().is_none().then_some(first)
-}
-
-/// The text on a line, and on the next one a caret under the character at this byte. Of a long text the part round that is shown.
-///
-/// ```
-/// assert_eq!(bestore::caret("size<5 || [", 10), "  size<5 || [\n            ^");
-/// ```
-#[must_use]
-pub fn caret(text: &str, offset: usize) -> String {
-    with_caret(text, Some(column_at(text, offset)))
-}
-
-/// How many characters come before this byte.
-pub(crate) fn column_at(text: &str, offset: usize) -> usize {
-    text.char_indices().take_while(|(at, _)| *at < offset).count()
+    let pattern = raw::any_case(text).expect("memory runs out");
+    String::from_utf8(pattern).expect("the library writes UTF-8")
 }
 
 /// How a name and a value are compared.
@@ -78,6 +27,19 @@ pub(crate) enum Comparing {
     Ge,
 }
 
+impl Comparing {
+    pub(crate) const fn sign(self) -> &'static str {
+        match self {
+            Comparing::Eq => "==",
+            Comparing::Ne => "!=",
+            Comparing::Lt => "<",
+            Comparing::Le => "<=",
+            Comparing::Gt => ">",
+            Comparing::Ge => ">=",
+        }
+    }
+}
+
 /// A comparison of a query's text.
 #[derive(Clone, Debug, PartialEq, Eq)]
 pub(crate) struct Comparison<'a> {
@@ -85,20 +47,22 @@ pub(crate) struct Comparison<'a> {
     pub operator: Comparing,
     /// As the text has it, without its quotes.
     pub value: &'a str,
-    /// The byte at which the comparison begins.
+    /// The bytes at which the comparison begins and ends.
     pub offset: usize,
+    pub end: usize,
 }
 
 /// The comparisons of a text that is a query, from left to right.
 pub(crate) fn comparisons(query: &str) -> Vec<Comparison<'_>> {
     let tokens: Vec<_> = Tokens { query, at: 0 }.collect();
     let three = tokens.windows(3).filter_map(|tokens| match tokens {
-        [Token::Text { text: name, at }, Token::Compares(operator), Token::Text { text: value, .. }] => {
+        [Token::Text { text: name, at, .. }, Token::Compares(operator), Token::Text { text: value, end, .. }] => {
             Some(Comparison {
                 name: without_backslashes(name),
                 operator: *operator,
                 value,
                 offset: *at,
+                end: *end,
             })
         }
         _ => None,
@@ -127,10 +91,11 @@ pub(crate) fn has_wildcard(pattern: &str) -> bool {
 /// What a query's text is made of.
 #[derive(Clone, Copy, Debug, PartialEq, Eq)]
 enum Token<'a> {
-    /// A name or a value, without its quotes, and the byte at which it begins.
+    /// A name or a value, without its quotes, and the bytes at which it begins and ends.
     Text {
         text: &'a str,
         at: usize,
+        end: usize,
     },
     Compares(Comparing),
     /// One that joins or turns comparisons.
@@ -155,7 +120,9 @@ impl<'a> Iterator for Tokens<'a> {
                 let text = &rest[1..];
                 let length = length_until(text, |character| character == first);
                 let text = &text[..length];
-                (Token::Text { text, at }, (length + 2).min(rest.len()))
+                let length = (length + 2).min(rest.len());
+                let end = at + length;
+                (Token::Text { text, at, end }, length)
             }
             first if is_separator(first) => sign(rest),
             _ => {
@@ -163,7 +130,8 @@ impl<'a> Iterator for Tokens<'a> {
                     is_separator(character) || matches!(character, '"' | '\'')
                 });
                 let text = &rest[..length];
-                (Token::Text { text, at }, length)
+                let end = at + length;
+                (Token::Text { text, at, end }, length)
             }
         };
         self.at = at + length;
@@ -205,24 +173,6 @@ fn is_separator(character: char) -> bool {
     )
 }
 
-/// The text on a line, and a caret under its character with this index if there is one. Of a long text the part round that is shown.
-pub(crate) fn with_caret(text: &str, column: Option<usize>) -> String {
-    let first = column.unwrap_or(0).saturating_sub(SHOWN);
-    let shown: String = text
-        .chars()
-        .skip(first)
-        .take(2 * SHOWN)
-        .map(|character| if character.is_control() { ' ' } else { character })
-        .collect();
-    match column {
-        Some(column) => format!("  {shown}\n  {:1$}^", "", column - first),
-        None => format!("  {shown}"),
-    }
-}
-
-/// How many characters of a text are shown before and after the one that is wrong.
-pub(crate) const SHOWN: usize = 60;
-
 #[cfg(test)]
 mod tests {
     use super::*;
@@ -255,7 +205,7 @@ mod tests {
 
     #[test]
     fn letters_of_one_case_match_themselves() {
-        assert_eq!(any_case("ß1é"), "ß1[éÉ]");
-        assert_eq!(escape(""), "");
+        assert_eq!(any_case("漢1é"), "漢1[éÉ]");
+        assert_eq!(any_case("GÜNTHER"), any_case("Günther"));
     }
 }

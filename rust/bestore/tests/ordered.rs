@@ -2,6 +2,8 @@
 
 use bestore::{attribute, Cursor, CursorFault, Error, Kind, Limits, Live, Order, Page, Prepared, Result, Shelf};
 use bestore::{ShelfLive, ShelfPass, ShelfSnapshot, Store, Value};
+use std::sync::atomic::{AtomicBool, Ordering};
+use std::thread;
 
 const KINDS: [(&str, Kind); 5] = [
     ("text", Kind::Text),
@@ -346,6 +348,36 @@ fn a_refresh_by_what_changed_returns_the_same() {
         live.refresh(&snapshot).unwrap(),
         changed.refresh_changed(&snapshot).unwrap()
     );
+}
+
+/// The answer has 96 nodes and more, so the entries of the journal are read while the other thread writes them.
+#[test]
+fn a_refresh_by_what_changed_returns_the_same_while_another_thread_writes() {
+    let store = Store::open(Limits::default()).unwrap();
+    let (mut pass, writer) = (store.pass().unwrap(), store.pass().unwrap());
+    pass.make_index("i64", Kind::Int64).unwrap();
+    let mut chance = Chance(7);
+    for _ in 0..400 {
+        let node = pass.new_node().unwrap();
+        pass.set(node, "i64", chance.value(Kind::Int64)).unwrap();
+    }
+    let (mut live, mut changed) = (Live::new("i64>=0").unwrap(), Live::new("i64>=0").unwrap());
+    let is_over = AtomicBool::new(false);
+    thread::scope(|scope| {
+        scope.spawn(|| {
+            let (writer, mut chance) = (writer, Chance(0x11fe));
+            while !is_over.load(Ordering::Relaxed) {
+                let node = 1 + chance.below(400);
+                writer.set(node, "i64", chance.value(Kind::Int64)).unwrap();
+            }
+        });
+        for _ in 0..200 {
+            let snapshot = pass.pin().unwrap();
+            let updates = changed.refresh_changed(&snapshot).unwrap();
+            assert_eq!(live.refresh(&snapshot).unwrap(), updates);
+        }
+        is_over.store(true, Ordering::Relaxed);
+    });
 }
 
 #[test]

@@ -115,6 +115,52 @@ fn a_change_looks_at_kinds() {
     assert_eq!(pass.pin().unwrap().query("length==5").unwrap(), [1]);
 }
 
+/// The calls of a change that return no error leave it to the end.
+#[test]
+fn an_operation_that_is_not_collected_ends_the_change() {
+    let mut pass = ten();
+    let before = pass.status().unwrap().entries;
+    let many = pass.change(|change| {
+        let nodes: Vec<_> = (0..66).map(|_| change.new_node()).collect();
+        assert_eq!((nodes[0], nodes[64], change.batch().len()), (11, 75, 64));
+        change.remove_node(1);
+        Ok(())
+    });
+    assert!(matches!(many, Err(Error::BadCount { count: 65 })));
+    let unnamed = pass.change(|change| {
+        change.remove_node(1).unset(2, "");
+        assert_eq!(change.get(1, "size")?, None);
+        Ok(())
+    });
+    assert!(matches!(unnamed, Err(Error::NameLength { operation: Some(1) })));
+    assert_eq!(pass.status().unwrap().entries, before);
+}
+
+/// While a pass writes, or no page is free because of it, a change begins again, as often as its pass says.
+#[test]
+fn a_change_at_full_begins_again() {
+    let store = sized(16);
+    let (mut pass, mut reader) = (store.pass().unwrap(), store.pass().unwrap());
+    let node = pass.new_node().unwrap();
+    reader.hold().unwrap();
+    fill(&pass, node);
+    let (mut runs, reader) = (0, std::sync::Mutex::new(reader));
+    pass.change(|change| {
+        runs += 1;
+        if runs == 3 {
+            reader.lock().unwrap().release();
+        }
+        change.set(node, "a", "y".repeat(255)).map(drop)
+    })
+    .unwrap();
+    assert!(runs >= 3);
+    reader.lock().unwrap().hold().unwrap();
+    fill(&pass, node);
+    pass.set_retry(Retry::NEVER);
+    let refused = pass.change(|change| change.set(node, "a", "z".repeat(255)).map(drop));
+    assert!(matches!(refused, Err(Error::Full { .. })));
+}
+
 #[test]
 fn no_change_is_lost_between_two_threads() {
     let store = store();

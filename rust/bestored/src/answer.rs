@@ -9,6 +9,7 @@ use crate::page::{self, commits, rows_of, Reading, Room};
 use crate::query::Queries;
 use crate::reach;
 use crate::server::Shared;
+use crate::text;
 use crate::volumes;
 use crate::watcher::{self, Watch, Watches};
 use crate::writes;
@@ -23,7 +24,7 @@ use std::time::Instant;
 pub const WATCHES: usize = 32;
 
 /// What the server knows beyond the first version of the protocol.
-const FEATURES: [&str; 6] = ["token", "run", "collect", "info", "clients", "kick"];
+const FEATURES: [&str; 7] = ["token", "run", "collect", "info", "clients", "kick", "text"];
 
 /// How many bytes of replies are collected before they are sent.
 const COLLECTED: usize = 1 << 16;
@@ -236,6 +237,7 @@ impl<'a> Desk<'a> {
                 self.reply(id, &self.shared.clients.shown(self.client.number));
                 Ok(())
             }
+            Command::Text(wire::QueryText { query }) => text::comparisons(&query).map(|found| self.reply(id, &found)),
             Command::Kick(kick) => info::kick(self.shared, self.client, &kick).map(|done| self.reply(id, &done)),
             Command::Flush(_) => self.shared.kept.flush().map(|()| self.reply(id, &wire::Nothing {})),
             Command::Log(wanted) => {
@@ -358,14 +360,14 @@ impl<'a> Desk<'a> {
     fn watch(&mut self, watch: wire::Watch<'_>, view: &mut View<'_, '_>) -> Result<(wire::Watched, Watch), Failure> {
         if self.watches.as_ref().map_or(0, |watches| watches.count()) >= WATCHES {
             let message =
-                format!("the connection has {WATCHES} live queries, the most it can have; end one by unwatch first");
+                format!("the connection has {WATCHES} live queries, the most it can have; end one with unwatch first");
             return Err(Failure::new(ErrorName::TooManyWatches, message));
         }
         let number = self.last_watch + 1;
         let mut live = watch.query.map(|query| ShelfLive::new(&query)).transpose()?;
         let (numbers, mut found) = view.read(|snapshot| {
             let found = match &mut live {
-                Some(live) => live.refresh(snapshot)?,
+                Some(live) => live.refresh_changed(snapshot)?,
                 None => Updates::default(),
             };
             Ok((snapshot.numbers().collect::<Vec<_>>(), found))

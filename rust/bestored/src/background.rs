@@ -1,4 +1,4 @@
-//! The server in the background: the program that was started ends once the server listens.
+//! Runs the server in the background: the command returns once the server is listening.
 
 use crate::os::{self, Process};
 use std::io::{self, Read, Write};

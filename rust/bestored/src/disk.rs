@@ -29,6 +29,12 @@ impl Disk {
         })
     }
 
+    /// Whether so many bytes can be written without taking those that stay free.
+    pub fn has_room(&self, bytes: u64) -> bool {
+        let free = os::free_space(&self.folder).ok().flatten();
+        free.map_or(true, |free| free >= self.spare.saturating_add(bytes))
+    }
+
     /// Why nothing is written now, if there is too little room. A disk that doesn't say how much it has is not asked.
     pub fn trouble(&self) -> Option<String> {
         let free = os::free_space(&self.folder).ok().flatten()?;

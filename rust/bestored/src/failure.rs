@@ -53,6 +53,11 @@ impl Failure {
         Self::named(ErrorName::Expired)
     }
 
+    /// Whether a batch was for another snapshot.
+    pub fn is_conflict(&self) -> bool {
+        self.0.name == ErrorName::Conflict
+    }
+
     /// Whether a snapshot was taken back.
     pub fn is_expired(&self) -> bool {
         self.0.name == ErrorName::Expired
@@ -61,7 +66,7 @@ impl Failure {
     /// The server doesn't have an entry yet.
     #[cfg(feature = "log")]
     pub fn not_reached(expected: u64, found: u64) -> Self {
-        let message = format!("the server has {found} entries of the log, and not {expected} yet; ask again");
+        let message = format!("the server has {found} of the log's entries, and not {expected} yet; ask again");
         let failure = Self::new(ErrorName::NotReached, message).with("expected", expected);
         failure.with("found", found)
     }
@@ -75,7 +80,7 @@ impl Failure {
     /// Commit numbers that aren't those of the volumes.
     pub fn numbers(volumes: usize) -> Self {
         match volumes {
-            1 => Self::bad_request("the server has one volume, so a commit number is one integer and no list"),
+            1 => Self::bad_request("the server has one volume, so a commit number is one integer, not a list"),
             _ => Self::bad_request(&format!(
                 "the server has {volumes} volumes, so commit numbers are a list with that of each"
             )),
@@ -112,7 +117,7 @@ impl From<Error> for Failure {
             },
             Error::Query(query) => Failure::of_query(name(&error), query),
             Error::NoOrder { name, .. } => {
-                let message = format!("an order needs an index, and there is none of the name {name:?}");
+                let message = format!("an order needs an index, but there is none named {name:?}");
                 Failure::new(ErrorName::NoIndex, message).with("missing", name.as_str())
             }
             _ => Failure::new(name(&error), error.to_string()),

@@ -18,7 +18,8 @@ use std::fs::File;
 use std::io;
 use std::path::{Path, PathBuf};
 use std::sync::atomic::{AtomicBool, Ordering};
-use std::sync::Arc;
+use std::sync::{Arc, Mutex, PoisonError};
+use std::thread::{self, JoinHandle};
 
 /// The volumes.
 #[derive(Debug)]
@@ -32,12 +33,14 @@ pub enum Kept {
 /// Volumes that are kept in files.
 #[derive(Debug)]
 pub struct InFiles {
-    saved: SavedShelf,
+    saved: Arc<SavedShelf>,
     path: PathBuf,
     each: bool,
     disk: Disk,
     /// Whether a commit has failed, so that the server ends.
     is_over: AtomicBool,
+    /// The thread that writes the states anew, if one does.
+    compacting: Mutex<Option<JoinHandle<()>>>,
 }
 
 impl InFiles {
@@ -45,11 +48,12 @@ impl InFiles {
         let mut saved = open_files(options, path)?;
         add_tokens(saved.take_tokens(), tokens);
         Ok(Self {
-            saved,
+            saved: Arc::new(saved),
             path: path.to_owned(),
             each: options.every.is_none(),
             disk: Disk::of(path, options.spare)?,
             is_over: AtomicBool::new(false),
+            compacting: Mutex::default(),
         })
     }
 
@@ -75,6 +79,35 @@ impl InFiles {
         if self.failure().is_some() && !self.is_over.swap(true, Ordering::Relaxed) {
             os::end_program();
         }
+    }
+
+    /// Lets a thread write the states anew that are due, unless one does so or the disk has no room for them beside the files.
+    fn compact_if_due(&self) {
+        if !self.saved.is_due() || !self.disk.has_room(self.sizes().bytes) {
+            return;
+        }
+        let mut compacting = match self.compacting.try_lock() {
+            Ok(compacting) if compacting.as_ref().map_or(true, JoinHandle::is_finished) => compacting,
+            _ => return,
+        };
+        let saved = self.saved.clone();
+        let thread = thread::Builder::new().name("compaction".into()).spawn(move || {
+            if let Err(error) = saved.compact_if_due() {
+                eprintln!("bestored: the state isn't written anew: {error}");
+            }
+        });
+        match thread {
+            Ok(thread) => *compacting = Some(thread),
+            Err(error) => eprintln!("bestored: no thread writes the state anew: {error}"),
+        }
+    }
+
+    /// Saves what was written, after a state that is being written.
+    fn finish(&self) -> saved::Result<()> {
+        let compacting = self.compacting.lock().unwrap_or_else(PoisonError::into_inner).take();
+        // If the thread has panicked, the file has its entries.
+        let _ = compacting.map(JoinHandle::join);
+        self.saved.flush()
     }
 
     /// Returns the outcome of a call of the files, after which the server ends if a commit has failed.
@@ -169,10 +202,12 @@ impl Kept {
         }
     }
 
-    /// Refuses a write for which there is no room.
-    pub fn check_room(&self) -> Result<(), Failure> {
+    /// Refuses a write for which there is no room, or which another server has to make.
+    pub fn check_write(&self) -> Result<(), Failure> {
         let trouble = match self {
             Kept::File(files) => files.disk.trouble(),
+            #[cfg(feature = "log")]
+            Kept::Log(log) => return Ok(log.check()?),
             _ => None,
         };
         match trouble {
@@ -180,6 +215,16 @@ impl Kept {
                 Err(Failure::new(ErrorName::Stopped, format!("nothing was written: {trouble}")).of_class(Class::Full))
             }
             None => Ok(()),
+        }
+    }
+
+    /// Waits until it is certain that this server knows all that was written before the call. One of a log that was paused may have been
+    /// replaced meanwhile.
+    pub fn confirm(&self) -> Result<(), Failure> {
+        match self {
+            #[cfg(feature = "log")]
+            Kept::Log(log) => Ok(log.confirm()?),
+            _ => Ok(()),
         }
     }
 
@@ -217,6 +262,13 @@ impl Kept {
     pub fn end_if_failed(&self) {
         if let Kept::File(files) = self {
             files.end_if_failed();
+        }
+    }
+
+    /// Lets the files be made smaller, if it is time.
+    pub fn compact_if_due(&self) {
+        if let Kept::File(files) = self {
+            files.compact_if_due();
         }
     }
 
@@ -275,7 +327,7 @@ impl Kept {
     pub fn finish(&self) -> Result<(), Box<dyn Error>> {
         match self {
             Kept::Memory(_) => Ok(()),
-            Kept::File(files) => Ok(files.saved.flush()?),
+            Kept::File(files) => Ok(files.finish()?),
             #[cfg(feature = "log")]
             Kept::Log(log) => Ok(log.finish()?),
         }

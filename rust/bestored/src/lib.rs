@@ -28,6 +28,7 @@ mod query;
 mod reach;
 mod server;
 mod socket;
+mod text;
 mod tokens;
 mod volumes;
 mod watcher;

@@ -2,7 +2,7 @@
 
 use bestore::{Limits, MOST_VOLUMES};
 use bestore_client::SocketPath;
-use clap::{value_parser, Arg, ArgAction, Command};
+use clap::{value_parser, Arg, ArgAction, ArgGroup, Command};
 use std::path::PathBuf;
 use std::time::Duration;
 
@@ -24,6 +24,8 @@ const SPARE: u64 = 1 << 20;
 pub struct InLog {
     pub url: String,
     pub leads: bool,
+    /// The file that has the password.
+    pub passfile: Option<PathBuf>,
 }
 
 /// How the server runs.
@@ -69,23 +71,23 @@ fn command() -> Command {
         .about("Shares a store of attributes between the programs of a user")
         .arg(
             path("socket", "PATH").help(
-                "The socket; otherwise $BESTORE_SOCKET, $XDG_RUNTIME_DIR/bestore/socket or /tmp/bestore-UID/socket",
+                "The socket; by default $BESTORE_SOCKET, $XDG_RUNTIME_DIR/bestore/socket or /tmp/bestore-UID/socket",
             ),
         )
         .arg(
             Arg::new("background")
                 .long("background")
                 .action(ArgAction::SetTrue)
-                .help("Ends once the server listens, which goes on in the background"),
+                .help("Returns once the server is listening in the background"),
         )
-        .arg(path("keep", "FILE").help("The file in which the writes are kept, or the folder of several volumes"))
+        .arg(path("keep", "FILE").help("The file that keeps the writes, or the folder of several volumes"))
         .arg(
             Arg::new("every")
                 .long("every")
                 .value_name("MS")
                 .value_parser(value_parser!(u64).range(1..=3_600_000))
                 .requires("keep")
-                .help("Replies to writes don't wait for the file, which has them after this time"),
+                .help("Replies to writes don't wait for the file, which gets them within this time"),
         )
         .arg(
             Arg::new("spare")
@@ -93,16 +95,20 @@ fn command() -> Command {
                 .value_name("KIB")
                 .value_parser(value_parser!(u64).range(0..=1 << 30))
                 .requires("keep")
-                .help("Nothing is written while the disk of the file has less free than this; otherwise 1024"),
+                .help("Writes stop while the file's disk has less than this free; 1024 by default"),
         )
         .arg(url("log", &["keep", "follow", "volumes"]).help("Leads a log in PostgreSQL that several machines share"))
         .arg(url("follow", &["keep", "volumes"]).help("Follows such a log, and leads once nobody does"))
+        .group(ArgGroup::new("database").args(["log", "follow"]))
+        .arg(path("passfile", "FILE").requires("database").help(
+            "The password for PostgreSQL, in a line as of .pgpass; otherwise $PGPASSWORD, $PGPASSFILE or ~/.pgpass",
+        ))
         .arg(
             Arg::new("volumes")
                 .long("volumes")
                 .value_name("N")
                 .value_parser(value_parser!(u32).range(1..=i64::from(MOST_VOLUMES)))
-                .help("Stores that one query searches; otherwise those of the folder, or 1"),
+                .help("Stores that one query searches; by default those in the folder, or 1"),
         )
         .arg(number("pages", "N", 8..=16_384, "4096").help("Pages of 4 KiB, of each volume"))
         .arg(number("passes", "N", 1..=61, "61").help("Clients at the same time"))
@@ -112,19 +118,20 @@ fn command() -> Command {
                 .long("slow")
                 .value_name("MS")
                 .value_parser(value_parser!(u64).range(1..=3_600_000))
-                .help("Says on standard error which requests take longer than this"),
+                .help("Reports on standard error which requests take longer than this"),
         )
         .arg(number("hold", "SECONDS", 1..=86_400, "60").help("How long a client may keep a snapshot"))
 }
 
 impl Options {
-    /// Reads the command line. Ends the program at `--help`, `--version` and at errors.
+    /// Reads the command line. Exits after `--help`, `--version` or an error.
     pub fn read() -> Self {
         let read = command().get_matches();
         let number = |name| read.get_one::<u64>(name).copied().unwrap_or_default();
         let in_log = |name, leads| {
             let url = read.get_one::<String>(name).cloned();
-            url.map(|url| InLog { url, leads })
+            let passfile = read.get_one("passfile").cloned();
+            url.map(|url| InLog { url, leads, passfile })
         };
         let log = in_log("log", true).or_else(|| in_log("follow", false));
         let most = MOST_PASSES - OWN_PASSES - log.as_ref().map_or(0, |_| LOG_PASSES);
@@ -177,6 +184,7 @@ mod tests {
             ["--spare", "5"],
             ["--hold", "0"],
             ["--slow", "0"],
+            ["--passfile", "FILE"],
             ["--slow", "3600001"],
             ["--volumes", "0"],
             ["--volumes", "65"],

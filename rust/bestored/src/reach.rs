@@ -15,7 +15,7 @@ const MOST: Duration = Duration::from_secs(60);
 const LOOK: Duration = Duration::from_millis(2);
 
 /// Waits until each volume has the entry with its number. Later reads of the current snapshot have them. If a snapshot is kept, the
-/// wait ends once that has to be given back.
+/// wait ends when it has to be given back.
 pub fn reach(view: &View<'_, '_>, pressure: &Pressure, reach: &wire::Reach) -> Result<wire::Commit, Failure> {
     let wanted = numbers(&reach.commit, view.volumes())?;
     let within = reach.within.map_or(WITHIN, Duration::from_millis).min(MOST);

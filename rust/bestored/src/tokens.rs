@@ -43,7 +43,6 @@ pub enum Begun<'a> {
 pub struct Writing<'a> {
     tokens: &'a Tokens,
     token: Arc<str>,
-    is_made: bool,
 }
 
 impl Tokens {
@@ -78,11 +77,15 @@ impl Tokens {
         }
         let token: Arc<str> = token.into();
         table.known.insert(token.clone(), Known::Writing);
-        Begun::First(Writing {
-            tokens: self,
-            token,
-            is_made: false,
-        })
+        Begun::First(Writing { tokens: self, token })
+    }
+
+    /// What was written with this token, if it was made.
+    pub fn made(&self, token: &str) -> Option<Written> {
+        match self.lock().known.get(token) {
+            Some(Known::Made(written)) => Some(written.clone()),
+            _ => None,
+        }
     }
 
     /// Adds a write that was made: by an earlier run, or by another server.
@@ -103,16 +106,17 @@ impl Tokens {
 
 impl Writing<'_> {
     /// It is in memory.
-    pub fn made(&mut self, written: Written) {
-        self.is_made = true;
+    pub fn made(&self, written: Written) {
         self.tokens.add(self.token.clone(), written);
     }
 }
 
 impl Drop for Writing<'_> {
     fn drop(&mut self) {
-        if !self.is_made {
-            self.tokens.lock().known.remove(&self.token);
+        let mut table = self.tokens.lock();
+        // Another server's write with this token may have come meanwhile.
+        if let Some(Known::Writing) = table.known.get(&self.token) {
+            table.known.remove(&self.token);
             self.tokens.changed.notify_all();
         }
     }
@@ -143,11 +147,21 @@ mod tests {
         assert_eq!(commit_of(&tokens, "a"), None);
         assert_eq!(commit_of(&tokens, "a"), None);
         match tokens.begin("a") {
-            Begun::First(mut writing) => writing.made(written(7)),
+            Begun::First(writing) => writing.made(written(7)),
             Begun::Repeated(_) => panic!("it is new"),
         }
         assert_eq!(commit_of(&tokens, "a"), Some(7));
         assert_eq!(commit_of(&tokens, "b"), None);
+    }
+
+    #[test]
+    fn what_another_server_made_meanwhile_stays_known() {
+        let tokens = Tokens::new(1);
+        let refused = tokens.begin("a");
+        tokens.add("a".into(), written(7));
+        assert_eq!(tokens.made("a"), Some(written(7)));
+        drop(refused);
+        assert_eq!(commit_of(&tokens, "a"), Some(7));
     }
 
     #[test]
@@ -168,7 +182,7 @@ mod tests {
             let writing = tokens.begin("a");
             let repeating: Vec<_> = (0..4).map(|_| scope.spawn(|| commit_of(tokens, "a"))).collect();
             match writing {
-                Begun::First(mut writing) => writing.made(written(7)),
+                Begun::First(writing) => writing.made(written(7)),
                 Begun::Repeated(_) => panic!("it is new"),
             }
             for one in repeating {

@@ -36,16 +36,27 @@ fn write_once(
         return Err(Failure::bad_request(why));
     }
     match shared.tokens.begin(token.as_str()) {
-        Begun::First(mut first) => write_now(shared, write, view, |made| first.made(made)),
-        Begun::Repeated(written) => {
-            // It may be in memory alone.
-            shared.kept.flush_if_each()?;
-            Ok(wire::Written {
-                repeated: true,
-                ..written
-            })
-        }
+        Begun::First(first) => match write_now(shared, write, view, |made| first.made(made)) {
+            Err(failure) if failure.is_conflict() => {
+                // A client takes this as proof that the batch wasn't written, also not by another server that it was sent to before.
+                shared.kept.confirm()?;
+                let made = shared.tokens.made(token.as_str());
+                made.map_or(Err(failure), |written| repeat(shared, written))
+            }
+            written => written,
+        },
+        Begun::Repeated(written) => repeat(shared, written),
     }
+}
+
+/// The reply to a batch that was written before.
+fn repeat(shared: &Shared, written: wire::Written) -> Result<wire::Written, Failure> {
+    // It may be in memory alone.
+    shared.kept.flush_if_each()?;
+    Ok(wire::Written {
+        repeated: true,
+        ..written
+    })
 }
 
 /// Writes a batch. `made` gets what was written once it is in memory, unless it is written in each volume.
@@ -56,8 +67,8 @@ fn write_now(
     made: impl FnMut(wire::Written),
 ) -> Result<wire::Written, Failure> {
     let measured = shared.meter.begin();
+    shared.kept.check_write()?;
     check_run(shared, write, view)?;
-    shared.kept.check_room()?;
     let written = match volumes::is_for_all(write, view.volumes()) {
         true => view.read(|snapshot| volumes::write_indices(snapshot, &write.operations.batch)),
         false => volumes::write(&shared.pressure, view, write, made),
@@ -65,7 +76,10 @@ fn write_now(
     // Some volumes may have been written before another one refused.
     shared.watcher.written();
     match &written {
-        Ok(_) => measured.finish(),
+        Ok(_) => {
+            measured.finish();
+            shared.kept.compact_if_due();
+        }
         Err(_) => shared.kept.end_if_failed(),
     }
     written

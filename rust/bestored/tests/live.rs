@@ -1,6 +1,6 @@
 //! Live queries.
 
-use crate::common::{wait_until, Folder, Server, Talk, PATIENCE};
+use crate::common::{wait_until, Folder, Random, Server, Talk, PATIENCE};
 use bestore::{Batch, Kind};
 use bestore_client::wire::{self, Push};
 use bestore_client::{Client, ErrorName};
@@ -115,7 +115,7 @@ fn a_refresh_leads_to_the_snapshot() {
     let (mut talk, mut writing) = (server.talk(), server.client());
     talk.check(
         r#""refresh":{"watch":1}"#,
-        r#""error":{"name":"NoWatch","message":"the connection has no such live query; begin it by watch","class":"gone"}"#,
+        r#""error":{"name":"NoWatch","message":"the connection has no such live query; start it with watch","class":"gone"}"#,
     );
     talk.check(
         r#""watch":{"query":"size>=5"}"#,
@@ -148,6 +148,67 @@ fn a_refresh_leads_to_the_snapshot() {
         ask(&mut talk, r#""status":{}"#, &mut found);
         found.len() == 100
     });
+}
+
+/// How many nodes there are at first. Queries find most of them, so they are refreshed by what was written.
+const MANY: u64 = 300;
+
+/// Writes to nodes of a large answer: they come into it and leave it, are made and removed.
+fn write_at_random(mut client: Client, seed: u64) {
+    let mut random = Random::new(seed);
+    for _ in 0..200 {
+        let (node, size) = (1 + random.below(MANY), random.below(10) as i64 - 2);
+        let mut batch = Batch::new();
+        match random.below(8) {
+            0 => {
+                sized(&mut client, size);
+                continue;
+            }
+            1 => batch.remove_node(node),
+            _ => batch.set(node, "size", size),
+        };
+        match client.apply(&batch) {
+            Err(error) if !error.is(ErrorName::NoNode) => panic!("{error}"),
+            _ => {}
+        }
+    }
+}
+
+/// What is pushed of a large answer and what refreshes return lead to what the query finds, while other clients write.
+#[test]
+fn a_large_answer_is_followed_while_clients_write() {
+    let (_folder, server) = start();
+    let mut client = server.client();
+    for size in 0..MANY {
+        sized(&mut client, size as i64 % 10 - 2);
+    }
+    let mut talk = server.talk();
+    let mut found = BTreeSet::new();
+    let watched = ask(&mut talk, r#""watch":{"query":"size>=0"}"#, &mut found);
+    found.extend(serde_json::from_value::<Vec<u64>>(watched["nodes"].clone()).unwrap());
+    assert!(found.len() >= 96);
+    let writers: Vec<_> = (0..3)
+        .map(|seed| {
+            let client = server.client();
+            std::thread::spawn(move || write_at_random(client, seed))
+        })
+        .collect();
+    let mut is_over = false;
+    while !is_over {
+        is_over = writers.iter().all(|writer| writer.is_finished());
+        ask(&mut talk, r#""pin":{}"#, &mut found);
+        let answer = ask(&mut talk, r#""query":{"query":"size>=0"}"#, &mut found);
+        let mut more = true;
+        while more {
+            let refreshed = ask(&mut talk, r#""refresh":{"watch":1}"#, &mut found);
+            more = refreshed.get("more").is_some();
+            take_in(&mut found, &serde_json::from_value(refreshed).unwrap());
+        }
+        let answer: BTreeSet<u64> = serde_json::from_value(answer["nodes"].clone()).unwrap();
+        assert_eq!(found, answer);
+        ask(&mut talk, r#""unpin":{}"#, &mut found);
+    }
+    writers.into_iter().for_each(|writer| writer.join().unwrap());
 }
 
 /// A refresh that fails leaves the watch as it was.

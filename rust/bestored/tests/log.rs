@@ -29,7 +29,7 @@ const LIFE: u64 = 60_000;
 pub const SOON: Duration = Duration::from_secs(15);
 
 /// The session of the leader in the database.
-const OF_LEADER: &str = "FROM pg_locks JOIN pg_database ON database = pg_database.oid \
+pub const OF_LEADER: &str = "FROM pg_locks JOIN pg_database ON database = pg_database.oid \
                          WHERE locktype = 'advisory' AND datname = current_database()";
 
 /// A database, or a line that says that there is none.
@@ -76,7 +76,7 @@ impl Member {
     }
 
     /// Kills the server, and starts another one at the same socket, which follows.
-    fn follow_again(self, database: &Database) -> Self {
+    pub fn follow_again(self, database: &Database) -> Self {
         self.server.kill();
         Self::start_at(self.folder, &database.url_of_tcp(), "--follow")
     }

@@ -7,6 +7,7 @@ mod changes;
 mod common;
 mod crowd;
 mod full;
+mod growth;
 mod killed;
 mod live;
 #[cfg(feature = "log")]
@@ -16,6 +17,8 @@ mod memory;
 mod notify;
 mod ordered;
 mod pages;
+#[cfg(feature = "log")]
+mod passwords;
 mod protocol;
 mod repeats;
 mod slow;

@@ -59,10 +59,10 @@ fn pages_in_an_order() {
             r#""by":"size","descending":true,"limit":2,"columns":["name","size"]"#.into(),
             format!(r#""nodes":[3,1],"rows":[[null,2],["a",2]],"more":true,"cursor":"{down}""#),
         ),
-        (r#""any":9"#.into(), r#""nodes":[1,2,3]"#.into()),
+        (r#""any":9"#.into(), r#""nodes":[2,1,3]"#.into()),
         (
             r#""any":9,"columns":["size"]"#.into(),
-            r#""nodes":[1,2,3],"rows":[[2],[1],[2]]"#.into(),
+            r#""nodes":[2,1,3],"rows":[[1],[2],[2]]"#.into(),
         ),
         (
             r#""uncounted":true,"limit":2"#.into(),
@@ -129,7 +129,7 @@ fn what_a_page_can_not_be() {
         (r#""after":"AQ""#, bad("`after` goes with `by`, the name of the index whose cursor it is")),
         (
             r#""by":"kind""#,
-            r#""name":"NoIndex","number":6,"message":"an order needs an index, and there is none of the name \"kind\"","class":"mine","missing":"kind""#.into(),
+            r#""name":"NoIndex","number":6,"message":"an order needs an index, but there is none named \"kind\"","class":"mine","missing":"kind""#.into(),
         ),
     ];
     check_errors(&mut talk, &errors);

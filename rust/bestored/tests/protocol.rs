@@ -97,7 +97,38 @@ const READS: &[(&str, &str)] = &[
         r#""explain":{"query":"size<0"}"#,
         r#""ok":{"commit":1,"text":"\"size\"<\"0\" score 3"}"#,
     ),
+    (
+        r#""text":{"query":"!(size<=1.5) && 'a b' = x*"}"#,
+        concat!(
+            r#""ok":{"comparisons":[{"name":"size","operator":"<=","value":"1.5","form":"text","offset":2,"length":9,"negated":true,"#,
+            r#""never":["int32","int64","uint32","uint64"]},{"name":"a b","operator":"==","value":"x*","form":"pattern","offset":16,"#,
+            r#""length":10,"never":["int32","int64","uint32","uint64"]}]}"#
+        ),
+    ),
+    (
+        r#""text":{"query":"size>=5000000000"}"#,
+        concat!(
+            r#""ok":{"comparisons":[{"name":"size","operator":">=","value":"5000000000","form":"number","offset":0,"length":16,"#,
+            r#""never":["int32","uint32"]}]}"#
+        ),
+    ),
 ];
+
+/// A query's text is read without the store, also when the client's snapshot can't be read any more.
+#[test]
+fn a_text_is_read_without_a_snapshot() {
+    let (_folder, server) = start(&["--hold", "1"]);
+    let mut talk = server.talk();
+    three(&mut talk);
+    talk.ask(r#"{"id":1,"pin":{}}"#);
+    wait_until("the snapshot was taken back", || {
+        talk.ask(r#"{"id":1,"next":{}}"#).contains("Expired")
+    });
+    // No index has to cover it.
+    let reply = r#""ok":{"comparisons":[{"name":"none","operator":"!=","value":"a","form":"text","offset":0,"length":7,"never":"#;
+    let said = talk.ask(r#"{"id":1,"text":{"query":"none!=a"}}"#);
+    assert!(said.starts_with(&format!("{{\"id\":1,{reply}")), "{said}");
+}
 
 #[test]
 fn reads() {
@@ -170,6 +201,8 @@ const ERRORS: &[(&str, &str)] = &[
     ),
     (r#""query":{"query":"size=>1"}"#, r#""Syntax","number":12"#),
     (r#""explain":{"query":"size==[a"}"#, r#""BadPattern","number":13"#),
+    (r#""text":{"query":"size==[a"}"#, r#""BadPattern","number":13"#),
+    (r#""text":{"query":"size>"}"#, r#""Syntax","number":12"#),
     (r#""watch":{"query":"name==a"}"#, r#""NotCovered","number":17"#),
     (r#""attributes":{"node":9}"#, r#""NoNode","number":2"#),
     (
@@ -207,8 +240,8 @@ fn conflicts_and_limits() {
     talk.check(
         r#""batch":{"operations":[["new"]],"expected":7}"#,
         concat!(
-            r#""error":{"name":"Conflict","number":76,"message":"the journal has another length than the write expects "#,
-            r#"(1 entries, and not 7); read again, and write on what you read then","class":"retry","#,
+            r#""error":{"name":"Conflict","number":76,"message":"the journal's length isn't what the write expects "#,
+            r#"(1, not 7); read again, and base the write on that","class":"retry","#,
             r#""expected":7,"found":1}"#
         ),
     );
@@ -409,7 +442,7 @@ fn a_snapshot_is_taken_back_while_its_client_waits_for_a_commit() {
     let begin = Instant::now();
     talk.check(
         r#""reach":{"commit":2,"within":60000}"#,
-        r#""error":{"name":"NotReached","message":"the journal isn't as long yet; ask again","class":"retry","expected":2,"found":1}"#,
+        r#""error":{"name":"NotReached","message":"the journal isn't that long yet; ask again","class":"retry","expected":2,"found":1}"#,
     );
     assert!(begin.elapsed() < Duration::from_secs(50), "{:?}", begin.elapsed());
     let said = talk.ask(r#"{"id":1,"nodes":{}}"#);

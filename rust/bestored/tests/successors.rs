@@ -1,9 +1,11 @@
 //! What goes from one leader of a log to the next, and how a leader that is paused is replaced.
 
 use crate::common::wait_until;
-use crate::log::{database, Member, SOON};
+use crate::log::{database, Member, OF_LEADER, SOON};
 use crate::repeats::make;
-use bestore_client::wire::{Command, Nothing};
+use bestore::Batch;
+use bestore_client::wire::{Command, Nothing, Numbers, Token, Write, Written};
+use bestore_client::ErrorName;
 
 #[test]
 fn a_token_goes_from_one_leader_to_the_next() {
@@ -57,4 +59,71 @@ fn a_leader_that_is_paused_is_replaced() {
     paused.server.signal("CONT");
     assert!(paused.end().contains("leads"));
     assert_eq!(make(&mut following.client(), "c").unwrap().nodes, [3]);
+}
+
+/// The run of a server.
+fn run_of(member: &Member) -> String {
+    member.client().hello().unwrap().run
+}
+
+/// A batch that makes a node on the snapshot with this number in a run, with a token.
+fn conditional(run: &str, expected: u64) -> Command<'static> {
+    let mut batch = Batch::new();
+    batch.new_node();
+    Command::Batch(Write {
+        operations: batch.into(),
+        expected: Some(Numbers::One(expected)),
+        run: Some(run.into()),
+        token: Token::new("conditional"),
+        ..Write::default()
+    })
+}
+
+#[test]
+fn a_follower_does_not_know_that_a_batch_conflicts() {
+    let database = match database() {
+        Some(database) => database,
+        None => return,
+    };
+    let leader = Member::start(&database, "--log");
+    let sent_before = conditional(&run_of(&leader), 0);
+    let following = Member::start(&database, "--follow");
+    let refused = following.client().call::<Written>(sent_before).unwrap_err();
+    assert!(refused.is(ErrorName::NotLeader), "{refused}");
+    // A leader of another run knows it.
+    leader.server.kill();
+    wait_until("the follower leads", || following.leads());
+    let sent_before = conditional(&run_of(&following), 0);
+    let other = leader.follow_again(&database);
+    following.server.kill();
+    wait_until("the other one leads", || other.leads());
+    let refused = other.client().call::<Written>(sent_before).unwrap_err();
+    assert!(refused.is(ErrorName::Conflict), "{refused}");
+}
+
+#[test]
+fn a_leader_that_was_replaced_does_not_know_that_a_batch_conflicts() {
+    let database = match database() {
+        Some(database) => database,
+        None => return,
+    };
+    let old = Member::start(&database, "--log");
+    let first = make(&mut old.client(), "a").unwrap();
+    let new = Member::start(&database, "--follow");
+    new.client().wait_for_entry(first.entry.unwrap(), SOON).unwrap();
+    let mut waiting = old.client();
+    waiting.hello().unwrap();
+    old.server.stop();
+    database.sql(&format!("SELECT pg_terminate_backend(pid) {OF_LEADER}"));
+    wait_until("the follower leads", || new.leads());
+    let mut client = new.client();
+    let commit = client.log().unwrap().commit;
+    let run = run_of(&new);
+    // It is written, the client doesn't hear of it, and sends it again to the server that led before.
+    new.client().send(conditional(&run, commit)).unwrap();
+    client.wait_for_entry(first.entry.unwrap() + 1, SOON).unwrap();
+    let sent = waiting.send(conditional(&run, commit)).unwrap();
+    old.server.signal("CONT");
+    let refused = waiting.receive::<Written>(sent).unwrap_err();
+    assert!(!refused.is(ErrorName::Conflict), "{refused}");
 }

@@ -1,8 +1,10 @@
 //! Two threads that move amounts from one node to another, by changes.
 ghost use Rattle.be_store.specs.Passes.{IsPassOf};
 
-use crate::tests::steps::{TRIES, abandoned, collected, current_number, ended, number_at};
-use be_change::{Change, Ended, Kinds};
+use crate::tests::steps::{
+    TRIES, abandoned, collected, current_number, ended, is_accepted, number_at,
+};
+use be_change::{Change, Kinds};
 use be_store::{Limits, Name, Op, Pass, Refusal, Store, Value};
 use std::alloc::{AllocGlobal, Global};
 use std::thread;
@@ -43,7 +45,7 @@ fn try_move(
 {
     let mut change = Change::begin(alloc, store, pass, Kinds::Checked)?;
     match collect_move(&mut change, store, pass, nodes, amount) {
-        Ok(()) => Ok(ended(change, store, pass)? != Ended::Again),
+        Ok(()) => Ok(is_accepted(ended(change, store, pass)?)),
         Err(refusal) => {
             abandoned(change, store, pass);
             Err(refusal)

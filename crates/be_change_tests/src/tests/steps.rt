@@ -67,6 +67,11 @@ pub(crate) fn ended(change: Change, store: &Store, pass: &mut Pass) -> Result<En
     }
 }
 
+/// Whether the change is written.
+pub(crate) fn is_accepted(ended: Ended) -> bool {
+    matches!(ended, Ended::Accepted(_))
+}
+
 /// Ends the change without writing.
 pub(crate) fn abandoned(change: Change, store: &Store, pass: &mut Pass)
     requires { IsPassOf store.now pass.old }
@@ -90,7 +95,7 @@ pub(crate) fn set_and_end(
 {
     let set = Name::new("a").map(|name| change.set(node, name, Value::int64(number)));
     match set {
-        Ok(Ok(())) => Ok(ended(change, store, pass)? != Ended::Again),
+        Ok(Ok(())) => Ok(is_accepted(ended(change, store, pass)?)),
         Ok(Err(error)) => {
             abandoned(change, store, pass);
             collected(Err(error))

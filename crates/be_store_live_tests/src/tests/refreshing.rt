@@ -9,8 +9,11 @@ use be_store::{Kind, Limits, Live, Name, Op, Pass, Query, Refusal, Store, Update
 use be_test_tools::both_of;
 use std::alloc::Global;
 
+/// How often a write is tried while another pass has the lock.
+const TRIES: u64 = 10_000_000;
+
 /// About four of ten nodes.
-const TEXT: &str = "size>30&&size<70||size==5&&other>50";
+pub(crate) const TEXT: &str = "size>30&&size<70||size==5&&other>50";
 
 /// Numbers that look random: each by a product from the one before.
 fn next_number(number: u32) -> u32 {
@@ -39,13 +42,14 @@ fn random_op(nodes: u32, number: u32) -> Result<Op, Refusal>
     }
 }
 
-/// Writes an operation, which the volume may refuse.
+/// Writes an operation, which the volume may refuse. So may the pool, while a version that another
+/// thread has pinned keeps all its pages.
 fn write_or_not(store: &Store, pass: &mut Pass, op: Op) -> Result<(), Refusal>
     requires { IsPassOf store.now pass.old }
     ensures { IsPassOf store.now pass.new }
 {
-    match store.apply(pass, &[op]) {
-        Ok(_) => Ok(()),
+    match store.apply_or_retry(pass, &[op], TRIES) {
+        Ok(_) | Err(Refusal::Full(_)) => Ok(()),
         Err(Refusal::NoNode | Refusal::NoAttr | Refusal::IndexExists | Refusal::NoSuchIndex) => {
             Ok(())
         }
@@ -54,7 +58,7 @@ fn write_or_not(store: &Store, pass: &mut Pass, op: Op) -> Result<(), Refusal>
 }
 
 /// Writes so many random operations. Returns the next random number.
-fn write_some(
+pub(crate) fn write_some(
     store: &Store,
     pass: &mut Pass,
     nodes: u32,
@@ -107,7 +111,7 @@ fn pin_if_not(store: &Store, pass: &mut Pass) -> u64
 }
 
 /// Refreshes at a pin that goes with the read. Whether the list is then what the query finds there.
-fn agrees(
+pub(crate) fn agrees(
     store: &Store,
     alloc: Global,
     pass: &mut Pass,
@@ -187,7 +191,7 @@ fn agrees_always(
 }
 
 /// Makes so many nodes with sizes by random numbers.
-fn make_nodes(store: &Store, pass: &mut Pass, nodes: u32) -> Result<(), Refusal>
+pub(crate) fn make_nodes(store: &Store, pass: &mut Pass, nodes: u32) -> Result<(), Refusal>
     requires { IsPassOf store.now pass.old }
     ensures { IsPassOf store.now pass.new }
 {

@@ -1,7 +1,7 @@
 use Rattle.std.proofs.Common.{◌≡◌, [], Some, ap, refl, subst, sym, true, ◌∙◌}
 use Rattle.std.specs.Prelude.{is_some}
 use Rattle.be_session.specs.States.{untold}
-use Rattle.be_store.specs.Passes.{HasRead, volume_pinned}
+use Rattle.be_store.specs.Passes.{volume_pinned}
 use Rattle.be_table.specs.Seats.{pinned_number}
 use Rattle.bestore_c.specs.States.{TellsState, untold_at}
 use Rattle.bestore_c.proofs.Called.{called, stays}

@@ -4,7 +4,7 @@ use super::mail::{self, Side};
 use super::stat::{Form, Stat};
 use super::types::{Types, UNKNOWN};
 use super::walk::Found;
-use bestore::{Kind, Value};
+use bestore_types::{Kind, Value};
 use std::borrow::Cow;
 use std::collections::BTreeMap;
 use std::ffi::OsStr;

@@ -1,7 +1,7 @@
 //! Changes of nodes that files have already.
 
 use super::content::{is_same, OWN, PARENT, ROOT, STAT, XATTRS};
-use bestore::{Batch, Value};
+use bestore_types::{Batch, Value};
 use std::collections::{BTreeMap, BTreeSet};
 use std::path::PathBuf;
 

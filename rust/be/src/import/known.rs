@@ -5,9 +5,9 @@ use super::stat::Identity;
 use crate::failure::Failure;
 use crate::paths::{each_named, Paths, Step, COLUMNS};
 use crate::server::pinned;
-use bestore::Value;
 use bestore_client::wire::Json;
 use bestore_client::Client;
+use bestore_types::Value;
 use std::collections::{BTreeMap, HashMap, HashSet};
 use std::path::{Path, PathBuf};
 

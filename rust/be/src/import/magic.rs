@@ -1,5 +1,5 @@
-//! What the contents of files of a type have in common, as `magic` of the Shared MIME-info Database says. It decides between types
-//! that a name fits equally well.
+//! What the contents of a type's files have in common, from `magic` in the Shared MIME-info Database. It decides between types
+//! that fit a name equally well.
 
 use std::cmp::Reverse;
 use std::collections::HashMap;

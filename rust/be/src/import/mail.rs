@@ -1,7 +1,7 @@
 //! What the head of a mail says, by the names that BeOS has for it.
 
 use super::encoded_words::{decoded, text_of};
-use bestore::Value;
+use bestore_types::Value;
 use chrono::DateTime;
 use std::ffi::OsStr;
 use std::os::unix::ffi::OsStrExt;

@@ -3,9 +3,9 @@
 use super::edit::stat_last;
 use crate::failure::Failure;
 use crate::server;
-use bestore::{Batch, Value, Written};
 use bestore_client::wire::{Command, Next, Nothing};
 use bestore_client::{Client, Error, ErrorName};
+use bestore_types::{Batch, Value, Written};
 use std::collections::BTreeMap;
 use std::path::PathBuf;
 use std::sync::{Arc, Mutex, MutexGuard};

@@ -120,9 +120,10 @@ impl Server {
         self.child.wait().unwrap();
     }
 
-    /// The tool with these words, ready to be run.
+    /// The tool with these words, ready to be run where no library is found.
     pub fn command(&self, words: &[impl AsRef<OsStr>]) -> Command {
         let mut command = Command::new(BE);
+        command.env_remove("LD_LIBRARY_PATH");
         command.env("BESTORE_SOCKET", self.socket()).args(words);
         command.stdin(Stdio::null());
         command

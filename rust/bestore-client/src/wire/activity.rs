@@ -1,15 +1,5 @@
 //! Replies that say what goes on in the server.
 
-use serde::{Deserialize, Serialize};
-
-macro_rules! replies {
-    ($($(#[$meta:meta])* $name:ident { $($body:tt)* })*) => {$(
-        $(#[$meta])*
-        #[derive(Clone, Debug, Default, PartialEq, Eq, Serialize, Deserialize)]
-        pub struct $name { $($body)* }
-    )*};
-}
-
 replies! {
     /// Of `info`.
     Info {

@@ -1,6 +1,6 @@
 //! The names of errors in the protocol.
 
-use bestore::Class;
+use bestore_types::Class;
 use serde::{Deserialize, Deserializer, Serialize, Serializer};
 use std::borrow::Cow;
 use std::fmt;
@@ -77,8 +77,8 @@ names! {
     TooManyIndices = Some(7), Full, "the store has 32 indices, the most it can have; remove one first";
     /// An index can't have this kind; it can have a kind of texts or integers, but not of MIME types or raw bytes.
     NotIndexable = Some(8), Mine, "an index can't have this kind; it can have a kind of texts or integers, but not of MIME types or raw bytes";
-    /// The journal is at the limit that the store was opened with; carry the state on into a new store.
-    CommitsSpent = Some(9), Full, "the journal is at the limit that the store was opened with; carry the state on into a new store";
+    /// The journal is at the limit that the store was opened with; copy the state into a new store.
+    CommitsSpent = Some(9), Full, "the journal is at the limit that the store was opened with; copy the state into a new store";
     /// Out of memory; free some and call again.
     OutOfMemory = Some(10), Full, "out of memory; free some and call again";
     /// No page is free; unpin old snapshots, remove nodes, or open a store with more pages.
@@ -103,8 +103,8 @@ names! {
     HasNul = Some(20), Mine, "a name or a text has a zero byte; only a raw value may have one";
     /// A limit of the store is out of its range; it has 8 to 16,384 pages, 1 to 64 passes and 1 to 4,294,967,295 commits.
     BadLimits = Some(21), Mine, "a limit of the store is out of its range; it has 8 to 16,384 pages, 1 to 64 passes and 1 to 4,294,967,295 commits";
-    /// The items build no query; each operator takes the items before it, and one query is left at the end.
-    BadRpn = Some(22), Mine, "the items build no query; each operator takes the items before it, and one query is left at the end";
+    /// The items don't form a query; each operator takes the items before it, and one query is left at the end.
+    BadRpn = Some(22), Mine, "the items don't form a query; each operator takes the items before it, and one query is left at the end";
     /// The handle is closed; use an open one.
     Closed = Some(64), Gone, "the handle is closed; use an open one";
     /// The handle that is to be opened is open; close it first, or open another.
@@ -119,24 +119,26 @@ names! {
     BadCount = Some(69), Mine, "a batch has 1 to 64 operations";
     /// The text isn't valid UTF-8.
     NotUtf8 = Some(70), Mine, "the text isn't valid UTF-8";
-    /// There is no operation of this number; they are 0 to 5.
-    NoOperation = Some(71), Mine, "there is no operation of this number; they are 0 to 5";
+    /// There is no operation with this number; they are 0 to 5.
+    NoOperation = Some(71), Mine, "there is no operation with this number; they are 0 to 5";
     /// No kind has this type code.
     NoKind = Some(72), Mine, "no kind has this type code";
     /// The number doesn't fit its kind; use a kind that holds it.
     NoValue = Some(73), Mine, "the number doesn't fit its kind; use a kind that holds it";
     /// A name or a value isn't within the bytes that go with the list.
     BadPart = Some(74), Mine, "a name or a value isn't within the bytes that go with the list";
-    /// There is no item of this number; they are 0 to 15.
-    NoItem = Some(75), Mine, "there is no item of this number; they are 0 to 15";
-    /// The journal has another length than the write expects; read again, and write on what you read then.
-    Conflict = Some(76), Retry, "the journal has another length than the write expects; read again, and write on what you read then";
+    /// There is no item with this number; they are 0 to 15.
+    NoItem = Some(75), Mine, "there is no item with this number; they are 0 to 15";
+    /// The journal's length isn't what the write expects; read again, and base the write on that.
+    Conflict = Some(76), Retry, "the journal's length isn't what the write expects; read again, and base the write on that";
     /// Another handle of the store is open; close it first.
     InUse = Some(77), Retry, "another handle of the store is open; close it first";
-    /// The cursor isn't one of this index; begin without a cursor, or use one that a page in the order of the index has left.
-    BadCursor = Some(78), Mine, "the cursor isn't one of this index; begin without a cursor, or use one that a page in the order of the index has left";
+    /// The cursor doesn't belong to this index; start without a cursor, or use one from a page in this index's order.
+    BadCursor = Some(78), Mine, "the cursor doesn't belong to this index; start without a cursor, or use one from a page in this index's order";
     /// A page has at least one node; ask for one or more.
     NoRoom = Some(79), Mine, "a page has at least one node; ask for one or more";
+    /// The index of this name takes values of another kind; set a value of the index's kind.
+    KindMismatch = Some(80), Mine, "the index of this name takes values of another kind; set a value of the index's kind";
     /// The request isn't valid.
     BadRequest = None, Mine, "the request isn't valid";
     /// The snapshot was kept too long, and the server took it back; pin again.
@@ -147,26 +149,26 @@ names! {
     OtherVolume = None, Mine, "a node is in another volume than the one that is written";
     /// An index is made in all volumes, in a batch of its own.
     PartialIndex = None, Mine, "an index is made in all volumes, in a batch of its own";
-    /// The journal isn't as long yet; ask again.
-    NotReached = None, Retry, "the journal isn't as long yet; ask again";
-    /// The connection has no such live query; begin it by watch.
-    NoWatch = None, Gone, "the connection has no such live query; begin it by watch";
-    /// The connection has as many live queries as it may have; end one by unwatch first.
-    TooManyWatches = None, Full, "the connection has as many live queries as it may have; end one by unwatch first";
-    /// As many clients as may are reading copies of snapshots; ask again once one has finished.
-    TooManyCopies = None, Retry, "as many clients as may are reading copies of snapshots; ask again once one has finished";
-    /// Nobody with this number is connected; `be clients` has the numbers.
-    NoClient = None, Mine, "nobody with this number is connected; `be clients` has the numbers";
+    /// The journal isn't that long yet; ask again.
+    NotReached = None, Retry, "the journal isn't that long yet; ask again";
+    /// The connection has no such live query; start it with watch.
+    NoWatch = None, Gone, "the connection has no such live query; start it with watch";
+    /// The connection has as many live queries as it can have; end one with unwatch first.
+    TooManyWatches = None, Full, "the connection has as many live queries as it can have; end one with unwatch first";
+    /// Too many clients are reading copies of snapshots; try again once one has finished.
+    TooManyCopies = None, Retry, "too many clients are reading copies of snapshots; try again once one has finished";
+    /// No client with this number is connected; `be clients` lists the numbers.
+    NoClient = None, Mine, "no client with this number is connected; `be clients` lists the numbers";
     /// The server keeps no file; start it with --keep.
     NotKept = None, Mine, "the server keeps no file; start it with --keep";
-    /// The server is in no log; start it with --log or --follow.
-    NoLog = None, Mine, "the server is in no log; start it with --log or --follow";
+    /// The server doesn't use a log; start it with --log or --follow.
+    NoLog = None, Mine, "the server doesn't use a log; start it with --log or --follow";
     /// The server follows another one; write to that.
     NotLeader = None, Gone, "the server follows another one; write to that";
     /// The write couldn't be saved.
     NotSaved = None, Gone, "the write couldn't be saved";
-    /// The server saves nothing any more.
-    Stopped = None, Gone, "the server saves nothing any more";
+    /// The server no longer saves anything.
+    Stopped = None, Gone, "the server no longer saves anything";
     /// The server doesn't speak this version of the protocol.
     Protocol = None, Mine, "the server doesn't speak this version of the protocol";
     /// The request has more than 1 MiB.
@@ -226,7 +228,7 @@ impl<'de> Deserialize<'de> for ErrorName {
 
 /// A class by its name. Of one that this client doesn't know nothing is kept.
 pub(super) mod class {
-    use bestore::Class;
+    use bestore_types::Class;
     use serde::{Deserialize, Deserializer, Serializer};
 
     pub(in super::super) fn serialize<S: Serializer>(class: &Option<Class>, to: S) -> Result<S::Ok, S::Error> {

@@ -1,6 +1,16 @@
 //! The protocol: requests, replies and values as JSON. `docs/SERVER.md` describes it.
 
+/// Declares the replies of commands.
+macro_rules! replies {
+    ($($(#[$meta:meta])* $name:ident { $($body:tt)* })*) => {$(
+        $(#[$meta])*
+        #[derive(Clone, Debug, Default, PartialEq, Eq, serde::Serialize, serde::Deserialize)]
+        pub struct $name { $($body)* }
+    )*};
+}
+
 mod activity;
+mod comparison;
 mod error_name;
 mod operation;
 mod reply;
@@ -9,6 +19,7 @@ mod token;
 mod value;
 
 pub use activity::{ClientInfo, Clients, Files, Info, Latency, OldestReader, PinnedBy, Role};
+pub use comparison::{Comparison, Comparisons, Form};
 pub use error_name::ErrorName;
 pub use operation::{Operations, ShownOperations};
 pub use reply::{

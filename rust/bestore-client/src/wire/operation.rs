@@ -1,7 +1,7 @@
 //! The operations of a batch as JSON.
 
 use super::value::{kind_name, kind_named, Json, Text};
-use bestore::{Batch, Kind, Operation};
+use bestore_types::{Batch, Kind, Operation};
 use serde::de::{self, Deserialize, DeserializeSeed, Deserializer, IgnoredAny, SeqAccess, Visitor};
 use serde::ser::{Serialize, SerializeSeq, Serializer};
 use std::fmt;

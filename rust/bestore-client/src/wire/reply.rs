@@ -1,18 +1,9 @@
 //! Replies, and the lines that the server pushes.
 
 use super::{ErrorName, Json, Operations};
-use bestore::Class;
-use serde::{Deserialize, Serialize};
+use bestore_types::Class;
 use std::collections::BTreeMap;
 use std::fmt;
-
-macro_rules! replies {
-    ($($(#[$meta:meta])* $name:ident { $($body:tt)* })*) => {$(
-        $(#[$meta])*
-        #[derive(Clone, Debug, Default, PartialEq, Eq, Serialize, Deserialize)]
-        pub struct $name { $($body)* }
-    )*};
-}
 
 replies! {
     /// Of `hello`.
@@ -422,7 +413,7 @@ impl fmt::Display for Refusal {
         match (&self.query, self.number_of("offset")) {
             (Some(query), Some(offset)) => {
                 let offset = usize::try_from(offset).unwrap_or(usize::MAX);
-                write!(f, "\n{}", bestore::caret(query, offset))
+                write!(f, "\n{}", bestore_types::caret(query, offset))
             }
             _ => Ok(()),
         }

@@ -221,7 +221,7 @@ parameters_with_texts! {
         pub any: Option<u64>,
     }
 
-    /// Of `explain`.
+    /// Of `explain` and `text`.
     QueryText {
         /// The query.
         #[serde(borrow)]
@@ -373,6 +373,8 @@ commands! {
     Next(Nothing) = "next";
     /// Which indices a query uses.
     Explain(QueryText<'a>) = "explain";
+    /// The comparisons of a query's text.
+    Text(QueryText<'a>) = "text";
     /// Begins a live query.
     Watch(Watch<'a>) = "watch";
     /// Asks it now, and returns what changed.
@@ -505,6 +507,7 @@ mod tests {
             r#"{"id":2,"query":{"query":"a==b","limit":3,"from":0,"count":false,"by":"size","descending":true,"after":"A\n"}}"#,
             r#"{"id":2,"query":{"query":"a==b","from":0,"count":false,"any":1}}"#,
             r#"{"id":3,"watch":{}}"#,
+            r#"{"id":3,"text":{"query":"size>1.5"}}"#,
             r#"{"id":3,"log":{"entry":7,"within":0}}"#,
             r#"{"id":3,"hello":{"protocol":1,"visit":true}}"#,
             r#"{"id":4,"batch":{"operations":[["new"]],"expected":[3,0],"volume":1}}"#,
@@ -547,6 +550,7 @@ mod tests {
             (r#"{"id":5,"batch":{"operations":[["new"]],"token":""}}"#, Some(5)),
             (r#"{"id":5,"batch":{"operations":[["new"]],"token":7}}"#, Some(5)),
             (r#"{"id":5,"watch":{"query":null}}"#, Some(5)),
+            (r#"{"id":5,"text":{}}"#, Some(5)),
             (r#"{"id":5,"query":{"query":"a==1","by":null}}"#, Some(5)),
             (r#"{"id":5,"query":{"query":"a==1","by":"a","descending":1}}"#, Some(5)),
             (r#"{"id":5,"query":{"query":"a==1","by":"a","after":7}}"#, Some(5)),

@@ -1,7 +1,7 @@
 //! Values as JSON.
 
 use super::EXACT;
-use bestore::{Kind, Value};
+use bestore_types::{Kind, Value};
 use serde::de::{self, Deserialize, Deserializer, MapAccess, Visitor};
 use serde::ser::{Serialize, SerializeMap, Serializer};
 use std::borrow::Cow;

@@ -30,26 +30,20 @@
 //!
 //! Opening and [`Saved::compact`] write the state anew, so the file doesn't grow for ever.
 
-mod backup;
-mod error;
-mod file;
 mod queue;
 mod shelf;
 
-pub use backup::Backup;
-pub use error::{Error, Place};
-pub use file::About;
-pub use shelf::{files_of, SavedShelf};
+pub use bestore_types::saved::{files_of, About, Backup, Error, Place, Result, TOKENS};
+pub use shelf::SavedShelf;
 
 use crate::{Batch, Limits, Pass, Shelf, Snapshot, Store};
-use file::File;
+use bestore_types::saved::count;
+use bestore_types::saved::file::{self, File};
 use queue::Queue;
+use std::collections::BTreeMap;
 use std::path::{Path, PathBuf};
 use std::sync::Arc;
 use std::time::Duration;
-
-/// The result of a call of this module.
-pub type Result<T> = std::result::Result<T, Error>;
 
 /// Opens the file, or makes it, with the default limits. Each write is saved before its call returns.
 ///
@@ -58,9 +52,6 @@ pub type Result<T> = std::result::Result<T, Error>;
 pub fn open(path: impl AsRef<Path>) -> Result<Saved> {
     Options::new().open(path)
 }
-
-/// A file has the tokens of at least this many of the last writes that had one.
-pub const TOKENS: usize = 65_536;
 
 /// The token of a write that the file has: see [`Batch::set_token`].
 #[derive(Clone, Debug, PartialEq, Eq)]
@@ -81,6 +72,7 @@ const YEAR: Duration = Duration::from_secs(365 * 24 * 3600);
 pub struct Options {
     limits: Limits,
     every: Option<Duration>,
+    until: BTreeMap<u32, u64>,
 }
 
 impl Options {
@@ -102,15 +94,24 @@ impl Options {
         self
     }
 
-    /// Opens the file, or makes it, and makes the store again.
+    /// Lets [`load`](Self::load) read a volume up to this entry of its file, so that the part before a damaged one is read. The volume
+    /// of a file is 0. The other calls read all entries.
+    pub fn until(&mut self, volume: u32, entry: u64) -> &mut Self {
+        self.until.insert(volume, entry);
+        self
+    }
+
+    /// Opens the file, or makes it, and makes the store again. A file that is refused stays as it is.
     ///
     /// # Errors
-    /// [`Error::Foreign`], [`Error::Newer`], [`Error::Held`], [`Error::Differs`], [`Error::TooLarge`], [`Error::DiskFull`],
-    /// [`Error::Sqlite`], [`Error::Store`].
+    /// [`Error::Foreign`], [`Error::Newer`], [`Error::Held`], [`Error::Damaged`], [`Error::CutOff`], [`Error::Differs`],
+    /// [`Error::TooLarge`], [`Error::DiskFull`], [`Error::Sqlite`], [`Error::Store`].
     pub fn open(&self, path: impl AsRef<Path>) -> Result<Saved> {
         let mut file = File::open(path.as_ref())?;
-        let store = Store::open(file.limits_within(self.limits)?)?;
-        let number = load(&file, &store)?;
+        let Loaded { store, number, tokens } = self.open_store(&mut file).map_err(|error| {
+            file.leave();
+            error
+        })?;
         let of_state = file.state()?.entries;
         let in_memory = {
             let mut own = store.own()?;
@@ -118,28 +119,40 @@ impl Options {
             renew(&mut file, &snapshot, number)?;
             snapshot.number()
         };
+        file.keep_last(number)?;
+        file.measure()?;
         let token = |(entry, token): (u64, file::Token)| Token {
             text: token.text.into(),
             // Before the entries come the batches of the state, which have no entries of their own.
             commit: in_memory.saturating_sub(number.saturating_sub(entry.max(of_state))),
             nodes: token.nodes,
         };
-        let tokens = file.tokens()?.into_iter().map(token).collect();
+        let tokens = tokens.into_iter().map(token).collect();
         let queue = Queue::start(file, number, in_memory, self.every)?;
         Ok(Saved { store, queue, tokens })
+    }
+
+    /// Makes the store of a file.
+    fn open_store(&self, file: &mut File) -> Result<Loaded> {
+        let store = Store::open(file.limits_within(self.limits)?)?;
+        let number = load(file, &store, u64::MAX)?;
+        let tokens = file.tokens(number)?;
+        file.check_end(None, number)?;
+        Ok(Loaded { store, number, tokens })
     }
 
     /// Makes the store again that a file has, or the volumes of a folder, and leaves the files as they are: what is written then is
     /// kept nowhere. The limits are those of each volume.
     ///
     /// # Errors
-    /// Those of [`open`](Self::open) and [`open_shelf`](Self::open_shelf), but for a full disk.
+    /// Those of [`open`](Self::open) and [`open_shelf`](Self::open_shelf), but for a full disk. [`Error::NotWithin`]: the file hasn't the
+    /// entry that [`until`](Self::until) names.
     pub fn load(&self, path: impl AsRef<Path>) -> Result<Shelf> {
         let path = path.as_ref();
         let is_folder = path.is_dir();
-        let count = if is_folder { shelf::count(path)? } else { 1 };
+        let count = if is_folder { count(path)? } else { 1 };
         let load = |(volume, file): (u32, PathBuf)| {
-            let loaded = self.load_file(&file);
+            let loaded = self.load_file(&file, self.until.get(&volume).copied());
             loaded.map_err(|error| if is_folder { error.of_volume(volume) } else { error })
         };
         let volumes = (0..).zip(files_of(path, count)).map(load).collect::<Result<Vec<_>>>()?;
@@ -149,15 +162,24 @@ impl Options {
         }
     }
 
-    fn load_file(&self, path: &Path) -> Result<Store> {
+    fn load_file(&self, path: &Path, until: Option<u64>) -> Result<Store> {
         let store = Store::open(self.limits)?;
-        load(&File::open_to_read(path)?, &store)?;
+        let file = File::open_to_read(path)?;
+        let last = load(&file, &store, until.unwrap_or(u64::MAX))?;
+        file.check_end(until, last)?;
         Ok(store)
     }
 }
 
-/// Applies what the file has to the empty store. Returns the number of the last entry.
-fn load(file: &File, store: &Store) -> Result<u64> {
+/// A store that was made of a file, with the number of the file's last entry, and its tokens.
+struct Loaded {
+    store: Store,
+    number: u64,
+    tokens: Vec<(u64, file::Token)>,
+}
+
+/// Applies what the file has to the empty store, up to the entry `until`. Returns the number of the last one.
+fn load(file: &File, store: &Store, until: u64) -> Result<u64> {
     let mut own = store.own()?;
     let state = file.state()?;
     file.each_state(|index, batch| {
@@ -173,10 +195,7 @@ fn load(file: &File, store: &Store) -> Result<u64> {
         ));
     }
     let mut last = state.entries;
-    file.each_entry(|number, batch| {
-        if number != last + 1 {
-            return Err(Error::differs(Place::Entry(last + 1), "the entry is missing"));
-        }
+    file.each_entry(last, until, |number, batch| {
         last = number;
         repeat(&own, number, &read(Place::Entry(number), batch)?)
     })?;
@@ -200,9 +219,9 @@ fn read(place: Place, bytes: &[u8]) -> Result<Batch> {
     Batch::from_bytes(bytes).map_err(|error| Error::differs(place, error))
 }
 
-/// Writes the state anew if there are entries since. On a full disk the file stays as it is, and the next write says so.
+/// Writes the state anew if there are entries since, or if the file has no checksums. On a full disk the file stays as it is, and the next write says so.
 fn renew(file: &mut File, snapshot: &Snapshot<'_>, number: u64) -> Result<()> {
-    if number == file.state()?.entries {
+    if number == file.state()?.entries && !file.lacks_checksums() {
         return Ok(());
     }
     match file.write_state(number, snapshot.next_node()?, snapshot.state()) {
@@ -264,7 +283,14 @@ impl Saved {
             .with_file(|file| file.write_state(number, next, snapshot.state()))
     }
 
-    /// The number in the file of the entry with this commit number. Numbers in the file go on from one opening to the next.
+    /// Whether the entries since the state take more bytes of the file than the state and 1 MiB, so that [`compact`](Self::compact)
+    /// makes the file smaller and its opening faster. After a `compact` that failed it needs 1 MiB more.
+    #[must_use]
+    pub fn is_due(&self) -> bool {
+        self.queue.is_due()
+    }
+
+    /// The number in the file of the entry with this commit number. Numbers in the file continue from one opening to the next.
     #[must_use]
     pub fn number_in_file(&self, commit: u64) -> u64 {
         self.queue.number_in_file(commit)

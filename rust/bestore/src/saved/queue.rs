@@ -1,11 +1,12 @@
 //! The order of the writes, and who saves them: one of the writers that wait, or with a time a thread.
 
-use super::file::{File, Row, Token};
 use super::{Error, Result};
 use crate::pass::Keeper;
 use crate::raw::Birthplace;
 use crate::{Batch, Written};
+use bestore_types::saved::file::{File, Row, Token};
 use std::mem;
+use std::sync::atomic::{AtomicBool, Ordering};
 use std::sync::{Arc, Condvar, Mutex, MutexGuard, PoisonError};
 use std::thread::{self, JoinHandle};
 use std::time::{Duration, Instant};
@@ -66,6 +67,8 @@ struct Shared {
     done: Condvar,
     /// Until the queue is closed.
     file: Mutex<Option<File>>,
+    /// Whether the state of the file is to be written anew.
+    is_due: AtomicBool,
     every: Option<Duration>,
     /// What has to be added to a commit number of the store to have the number in the file.
     shift: i64,
@@ -145,7 +148,11 @@ impl Shared {
 
     fn with_file<T>(&self, work: impl FnOnce(&mut File) -> Result<T>) -> Result<T> {
         match lock(&self.file).as_mut() {
-            Some(file) => work(file),
+            Some(file) => {
+                let outcome = work(file);
+                self.is_due.store(file.is_due(), Ordering::Relaxed);
+                outcome
+            }
             None => Err(Error::Closed),
         }
     }
@@ -236,6 +243,7 @@ impl Queue {
             }),
             work: Condvar::new(),
             done: Condvar::new(),
+            is_due: AtomicBool::new(file.is_due()),
             file: Mutex::new(Some(file)),
             every,
             shift: number.wrapping_sub(in_memory) as i64,
@@ -264,6 +272,10 @@ impl Queue {
 
     pub(super) fn with_file<T>(&self, work: impl FnOnce(&mut File) -> Result<T>) -> Result<T> {
         self.shared.with_file(work)
+    }
+
+    pub(super) fn is_due(&self) -> bool {
+        self.shared.is_due.load(Ordering::Relaxed)
     }
 
     pub(super) fn failure(&self) -> Option<Arc<Error>> {

@@ -2,53 +2,17 @@
 
 use super::{Error, Options, Result, Saved};
 use crate::{Shelf, ShelfPass, MOST_VOLUMES};
-use std::fs::{self, DirBuilder};
+use bestore_types::saved::{count, path_of};
+use std::fs::DirBuilder;
 use std::io::ErrorKind;
 use std::os::unix::fs::DirBuilderExt;
-use std::path::{Path, PathBuf};
+use std::path::Path;
 
 /// A shelf whose volumes are kept in files. It closes them when it is dropped.
 #[derive(Debug)]
 pub struct SavedShelf {
     shelf: Shelf,
     volumes: Vec<Saved>,
-}
-
-/// The file of a volume.
-pub(super) fn path(folder: &Path, volume: u32) -> PathBuf {
-    folder.join(format!("{volume}.bestore"))
-}
-
-/// The files of so many volumes at a path: the path itself, or those within the folder.
-#[must_use]
-pub fn files_of(place: &Path, volumes: u32) -> Vec<PathBuf> {
-    match place.is_dir() {
-        true => (0..volumes).map(|volume| path(place, volume)).collect(),
-        false => vec![place.to_owned()],
-    }
-}
-
-/// The volume whose file has this name.
-fn volume_of(name: &std::ffi::OsStr) -> Option<u32> {
-    let digits = name.to_str()?.strip_suffix(".bestore")?;
-    let volume = digits.parse().ok()?;
-    (format!("{volume}") == digits).then_some(volume)
-}
-
-/// How many volumes the folder has.
-pub(super) fn count(folder: &Path) -> Result<u32> {
-    let wrong = |error| Error::folder(folder, error);
-    let mut found = Vec::new();
-    for entry in fs::read_dir(folder).map_err(wrong)? {
-        found.extend(volume_of(&entry.map_err(wrong)?.file_name()));
-    }
-    found.sort_unstable();
-    match (0..).zip(&found).find(|(expected, volume)| expected != *volume) {
-        Some((missing, _)) => Err(Error::NoFile {
-            path: path(folder, missing),
-        }),
-        None => Ok(found.len() as u32),
-    }
 }
 
 impl Options {
@@ -77,7 +41,7 @@ impl Options {
             });
         }
         let opened = (0..wanted).map(|volume| {
-            let opened = self.open(path(folder, volume));
+            let opened = self.open(path_of(folder, volume));
             opened.map_err(|error| error.of_volume(volume))
         });
         SavedShelf::of_volumes(opened.collect::<Result<_>>()?)
@@ -153,6 +117,23 @@ impl SavedShelf {
     /// As `Saved::compact`, of the first volume that can't be written. The others are.
     pub fn compact(&self) -> Result<()> {
         self.each(Saved::compact)
+    }
+
+    /// Whether a volume is to be compacted, as [`Saved::is_due`].
+    #[must_use]
+    pub fn is_due(&self) -> bool {
+        self.volumes.iter().any(Saved::is_due)
+    }
+
+    /// Compacts the volumes for which that [is due](Self::is_due).
+    ///
+    /// # Errors
+    /// As [`compact`](Self::compact).
+    pub fn compact_if_due(&self) -> Result<()> {
+        self.each(|volume| match volume.is_due() {
+            true => volume.compact(),
+            false => Ok(()),
+        })
     }
 
     /// Saves what was written, and closes the files. Passes that are still open can read.

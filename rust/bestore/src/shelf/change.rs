@@ -1,18 +1,18 @@
 //! Changes of a shelf: reading all volumes, and writing one.
 
-use super::{Node, ShelfPass, ShelfSnapshot};
-use crate::pass::StandBack;
-use crate::{Change, Error, Result, Value};
+use super::{ShelfPass, ShelfSnapshot};
+use crate::{Change, Error, Node, Result, Value};
 
 /// What the closure of [`ShelfPass::change`] reads, and the operations that it collects. All of them are in one volume: the one
 /// that was asked for, otherwise that of the first operation.
 ///
-/// Reads see the snapshot, and none of the operations that were collected.
+/// [`get`](Self::get) reads the snapshot as the operations so far leave it, and [`snapshot`](Self::snapshot) what they are made on.
 #[derive(Debug)]
 pub struct ShelfChange<'a> {
     snapshot: &'a ShelfSnapshot<'a>,
     volume: Option<u32>,
     change: Option<Change<'a>>,
+    takes_any_kind: bool,
 }
 
 impl<'a> ShelfChange<'a> {
@@ -37,7 +37,11 @@ impl<'a> ShelfChange<'a> {
             });
         }
         if self.change.is_none() {
-            self.change = Some(Change::new(self.snapshot.volume(volume)?)?);
+            let mut change = Change::new(self.snapshot.volume(volume)?)?;
+            if self.takes_any_kind {
+                change.any_kind();
+            }
+            self.change = Some(change);
         }
         self.change.as_mut().ok_or(Error::NoNode)
     }
@@ -49,6 +53,27 @@ impl<'a> ShelfChange<'a> {
             return Err(Error::NoNode);
         }
         Ok((self.in_volume(volume)?, number))
+    }
+
+    /// An attribute as the operations so far leave it, or `None` if the node or the attribute doesn't exist then.
+    ///
+    /// # Errors
+    /// As [`ShelfSnapshot::get`].
+    pub fn get(&self, node: u64, name: &str) -> Result<Option<Value>> {
+        let Node { volume, number } = node.into();
+        match &self.change {
+            Some(change) if self.volume == Some(volume) => change.get(number, name),
+            _ => self.snapshot.get(node, name),
+        }
+    }
+
+    /// Accepts values of any kind from now on, as [`Change::any_kind`].
+    pub fn any_kind(&mut self) -> &mut Self {
+        self.takes_any_kind = true;
+        if let Some(change) = &mut self.change {
+            change.any_kind();
+        }
+        self
     }
 
     /// Makes a node, and returns what it will be. If no volume was asked for, and this is the first operation, the volume is the one
@@ -98,32 +123,32 @@ impl<'a> ShelfChange<'a> {
         volume: Option<u32>,
         closure: &mut impl FnMut(&mut ShelfChange<'_>) -> Result<T>,
     ) -> Result<T> {
-        let mut stand_back = StandBack::new();
-        let mut left = pass.conflicts();
+        let mut waits = pass.waits();
         loop {
             let snapshot = pass.pin()?;
             let mut change = ShelfChange {
                 snapshot: &snapshot,
                 volume,
                 change: None,
+                takes_any_kind: false,
             };
             let value = closure(&mut change)?;
-            let (volume, batch) = match (change.volume, change.change) {
-                (Some(volume), Some(change)) if !change.batch().is_empty() => (volume, change.into_batch()),
+            let (volume, mut change) = match (change.volume, change.change) {
+                (Some(volume), Some(change)) => (volume, change),
                 _ => return Ok(value),
             };
-            let read = snapshot.volume(volume)?;
-            match read.pass().begin_write(Some(read.number()), &batch) {
-                Ok((_, number)) => {
-                    drop(snapshot);
-                    pass.end_write(volume, number)?;
-                    return Ok(value);
-                }
-                Err(Error::Conflict { .. }) if left > 0 => left -= 1,
-                Err(error) => return Err(snapshot.error(volume, error)),
+            if !change.has_operations()? {
+                return Ok(value);
             }
+            let ended = change.end();
             drop(snapshot);
-            stand_back.wait();
+            match ended {
+                Ok(number) => return pass.end_write(volume, number).map(|()| value),
+                Err(error) => {
+                    let waited = waits.after(pass.volume(volume)?, error);
+                    waited.map_err(|error| pass.error(volume, error))?;
+                }
+            }
         }
     }
 }

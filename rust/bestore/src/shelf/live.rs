@@ -1,8 +1,8 @@
 //! Live queries over all volumes.
 
-use super::node::extend;
 use super::ShelfSnapshot;
 use crate::{Live, Result, Snapshot, Updates};
+use bestore_types::raw::extend;
 use std::collections::BTreeSet;
 
 /// A live query over all volumes: each refresh returns what changed since the last one. At the first, all nodes of the answer
@@ -40,7 +40,7 @@ impl ShelfLive {
         })
     }
 
-    /// Asks the query in each volume, and compares with its answer at the last refresh. Snapshots of one shelf.
+    /// Asks the whole query in each volume, and compares with its answer at the last refresh. Snapshots of one shelf.
     ///
     /// # Errors
     /// As [`ShelfSnapshot::query`]. What changed until then is returned by the next refresh that succeeds.
@@ -48,7 +48,7 @@ impl ShelfLive {
         self.refresh_by(snapshot, Live::refresh)
     }
 
-    /// Returns what [`refresh`](Self::refresh) does, in each volume by [`Live::refresh_changed`].
+    /// Returns what [`refresh`](Self::refresh) does, in each volume by [`Live::refresh_changed`], which says when that is faster.
     ///
     /// # Errors
     /// As [`Live::refresh_changed`]. What changed until then is returned by the next refresh that succeeds.

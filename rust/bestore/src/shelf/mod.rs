@@ -1,7 +1,7 @@
 //! Shelves: several stores that one query searches.
 //!
 //! A [`Shelf`] has 1 to 64 stores, its *volumes*, so it has room for more nodes than one store does. A query is answered from all of
-//! them, and a [node](Node) says which volume it is in. A node never leaves its volume.
+//! them, and a [node](crate::Node) says which volume it is in. A node never leaves its volume.
 //!
 //! ```
 //! use bestore::{Kind, Limits, Node, Shelf};
@@ -38,22 +38,18 @@
 
 mod change;
 mod live;
-mod node;
 mod page;
 mod pass;
 mod snapshot;
 
 pub use change::ShelfChange;
 pub use live::ShelfLive;
-pub use node::Node;
 pub use pass::{ShelfPass, ShelfWritten};
 pub use snapshot::{ShelfNodes, ShelfSnapshot};
 
-use crate::{Error, Limits, Pass, Result, Store};
+use crate::{Error, Limits, Pass, Result, Store, MOST_VOLUMES};
+use bestore_types::raw::fits;
 use std::sync::{Arc, Mutex};
-
-/// The most volumes of a shelf.
-pub const MOST_VOLUMES: u32 = 64;
 
 /// Several stores that one query searches. Clones are the same shelf, and each thread may make its pass from one.
 #[derive(Clone, Debug)]
@@ -82,7 +78,7 @@ impl Shelf {
     pub fn of_volumes(volumes: Vec<Store>) -> Result<Self> {
         check_count(u32::try_from(volumes.len()).unwrap_or(u32::MAX))?;
         for (volume, store) in (0..).zip(&volumes) {
-            if !node::fits(store.own()?.pin()?.next_node()?) {
+            if !fits(store.own()?.pin()?.next_node()?) {
                 return Err(Error::NodesSpent.in_volume(volume));
             }
         }

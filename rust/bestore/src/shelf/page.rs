@@ -1,10 +1,10 @@
 //! Pages of all volumes: the pages of each, merged.
 
-use super::node::extend;
-use super::{Node, ShelfSnapshot};
-use crate::cursor::encode_key;
+use super::ShelfSnapshot;
 use crate::page::begin;
-use crate::{Cursor, Error, Order, Ordered, Page, Prepared, Result, Snapshot, Value};
+use crate::refused::no_order;
+use crate::{Cursor, Error, Node, Order, Ordered, Page, Prepared, Result, Snapshot, Value};
+use bestore_types::raw::{encode_key, extend};
 use std::cmp::Ordering;
 use std::collections::VecDeque;
 
@@ -52,7 +52,7 @@ impl<'a> ShelfSnapshot<'a> {
             let found = indices.iter().find(|(name, _)| name == order.name());
             let kind = found.map(|(_, kind)| *kind);
             if kind.is_none() || *first.get_or_insert(kind) != kind {
-                return Err(Error::no_order(order.name(), self.indices()?).in_volume(volume));
+                return Err(no_order(order.name(), self.indices()?).in_volume(volume));
             }
         }
         Ok(())

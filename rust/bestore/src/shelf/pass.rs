@@ -1,8 +1,9 @@
 //! Passes of a shelf: a pass of each volume.
 
 use super::snapshot::{at, roomiest};
-use super::{Node, ShelfChange, ShelfSnapshot};
-use crate::{Batch, Error, Keeper, Kind, Pass, Result, Retry, Status, Value};
+use super::{ShelfChange, ShelfSnapshot};
+use crate::pass::Waits;
+use crate::{Batch, Error, Keeper, Kind, Node, Pass, Result, Retry, Status, Value};
 use std::sync::{Arc, Mutex};
 use std::thread;
 use std::time::{Duration, Instant};
@@ -65,15 +66,12 @@ impl ShelfPass {
         self.volumes.iter_mut().for_each(|pass| pass.set_retry(retry));
     }
 
-    /// How often a change may run again.
-    pub(super) fn conflicts(&self) -> u32 {
-        match &self.volumes[0] {
-            pass if pass.held().is_some() => 0,
-            pass => pass.retry().conflict,
-        }
+    /// How a change waits.
+    pub(super) fn waits(&self) -> Waits {
+        Waits::of(&self.volumes[0])
     }
 
-    fn error(&self, volume: u32, error: Error) -> Error {
+    pub(super) fn error(&self, volume: u32, error: Error) -> Error {
         match self.volumes.len() {
             1 => error,
             _ => error.in_volume(volume),
@@ -128,7 +126,7 @@ impl ShelfPass {
         self.write(volume, None, &self.within(volume, batch)?)
     }
 
-    /// Writes as [`apply_in`](Self::apply_in), if the volume's journal has exactly `expected` entries. What was read of other
+    /// Writes as [`apply_in`](Self::apply_in), if the volume's journal has exactly `expected` entries. What was read from other
     /// volumes may have changed.
     ///
     /// # Errors

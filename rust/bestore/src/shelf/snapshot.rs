@@ -1,8 +1,7 @@
 //! Snapshots of all volumes.
 
-use super::node::extend;
-use super::Node;
-use crate::{hints, Batch, Error, Hint, Kind, Nodes, Pass, Prepared, Result, Snapshot, Status, Value};
+use crate::{hints, Batch, Error, Hint, Kind, Node, Nodes, Pass, Prepared, Result, Snapshot, Status, Value};
+use bestore_types::raw::extend;
 use std::collections::BTreeMap;
 use std::sync::{Mutex, PoisonError};
 
@@ -98,7 +97,7 @@ impl<'a> ShelfSnapshot<'a> {
         self.found(|snapshot| snapshot.query_prepared(prepared))
     }
 
-    /// How many nodes of all volumes the query finds. Takes what the query takes, but for the list.
+    /// How many nodes the query finds in all volumes. It costs as much as the query, except for the list.
     ///
     /// # Errors
     /// As [`query`](Self::query).
@@ -111,7 +110,7 @@ impl<'a> ShelfSnapshot<'a> {
         })
     }
 
-    /// How many nodes of all volumes the prepared query finds.
+    /// How many nodes the prepared query finds in all volumes.
     ///
     /// # Errors
     /// As [`query`](Self::query).

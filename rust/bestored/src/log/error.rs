@@ -4,6 +4,7 @@ use bestore::saved::Place;
 use std::error::Error as _;
 use std::fmt;
 use std::io;
+use std::path::PathBuf;
 use std::sync::Arc;
 use std::time::Duration;
 
@@ -18,6 +19,10 @@ pub type Result<T> = std::result::Result<T, Error>;
 pub enum Error {
     /// The URL can't be read.
     Url(tokio_postgres::Error),
+    /// TLS is asked for.
+    NoTls { mode: String },
+    /// The file with the password has none, or others may read it.
+    Passfile { path: PathBuf, why: String },
     /// An error of PostgreSQL, or of the connection to it.
     Database(tokio_postgres::Error),
     /// PostgreSQL didn't reply within this time.
@@ -101,6 +106,11 @@ impl fmt::Display for Error {
     fn fmt(&self, f: &mut fmt::Formatter<'_>) -> fmt::Result {
         match self {
             Error::Url(error) => write!(f, "the URL of the log: {}", Shown(error)),
+            Error::NoTls { mode } => write!(
+                f,
+                "the connection to the log has no TLS, which sslmode={mode} asks for; use a Unix socket or a tunnel, with sslmode=disable"
+            ),
+            Error::Passfile { path, why } => write!(f, "{}: {why}", path.display()),
             Error::Database(error) => write!(f, "the database of the log: {}", Shown(error)),
             Error::Slow(time) => write!(f, "the database of the log didn't reply within {} s", time.as_secs()),
             Error::NoLog => f.write_str("the database has no log; --log makes one"),

@@ -63,6 +63,9 @@ pub struct State {
     waiting_bytes: usize,
     /// The server ends.
     is_closing: bool,
+    /// How many times it was asked whether this server still leads, and how many of these it did.
+    asked: u64,
+    confirmed: u64,
     /// Nothing more is read or written.
     is_over: bool,
     failed: Option<Arc<Error>>,
@@ -116,6 +119,8 @@ impl Line {
             waiting: Vec::new(),
             waiting_bytes: 0,
             is_closing: false,
+            asked: 0,
+            confirmed: 0,
             is_over: false,
             failed: None,
         };
@@ -188,6 +193,42 @@ impl Line {
                 true
             }
         })
+    }
+
+    /// Refuses a write if this server can't make it now.
+    pub fn check(&self) -> Result<(), Refused> {
+        self.lock().refused().map_or(Ok(()), Err)
+    }
+
+    /// Waits until it is certain that this server led at a moment after the call, so that it knows all that the log had before.
+    pub fn confirm(&self) -> Result<(), Refused> {
+        let mut state = self.lock();
+        state.asked += 1;
+        let number = state.asked;
+        self.work.notify_one();
+        while state.confirmed < number {
+            if let Some(refused) = state.refused() {
+                return Err(refused);
+            }
+            if let Some(error) = state.given_up() {
+                return Err(Refused::NotSaved(error));
+            }
+            state = self.wait(state, Duration::from_secs(1));
+        }
+        Ok(())
+    }
+
+    /// How many times it was asked, if somebody waits for an answer.
+    pub fn asked(&self) -> Option<u64> {
+        let state = self.lock();
+        (state.confirmed < state.asked).then_some(state.asked)
+    }
+
+    /// This server has led since it was asked so many times.
+    pub fn confirmed(&self, asked: Option<u64>) {
+        if let Some(asked) = asked {
+            self.change(|state| state.confirmed = state.confirmed.max(asked));
+        }
     }
 
     /// Waits until all that was written before the call is in the log.

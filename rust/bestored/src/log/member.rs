@@ -324,11 +324,13 @@ impl Member {
     /// Adds the entries up to this one to the log.
     async fn send(&mut self, term: u64, last: u64) -> Result<()> {
         let before = self.line.lock().saved;
+        let asked = self.line.asked();
         self.tried = Instant::now();
         match self.database.append(term, before, &self.sending).await {
             Ok(true) => {
                 self.sending.clear();
                 self.line.saved(last);
+                self.line.confirmed(asked);
                 Ok(())
             }
             Ok(false) => {
@@ -349,12 +351,17 @@ impl Member {
     async fn rest(&mut self, term: u64) -> Result<()> {
         let begin = Instant::now();
         self.line.work(LEADING).await;
-        if begin.elapsed() < LEADING {
+        let asked = self.line.asked();
+        if begin.elapsed() < LEADING && asked.is_none() {
             return Ok(());
         }
         self.tried = Instant::now();
         match self.database.touch(term).await? {
-            Some(head) => self.check(&head),
+            Some(head) => {
+                self.check(&head)?;
+                self.line.confirmed(asked);
+                Ok(())
+            }
             None => {
                 let head = self.database.head().await?;
                 self.check(&head)?;

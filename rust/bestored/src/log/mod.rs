@@ -4,6 +4,7 @@
 //! The leader has an advisory lock of the database, so that there is one. That nothing is written by another one rests on the
 //! statement that adds entries: it adds them only in the last term, and only after the last entry.
 
+mod access;
 mod database;
 mod error;
 pub(crate) mod line;
@@ -19,62 +20,25 @@ use crate::options::Options;
 use crate::os;
 use crate::server::Shared;
 use crate::tokens::Tokens;
+use access::Access;
 use bestore::{Shelf, ShelfPass, Store};
 use bestore_client::wire::{self, ErrorName};
-use database::Database;
 use error::Result;
 use line::{Line, Role};
 use member::Member;
-use std::fs::{self, File};
+use std::fs::File;
 use std::mem;
 use std::os::unix::io::AsRawFd;
 use std::sync::{Arc, Mutex, MutexGuard, PoisonError};
 use std::thread;
 use std::time::Duration;
 use tokio::runtime::{Builder, Runtime};
-use tokio_postgres::Config;
 
 /// How long a leader waits for the lock when it starts, since the session of one that was killed may end a little later.
 const FOR_LOCK: Duration = Duration::from_secs(5);
 
 /// How long is rested before what has failed is tried again.
 const REST: Duration = Duration::from_millis(200);
-
-/// How to reach the log, and who this server is.
-#[derive(Clone, Debug)]
-struct Access {
-    config: Config,
-    /// Names this server for people: its machine and its socket.
-    name: String,
-    /// Another text for each run.
-    run: String,
-}
-
-impl Access {
-    async fn connect(&self) -> Result<Database> {
-        let database = Database::connect(&self.config).await?;
-        database.check_format().await?;
-        Ok(database)
-    }
-}
-
-fn config(url: &str) -> Result<Config> {
-    let mut config: Config = url.parse().map_err(Error::Url)?;
-    if let (None, Ok(password)) = (config.get_password(), std::env::var("PGPASSWORD")) {
-        config.password(password);
-    }
-    if config.get_application_name().is_none() {
-        config.application_name("bestored");
-    }
-    config.keepalives_idle(Duration::from_secs(5));
-    Ok(config)
-}
-
-/// The machine and the path of the socket.
-fn name(options: &Options) -> String {
-    let machine = fs::read_to_string("/proc/sys/kernel/hostname").unwrap_or_default();
-    format!("{}:{}", machine.trim(), options.socket().path().display())
-}
 
 fn runtime() -> Result<Runtime> {
     Builder::new_current_thread()
@@ -108,11 +72,7 @@ impl Log {
         signals: &File,
     ) -> Result<Option<Self>> {
         let in_log = options.log.as_ref().ok_or(Error::NoLog)?;
-        let access = Access {
-            config: config(&in_log.url)?,
-            name: name(options),
-            run: run.into(),
-        };
+        let access = Access::new(in_log, options, run)?;
         let mut is_said = false;
         loop {
             match Self::begin(options, &access, tokens, in_log.leads) {
@@ -179,6 +139,16 @@ impl Log {
     /// The number in the log of the entry with this commit number.
     pub fn entry(&self, commit: u64) -> u64 {
         self.line.entry(commit)
+    }
+
+    /// Refuses a write that this server can't make now, as if it follows.
+    pub fn check(&self) -> std::result::Result<(), Refused> {
+        self.line.check()
+    }
+
+    /// Waits until it is certain that this server led after the call.
+    pub fn confirm(&self) -> std::result::Result<(), Refused> {
+        self.line.confirm()
     }
 
     /// Waits until all that was written is in the log.

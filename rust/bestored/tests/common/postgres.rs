@@ -119,6 +119,14 @@ impl Postgres {
         Some(Arc::new(postgres))
     }
 
+    /// From now on asks this role for its password by TCP.
+    pub fn ask_for_password(&self, role: &str) {
+        let path = self.data().join("pg_hba.conf");
+        let rules = fs::read_to_string(&path).unwrap();
+        fs::write(path, format!("host all {role} 127.0.0.1/32 scram-sha-256\n{rules}")).unwrap();
+        self.sql("postgres", "SELECT pg_reload_conf()");
+    }
+
     /// Makes a database.
     pub fn database(self: &Arc<Self>) -> Database {
         static LAST: AtomicU32 = AtomicU32::new(0);
@@ -209,6 +217,11 @@ impl Database {
     /// Its URL, by TCP.
     pub fn url_of_tcp(&self) -> String {
         self.url_at(self.postgres.port)
+    }
+
+    /// Its URL by TCP, for this role.
+    pub fn url_of(&self, role: &str) -> String {
+        format!("postgresql://{role}@127.0.0.1:{}/{}", self.postgres.port, self.name)
     }
 
     /// Its URL through what listens at this port.

@@ -1,4 +1,4 @@
-use Rattle.std.proofs.Common.{◌≡◌, ◌∙◌, ℕ, List, ap, arith, length, nat_lt, subst}
+use Rattle.std.proofs.Common.{◌≡◌, ℕ, List, ap, arith, length, nat_lt, subst}
 use Rattle.std.specs.declared.option.Option.{Option}
 use Rattle.be_order.specs.Asked.{HasFront, true_after}
 use Rattle.be_order.specs.Ordered.{cursor_bytes}

@@ -1,4 +1,4 @@
-use Rattle.std.proofs.Common.{◌≡◌, ◌∙◌, ◌<◌, ℕ, false, ap, arith, length, nat_le}
+use Rattle.std.proofs.Common.{ap, arith, nat_le}
 use Rattle.std.proofs.lemmas.Bool.{leb-false}
 use Rattle.be_order.specs.Ordered.{cursor_bytes}
 use Rattle.be_order.proofs.IndexParts.{is_part}

@@ -1,4 +1,10 @@
 use Rattle.be_order.proofs.firsts.any_prepared_into.Given as goal
 
+abbrev pub ghost-meet_own : goal.ghost-meet_own
+ghost-meet_own g a = g.volume
+
+abbrev pub ghost-walk_any : goal.ghost-walk_any
+ghost-walk_any g a = g.volume
+
 abbrev pub ghost-any_into : goal.ghost-any_into
 ghost-any_into g a = g.volume

@@ -1,4 +1,4 @@
-use Rattle.std.proofs.Common.{◌≡◌, ◌∙◌, ap, nat_le, rules, take}
+use Rattle.std.proofs.Common.{◌∙◌, ap, nat_le, rules, take}
 use Rattle.std.proofs.lemmas.Fn.{filter_same}
 use Rattle.be_order.proofs.firsts.keep_from.Goals as goal
 

@@ -1,4 +1,4 @@
-use Rattle.std.proofs.Common.{◌≡◌, ◌∙◌, ℕ, List, ap, sym, arith, length, nat_lt}
+use Rattle.std.proofs.Common.{◌≡◌, ◌∙◌, ap, sym, arith, length, nat_lt}
 use Rattle.std.specs.List.{flat_map}
 use Rattle.be_order.specs.Ordered.{after, bytes_of, cursor_at, cursor_bytes, keyed, keys_of}
 use Rattle.be_order.proofs.PageKeys.{kept_long, page_made}

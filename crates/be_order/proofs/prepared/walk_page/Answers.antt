@@ -1,4 +1,4 @@
-use Rattle.std.proofs.Common.{◌≡◌, ◌∙◌, ◌++◌, ℕ, List, suc, ap, subst, arith, length, nat_lt, take}
+use Rattle.std.proofs.Common.{◌≡◌, ◌∙◌, ◌++◌, ℕ, suc, ap, subst, arith, length, nat_lt, take}
 use Rattle.std.specs.Option.{option_copied}
 use Rattle.be_order.specs.Ordered.{cursor_bytes, nodes_of}
 use Rattle.be_order.specs.Walks.{AreFirst, HasWalked, IsEntry}

@@ -3,7 +3,7 @@ use Rattle.std.specs.Prelude.{IfErr}
 use Rattle.be_table.specs.declared.pass.Knowledge.{Knowledge}
 use Rattle.be_script_runner.specs.Served.{IsRefusedBy, Seated, known, seat_of}
 use Rattle.be_script_runner.specs.Store.{Meanwhile, MayWrite}
-use Rattle.be_script_runner.proofs.CallLemmas.{leads_more}
+use Rattle.be_script_runner.proofs.CallLemmas.{leads_both}
 use Rattle.be_script_runner.proofs.stores.PassServerServer.apply.Goals as goal
 
 pub returns-clause-writes : goal.returns-clause-writes
@@ -22,5 +22,5 @@ returns-clause-reason c =
 pub invariant_of-self : goal.invariant_of-self
 invariant_of-self c = (
   c.apply_at_last.ensures.pass,
-  leads_more c.self.inside.first.value.knows c.self.inside.pass.knows c.apply_at_last.new.pass.knows c.self.invariant.1 c.apply_at_last.ensures.call,
+  leads_both c.self.inside.first.value.knows c.self.inside.pass.knows c.apply_at_last.new.pass.knows c.self.invariant.1 c.apply_at_last.ensures.call,
 )

@@ -1,5 +1,6 @@
-use Rattle.std.proofs.Common.{◌≡◌, None, ap, ◌∙◌, sym, subst, length, inl, inr}
+use Rattle.std.proofs.Common.{◌≡◌, None, ap, ◌∙◌, sym, subst, length}
 use Rattle.be_table.specs.declared.pass.Knowledge.{Knowledge}
+use Rattle.be_store.specs.SmallMachine.{Pin}
 use Rattle.be_script_runner.specs.Served.{Seated, known, seat_of}
 use Rattle.be_script_runner.specs.Store.{Meanwhile, pinned}
 use Rattle.be_script_runner.proofs.CallLemmas.{leads_more}
@@ -19,6 +20,6 @@ returns-clause-stays c = ap (λ (a : Knowledge). (c.self.inside.store.now, a.num
 pub invariant_of-self : goal.invariant_of-self
 invariant_of-self c = (
   c.pin-number.ensures.pass,
-  leads_more c.self.inside.first.value.knows c.self.inside.pass.knows c.pin-number.new.pass.knows c.self.invariant.1
-      (inr (inr (inl (c.pin-number.result, c.pin-number.ensures.pin)))),
+  leads_more c.self.inside.first.value.knows c.self.inside.pass.knows (Pin c.pin-number.result) c.pin-number.new.pass.knows c.self.invariant.1
+      c.pin-number.ensures.pin,
 )

@@ -1,4 +1,5 @@
-use Rattle.std.proofs.Common.{ap, inl, inr}
+use Rattle.std.proofs.Common.{ap}
+use Rattle.be_store.specs.SmallMachine.{Unpin}
 use Rattle.be_script_runner.specs.Served.{Seated}
 use Rattle.be_script_runner.proofs.CallLemmas.{leads_more}
 use Rattle.be_script_runner.proofs.PassLemmas.{is_pinned_to}
@@ -10,6 +11,6 @@ unpin-requires-clause-pinned c = is_pinned_to c.self.inside.pass.knows c.args.se
 pub invariant_of-self : goal.invariant_of-self
 invariant_of-self c = (
   c.unpin.ensures.pass,
-  leads_more c.self.inside.first.value.knows c.self.inside.pass.knows c.unpin.new.pass.knows c.self.invariant.1
-      (inr (inr (inr (inl (c.unpin.ensures.unpinned, c.unpin.ensures.moves.made))))),
+  leads_more c.self.inside.first.value.knows c.self.inside.pass.knows Unpin c.unpin.new.pass.knows c.self.invariant.1
+      (c.unpin.ensures.unpinned, c.unpin.ensures.moves.made),
 )

@@ -1,4 +1,4 @@
-use Rattle.std.proofs.Common.{◌≡◌, ◌∙◌, ℕ, List, Ok, ap, sym, arith, length}
+use Rattle.std.proofs.Common.{◌∙◌, ℕ, List, Ok, ap, sym, arith, length}
 use Rattle.std.specs.declared.option.Option.{Option}
 use Rattle.be_order.specs.Ordered.{cursor_bytes, page, page_with}
 use Rattle.be_store.specs.Passes.{volume_pinned}

@@ -1,15 +1,15 @@
 -- `lent` lends what the pointer leads to, and what is owned follows it. What is owned is a value, so the pointer is a box's.
-use Rattle.std.proofs.Common.{◌≡◌, ℕ, List, [], ◌∷◌, ◌++◌, refl, sym, true}
+use Rattle.std.proofs.Common.{◌≡◌, ℕ, List, [], ◌∷◌, refl, true}
 use Rattle.std.specs.Prelude.{is_some, Some}
 use seplogic.Ra.Ura.{Ura}
 use base.Fraction.{full_share}
 use mir.Syntax.{named}
 use mir.Val.{Val, vptr}
-use base.Logic.{SProp, ent, sep, id⊢}
-use base.Fml.{Lft, GName, Share, Fml, ftrue, flft, fsep}
+use base.Logic.{ent, sep, id⊢}
+use base.Fml.{GName, Fml, ftrue, flft, fsep}
 use mir.Raw.{raw as bare}
 use types.Logic.{Logic, sem}
-use types.Kit.{‵, raw, ◌⊛◌, some, given, later, at_ret, ◌$◌, ◌∵◌, !, qed, by, move, keep, drop, use1, split, join, pick, learn, await, rewrite, group, fsplit, fsplit3, fjoin, fpack, suffices, frame, done}
+use types.Kit.{‵, raw, ◌⊛◌, some, given, later, at_ret, ◌$◌, ◌∵◌, !, qed, move, keep, use1, split, join, pick, learn, await, rewrite, group, fsplit, fsplit3, fjoin, fpack, suffices, frame, done}
 use types.Part.{whole, sub, look_in}
 use types.Run.{stop, fld, load, of_opd, first, blocks, exec, returns, enter, addr}
 use types.ByLocal.{alloc_all, pass_all, free_all, look_at, get, through, sets, env, sets_last}
@@ -26,7 +26,7 @@ use denote.Triple.Walked.{says, Stays, stay_dropped, walk_of, ends_at, Goes-spen
 use Rattle.std.proofs.VecSteps.Shapes.{after}
 use Rattle.std.proofs.raw_atomic.Walks.{proved}
 use Rattle.std.proofs.alloc.Calls.{token}
-use Rattle.std.proofs.BoxSteps.Form.{B, X, D, τ, word, handle}
+use Rattle.std.proofs.BoxSteps.Form.{B, X, τ, word, handle}
 use Rattle.std.proofs.BoxSteps.Steps.{box_out, box_in}
 use Rattle.be_session.specs.contracts.session.Session.{the_row as Held}
 use Rattle.bestore_c.specs.Lent.{with_session}

@@ -1,0 +1,178 @@
+#!/usr/bin/env python3
+"""How long `be query --sort` takes for the first 50 of 84,000 files of a server, and the server alone: one table in Markdown.
+
+    /usr/bin/python3 bench/sorting.py FOLDER                             FOLDER has bestored and be, as rust/target/release
+    /usr/bin/python3 bench/sorting.py FOLDER --files 10000 --rounds 20   a trial
+
+It needs the package (PYTHONPATH=python). The files have seven attributes, as `be import` gives them, in a volume for 10,000 files each.
+Each asking has a new bound or filter. Times are in milliseconds: the median and the longest. The server's instructions are those that perf
+counts, where it does.
+"""
+from __future__ import annotations
+
+import argparse
+import json
+import os
+import random
+import shutil
+import socket
+import subprocess
+import sys
+import tempfile
+import time
+from pathlib import Path
+from statistics import median
+from typing import Any, Callable, Dict
+
+sys.path.insert(0, os.path.join(os.path.dirname(os.path.abspath(__file__)), "..", "python"))
+
+import bestore
+from bestore import Batch, Kind
+
+IN_A_VOLUME = 10_000
+IN_A_BATCH = 8
+NEWEST = 1_800_000_000
+WORDS = ("report", "photo", "invoice", "letter", "holiday", "budget", "notes", "scan", "minutes", "recipe")
+TYPES = ("text/plain", "image/png", "audio/mpeg", "application/pdf", "text/html", "text/x-source-code", "image/jpeg", "text/x-email")
+INDICES = {"name": Kind.STRING, "size": Kind.INT64, "last_modified": Kind.INT64, "BEOS:TYPE": Kind.STRING}
+SHOWN = 50
+
+Query = Dict[str, Any]
+
+
+def add_file(batch: Batch, node: int, number: int, chance: random.Random) -> None:
+    """A file with this number, on a node."""
+    batch.new_node()
+    when = NEWEST - chance.randrange(10**8)
+    values: Dict[str, Any] = {
+        "name": f"{WORDS[number % 10]}-{number:05}.txt", "size": chance.randrange(10**7), "last_modified": when,
+        "created": when, "BEOS:TYPE": TYPES[number // 10 % 8], "FILE:parent": f"/home/folder{number % 997}", "FILE:stat": f"{number:x}.{when:x}",
+    }
+    for name, value in values.items():
+        batch.set(node, name, value)
+
+
+def fill(place: str, volumes: int, files: int) -> None:
+    """Makes the files, as many in each volume."""
+    chance = random.Random(1)
+    with bestore.connect(place) as store:
+        for name, kind in INDICES.items():
+            store.make_index(name, kind)
+        for volume in range(volumes):
+            for first in range(1, files // volumes + 1, IN_A_BATCH):
+                batch = Batch()
+                for number in range(first, first + IN_A_BATCH):
+                    add_file(batch, volume * 10**14 + number if volumes > 1 else number, volume * files + number, chance)
+                if volumes > 1:
+                    store.apply(batch, volume=volume)
+                else:
+                    store.apply(batch)
+
+
+def query_of(case: str, chance: random.Random) -> Query:
+    """A page of files by falling dates, of which the bound or the filter is new."""
+    bound = NEWEST - 10**9 + chance.randrange(10**6)
+    query: Query = {"query": f"last_modified>={bound}", "by": "last_modified", "descending": True, "limit": SHOWN}
+    if case == "middle":
+        query["query"] = f"last_modified<{NEWEST - chance.randrange(10**8)}"
+    elif case == "pattern":
+        query["query"] += f' && name=="{chance.choice(WORDS)}*"'
+    elif case == "type":
+        query["query"] += f' && BEOS:TYPE=="{chance.choice(TYPES)}"'
+    return query
+
+
+CASES = {
+    "newest": "the newest 50", "middle": "50 after a date in the middle", "pattern": "the newest 50 of a tenth, by the front of their names",
+    "type": "the newest 50 of an eighth, by their type",
+}
+
+
+class Server:
+    """A server in a folder of its own, within a `with`."""
+
+    def __init__(self, programs: Path, volumes: int) -> None:
+        self._folder = Path(tempfile.mkdtemp(prefix="bestore-sorting-"))
+        self.place, self._programs = str(self._folder / "socket"), programs
+        words = [str(programs / "bestored"), "--socket", self.place, "--pages", "16384", "--volumes", str(volumes)]
+        self.process = subprocess.Popen(words, stderr=subprocess.DEVNULL)
+        while not os.path.exists(self.place) and self.process.poll() is None:
+            time.sleep(0.01)
+
+    def __enter__(self) -> Server:
+        return self
+
+    def __exit__(self, *error: object) -> None:
+        self.process.kill()
+        self.process.wait()
+        shutil.rmtree(self._folder)
+
+    def ask_by_tool(self, query: Query) -> None:
+        """Runs `be query`."""
+        words = [str(self._programs / "be"), "--socket", self.place, "query", "--sort", query["by"], "--reverse", "--limit", str(SHOWN), query["query"]]
+        found = subprocess.run(words, check=True, stdout=subprocess.PIPE).stdout.splitlines()
+        check(len(found), query)
+
+    def asker(self) -> Callable[[Query], None]:
+        """Asks by a connection of its own."""
+        connection = socket.socket(socket.AF_UNIX)
+        connection.connect(self.place)
+        replies = connection.makefile("rb")
+
+        def ask(query: Query) -> None:
+            connection.sendall(json.dumps({"id": 1, "query": query}).encode() + b"\n")
+            check(len(json.loads(replies.readline())["ok"]["nodes"]), query)
+
+        return ask
+
+
+def check(found: int, query: Query) -> None:
+    if found != SHOWN:
+        sys.exit(f"{query} finds {found} files, and not {SHOWN}")
+
+
+def milliseconds(ask: Callable[[Query], None], case: str, rounds: int) -> str:
+    """The median and the longest time of so many askings."""
+    chance, times = random.Random(case), []
+    for _ in range(rounds):
+        query = query_of(case, chance)
+        begin = time.perf_counter()
+        ask(query)
+        times.append((time.perf_counter() - begin) * 1000)
+    return f"{median(times):.2f}, {max(times):.2f}"
+
+
+def instructions(server: Server, ask: Callable[[Query], None], case: str, rounds: int) -> str:
+    """The server's instructions for an asking, by perf."""
+    chance = random.Random(case)
+    if shutil.which("perf") is None:
+        return "not counted"
+    counting = subprocess.Popen(["perf", "stat", "-x,", "-e", "instructions:u", "-p", str(server.process.pid)], stderr=subprocess.PIPE, text=True)
+    time.sleep(0.3)
+    for _ in range(rounds):
+        ask(query_of(case, chance))
+    counting.send_signal(2)
+    said = counting.communicate()[1]
+    counts = [int(line.split(",")[0]) for line in said.splitlines() if line.split(",")[0].isdigit()]
+    return f"{counts[0] // rounds:,}" if counts else "not counted"
+
+
+def main() -> None:
+    parser = argparse.ArgumentParser(description=__doc__, formatter_class=argparse.RawDescriptionHelpFormatter)
+    parser.add_argument("folder", type=Path, help="the folder with bestored and be")
+    parser.add_argument("--files", type=int, default=84_000, help="how many files there are (84,000)")
+    parser.add_argument("--rounds", type=int, default=100, help="how often each is asked (100)")
+    options = parser.parse_args()
+    volumes = -(-options.files // IN_A_VOLUME)
+    with Server(options.folder.resolve(), volumes) as server:
+        fill(server.place, volumes, options.files)
+        ask = server.asker()
+        print("| case | `be query --sort`, ms | the server, ms | its instructions |\n|---|---|---|---|")
+        for case, title in CASES.items():
+            cells = [milliseconds(server.ask_by_tool, case, options.rounds), milliseconds(ask, case, options.rounds),
+                     instructions(server, ask, case, options.rounds)]
+            print(f"| {title} | {' | '.join(cells)} |", flush=True)
+
+
+if __name__ == "__main__":
+    main()

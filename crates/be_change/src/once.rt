@@ -1,0 +1,43 @@
+//! How a change ends by a single try, in a program that may not wait for the writer.
+ghost use Rattle.std.specs.Prelude.{◌≡◌, ℕ};
+ghost use Rattle.be_table.specs.declared.pass.Knowledge.{Knowledge};
+ghost use Rattle.be_store.specs.Passes.{IsPassOf, IsPinnedTo};
+ghost use Rattle.be_change.specs.Ending.{EndsOnce, Releases};
+
+use crate::ending::release;
+use crate::{Change, Ended};
+use be_store::{ApplyIfError, Pass, Refusal, Store};
+
+impl Change {
+    /// Ends the change as `end` does, by a single try. It lets no other thread run, as the library
+    /// for C may not. Busy: nothing is written, and the change is gone; begin anew.
+    pub fn end_once(self, store: &Store, pass: &mut Pass) -> Result<Ended, Refusal>
+        requires pass { IsPassOf store.now pass.old }
+        requires pinned { (n : ℕ) × IsPinnedTo pass.old.knows n }
+        ensures pass { IsPassOf store.now pass.new }
+        ensures ends { (c : Knowledge) × EndsOnce self pass.old.knows c result
+            × Releases self.pins c pass.new.knows }
+    {
+        let ended = write_once(&self, store, pass);
+        release(self.pins(), store, pass);
+        ended
+    }
+}
+
+/// Writes what the change has collected, if it has collected anything. The pin stays.
+fn write_once(change: &Change, store: &Store, pass: &mut Pass) -> Result<Ended, Refusal>
+    requires pass { IsPassOf store.now pass.old }
+    ensures pass { IsPassOf store.now pass.new }
+    ensures ends { EndsOnce change.now pass.old.knows pass.new.knows result }
+    ensures pin { pass.new.knows.phase ≡ pass.old.knows.phase }
+{
+    let ops = change.operations();
+    if ops.is_empty() {
+        return Ok(Ended::Accepted(change.number()));
+    }
+    match store.apply_if(pass, change.number(), ops) {
+        Ok((number, _)) => Ok(Ended::Accepted(number)),
+        Err(ApplyIfError::Conflict(found)) => Ok(Ended::Again(found)),
+        Err(ApplyIfError::Refused(refusal)) => Err(refusal),
+    }
+}

@@ -1,0 +1,17 @@
+-- Pages of one snapshot, one after another.
+use Rattle.std.specs.Prelude.{◌≡◌, ℕ, Bool, true, false, List, [], ◌∷◌, Ok, flat_map}
+use Rattle.std.specs.declared.option.Option.{Option}
+use Rattle.be_query.specs.Grammar.{Formula}
+use Rattle.be_volume.specs.Volume.{State}
+use Rattle.be_order.specs.Ordered.{Page, page}
+
+-- the nodes of pages, one page after the other
+abbrev pub nodes_in : List Page → List ℕ
+nodes_in pages = flat_map (λ p. p.nodes) pages
+
+-- The first is the page after this cursor, and each other the page after the cursor that the one
+-- before it left. Each says that there are more, but for the last.
+abbrev pub ArePages : State → Formula → List ℕ → Bool → ℕ → Option (List ℕ) → List Page → Type 0
+ArePages s f by descending most cursor [] = ⊥
+ArePages s f by descending most cursor (p ∷ ps) = (page s f by descending cursor most ≡ Ok p)
+    × (p.more ≡ true → ArePages s f by descending most p.cursor ps) × (p.more ≡ false → ps ≡ [])

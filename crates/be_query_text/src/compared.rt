@@ -1,0 +1,146 @@
+//! The comparisons of a query's text.
+ghost use Rattle.std.specs.Prelude.{◌≡◌, ◌≤◌, ◌+◌, ◌++◌, ◌∷◌, List, IfErr, IfOk, None, Some};
+ghost use Rattle.std.specs.Prelude.{length, map, string_bytes};
+ghost use Rattle.be_query.specs.Faults.{fault};
+ghost use Rattle.be_query.specs.Grammar.{Formula, IsTextOf, comparisons};
+ghost use Rattle.be_query.specs.View.{IsMemory, formula, literal as literal_of};
+ghost use Rattle.be_value.specs.declared.refusals.Refusal.TheVariants.{OutOfMemory};
+ghost use Rattle.be_volume.specs.Query.{literal_number};
+ghost use Rattle.be_query_text.specs.Described.{Comparison as AnyComparison, described};
+ghost use Rattle.be_query_text.specs.Described.{description, form_of, leaves, told, words_of};
+ghost use Rattle.be_query_text.specs.Places.{places};
+
+use crate::places::{Place, places};
+use be_query::{Cmp, Comparison, Literal, Tree, parse};
+use be_value::{Name, Refusal};
+use be_volume::literal_number;
+use std::alloc::Global;
+
+/// What a comparison compares with.
+#[derive(Clone, Copy, Debug, PartialEq, Eq)]
+pub enum Form {
+    /// A text that encodes a whole number from -2^63 to 2^64 - 1.
+    Number,
+    /// Any other text.
+    Text,
+    /// A pattern with a wildcard.
+    Pattern,
+}
+
+/// A comparison of a query's text.
+#[derive(Debug, Drop)]
+pub struct Compared {
+    pub name: Name,
+    /// As the tree has it: turned by each `!` round the comparison.
+    pub op: Cmp,
+    pub form: Form,
+    /// The number, if it is one.
+    pub number: Option<i128>,
+    /// What is compared with, without quotes and backslashes; of a pattern its canonical text.
+    pub words: String,
+    /// The place of the comparison, and its operator there.
+    pub place: Place,
+}
+
+/// The comparisons of a query's text, from left to right, or the refusal of `parse`. It takes what
+/// `parse` takes, and memory for the comparisons.
+pub fn comparisons(alloc: Global, text: &str) -> Result<Vec<Compared>, Refusal>
+    // They are the comparisons of the tree that the text encodes, each with its place in the text.
+    ensures ok { IfOk result (λ v. (fault text.now ≡ None) × (tree : Formula)
+        × IsTextOf text.now tree × (map told v.items ≡ described (leaves tree) (places text.now))) }
+    // A text that is no query is refused as `parse` refuses it.
+    ensures err { IfErr result (λ e. IsMemory e (fault text.now ≡ Some e)) }
+{
+    let query = parse(alloc, text)?;
+    let places = places(alloc, text)?;
+    let mut compared = Vec::new(alloc);
+    push_each(alloc, query.tree(), &places, &mut compared)?;
+    Ok(compared)
+}
+
+/// Appends the comparisons of a part of a query, which are at the first places, and returns the
+/// places of those after it.
+fn push_each<'a>(
+    alloc: Global,
+    tree: &Tree,
+    places: &'a [Place],
+    compared: &mut Vec<Compared>,
+) -> Result<&'a [Place], Refusal>
+    requires { comparisons (formula tree.now) ≤ length places.now }
+    ensures told { IfOk result (λ rest. (more : List AnyComparison)
+        → map told compared.new.items ++ described more rest.now
+        ≡ map told compared.old.items ++ described (leaves (formula tree.now) ++ more) places.now) }
+    ensures left { IfOk result (λ rest. comparisons (formula tree.now) + length rest.now
+        ≡ length places.now) }
+    ensures memory { IfErr result (λ e. e ≡ OutOfMemory) }
+{
+    match tree {
+        Tree::Leaf(comparison) => {
+            let Some((place, rest)) = places.split_first() else {
+                return Ok(places);
+            };
+            compared.push(describe(alloc, comparison, *place)?)?;
+            Ok(rest)
+        }
+        Tree::And(left, right) | Tree::Or(left, right) => {
+            let rest = push_each(alloc, left, places, compared)?;
+            push_each(alloc, right, rest, compared)
+        }
+    }
+}
+
+/// What is said of a comparison at a place.
+fn describe(alloc: Global, comparison: &Comparison, place: Place) -> Result<Compared, Refusal>
+    ensures ok { IfOk result (λ c. told c ≡ description (record {
+      name = comparison.now.name;
+      op = comparison.now.op;
+      literal = literal_of comparison.now.literal;
+    }) place) }
+    ensures memory { IfErr result (λ e. e ≡ OutOfMemory) }
+{
+    let number = literal_number(&comparison.literal);
+    Ok(Compared {
+        name: comparison.name.copy(),
+        op: comparison.op,
+        form: form_of(&comparison.literal, number),
+        number,
+        words: words_of(alloc, &comparison.literal)?,
+        place,
+    })
+}
+
+/// The form of a literal that encodes this number, or none.
+fn form_of(literal: &Literal, number: Option<i128>) -> Form
+    ensures { result ≡ form_of (literal_of literal.now) number }
+{
+    if number.is_some() {
+        return Form::Number;
+    }
+    match literal {
+        Literal::Text(_) => Form::Text,
+        Literal::Pattern(pattern) => {
+            if pattern.is_plain() {
+                Form::Text
+            } else {
+                Form::Pattern
+            }
+        }
+    }
+}
+
+/// What a literal compares with: a text, or a pattern's canonical text.
+fn words_of(alloc: Global, literal: &Literal) -> Result<String, Refusal>
+    ensures ok { IfOk result (λ words. string_bytes words ≡ words_of (literal_of literal.now)) }
+    ensures memory { IfErr result (λ e. e ≡ OutOfMemory) }
+{
+    match literal {
+        Literal::Text(words) => Ok(String::from_str(alloc, words)?),
+        Literal::Pattern(pattern) => {
+            if pattern.is_plain() {
+                Ok(String::from_str(alloc, pattern.prefix())?)
+            } else {
+                pattern.canonical(alloc)
+            }
+        }
+    }
+}

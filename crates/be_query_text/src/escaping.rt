@@ -1,0 +1,71 @@
+//! A text as a name or a value of a query.
+ghost use Rattle.std.specs.Prelude.{◌≡◌, ◌++◌, ◌||◌, false, IfOk, encode_utf8_all, string_bytes};
+ghost use Rattle.be_pattern.specs.Canonical.{marked};
+ghost use Rattle.be_query.specs.Lexing.{is_quote, is_separator, is_sign};
+ghost use Rattle.be_value.specs.Name.{has_nul};
+ghost use Rattle.be_query_text.specs.Encoded.{Encodes, escaped_char, is_special};
+
+use be_pattern::matching::split_first_char;
+use std::alloc::{AllocError, Global};
+
+/// The text with a backslash before each character that a query or a pattern takes for more than
+/// itself. A query reads it back as the text, as a name or as a value, in quotes of either kind or
+/// as a word, and as a part of a pattern too. An empty text needs quotes.
+pub fn escaped(alloc: Global, text: &str) -> Result<String, AllocError>
+    ensures { IfOk result (λ s. has_nul text.now ≡ false → Encodes (string_bytes s) text.now) }
+{
+    let mut escaped = String::new(alloc);
+    let mut rest = text;
+    'characters: while let Some((c, after)) = split_first_char(rest) {
+        push_escaped(&mut escaped, c)?;
+        rest = after;
+    }
+    Ok(escaped)
+}
+
+/// Appends a character, with its backslash if it needs one.
+pub(crate) fn push_escaped(text: &mut String, c: char) -> Result<(), AllocError>
+    ensures { IfOk result (λ _. string_bytes text.new ≡ string_bytes text.old
+        ++ encode_utf8_all (escaped_char c)) }
+{
+    push_marked(text, c, is_special(c))
+}
+
+/// Appends a character, after a backslash if the flag says so.
+fn push_marked(text: &mut String, c: char, backslash: bool) -> Result<(), AllocError>
+    ensures { IfOk result (λ _. string_bytes text.new ≡ string_bytes text.old
+        ++ encode_utf8_all (marked backslash c)) }
+{
+    if !backslash {
+        return text.push(c);
+    }
+    text.push('\\')?;
+    text.push(c)
+}
+
+/// Whether a query takes the character for more than itself.
+fn is_special(c: char) -> bool
+    ensures { result ≡ is_special c }
+{
+    is_delimiter(c) || c == '\\' || c == '*' || c == '?' || c == '['
+}
+
+/// Whether a word ends before the character.
+fn is_delimiter(c: char) -> bool
+    ensures { result ≡ (is_separator c || is_quote c || is_sign c) }
+{
+    c == ' '
+        || c == '\t'
+        || c == '\n'
+        || c == '\r'
+        || c == '"'
+        || c == '\''
+        || c == '='
+        || c == '!'
+        || c == '<'
+        || c == '>'
+        || c == '&'
+        || c == '|'
+        || c == '('
+        || c == ')'
+}

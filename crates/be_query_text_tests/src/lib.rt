@@ -1,0 +1,5 @@
+//! Texts of queries, by the public calls of be_query_text.
+#![tactic(auto)]
+
+#[cfg(test)]
+mod tests;

@@ -1,0 +1,103 @@
+-- Changes by a session's calls: what they collect, what they read, and how they end.
+use Rattle.std.specs.Prelude.{◌≡◌, ◌⊎◌, ℕ, true, List, [], ◌∷◌, ◌++◌, length}
+use Rattle.std.specs.declared.option.Option.{Option}
+use Rattle.std.specs.declared.result.Result.{Result}
+use Rattle.std.specs.declared.result.Result.TheVariants.{Ok, Err}
+use Rattle.be_change.specs.Changing.{After, Changing, Reads, outcomes, with_op}
+use Rattle.be_change.specs.Collecting.{HasNoRoom, IsOfRightKind, IsOfWrongKind}
+use Rattle.be_change.specs.Ending.{EndsOnce, Releases}
+use Rattle.be_change.specs.declared.ending.Ended.{Ended}
+use Rattle.be_change.specs.declared.ending.Ended.TheVariants.{Accepted, Again}
+use Rattle.be_change.specs.declared.errors.CollectError.{CollectError}
+use Rattle.be_store.specs.Passes.{IsPinnedTo, volume_pinned}
+use Rattle.be_table.specs.declared.pass.Knowledge.{Knowledge}
+use Rattle.be_value.specs.Value.{kind_of}
+use Rattle.be_value.specs.declared.refusals.Refusal.{Refusal}
+use Rattle.be_value.specs.declared.values.Value.{Value}
+use Rattle.be_volume.specs.Reading.{attribute}
+use Rattle.be_volume.specs.Volume.{State}
+use Rattle.be_volume.specs.declared.ops.Done.TheVariants.{Node}
+use Rattle.be_volume.specs.declared.ops.Op.{Op}
+use Rattle.be_volume.specs.declared.ops.Op.TheVariants.{New, Drop, Set, Unset, MkIndex, RmIndex}
+use Rattle.be_session.specs.Fault.{fault_of_collecting}
+use Rattle.be_session.specs.Operations.{ArePartsWithin, IsMeantBy, IsMisspeltAt}
+use Rattle.be_session.specs.declared.faults.Fault.{Fault}
+use Rattle.be_session.specs.declared.faults.Fault.TheVariants.{Conflict, NotPinned, Refused}
+use Rattle.be_session.specs.declared.lists.Operation.{Operation}
+
+-- The number that a change returns for an operation that it has collected. For a new node it is the
+-- next number after the operations before, and the outcome of this operation; otherwise it is 0.
+abbrev pub IsGiven : Changing → Changing → Op → ℕ → Type 0
+IsGiven was now New node =
+    (outcomes now.first now.ops ≡ outcomes was.first was.ops ++ Node node ∷ [])
+    × ((base : State) → Reads was base → After was base (λ s. node ≡ s.next))
+IsGiven was now (Drop dropped) node = node ≡ 0
+IsGiven was now (Set changed name value) node = node ≡ 0
+IsGiven was now (Unset changed name) node = node ≡ 0
+IsGiven was now (MkIndex name kind) node = node ≡ 0
+IsGiven was now (RmIndex name) node = node ≡ 0
+
+-- if the change checks kinds, and this sets an attribute, the value has the kind of the index of
+-- its name, as the operations before leave that index
+abbrev pub SetsRightKind : Changing → Op → Type 0
+SetsRightKind c New = Unit {0}
+SetsRightKind c (Drop node) = Unit {0}
+SetsRightKind c (Set node name value) = c.checks ≡ true → IsOfRightKind c name (kind_of value)
+SetsRightKind c (Unset node name) = Unit {0}
+SetsRightKind c (MkIndex name kind) = Unit {0}
+SetsRightKind c (RmIndex name) = Unit {0}
+
+-- this sets an attribute, and the index of its name takes another kind
+abbrev pub SetsWrongKind : Changing → Op → CollectError → Type 0
+SetsWrongKind c New e = ⊥
+SetsWrongKind c (Drop node) e = ⊥
+SetsWrongKind c (Set node name value) e = IsOfWrongKind c name (kind_of value) e
+SetsWrongKind c (Unset node name) e = ⊥
+SetsWrongKind c (MkIndex name kind) e = ⊥
+SetsWrongKind c (RmIndex name) e = ⊥
+
+-- the change has collected exactly this operation, and returned this number
+abbrev pub Collects : Changing → Changing → Op → ℕ → Type 0
+Collects was now op node = (now ≡ with_op was op) × IsGiven was now op node × SetsRightKind was op
+
+-- why an operation wasn't collected
+abbrev pub IsUncollected : Changing → Op → CollectError → Type 0
+IsUncollected c op e = HasNoRoom c e ⊎ SetsWrongKind c op e
+
+-- the operation that is encoded here was collected
+abbrev pub CollectsMeant : Changing → Changing → Operation → List ℕ → ℕ → Type 0
+CollectsMeant was now o bytes node = (op : Op) × ArePartsWithin o (length bytes)
+    × IsMeantBy o bytes op × Collects was now op node
+
+-- why it wasn't: the encoding is invalid, or the change doesn't take the operation
+abbrev pub IsNotCollected : Changing → Operation → List ℕ → Fault → Type 0
+IsNotCollected c o bytes e = IsMisspeltAt o bytes e
+    ⊎ ((op : Op) × IsMeantBy o bytes op
+    × (why : CollectError) × (e ≡ fault_of_collecting why) × IsUncollected c op why)
+
+-- What a change reads of an attribute: what its operations leave of the snapshot's, if the session
+-- is pinned to that snapshot; otherwise NotPinned.
+abbrev pub ReadsChanged : Changing → Knowledge → ℕ → List ℕ → Result (Option Value) Fault → Type 0
+ReadsChanged change a node name (Ok found) = IsPinnedTo a change.number
+    × (Reads change (volume_pinned a)
+    → After change (volume_pinned a) (λ s. found ≡ attribute s node name))
+ReadsChanged change a node name (Err e) = (¬ (IsPinnedTo a change.number)) × (e ≡ NotPinned)
+
+-- what a session returns of how a change ended
+abbrev pub as_answer : Result Ended Refusal → Result ℕ Fault
+as_answer (Ok (Accepted n)) = Ok n
+as_answer (Ok (Again found)) = Err (Conflict found)
+as_answer (Err why) = Err (Refused why)
+
+-- How a change ends. If the session isn't pinned to its snapshot, nothing happens. Otherwise it
+-- ends as be_change says, and then the pin that it made is released.
+abbrev pub EndsChange : Changing → (a d : Knowledge) → Result ℕ Fault → Type 0
+EndsChange change a d result =
+    ((¬ (IsPinnedTo a change.number)) × (d ≡ a) × (result ≡ Err NotPinned))
+    ⊎ (IsPinnedTo a change.number × (ended : Result Ended Refusal) × (result ≡ as_answer ended)
+    × (c : Knowledge) × EndsOnce change a c ended × Releases change.pins c d)
+
+-- a change that is abandoned writes nothing; its pin is released, if the session has it
+abbrev pub Abandons : Changing → (a d : Knowledge) → Type 0
+Abandons change a d = ((¬ (IsPinnedTo a change.number)) × (d ≡ a))
+    ⊎ (IsPinnedTo a change.number × Releases change.pins a d)

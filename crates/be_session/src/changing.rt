@@ -1,0 +1,154 @@
+//! Changes by a session's calls: begun, collected, read and ended without a callback.
+ghost use Rattle.std.specs.Prelude.{◌≡◌, IfErr, IfOk, false, true};
+ghost use Rattle.be_change.specs.Ending.{Begins, IsNotBegun};
+ghost use Rattle.be_session.specs.Changes.{Abandons, Collects, CollectsMeant, EndsChange};
+ghost use Rattle.be_session.specs.Changes.{IsNotCollected, IsUncollected, ReadsChanged};
+ghost use Rattle.be_session.specs.declared.faults.Fault.TheVariants.{Refused};
+ghost use Rattle.be_store.specs.Passes.{HasRead, IsPinnedTo};
+ghost use Rattle.be_value.specs.declared.refusals.Refusal.TheVariants.{OutOfMemory};
+
+use crate::lists::one;
+use crate::{Fault, Operation, Session};
+use be_change::{Change, CollectError, Ended, Kinds};
+use be_store::{Name, Op, Refusal, Value};
+use std::alloc::{AllocFailed, Global};
+
+/// Collects an operation. Returns the number that its node will have if it makes one, and otherwise
+/// 0.
+fn collect(change: &mut Change, op: Op) -> Result<u64, CollectError>
+    ensures ok { IfOk result (λ node. Collects change.old change.new op node) }
+    ensures err { IfErr result (λ e. (change.new ≡ change.old) × IsUncollected change.old op e) }
+{
+    match op {
+        Op::New => change.new_node(),
+        Op::Drop(node) => {
+            change.remove_node(node)?;
+            Ok(0)
+        }
+        Op::Set(node, name, value) => {
+            change.set(node, name, value)?;
+            Ok(0)
+        }
+        Op::Unset(node, name) => {
+            change.unset(node, name)?;
+            Ok(0)
+        }
+        Op::MkIndex(name, kind) => {
+            change.make_index(name, kind)?;
+            Ok(0)
+        }
+        Op::RmIndex(name) => {
+            change.remove_index(name)?;
+            Ok(0)
+        }
+    }
+}
+
+/// Collects the operation that is encoded here. Returns the number that its node will have if it
+/// makes one, and otherwise 0. An error adds nothing: those of an invalid operation; WrongKind, if
+/// the change checks kinds and the index of the name takes another kind than this value has;
+/// BadCount at the 65th operation; OutOfMemory.
+pub fn collect_operation(
+    change: &mut Change,
+    spelled: &Operation,
+    bytes: &[u8],
+) -> Result<u64, Fault>
+    ensures ok { IfOk result (λ node. CollectsMeant change.old change.new spelled.now bytes.now
+        node) }
+    ensures err { IfErr result (λ e. (change.new ≡ change.old)
+        × IsNotCollected change.old spelled.now bytes.now e) }
+{
+    let op = match one(spelled, bytes) {
+        Ok(op) => op,
+        Err(fault) => return Err(fault),
+    };
+    match collect(change, op) {
+        Ok(node) => Ok(node),
+        Err(error) => Err(Fault::from(error)),
+    }
+}
+
+impl Session {
+    /// Whether this snapshot is pinned.
+    fn is_pinned_to(&self, number: u64) -> bool
+        ensures yes { result ≡ true → IsPinnedTo self.now.knows number }
+        ensures no { result ≡ false → ¬ (IsPinnedTo self.now.knows number) }
+    {
+        match self.pass.pinned() {
+            Some(pinned) => pinned == number,
+            None => false,
+        }
+    }
+
+    /// Begins a change on the pinned snapshot, and checks kinds. A session that isn't pinned is
+    /// pinned now, and the end of the change unpins it. OutOfMemory: the session is pinned or not,
+    /// as it was. It takes memory for the change and for the list of the snapshot's indices.
+    pub fn begin_change(&mut self, alloc: Global) -> Result<Box<Change, Global>, Fault>
+        ensures store { (self.new.store ≡ self.old.store) × (self.new.spare ≡ self.old.spare) }
+        ensures ok { IfOk result (λ change. Begins change.value true self.old.knows
+            self.new.knows) }
+        ensures err { IfErr result (λ e. (e ≡ Refused OutOfMemory)
+            × IsNotBegun self.old.knows self.new.knows) }
+    {
+        let store = self.shared.store();
+        let change = Change::begin(alloc, store, &mut self.pass, Kinds::Checked)?;
+        match Box::new(alloc, change) {
+            Ok(change) => Ok(change),
+            Err(AllocFailed { value }) => {
+                value.abandon(self.shared.store(), &mut self.pass);
+                Err(Fault::Refused(Refusal::OutOfMemory))
+            }
+        }
+    }
+
+    /// A node's attribute as the change's operations leave it, if it has one. NotPinned if the
+    /// change's snapshot isn't pinned.
+    pub fn changed(
+        &mut self,
+        change: &Change,
+        node: u64,
+        name: &Name,
+    ) -> Result<Option<Value>, Fault>
+        ensures store { (self.new.store ≡ self.old.store) × (self.new.spare ≡ self.old.spare) }
+        ensures read { HasRead self.old.knows self.new.knows }
+        ensures value { ReadsChanged change.now self.old.knows node name.now result }
+    {
+        if !self.is_pinned_to(change.number()) {
+            return Err(Fault::NotPinned);
+        }
+        Ok(change.get(self.shared.store(), &mut self.pass, node, name))
+    }
+
+    /// Writes what the change has collected as one transaction, if no other write came since its
+    /// snapshot, and unpins the session if `begin_change` pinned it. Returns the commit number, or
+    /// the snapshot's number if nothing was collected.
+    ///
+    /// NotPinned if the change's snapshot isn't pinned; Conflict with the journal's length if
+    /// another write came: begin anew; and the store's own refusals. After an error nothing is
+    /// written.
+    pub fn end_change(&mut self, change: Change) -> Result<u64, Fault>
+        ensures store { (self.new.store ≡ self.old.store) × (self.new.spare ≡ self.old.spare) }
+        ensures ends { EndsChange change self.old.knows self.new.knows result }
+    {
+        if !self.is_pinned_to(change.number()) {
+            return Err(Fault::NotPinned);
+        }
+        let store = self.shared.store();
+        match change.end_once(store, &mut self.pass) {
+            Ok(Ended::Accepted(number)) => Ok(number),
+            Ok(Ended::Again(found)) => Err(Fault::Conflict(found)),
+            Err(refusal) => Err(Fault::Refused(refusal)),
+        }
+    }
+
+    /// Ends a change without writing, and unpins the session if `begin_change` pinned it.
+    pub fn abandon_change(&mut self, change: Change)
+        ensures store { (self.new.store ≡ self.old.store) × (self.new.spare ≡ self.old.spare) }
+        ensures abandons { Abandons change self.old.knows self.new.knows }
+    {
+        if !self.is_pinned_to(change.number()) {
+            return;
+        }
+        change.abandon(self.shared.store(), &mut self.pass);
+    }
+}

@@ -1,0 +1,89 @@
+-- A small machine: passes write to one journal of a sequential object, and read prefixes of it.
+-- Each call of a store is one of its steps, and a meeting of two passes is a step of each.
+use Rattle.std.specs.Prelude.{◌≡◌, ◌<◌, ◌⊎◌, ℕ, List, [], ◌∷◌, ◌++◌, All, length, take, get_or}
+use Rattle.std.specs.Prelude.{fold, filter, nat_eq, Option, Some, None}
+use Rattle.be_table.specs.History.{StartsWith}
+
+-- A sequential object, and the entries of its journal. An entry is a write with its outcomes, by
+-- one pass. `Accepts s e` says that the object, in the state s, accepts the write and returns these
+-- outcomes; `after s e` is its state then; `answer q s` is what it answers to the question q.
+pub record Object : Type 1 where
+  pub State : Type 0
+  pub Entry : Type 0
+  pub Question : Type 0
+  pub Answer : Type 0
+  pub by : Entry → ℕ
+  pub empty : State
+  pub Accepts : State → Entry → Type 0
+  pub after : State → Entry → State
+  pub answer : Question → State → Answer
+
+-- the state after these entries, in their order
+abbrev pub state_of : (o : Object) → List o.Entry → o.State
+state_of o log = fold (λ s e. o.after s e) o.empty log
+
+-- the object accepts each entry, in the state after the entries before it
+abbrev pub IsLegalFor : (o : Object) → List o.Entry → Type 0
+IsLegalFor o log = (i : ℕ) (e : o.Entry) → i < length log → e ≡ get_or log i e
+    → o.Accepts (state_of o (take i log)) e
+
+-- the entries by the pass k, in their order
+abbrev pub entries_by : (o : Object) → ℕ → List o.Entry → List o.Entry
+entries_by o k log = filter (λ e. nat_eq (o.by e) k) log
+
+-- What a pass knows: its number, the prefix of the journal that it has seen, its own entries, and
+-- to how many entries it is pinned, if it is.
+pub record PassView (o : Object) : Type 0 where
+  pub number : ℕ
+  pub seen : List o.Entry
+  pub mine : List o.Entry
+  pub pin : Option ℕ
+
+-- what the pass k knows at first
+abbrev pub first_view : (o : Object) → ℕ → PassView o
+first_view o k = record { number = k; seen = []; mine = []; pin = None }
+
+-- What a call does, and what it returns.
+pub data Step (o : Object) : Type 0 where
+  -- an accepted write: its entry, and the number that it returned
+  Apply : o.Entry → ℕ → Step o
+  -- a call that neither writes nor answers: a refused write, a meeting, a look at the journal
+  Learn : Step o
+  -- a pin, which returned this number
+  Pin : ℕ → Step o
+  Unpin : Step o
+  -- a read at the pin: the question, and the answer that it returned
+  Read : o.Question → o.Answer → Step o
+
+-- The step of a pass from the view a to the view c. Between its steps others write, and it learns
+-- of that only by its next step. That none of the others' entries is by this pass isn't said here:
+-- `Closes` says it, since the journal then has no entries by a pass but those in its `mine`.
+abbrev pub Leads : (o : Object) → PassView o → Step o → PassView o → Type 0
+Leads o a (Apply e n) c =
+    (others : List o.Entry) × (o.by e ≡ a.number) × o.Accepts (state_of o (a.seen ++ others)) e
+    × (c ≡ record a { seen = (a.seen ++ others) ++ e ∷ []; mine = a.mine ++ e ∷ [] })
+    × (n ≡ length c.seen)
+Leads o a Learn c = (others : List o.Entry) × (c ≡ record a { seen = a.seen ++ others })
+Leads o a (Pin n) c = (others : List o.Entry)
+    × (c ≡ record a { seen = a.seen ++ others; pin = Some n }) × (n ≡ length c.seen)
+Leads o a Unpin c = c ≡ record a { pin = None }
+Leads o a (Read q r) c = (n : ℕ) × (a.pin ≡ Some n)
+    × (r ≡ o.answer q (state_of o (take n a.seen))) × (c ≡ a)
+
+-- The steps of one pass from the view a on, each with the view after it, lead to the view z.
+abbrev pub AreSteps : (o : Object) → PassView o → List (Step o × PassView o) → PassView o → Type 0
+AreSteps o a [] z = a ≡ z
+AreSteps o a (x ∷ rest) z = Leads o a x.0 x.1 × AreSteps o x.1 rest z
+
+-- one of these views is that of the pass k
+abbrev pub HasNumber : (o : Object) → List (PassView o) → ℕ → Type 0
+HasNumber o [] k = ⊥
+HasNumber o (z ∷ views) k = (z.number ≡ k) ⊎ HasNumber o views k
+
+-- The last step: all passes close the store, with these views, and get this journal. Each entry is
+-- by one of these passes; it begins with what each has seen, and has just its own entries of each.
+-- Only from here on is anything said of two passes at once.
+pub record Closes (o : Object) (journal : List o.Entry) (views : List (PassView o)) : Type 0 where
+  pub authors : All (λ (e : o.Entry). HasNumber o views (o.by e)) journal
+  pub seen : All (λ (z : PassView o). StartsWith journal z.seen) views
+  pub mine : All (λ (z : PassView o). entries_by o z.number journal ≡ z.mine) views

@@ -1,0 +1,67 @@
+//! A live query that one thread refreshes by what changed, while another thread writes.
+ghost use Rattle.be_store.specs.Live.{IsLiveOf};
+ghost use Rattle.be_store.specs.Passes.{IsPassOf};
+
+use crate::tests::refreshing::{TEXT, agrees, make_nodes, write_some};
+use be_store::{Kind, Limits, Live, Name, Op, Pass, Query, Refusal, Store, parse};
+use be_test_tools::both_of;
+use std::alloc::{AllocGlobal, Global};
+use std::thread;
+use std::thread::Threads;
+
+/// So many that an answer has more than the 96 nodes from which on a refresh goes by what changed.
+const NODES: u32 = 400;
+
+/// Writes random operations.
+fn write_on(store: &Store, mut writer: Pass) -> Result<(), Refusal>
+    requires { IsPassOf store.now writer }
+{
+    write_some(store, &mut writer, NODES, 1_000, 3)?;
+    Ok(())
+}
+
+/// Refreshes at 100 pins. Whether the list always was what the query found at the pin.
+fn follow_on(
+    store: &Store,
+    alloc: Global,
+    mut reader: Pass,
+    query: &Query,
+    mut live: Live,
+) -> Result<bool, Refusal>
+    requires reader { IsPassOf store.now reader }
+    requires own { IsLiveOf store.now live }
+{
+    let mut list = Vec::new(alloc);
+    for _ in 0..100 {
+        if !agrees(store, alloc, &mut reader, query, &mut live, &mut list)? {
+            return Ok(false);
+        }
+    }
+    Ok(true)
+}
+
+/// Refreshes and writes at once, in a new store.
+pub(crate) fn follows_another_thread<R: AllocGlobal + Threads + Sync>(
+    rt: &R,
+) -> Result<bool, Refusal> {
+    let limits = Limits {
+        pages: 1024,
+        passes: 2,
+        commits: 10_000,
+    };
+    let alloc = rt.alloc();
+    let (store, passes) = Store::open(alloc, limits)?;
+    let (mut writer, reader) = both_of(passes)?;
+    let size = Op::MkIndex(Name::new("size")?, Kind::Llng);
+    store.apply(&mut writer, &[size])?;
+    make_nodes(&store, &mut writer, NODES)?;
+    let live = Live::new(alloc, parse(alloc, TEXT)?);
+    let query = parse(alloc, TEXT)?;
+    let (written, follows) = thread::join(
+        rt,
+        || write_on(&store, writer),
+        || follow_on(&store, alloc, reader, &query, live),
+    );
+    written?;
+    follows
+}

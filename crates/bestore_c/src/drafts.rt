@@ -1,0 +1,68 @@
+//! Changes that C holds: what they read, and how they leave their handle.
+ghost use Rattle.std.specs.Prelude.{◌≡◌, ◌⊎◌, ℕ, None, Some};
+ghost use Rattle.be_store.specs.Passes.{HasRead};
+ghost use Rattle.bestore_c.specs.Calls.{Shown};
+ghost use Rattle.bestore_c.specs.Drafts.{ShowsChanged};
+
+use crate::handle::{Attribute, DraftHandle};
+use crate::owned_draft::OwnedDraft;
+use crate::places::put;
+use crate::reading::NO_ATTRIBUTE;
+use be_change::Change;
+use be_session::{Session, spelled};
+use be_store::{Name, Value};
+use std::alloc::Global;
+use std::mem;
+
+/// Writes a value, as far as there is room for its bytes, or returns that there is no attribute.
+fn show(found: Option<Value>, told: &mut Attribute, bytes: &mut [u8]) -> u32
+    ensures shown { (n : ℕ) → Shown (Some n) found told.new bytes.old bytes.new result }
+    ensures kept { (result ≡ 0) ⊎ ((told.new ≡ told.old) × (bytes.new ≡ bytes.old)) }
+{
+    let Some(value) = found else {
+        return NO_ATTRIBUTE;
+    };
+    let (code, number, data) = spelled(&value);
+    *told = Attribute {
+        code,
+        length: data.len() as u64,
+        number,
+    };
+    put(bytes, data);
+    0
+}
+
+/// Reads an attribute as a change's operations leave it, and writes its value.
+pub(crate) fn read_changed(
+    session: &mut Session,
+    change: &Change,
+    node: u64,
+    name: &Name,
+    told: &mut Attribute,
+    bytes: &mut [u8],
+) -> u32
+    ensures store { (session.new.store ≡ session.old.store)
+        × (session.new.spare ≡ session.old.spare) }
+    ensures read { HasRead session.old.knows session.new.knows }
+    ensures shown { ShowsChanged change.now session.old.knows node name.now told.new bytes.old
+        bytes.new result }
+    ensures kept { (result ≡ 0) ⊎ ((told.new ≡ told.old) × (bytes.new ≡ bytes.old)) }
+{
+    match session.changed(change, node, name) {
+        Ok(found) => show(found, told, bytes),
+        Err(fault) => fault.code(),
+    }
+}
+
+/// Takes the change out of its handle, which is closed then.
+pub(crate) fn take_change(alloc: Global, draft: &mut DraftHandle) -> Option<Change>
+    ensures closed { draft.new.owned.value ≡ None }
+    ensures change { result ≡ draft.old.owned.value }
+{
+    if !draft.live {
+        return None;
+    }
+    let change = mem::replace(&mut draft.owned, OwnedDraft::none(alloc)).into_box();
+    draft.live = false;
+    Some(Box::into_inner(change))
+}

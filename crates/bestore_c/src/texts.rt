@@ -1,0 +1,141 @@
+//! Texts of queries: what one compares, and what is put into one. These calls take no handle.
+ghost use Rattle.std.specs.Prelude.{◌≡◌, ◌⊎◌, ◌≢◌, ℕ, List, IfErr, IfOk, None, false, length, map};
+ghost use Rattle.std.specs.Prelude.{string_bytes};
+ghost use Rattle.be_query.specs.Faults.{fault};
+ghost use Rattle.be_query.specs.Grammar.{Formula, IsTextOf};
+ghost use Rattle.be_query_text.specs.Cases.{MatchesAnyCase};
+ghost use Rattle.be_query_text.specs.Described.{described, leaves, told};
+ghost use Rattle.be_query_text.specs.Encoded.{Encodes, IsOneToken};
+ghost use Rattle.be_query_text.specs.Places.{places};
+ghost use Rattle.be_session.specs.Sitting.{IsNoQuery};
+ghost use Rattle.be_session.specs.declared.faults.Fault.{Fault as AnyFault};
+ghost use Rattle.be_value.specs.Name.{has_nul};
+ghost use Rattle.bestore_c.specs.Calls.{Refuses};
+ghost use Rattle.bestore_c.specs.Places.{over};
+ghost use Rattle.bestore_c.specs.Texts.{Lists, ListsComparisons, MakesText};
+
+use crate::handle::Counts;
+use crate::places::put;
+use crate::refusing::refuse;
+use be_query_text::{Compared, SpelledComparison, any_case, comparisons, escaped, spelled};
+use be_session::Fault;
+use be_store::Refusal;
+use std::alloc::{AllocError, Global};
+use std::str;
+
+/// The number of a call that ran out of memory.
+const NO_MEMORY: u32 = 10;
+
+/// Lists the comparisons of a query's text, from left to right, as many as there is room for, and
+/// the bytes of their names and values. Of a text that isn't a query it returns the error, and the
+/// number that goes with it.
+#[unsafe(no_mangle)]
+pub extern "C" fn bes_query_comparisons(
+    alloc: Global,
+    text: &[u8],
+    counts: &mut Counts,
+    listed: &mut [SpelledComparison],
+    bytes: &mut [u8],
+    number: &mut u64,
+) -> u32
+    ensures lists { result ≡ 0 → (number.new ≡ 0) × ListsComparisons text.now counts.new listed.old
+        listed.new bytes.old bytes.new }
+    ensures refuses { (result ≡ 0) ⊎ ((e : AnyFault) × Refuses e number.new result
+        × IsNoQuery text.now e) }
+    ensures kept { (result ≡ 0) ⊎ ((counts.new ≡ counts.old) × (listed.new ≡ listed.old)
+        × (bytes.new ≡ bytes.old)) }
+{
+    *number = 0;
+    match comparisons_of(alloc, text) {
+        Ok(compared) => match spelled(alloc, compared.as_slice()) {
+            Ok(spelling) => {
+                *counts = Counts {
+                    operations: spelling.comparisons.len() as u64,
+                    bytes: spelling.bytes.len() as u64,
+                };
+                put(listed, spelling.comparisons.as_slice());
+                put(bytes, spelling.bytes.as_slice());
+                0
+            }
+            Err(_) => refuse(Fault::Refused(Refusal::OutOfMemory), number),
+        },
+        Err(fault) => refuse(fault, number),
+    }
+}
+
+/// Writes a text so that a query reads it back as a name or a value: how many bytes that has, and
+/// as many of them as there is room for.
+#[unsafe(no_mangle)]
+pub extern "C" fn bes_escape_bytes(
+    alloc: Global,
+    text: &[u8],
+    bytes: &mut [u8],
+    count: &mut u64,
+) -> u32
+    ensures made { MakesText (λ made. has_nul text.now ≡ false → Encodes made text.now) text.now
+        bytes.old bytes.new count.new result }
+    ensures kept { (result ≡ 0) ⊎ (bytes.new ≡ bytes.old) }
+{
+    match str::from_utf8(text) {
+        Ok(text) => tell_made(escaped(alloc, text), bytes, count),
+        Err(_) => {
+            *count = 0;
+            Fault::NotUtf8.code()
+        }
+    }
+}
+
+/// Writes a pattern that matches the texts which are equal to this one but for upper and lower
+/// case, as `bes_escape_bytes` writes a text.
+#[unsafe(no_mangle)]
+pub extern "C" fn bes_any_case_bytes(
+    alloc: Global,
+    text: &[u8],
+    bytes: &mut [u8],
+    count: &mut u64,
+) -> u32
+    ensures made { MakesText (λ made. MatchesAnyCase made text.now
+        × (has_nul text.now ≡ false → IsOneToken made)) text.now bytes.old bytes.new count.new
+        result }
+    ensures kept { (result ≡ 0) ⊎ (bytes.new ≡ bytes.old) }
+{
+    match str::from_utf8(text) {
+        Ok(text) => tell_made(any_case(alloc, text), bytes, count),
+        Err(_) => {
+            *count = 0;
+            Fault::NotUtf8.code()
+        }
+    }
+}
+
+/// The comparisons of a text in bytes.
+fn comparisons_of(alloc: Global, text: &[u8]) -> Result<Vec<Compared>, Fault>
+    ensures ok { IfOk result (λ v. (fault text.now ≡ None) × (tree : Formula)
+        × IsTextOf text.now tree × (map told v.items ≡ described (leaves tree) (places text.now))) }
+    ensures err { IfErr result (λ e. IsNoQuery text.now e) }
+{
+    match str::from_utf8(text) {
+        Ok(text) => Ok(comparisons(alloc, text)?),
+        Err(_) => Err(Fault::NotUtf8),
+    }
+}
+
+/// Writes a text that was made, as far as there is room.
+fn tell_made(made: Result<String, AllocError>, bytes: &mut [u8], count: &mut u64) -> u32
+    ensures made { IfOk made (λ s. (result ≡ 0) × (count.new ≡ length (string_bytes s))
+        × (bytes.new ≡ over (string_bytes s) bytes.old)) }
+    ensures memory { IfErr made (λ e. (result ≡ 10) × (count.new ≡ 0)) }
+    ensures kept { (result ≡ 0) ⊎ (bytes.new ≡ bytes.old) }
+{
+    match made {
+        Ok(made) => {
+            *count = made.len() as u64;
+            put(bytes, made.as_bytes());
+            0
+        }
+        Err(_) => {
+            *count = 0;
+            NO_MEMORY
+        }
+    }
+}

@@ -1,0 +1,270 @@
+//! Two threads sign a letter each and ask which letters are signed, in one store. The store's
+//! journal is one history of all calls of both: the contract of `sign_both` says it, in the words
+//! of be_store's statement.
+#![tactic(auto)]
+
+ghost use Rattle.std.specs.Prelude.{◌≡◌, ◌≤◌, ℕ, [], ◌∷◌, ◌++◌, IfOk, None, length};
+ghost use Rattle.be_store.specs.Calls.{Calls};
+ghost use Rattle.be_store.specs.Passes.{IsPassOf};
+ghost use Rattle.be_store.specs.Seats.{pinned_number};
+ghost use Rattle.be_store.specs.Views.{IsClosed};
+ghost use Rattle.example_history.specs.Visits.{IsHistoryOf, IsNew, asks, visits, writes};
+
+use be_store::machine_laws::one_history;
+use be_store::{
+    ArrayVec, Done, Journal, Kind, Limits, Name, Op, Pass, Query, Refusal, Store, Value, parse,
+};
+use std::alloc::{AllocGlobal, Global};
+use std::process::ExitCode;
+use std::thread::Threads;
+use std::{io, thread};
+
+/// How often a write is tried while another pass is writing.
+const TRIES: u64 = 10_000_000;
+
+/// What an accepted write returned: its commit number, and the outcomes of its operations.
+#[derive(Drop)]
+struct Accepted {
+    number: u64,
+    outcomes: ArrayVec<Done, 64>,
+}
+
+/// What a query found: the number of the pin at which it was asked, and the nodes.
+#[derive(Drop)]
+struct Found {
+    pin: u64,
+    nodes: Vec<u64>,
+}
+
+/// What the calls of one thread returned.
+#[derive(Drop)]
+struct Visit {
+    signed: Accepted,
+    found: Found,
+}
+
+/// What all calls of a store returned: a write before the threads, the calls of both threads, and
+/// the journal when the store was closed.
+#[derive(Drop)]
+struct Outcome {
+    begun: Accepted,
+    ann: Visit,
+    bob: Visit,
+    journal: Journal,
+}
+
+/// Makes one write.
+fn write(store: &Store, pass: &mut Pass, ops: &[Op]) -> Result<Accepted, Refusal>
+    requires pass { IsPassOf store.now pass.old }
+    requires count { (1 ≤ length ops.now) × (length ops.now ≤ 64) }
+    ensures pass { IsPassOf store.now pass.new }
+    ensures pin { pass.new.knows.phase ≡ pass.old.knows.phase }
+    ensures calls { IfOk result (λ a. Calls pass.old.knows
+        (writes pass.old.knows.number ops.now a.number a.outcomes.items) pass.new.knows) }
+{
+    let (number, outcomes) = store.apply_or_retry(pass, ops, TRIES)?;
+    Ok(Accepted { number, outcomes })
+}
+
+/// Asks a query at a pin.
+fn ask(alloc: Global, store: &Store, pass: &mut Pass, query: &Query) -> Result<Found, Refusal>
+    requires pass { IsPassOf store.now pass.old }
+    requires unpinned { pinned_number pass.old.knows.phase ≡ None }
+    ensures pass { IsPassOf store.now pass.new }
+    ensures calls { IfOk result (λ f. Calls pass.old.knows (asks query.now f.pin f.nodes.items)
+        pass.new.knows) }
+{
+    let pin = store.pin(pass);
+    let answer = store.query(alloc, pass, query);
+    store.unpin(pass);
+    let nodes = answer?.nodes;
+    Ok(Found { pin, nodes })
+}
+
+/// Writes, and then asks a query. The pass is given back.
+fn write_then_ask(
+    alloc: Global,
+    store: &Store,
+    mut pass: Pass,
+    ops: &[Op],
+    query: &Query,
+) -> (Pass, Result<Visit, Refusal>)
+    requires pass { IsPassOf store.now pass }
+    requires unpinned { pinned_number pass.knows.phase ≡ None }
+    requires count { (1 ≤ length ops.now) × (length ops.now ≤ 64) }
+    ensures pass { IsPassOf store.now result.0 }
+    ensures calls { IfOk result.1 (λ v. Calls pass.knows
+        (visits pass.knows.number ops.now v.signed.number v.signed.outcomes.items query.now
+        v.found.pin v.found.nodes.items) result.0.knows) }
+{
+    let signed = match write(store, &mut pass, ops) {
+        Ok(signed) => signed,
+        Err(refusal) => return (pass, Err(refusal)),
+    };
+    match ask(alloc, store, &mut pass, query) {
+        Ok(found) => (pass, Ok(Visit { signed, found })),
+        Err(refusal) => (pass, Err(refusal)),
+    }
+}
+
+/// The first and the second of two passes.
+fn both_of(mut passes: Vec<Pass>) -> Result<(Pass, Pass), Refusal>
+    ensures { IfOk result (λ both. passes.items ≡ both.0 ∷ both.1 ∷ []) }
+{
+    match (passes.pop(), passes.pop()) {
+        (Some(second), Some(first)) if passes.is_empty() => Ok((first, second)),
+        _ => Err(Refusal::BadLimits),
+    }
+}
+
+/// Opens a store of two passes.
+fn open_two(alloc: Global) -> Result<(Store, Pass, Pass), Refusal>
+    ensures two { IfOk result (λ r. r.0.limits.passes ≡ 2) }
+    ensures first { IfOk result (λ r. IsPassOf r.0 r.1 × IsNew r.1.knows 0) }
+    ensures second { IfOk result (λ r. IsPassOf r.0 r.2 × IsNew r.2.knows 1) }
+{
+    let limits = Limits {
+        pages: 256,
+        passes: 2,
+        commits: 1_000,
+    };
+    let (store, passes) = Store::open(alloc, limits)?;
+    let (first, second) = both_of(passes)?;
+    Ok((store, first, second))
+}
+
+/// Closes a store of two passes.
+fn close_two(alloc: Global, store: Store, first: Pass, second: Pass) -> Result<Journal, Refusal>
+    requires first { IsPassOf store first × (first.knows.number ≡ 0) }
+    requires second { IsPassOf store second × (second.knows.number ≡ 1) }
+    requires two { store.limits.passes ≡ 2 }
+    ensures { IfOk result (λ j. IsClosed 2 j.entries (first.knows ∷ second.knows ∷ [])) }
+{
+    let mut passes = Vec::new(alloc);
+    passes.push(first)?;
+    passes.push(second)?;
+    Ok(store.close(passes))
+}
+
+/// Lets two threads make a write each and ask the same query.
+fn sign_at_once<R: Threads + Sync>(
+    rt: &R,
+    alloc: Global,
+    store: &Store,
+    first: Pass,
+    second: Pass,
+    ann: &[Op],
+    bob: &[Op],
+    query: &Query,
+) -> (
+    (Pass, Result<Visit, Refusal>),
+    (Pass, Result<Visit, Refusal>),
+)
+    requires first { IsPassOf store.now first × (pinned_number first.knows.phase ≡ None) }
+    requires second { IsPassOf store.now second × (pinned_number second.knows.phase ≡ None) }
+    requires ann { (1 ≤ length ann.now) × (length ann.now ≤ 64) }
+    requires bob { (1 ≤ length bob.now) × (length bob.now ≤ 64) }
+    ensures passes { IsPassOf store.now result.0.0 × IsPassOf store.now result.1.0 }
+    ensures ann { IfOk result.0.1 (λ v. Calls first.knows
+        (visits first.knows.number ann.now v.signed.number v.signed.outcomes.items query.now
+        v.found.pin v.found.nodes.items) result.0.0.knows) }
+    ensures bob { IfOk result.1.1 (λ v. Calls second.knows
+        (visits second.knows.number bob.now v.signed.number v.signed.outcomes.items query.now
+        v.found.pin v.found.nodes.items) result.1.0.knows) }
+{
+    thread::join(
+        rt,
+        move || -> (Pass, Result<Visit, Refusal>)
+            requires pass { IsPassOf store.now first }
+            requires unpinned { pinned_number first.knows.phase ≡ None }
+            requires count { (1 ≤ length ann.now) × (length ann.now ≤ 64) }
+            ensures pass { IsPassOf store.entry.now result.0 }
+            ensures calls { IfOk result.1 (λ v. Calls first.knows
+                (visits first.knows.number ann.entry.now v.signed.number v.signed.outcomes.items
+                query.entry.now v.found.pin v.found.nodes.items) result.0.knows) }
+        { write_then_ask(alloc, store, first, ann, query) },
+        move || -> (Pass, Result<Visit, Refusal>)
+            requires pass { IsPassOf store.now second }
+            requires unpinned { pinned_number second.knows.phase ≡ None }
+            requires count { (1 ≤ length bob.now) × (length bob.now ≤ 64) }
+            ensures pass { IsPassOf store.entry.now result.0 }
+            ensures calls { IfOk result.1 (λ v. Calls second.knows
+                (visits second.knows.number bob.entry.now v.signed.number v.signed.outcomes.items
+                query.entry.now v.found.pin v.found.nodes.items) result.0.knows) }
+        { write_then_ask(alloc, store, second, bob, query) },
+    )
+}
+
+/// Begins with a write, and then lets two threads make a write each and ask the same query. The
+/// journal is one history of all these calls: it has each write once, at the number that the write
+/// returned, and each query found what the volume after the prefix has that its pin names.
+fn sign_both<R: AllocGlobal + Threads + Sync>(
+    rt: &R,
+    begin: &[Op],
+    ann: &[Op],
+    bob: &[Op],
+    query: &Query,
+) -> Result<Outcome, Refusal>
+    requires begin { (1 ≤ length begin.now) × (length begin.now ≤ 64) }
+    requires ann { (1 ≤ length ann.now) × (length ann.now ≤ 64) }
+    requires bob { (1 ≤ length bob.now) × (length bob.now ≤ 64) }
+    ensures { IfOk result (λ o. IsHistoryOf o.journal.entries
+        (writes 0 begin.now o.begun.number o.begun.outcomes.items
+        ++ visits 0 ann.now o.ann.signed.number o.ann.signed.outcomes.items query.now
+        o.ann.found.pin o.ann.found.nodes.items)
+        (visits 1 bob.now o.bob.signed.number o.bob.signed.outcomes.items query.now
+        o.bob.found.pin o.bob.found.nodes.items)) }
+{
+    let alloc = rt.alloc();
+    let (store, mut first, second) = open_two(alloc)?;
+    let begun = write(&store, &mut first, begin)?;
+    let (anns, bobs) = sign_at_once(rt, alloc, &store, first, second, ann, bob, query);
+    let (first, ann) = anns;
+    let (second, bob) = bobs;
+    let (ann, bob) = (ann?, bob?);
+    let journal = close_two(alloc, store, first, second)?;
+    one_history();
+    Ok(Outcome {
+        begun,
+        ann,
+        bob,
+        journal,
+    })
+}
+
+/// Makes an index and two letters, and lets Ann and Bob sign one each.
+fn letters<R: AllocGlobal + Threads + Sync>(rt: &R) -> Result<Outcome, Refusal> {
+    let from = Name::new("MAIL:from")?;
+    let begin = [Op::MkIndex(from.copy(), Kind::Cstr), Op::New, Op::New];
+    let ann = [Op::Set(1, from.copy(), Value::text("Ann")?)];
+    let bob = [Op::Set(2, from, Value::text("Bob")?)];
+    let query = parse(rt.alloc(), "MAIL:from==*")?;
+    sign_both(rt, &begin, &ann, &bob, &query)
+}
+
+/// How many letters the later of both writers found.
+fn found_by_later(outcome: &Outcome) -> usize {
+    let (ann, bob) = (&outcome.ann, &outcome.bob);
+    if ann.signed.number < bob.signed.number {
+        bob.found.nodes.len()
+    } else {
+        ann.found.nodes.len()
+    }
+}
+
+/// Prints how many entries the journal has, and how many letters the later of both writers found:
+/// it finds both, whatever the threads do.
+fn main(rt: HostRuntime) -> io::Result<ExitCode> {
+    match letters(&rt) {
+        Ok(outcome) => {
+            let found = found_by_later(&outcome);
+            println!(rt; "entries of the journal: {}", outcome.journal.len())?;
+            println!(rt; "letters that the later writer found: {found}")?;
+            Ok(ExitCode::SUCCESS)
+        }
+        Err(refusal) => {
+            eprintln!(rt; "{refusal}")?;
+            Ok(ExitCode::FAILURE)
+        }
+    }
+}

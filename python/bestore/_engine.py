@@ -1,0 +1,58 @@
+"""What the extension and the library are needed for: handles, and batches that are made faster. A store of this process imports it, and a
+client of a server doesn't."""
+
+from __future__ import annotations
+
+import ctypes
+from typing import Any, Callable, List
+
+from . import _native
+from ._library import Handle, Operation
+from .handles import Owner
+from .operations import Batch
+
+PASS, PREPARED, CURSOR, WITNESS = 1, 2, 3, 4
+"""What a handle of the library is of."""
+
+
+class HandleOwner(_native.Handle, Owner):
+    """Owns a handle of the library."""
+
+    @property
+    def _pointer(self) -> Any:
+        """The handle, in the form that ctypes calls take."""
+        return ctypes.byref(Handle.from_address(self._address))
+
+    @property
+    def _is_live(self) -> bool:
+        """Whether the handle is open."""
+        return bool(Handle.from_address(self._address).live)
+
+    def _give_up(self, call: Callable[..., int]) -> None:
+        """Makes a call that ends the handle's use, which a forked child leaves to its parent."""
+        if not self._is_dead:
+            self._call(call)
+
+
+class NativeBatch(_native.Batch, Batch):
+    """A batch whose operations are kept by the extension."""
+
+    @property
+    def _operations(self) -> List[Operation]:
+        """The operations, as the library takes them."""
+        return list((Operation * len(self)).from_buffer_copy(self._raw))
+
+
+def native(batch: Batch) -> NativeBatch:
+    """The batch as the extension takes it."""
+    if isinstance(batch, NativeBatch):
+        return batch
+    if not isinstance(batch, Batch):
+        raise TypeError(f"{batch!r} isn't a batch: a write takes a `Batch`")
+    copied = NativeBatch()
+    copied._put(batch._raw, batch._bytes)
+    return copied
+
+
+_native.know(batch=NativeBatch)
+Batch._made = NativeBatch

@@ -1,0 +1,75 @@
+"""Texts of the query language, by calls of the library: what `language` says of them."""
+
+from __future__ import annotations
+
+import ctypes
+from typing import Callable, FrozenSet, List, Mapping, NamedTuple, Optional
+
+from ._library import Compared, Counts, calls, check
+from .errors import encoded, encoded_query
+from .language import Comparison, Hint
+from .values import Kind
+
+_MOST_COMPARISONS = 256
+_OPERATORS = {4: "==", 5: "!=", 6: "<", 7: "<=", 8: ">", 9: ">="}
+_NUMBER = 1  # the form of a value that is a whole number
+
+
+def escape(text: str) -> str:
+    """As `language.escape`."""
+    return _made(calls.bes_escape_bytes, text, 2)
+
+
+def any_case(text: str) -> str:
+    """As `language.any_case`."""
+    return _made(calls.bes_any_case_bytes, text, 12)
+
+
+def _made(call: Callable[..., int], text: str, times: int) -> str:
+    """The text that a call makes of another, which has up to so many times its bytes."""
+    taken = encoded(text)
+    room = times * len(taken)
+    written, count = ctypes.create_string_buffer(room + 1), ctypes.c_uint64()
+    check(call(taken, len(taken), written, room, ctypes.byref(count)))
+    return written.raw[:count.value].decode()
+
+
+class Read(NamedTuple):
+    """A comparison as the library has read it."""
+
+    comparison: Comparison
+    value: str  # without backslashes
+    is_number: bool
+    never: FrozenSet[Kind]  # the kinds whose index has no value that makes it true
+
+
+def read(query: str) -> List[Read]:
+    """The comparisons of a query. A `QueryError` if the text is none."""
+    text, counts, place = encoded_query(query), Counts(), ctypes.c_uint64()
+    compared, room = (Compared * _MOST_COMPARISONS)(), 64 * _MOST_COMPARISONS + 4 * len(text)
+    plain = ctypes.create_string_buffer(room)
+    answer = calls.bes_query_comparisons(
+        text, len(text), ctypes.byref(counts), compared, _MOST_COMPARISONS, plain, room, ctypes.byref(place))
+    check(answer, place.value, query)
+    return [_read_back(it, text, plain.raw) for it in compared[:counts.operations]]
+
+
+def _read_back(it: Compared, text: bytes, plain: bytes) -> Read:
+    name = plain[it.plain_name_at:it.plain_value_at].decode()
+    value = text[it.value_at:it.value_end].decode()
+    comparison = Comparison(name, _OPERATORS[it.kind_in_text], value, it.at)
+    never = ((Kind.INT32, it.is_never_int32), (Kind.INT64, it.is_never_int64),
+             (Kind.UINT32, it.is_never_uint32), (Kind.UINT64, it.is_never_uint64))
+    return Read(comparison, plain[it.plain_value_at:it.plain_end].decode(), it.form == _NUMBER,
+                 frozenset(kind for kind, is_never in never if is_never))
+
+
+def hints_in(query: str, indices: Mapping[str, Kind]) -> List[Hint]:
+    """The comparisons of a query that are never true in a store with these indices. A `QueryError` if the text is none."""
+    found: List[Hint] = []
+    for it in read(query):
+        name, _, _, offset = it.comparison
+        kind: Optional[Kind] = indices.get(name)
+        if kind is not None and kind in it.never:
+            found.append(Hint(name, it.value, kind, offset, it.is_number))
+    return found

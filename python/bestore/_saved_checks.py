@@ -1,0 +1,79 @@
+"""How damage to a store's file is found: checksums of its rows, and beside it the number of the last entry that it has had.
+
+docs/KEPT.md describes both.
+"""
+
+from __future__ import annotations
+
+import os
+import struct
+from contextlib import suppress
+from typing import Optional
+from zlib import crc32
+
+_ONE, _TWO, _THREE = struct.Struct("<Q"), struct.Struct("<QQ"), struct.Struct("<QQQ")
+
+
+def of_about(what: str, number: int) -> int:
+    """The checksum of a row of the table `about`."""
+    name = what.encode()
+    return crc32(_ONE.pack(number), crc32(name, crc32(_ONE.pack(len(name)))))
+
+
+def of_state(place: int, batch: bytes) -> int:
+    """That of a row of the table `state`."""
+    return crc32(batch, crc32(_TWO.pack(place, len(batch))))
+
+
+def of_entry(number: int, by: int, batch: bytes) -> int:
+    """That of a row of the table `entry`."""
+    return crc32(batch, crc32(_THREE.pack(number, by, len(batch))))
+
+
+def of_token(number: int, token: bytes, nodes: bytes) -> int:
+    """That of a row of the table `token`."""
+    return crc32(nodes, crc32(_ONE.pack(len(nodes)), crc32(token, crc32(_TWO.pack(number, len(token))))))
+
+
+def _line(identity: int, number: int) -> bytes:
+    return b"%016x %020d %08x\n" % (identity, number, crc32(_TWO.pack(identity, number)))
+
+
+class LastEntry:
+    """The number of the last entry that a file has had, in a file of the same name with `-last`. SQLite leaves out all that comes
+    after a damaged frame of its WAL, and reports nothing."""
+
+    def __init__(self, path: str, identity: int) -> None:
+        within = os.path.realpath(path)
+        self._path, self._wal, self._identity = within + "-last", within + "-wal", identity
+        self._file: Optional[int] = None
+
+    def read(self) -> int:
+        """The number, or 0 if it isn't known."""
+        with suppress(OSError, ValueError, IndexError):
+            with open(self._path, "rb") as file:
+                line = file.read()
+            number = int(line.split()[1])
+            return number if line == _line(self._identity, number) else 0
+        return 0
+
+    def begin(self, number: int) -> None:
+        """Keeps the number from now on, if the folder takes a file."""
+        with suppress(OSError):
+            self._file = os.open(self._path, os.O_WRONLY | os.O_CREAT | os.O_CLOEXEC, 0o600)
+            self.set(number)
+
+    def set(self, number: int) -> None:
+        """The file has this entry now."""
+        if self._file is not None:
+            with suppress(OSError):  # less is known then
+                os.pwrite(self._file, _line(self._identity, number), 0)
+
+    def close(self) -> None:
+        """After the store's file was closed. The number isn't needed then, unless a WAL is left."""
+        file, self._file = self._file, None
+        if file is not None:
+            os.close(file)
+            if not os.path.exists(self._wal):
+                with suppress(OSError):
+                    os.remove(self._path)

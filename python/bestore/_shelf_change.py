@@ -1,0 +1,123 @@
+"""Changes of a store that has several volumes: all are read, and one is written."""
+
+from __future__ import annotations
+
+from typing import TYPE_CHECKING, Callable, Dict, Iterable, List, Optional, Tuple
+
+from .change import Change
+from .errors import NoNode, NotPinned, OtherVolume, PartialIndex
+from .nodes import NUMBERS, node_in, node_number, of_volume, volume_of
+from .operations import Batch
+from .values import Typed, Value
+
+if TYPE_CHECKING:
+    from .shelf import ShelfVersion
+    from .store import Pass
+
+
+class ShelfChange(Change):
+    """A change on a version of all volumes. The first operation says which of them is written, if the caller hasn't. There a change
+    of that volume alone collects the operations, and it takes the place of the volume's version: so it is also what is read."""
+
+    _snapshot: ShelfVersion
+
+    def __init__(self, snapshot: ShelfVersion, users: Tuple[Pass, ...], check_kinds: bool, volume: Optional[int]) -> None:
+        super().__init__(snapshot)
+        self._users, self._check_kinds = users, check_kinds
+        self.volume = volume
+        """The volume that is written, once it is known."""
+        self._within: Optional[Change] = None
+        self._early: List[Callable[[Change], None]] = []  # what is done about indices before the volume is known
+
+    @property
+    def _count(self) -> int:
+        return len(self._early) if self._within is None else self._within._count
+
+    def _collected(self) -> Batch:
+        if self._within is None or self.volume is None:
+            raise PartialIndex(0)
+        return of_volume(self._within._collected(), self.volume)
+
+    def _in(self, volume: int) -> Change:
+        """The change of this volume. `OtherVolume` if another one is written."""
+        if self.volume is None:
+            self.volume = volume
+        if volume != self.volume:
+            raise OtherVolume(self.volume, self._count)
+        if self._within is None:
+            self._within = self._begun(volume)
+        return self._within
+
+    def _begun(self, volume: int) -> Change:
+        """The change of this volume, with what was done about indices so far."""
+        if not self._snapshot._is_pinned:
+            raise NotPinned()
+        within = self._users[volume]._change_on(self._snapshot.volumes[volume], self._check_kinds)
+        versions = list(self._snapshot.volumes)
+        versions[volume] = within
+        self._snapshot.volumes = tuple(versions)
+        for collect in self._early:
+            collect(within)
+        return within
+
+    def _end(self) -> Tuple[int, Change]:
+        """The volume that is written, and its change. The snapshots of the others are given up."""
+        assert self.volume is not None and self._within is not None
+        for volume, version in enumerate(self._snapshot.volumes):
+            if volume != self.volume:
+                version.unpin()
+        return self.volume, self._within
+
+    def _of(self, node: int) -> Tuple[Change, int]:
+        """The change of a node's volume, and the number that the node has there. `NoNode` if there is no such volume."""
+        volume, number = divmod(node_number(node), NUMBERS)
+        if not 0 <= volume < len(self._users):
+            raise NoNode(node)
+        return self._in(volume), number
+
+    def new(self) -> int:
+        if self.volume is None:
+            self.volume = volume_of(self._snapshot.next_node)
+        return node_in(self.volume, self._in(self.volume).new())
+
+    def remove(self, node: int) -> None:
+        within, number = self._of(node)
+        within.remove(number)
+
+    def set(self, node: int, name: str, value: Value, kind: Optional[int] = None) -> None:
+        within, number = self._of(node)
+        within.set(number, name, value, kind)
+
+    def unset(self, node: int, name: str) -> None:
+        within, number = self._of(node)
+        within.unset(number, name)
+
+    def make_index(self, name: str, kind: int) -> None:
+        self._about_index(lambda within: within.make_index(name, kind))
+
+    def remove_index(self, name: str) -> None:
+        self._about_index(lambda within: within.remove_index(name))
+
+    def _about_index(self, collect: Callable[[Change], None]) -> None:
+        """Collects an operation that names no node, once the volume is known."""
+        if self.volume is None:
+            self._early.append(collect)
+        else:
+            collect(self._in(self.volume))
+
+    def get(self, node: int, name: str) -> Optional[Value]:
+        return self._snapshot.get(node, name)
+
+    def _read(self, node: int, name: str) -> Typed:
+        return self._snapshot._read(node, name)
+
+    def _listed(self, node: int) -> Dict[str, Typed]:
+        return self._snapshot._listed(node)
+
+    def columns(self, nodes: Iterable[int], names: Iterable[str]) -> List[List[Optional[Value]]]:
+        return self._snapshot.columns(nodes, names)
+
+    def __contains__(self, node: int) -> bool:
+        volume, number = divmod(node_number(node), NUMBERS)
+        versions = self._snapshot.volumes
+        return 0 <= volume < len(versions) and number in versions[volume]

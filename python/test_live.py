@@ -1,0 +1,155 @@
+"""Tests of refreshes by what was written, beside refreshes that ask the whole query."""
+
+import random
+import threading
+import unittest
+
+import bestore
+from bestore import local
+from servers import PATIENCE, OverServer
+
+NODES = 300
+"""How many nodes there are: their answers have 96 nodes and more, below which the whole query is asked."""
+
+
+def change(store, chance):
+    """Writes once: a value that the query finds or doesn't, of a node that may be gone, or no value, or a node comes or goes."""
+    node = chance.randrange(1, NODES)
+    try:
+        what = chance.random()
+        if what < 0.6:
+            store.set(node, "size", chance.randrange(-2, 8))
+        elif what < 0.7:
+            store.unset(node, "size")
+        elif what < 0.8:
+            store.remove_node(node)
+        else:
+            store.apply(bestore.Batch().set(store.new_node(), "size", chance.randrange(-2, 8)))
+    except (bestore.NoNode, bestore.NoAttribute):
+        pass
+
+
+def fill(store, chance):
+    """A store whose queries find 96 nodes and more."""
+    store.make_index("size", bestore.INT64)
+    while store.new_node() < NODES:
+        pass
+    for node in range(1, NODES):
+        store.set(node, "size", chance.randrange(-2, 8))
+
+
+class Refreshes(unittest.TestCase):
+    """What both ways return is compared at each step, and what it adds up to with the query's answer."""
+
+    def setUp(self):
+        super().setUp()
+        self.chance = random.Random(0x11FE)
+        self.store = bestore.open()
+        self.addCleanup(self.store.close)
+        fill(self.store, self.chance)
+        self.whole, self.changed = bestore.prepare("size>=0"), bestore.prepare("size>=0")
+        self.found = set()
+
+    def compare(self, version):
+        """Refreshes both queries in this version."""
+        created, removed = version.refresh_changed(self.changed)
+        self.assertEqual((created, removed), version.refresh(self.whole))
+        self.found = self.found.difference(removed).union(created)
+        self.assertEqual(sorted(self.found), version.query("size>=0"))
+
+    def test_few_and_many_writes_between(self):
+        for at in range(120):
+            for _ in range(self.chance.choice((0, 1, 2, 5, 12, 80))):
+                change(self.store, self.chance)
+            if at % 40 == 39:
+                self.store.make_index(f"other{at}", bestore.INT64)
+            with self.store.pin() as version:
+                self.compare(version)
+        self.assertGreater(len(self.found), 96)
+
+    def test_the_index_goes_and_comes(self):
+        with self.store.pin() as version:
+            self.compare(version)
+        self.store.remove_index("size")
+        with self.store.pin() as version:
+            self.assertRaises(bestore.NotCovered, version.refresh_changed, self.changed)
+        self.store.make_index("size", bestore.INT64)
+        for _ in range(3):
+            change(self.store, self.chance)
+            with self.store.pin() as version:
+                self.compare(version)
+
+    def test_versions_of_several_stores(self):
+        other = bestore.open()
+        self.addCleanup(other.close)
+        fill(other, self.chance)
+        for _ in range(30):
+            store = self.chance.choice((self.store, other))
+            for _ in range(self.chance.randrange(4)):
+                change(store, self.chance)
+            with store.pin() as version:
+                self.compare(version)
+
+    def test_in_a_change(self):
+        self.store.change(self.compare)
+        change(self.store, self.chance)
+        self.store.change(self.compare)
+
+    def test_while_another_thread_writes(self):
+        is_over, other = threading.Event(), self.store.another()
+        self.addCleanup(other.close)
+
+        def write():
+            chance = random.Random(7)
+            while not is_over.is_set():
+                change(other, chance)
+        writer = threading.Thread(target=write)
+        writer.start()
+        try:
+            for _ in range(200):
+                with self.store.pin() as version:
+                    self.compare(version)
+        finally:
+            is_over.set()
+            writer.join()
+
+    def test_a_watch_follows(self):
+        other = self.store.another()
+        self.addCleanup(other.close)
+        with self.store.watch("size>=0") as watch:
+            for at in range(60):
+                for _ in range(self.chance.randrange(1, 6)):
+                    change(other, self.chance)
+                if at % 2:
+                    created, removed = watch.refresh()
+                else:
+                    other.apply(bestore.Batch().set(other.new_node(), "size", 5))  # which comes
+                    created, removed = watch.wait(PATIENCE)
+                self.found = self.found.difference(removed).union(created)
+                if at % 2:
+                    with self.store.pin() as version:
+                        self.assertEqual(sorted(self.found), version.query("size>=0"))
+
+    def test_what_is_no_prepared_query(self):
+        with self.store.pin() as version:
+            self.assertRaises(TypeError, version.refresh_changed, "size>=0")
+            self.changed.close()
+            self.assertRaises(bestore.Closed, version.refresh_changed, self.changed)
+
+
+class OfServer(OverServer, Refreshes):
+    """The same of a server's store, whose watcher asks by what was written."""
+
+    def test_in_both_stores(self):
+        here = local.open()
+        self.addCleanup(here.close)
+        fill(here, self.chance)
+        for _ in range(20):
+            store = self.chance.choice((self.store, here))
+            change(store, self.chance)
+            with store.pin() as version:
+                self.compare(version)
+
+
+if __name__ == "__main__":
+    unittest.main()

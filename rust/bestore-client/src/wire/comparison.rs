@@ -1,0 +1,78 @@
+//! The reply to `text`: the comparisons of a query.
+
+use super::value::{kind_name, kind_named};
+use bestore_types::Kind;
+use serde::{Deserialize, Serialize};
+
+/// What the value of a comparison is.
+#[derive(Clone, Copy, Debug, PartialEq, Eq, Serialize, Deserialize)]
+#[serde(rename_all = "lowercase")]
+pub enum Form {
+    /// A whole number from -2^63 to 2^64 - 1.
+    Number,
+    /// Another text.
+    Text,
+    /// A pattern, which matches more than one text.
+    Pattern,
+}
+
+/// A comparison of a query.
+#[derive(Clone, Debug, PartialEq, Eq, Serialize, Deserialize)]
+pub struct Comparison {
+    /// The name of the attribute.
+    pub name: String,
+    /// `==`, `!=`, `<`, `<=`, `>` or `>=`, as the text has it.
+    pub operator: String,
+    /// What is compared with.
+    pub value: String,
+    /// What that is.
+    pub form: Form,
+    /// The byte of the text at which the comparison begins, from 0.
+    pub offset: u64,
+    /// How many bytes of the text it has.
+    pub length: u64,
+    /// Whether it is within an odd number of `!`, which turn it.
+    #[serde(default, skip_serializing_if = "std::ops::Not::not")]
+    pub negated: bool,
+    /// The names of the kinds of indices under which no node meets it.
+    #[serde(default, skip_serializing_if = "Vec::is_empty")]
+    pub never: Vec<String>,
+}
+
+impl Comparison {
+    /// Whether no node meets it, if the index of its name has this kind.
+    #[must_use]
+    pub fn is_never(&self, kind: Kind) -> bool {
+        self.never.iter().any(|name| kind_named(name) == Some(kind))
+    }
+
+    /// The names of these kinds, for [`never`](Self::never).
+    #[must_use]
+    pub fn names_of(kinds: &[Kind]) -> Vec<String> {
+        kinds.iter().map(|kind| kind_name(*kind).into()).collect()
+    }
+}
+
+/// Of `text`.
+#[derive(Clone, Debug, Default, PartialEq, Eq, Serialize, Deserialize)]
+pub struct Comparisons {
+    /// The comparisons, from left to right.
+    pub comparisons: Vec<Comparison>,
+}
+
+#[cfg(test)]
+mod tests {
+    use super::*;
+
+    #[test]
+    fn a_comparison_goes_there_and_back() {
+        let line = r#"{"name":"size","operator":">","value":"1.5","form":"text","offset":3,"length":8,"negated":true,"never":["int32"]}"#;
+        let read: Comparison = serde_json::from_str(line).unwrap();
+        assert!(read.is_never(Kind::Int32) && !read.is_never(Kind::Int64));
+        assert_eq!(serde_json::to_string(&read).unwrap(), line);
+        let short = r#"{"name":"a","operator":"==","value":"*","form":"pattern","offset":0,"length":4}"#;
+        let read: Comparison = serde_json::from_str(short).unwrap();
+        assert_eq!((read.negated, read.never.len(), read.form), (false, 0, Form::Pattern));
+        assert_eq!(serde_json::to_string(&read).unwrap(), short);
+    }
+}

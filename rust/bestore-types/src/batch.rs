@@ -1,0 +1,367 @@
+//! Batches: the operations of one transaction.
+
+use crate::raw::{List, RawOperation, OPERATIONS};
+use crate::{sys, Error, Kind, Result, Value};
+use std::fmt;
+
+/// An operation of a batch, as [`Batch::operations`] reads it back.
+#[derive(Clone, Debug, PartialEq, Eq)]
+pub enum Operation<'a> {
+    /// Makes a node.
+    NewNode {
+        /// The number of the node that was made, in a batch of the journal; otherwise 0.
+        node: u64,
+    },
+    /// Removes a node and all its attributes.
+    RemoveNode {
+        /// The node.
+        node: u64,
+    },
+    /// Sets an attribute.
+    Set {
+        /// The node.
+        node: u64,
+        /// The name of the attribute.
+        name: &'a str,
+        /// Its value.
+        value: Value,
+    },
+    /// Removes an attribute.
+    Unset {
+        /// The node.
+        node: u64,
+        /// The name of the attribute.
+        name: &'a str,
+    },
+    /// Makes an index, which takes attributes that are set from then on.
+    MakeIndex {
+        /// The name of the attributes that it takes.
+        name: &'a str,
+        /// The kind of their values.
+        kind: Kind,
+    },
+    /// Removes an index.
+    RemoveIndex {
+        /// Its name.
+        name: &'a str,
+    },
+}
+
+/// The operations of one transaction, 1 to 64: all are done or none.
+///
+/// ```
+/// use bestore_types::{Batch, Kind, Operation};
+/// let mut batch = Batch::new();
+/// batch.make_index("size", Kind::Int64).new_node().set(1, "size", 5_i64);
+/// assert_eq!(batch.len(), 3);
+/// assert_eq!(Batch::from_bytes(&batch.to_bytes()?)?, batch);
+/// # Ok::<(), bestore_types::Error>(())
+/// ```
+///
+/// No call here checks names and values. The store that it is applied to does, and says which operation is the first bad one.
+///
+/// # Panics
+/// A call that adds an operation panics if the names and values have 4 GiB or more.
+#[derive(Clone, Default)]
+pub struct Batch {
+    list: List,
+    token: Option<Box<str>>,
+}
+
+impl Batch {
+    /// A batch without operations.
+    #[must_use]
+    pub fn new() -> Self {
+        Self::default()
+    }
+
+    /// Adds: make a node. It gets the next number; a change knows it in advance.
+    pub fn new_node(&mut self) -> &mut Self {
+        self.add(sys::BES_NEW_NODE, 0, "", 0, 0, &[])
+    }
+
+    /// Adds: remove the node and all its attributes.
+    pub fn remove_node(&mut self, node: u64) -> &mut Self {
+        self.add(sys::BES_REMOVE_NODE, node, "", 0, 0, &[])
+    }
+
+    /// Adds: set the attribute.
+    pub fn set(&mut self, node: u64, name: &str, value: impl Into<Value>) -> &mut Self {
+        let value = value.into();
+        let bytes = value.as_bytes().unwrap_or_default();
+        let code = value.kind().code();
+        self.add(sys::BES_SET, node, name, code, value.number(), bytes)
+    }
+
+    /// Adds: remove the attribute.
+    pub fn unset(&mut self, node: u64, name: &str) -> &mut Self {
+        self.add(sys::BES_UNSET, node, name, 0, 0, &[])
+    }
+
+    /// Adds: make an index of this name for values of this kind.
+    pub fn make_index(&mut self, name: &str, kind: Kind) -> &mut Self {
+        self.add(sys::BES_MAKE_INDEX, 0, name, kind.code(), 0, &[])
+    }
+
+    /// Adds: remove the index of this name.
+    pub fn remove_index(&mut self, name: &str) -> &mut Self {
+        self.add(sys::BES_REMOVE_INDEX, 0, name, 0, 0, &[])
+    }
+
+    /// How many operations the batch has.
+    #[must_use]
+    pub fn len(&self) -> usize {
+        self.list.operations.len()
+    }
+
+    /// Whether the batch has no operations.
+    #[must_use]
+    pub fn is_empty(&self) -> bool {
+        self.list.operations.is_empty()
+    }
+
+    /// Whether the batch has as many operations as a transaction may have.
+    #[must_use]
+    pub fn is_full(&self) -> bool {
+        self.len() >= OPERATIONS
+    }
+
+    /// Gives the batch a token, by which whoever keeps it may know it again: a text of the caller's choice. The operations
+    /// are what they were, and so are [`to_bytes`](Self::to_bytes) and `==`.
+    pub fn set_token(&mut self, token: &str) -> &mut Self {
+        self.token = Some(token.into());
+        self
+    }
+
+    /// The token, if the batch has one.
+    #[must_use]
+    pub fn token(&self) -> Option<&str> {
+        self.token.as_deref()
+    }
+
+    /// Removes all operations and the token, and keeps the memory.
+    pub fn clear(&mut self) {
+        self.token = None;
+        self.list.operations.clear();
+        self.list.bytes.clear();
+    }
+
+    /// The operations, in their order.
+    pub fn operations(&self) -> Operations<'_> {
+        Operations {
+            list: &self.list,
+            next: 0,
+        }
+    }
+
+    /// Gives the operations that make nodes the numbers of these, in their order. With the nodes of [`Written`](crate::Written)
+    /// the batch is what the journal has.
+    pub fn set_nodes(&mut self, nodes: &[u64]) -> &mut Self {
+        let made = self.list.operations.iter_mut();
+        let made = made.filter(|operation| operation.kind == sys::BES_NEW_NODE);
+        for (operation, node) in made.zip(nodes) {
+            operation.node = *node;
+        }
+        self
+    }
+
+    /// The nodes that operations name, with the indices of these. An operation that makes a node names it in a batch of the journal
+    /// alone.
+    pub(crate) fn named_nodes(&mut self) -> impl Iterator<Item = (usize, &mut u64)> {
+        let operations = self.list.operations.iter_mut().enumerate();
+        operations.filter_map(|(index, operation)| match operation.kind {
+            sys::BES_NEW_NODE if operation.node == 0 => None,
+            sys::BES_NEW_NODE | sys::BES_REMOVE_NODE | sys::BES_SET | sys::BES_UNSET => {
+                Some((index, &mut operation.node))
+            }
+            _ => None,
+        })
+    }
+
+    pub(crate) fn add(&mut self, kind: u32, node: u64, name: &str, code: u32, number: u64, value: &[u8]) -> &mut Self {
+        let List { operations, bytes } = &mut self.list;
+        let name_at = bytes.len();
+        bytes.extend_from_slice(name.as_bytes());
+        let value_at = bytes.len();
+        bytes.extend_from_slice(value);
+        operations.push(RawOperation {
+            kind,
+            code,
+            node,
+            number,
+            name_at: narrow(name_at),
+            name_length: narrow(name.len()),
+            value_at: narrow(value_at),
+            value_length: narrow(value.len()),
+        });
+        self
+    }
+
+    /// The operations as the library for C takes them.
+    #[must_use]
+    pub fn raw(&self) -> &List {
+        &self.list
+    }
+
+    pub(crate) fn check_count(&self) -> Result<()> {
+        match self.len() {
+            1..=OPERATIONS => Ok(()),
+            count => Err(Error::BadCount { count }),
+        }
+    }
+}
+
+/// A length as the library for C takes it.
+///
+/// # Panics
+/// If it is 4 GiB or more.
+#[must_use]
+pub fn narrow(length: usize) -> u32 {
+    u32::try_from(length).expect("names and values have less than 4 GiB")
+}
+
+impl From<List> for Batch {
+    fn from(list: List) -> Self {
+        Self { list, token: None }
+    }
+}
+
+impl PartialEq for Batch {
+    fn eq(&self, other: &Self) -> bool {
+        self.operations().eq(other.operations())
+    }
+}
+
+impl Eq for Batch {}
+
+impl fmt::Debug for Batch {
+    fn fmt(&self, f: &mut fmt::Formatter<'_>) -> fmt::Result {
+        f.debug_list().entries(self.operations()).finish()
+    }
+}
+
+impl<'a> IntoIterator for &'a Batch {
+    type Item = Operation<'a>;
+    type IntoIter = Operations<'a>;
+
+    fn into_iter(self) -> Operations<'a> {
+        self.operations()
+    }
+}
+
+/// An accepted transaction.
+#[derive(Clone, Debug, PartialEq, Eq)]
+pub struct Written {
+    /// Its commit number: how many entries the journal had with it.
+    pub number: u64,
+    /// The nodes that it made, in the order of the operations.
+    pub nodes: Vec<u64>,
+}
+
+/// The operations of a batch, by [`Batch::operations`].
+#[derive(Clone, Debug)]
+pub struct Operations<'a> {
+    list: &'a List,
+    next: usize,
+}
+
+impl<'a> Iterator for Operations<'a> {
+    type Item = Operation<'a>;
+
+    fn next(&mut self) -> Option<Operation<'a>> {
+        let operation = self.list.operations.get(self.next)?;
+        self.next += 1;
+        Some(self.list.read(operation))
+    }
+
+    fn size_hint(&self) -> (usize, Option<usize>) {
+        let left = self.list.operations.len() - self.next;
+        (left, Some(left))
+    }
+}
+
+impl ExactSizeIterator for Operations<'_> {}
+
+impl List {
+    fn part(&self, at: u32, length: u32) -> &[u8] {
+        let at = at as usize;
+        self.bytes.get(at..at + length as usize).unwrap_or_default()
+    }
+
+    /// The name in an operation.
+    #[must_use]
+    pub fn name(&self, operation: &RawOperation) -> &str {
+        let bytes = self.part(operation.name_at, operation.name_length);
+        std::str::from_utf8(bytes).unwrap_or_default()
+    }
+
+    /// The bytes of the value in an operation.
+    #[must_use]
+    pub fn value_bytes(&self, operation: &RawOperation) -> &[u8] {
+        self.part(operation.value_at, operation.value_length)
+    }
+
+    /// The value of an operation, which has the code of a kind.
+    #[must_use]
+    pub fn value(&self, operation: &RawOperation) -> Value {
+        let kind = Kind::from_code(operation.code).unwrap_or(Kind::Raw);
+        Value::of_parts(kind, operation.number, self.value_bytes(operation))
+    }
+
+    fn read<'a>(&'a self, operation: &RawOperation) -> Operation<'a> {
+        let (node, name) = (operation.node, self.name(operation));
+        match operation.kind {
+            sys::BES_NEW_NODE => Operation::NewNode { node },
+            sys::BES_REMOVE_NODE => Operation::RemoveNode { node },
+            sys::BES_SET => Operation::Set {
+                node,
+                name,
+                value: self.value(operation),
+            },
+            sys::BES_UNSET => Operation::Unset { node, name },
+            sys::BES_MAKE_INDEX => Operation::MakeIndex {
+                name,
+                kind: Kind::from_code(operation.code).unwrap_or(Kind::Raw),
+            },
+            _ => Operation::RemoveIndex { name },
+        }
+    }
+}
+
+#[cfg(test)]
+mod tests {
+    use super::*;
+
+    #[test]
+    fn operations_are_read_back() {
+        let mut batch = Batch::new();
+        batch.new_node().set(1, "n", -5_i32).unset(1, "n");
+        batch.make_index("i", Kind::Uint64).remove_index("i").remove_node(1);
+        let read: Vec<_> = batch.operations().collect();
+        assert_eq!(read[0], Operation::NewNode { node: 0 });
+        let value = Value::Int32(-5);
+        assert_eq!(
+            read[1],
+            Operation::Set {
+                node: 1,
+                name: "n",
+                value
+            }
+        );
+        assert_eq!(read[2], Operation::Unset { node: 1, name: "n" });
+        let kind = Kind::Uint64;
+        assert_eq!(read[3], Operation::MakeIndex { name: "i", kind });
+        assert_eq!(read[4], Operation::RemoveIndex { name: "i" });
+        assert_eq!(read[5], Operation::RemoveNode { node: 1 });
+        assert_eq!(batch.operations().len(), 6);
+    }
+
+    #[test]
+    fn made_nodes_go_to_the_operations_that_made_them() {
+        let mut batch = Batch::new();
+        batch.remove_node(3).new_node().set_nodes(&[9]);
+        let read: Vec<_> = batch.operations().collect();
+        assert_eq!(read[0], Operation::RemoveNode { node: 3 });
+        assert_eq!(read[1], Operation::NewNode { node: 9 });
+    }
+}

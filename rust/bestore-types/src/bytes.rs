@@ -1,0 +1,304 @@
+//! Batches as bytes, in the format that the libraries for C, C++ and Python have too. All numbers are little-endian.
+//!
+//! `BEB`, the format's version 1, and the count of the operations come first, a byte each. Of an operation:
+//! - its kind, one byte;
+//! - kinds 0 to 3 (new node, remove node, set, unset): the node, 8 bytes;
+//! - kinds 2 to 5 (set, unset, make index, remove index): the length of the name, one byte, and the name;
+//! - kinds 2 and 4: the type code, 4 bytes;
+//! - kind 2: a number in 8 bytes, or the length of the value, one byte, and the value.
+
+use crate::raw::{RawOperation, OPERATIONS};
+use crate::{sys, Batch, Error, Kind, Result};
+
+const BEGINNING: [u8; 4] = *b"BEB\x01";
+
+impl Batch {
+    /// The batch as bytes: to keep it, or to send it.
+    ///
+    /// # Errors
+    /// [`Error::BadCount`], [`Error::NameLength`] and [`Error::DataLength`]: no store accepts such a batch.
+    pub fn to_bytes(&self) -> Result<Vec<u8>> {
+        self.check_count()?;
+        let mut bytes = Vec::with_capacity(5 + 32 * self.len() + self.raw().bytes.len());
+        bytes.extend_from_slice(&BEGINNING);
+        bytes.push(self.len() as u8);
+        for (index, operation) in self.raw().operations.iter().enumerate() {
+            self.write(operation, index, &mut bytes)?;
+        }
+        Ok(bytes)
+    }
+
+    fn write(&self, operation: &RawOperation, index: usize, to: &mut Vec<u8>) -> Result<()> {
+        let operation_index = Some(index as u64);
+        to.push(operation.kind as u8);
+        if has_node(operation.kind) {
+            to.extend_from_slice(&operation.node.to_le_bytes());
+        }
+        if has_name(operation.kind) {
+            let name = self.raw().name(operation);
+            let length = u8::try_from(name.len()).ok().filter(|length| *length <= 63);
+            to.push(length.ok_or(Error::NameLength {
+                operation: operation_index,
+            })?);
+            to.extend_from_slice(name.as_bytes());
+        }
+        if has_code(operation.kind) {
+            to.extend_from_slice(&operation.code.to_le_bytes());
+        }
+        if operation.kind == sys::BES_SET {
+            if Kind::from_code(operation.code).map_or(false, Kind::is_number) {
+                to.extend_from_slice(&operation.number.to_le_bytes());
+            } else {
+                let value = self.raw().value_bytes(operation);
+                to.push(u8::try_from(value.len()).map_err(|_| Error::DataLength {
+                    operation: operation_index,
+                })?);
+                to.extend_from_slice(value);
+            }
+        }
+        Ok(())
+    }
+
+    /// The batch that the bytes hold.
+    ///
+    /// # Errors
+    /// [`Error::BadBatch`] with the offset of the first byte that is wrong, or the length of bytes that end too soon.
+    pub fn from_bytes(bytes: &[u8]) -> Result<Self> {
+        let mut reader = Reader { bytes, at: 0 };
+        reader.beginning()?;
+        let count = reader.byte()?;
+        if !(1..=OPERATIONS).contains(&usize::from(count)) {
+            return reader.bad(1, "a batch has 1 to 64 operations");
+        }
+        let mut batch = Batch::new();
+        for _ in 0..count {
+            reader.operation(&mut batch)?;
+        }
+        if reader.at < bytes.len() {
+            return reader.bad(0, "the batch ends here, and more bytes follow");
+        }
+        Ok(batch)
+    }
+}
+
+fn has_node(kind: u32) -> bool {
+    kind <= sys::BES_UNSET
+}
+
+fn has_name(kind: u32) -> bool {
+    kind >= sys::BES_SET
+}
+
+fn has_code(kind: u32) -> bool {
+    kind == sys::BES_SET || kind == sys::BES_MAKE_INDEX
+}
+
+struct Reader<'a> {
+    bytes: &'a [u8],
+    at: usize,
+}
+
+impl<'a> Reader<'a> {
+    /// The error at the byte that lies so far before the next one.
+    fn bad<T>(&self, back: usize, why: &'static str) -> Result<T> {
+        Err(Error::BadBatch {
+            offset: self.at - back,
+            why,
+        })
+    }
+
+    fn take(&mut self, length: usize) -> Result<&'a [u8]> {
+        match self.bytes.get(self.at..self.at + length) {
+            Some(part) => {
+                self.at += length;
+                Ok(part)
+            }
+            None => Err(Error::BadBatch {
+                offset: self.bytes.len(),
+                why: "the batch is cut off",
+            }),
+        }
+    }
+
+    fn array<const N: usize>(&mut self) -> Result<[u8; N]> {
+        let mut array = [0; N];
+        array.copy_from_slice(self.take(N)?);
+        Ok(array)
+    }
+
+    fn byte(&mut self) -> Result<u8> {
+        self.array::<1>().map(|[byte]| byte)
+    }
+
+    fn beginning(&mut self) -> Result<()> {
+        for expected in BEGINNING {
+            if self.byte()? != expected {
+                let is_version = self.at == BEGINNING.len();
+                return self.bad(
+                    1,
+                    if is_version {
+                        "the batch is of another version of the format; version 1 can be read"
+                    } else {
+                        "the bytes don't begin with BEB, as those of a batch do"
+                    },
+                );
+            }
+        }
+        Ok(())
+    }
+
+    fn text(&mut self, length: usize) -> Result<&'a str> {
+        let part = self.take(length)?;
+        match std::str::from_utf8(part) {
+            Ok(text) => Ok(text),
+            Err(error) => self.bad(length - error.valid_up_to(), "a text isn't valid UTF-8"),
+        }
+    }
+
+    fn operation(&mut self, batch: &mut Batch) -> Result<()> {
+        let kind = u32::from(self.byte()?);
+        if kind > sys::BES_REMOVE_INDEX {
+            return self.bad(1, "no operation has this number; they are 0 to 5");
+        }
+        let node = if has_node(kind) {
+            u64::from_le_bytes(self.array()?)
+        } else {
+            0
+        };
+        let name = if has_name(kind) {
+            let length = self.byte()?;
+            self.text(length.into())?
+        } else {
+            ""
+        };
+        let code = if has_code(kind) {
+            u32::from_le_bytes(self.array()?)
+        } else {
+            0
+        };
+        let value_kind = Kind::from_code(code);
+        match value_kind {
+            None if has_code(kind) => return self.bad(4, "no kind has this type code"),
+            Some(value_kind) if kind == sys::BES_SET => {
+                let (number, value) = self.value(value_kind)?;
+                batch.add(kind, node, name, code, number, value);
+            }
+            _ => {
+                batch.add(kind, node, name, code, 0, &[]);
+            }
+        }
+        Ok(())
+    }
+
+    fn value(&mut self, kind: Kind) -> Result<(u64, &'a [u8])> {
+        if kind.is_number() {
+            let number = u64::from_le_bytes(self.array()?);
+            let fits = match kind {
+                Kind::Int32 => i32::try_from(number as i64).is_ok(),
+                Kind::Uint32 => u32::try_from(number).is_ok(),
+                _ => true,
+            };
+            return if fits {
+                Ok((number, &[]))
+            } else {
+                self.bad(8, "the number doesn't fit its kind")
+            };
+        }
+        let length = usize::from(self.byte()?);
+        if kind == Kind::Raw {
+            Ok((0, self.take(length)?))
+        } else {
+            Ok((0, self.text(length)?.as_bytes()))
+        }
+    }
+}
+
+#[cfg(test)]
+mod tests {
+    use super::*;
+    use crate::Value;
+
+    fn example() -> Batch {
+        let mut batch = Batch::new();
+        batch.new_node().remove_node(2).unset(3, "größe");
+        batch.set(1, "t", "Ada").set(1, "m", Value::Mime("text/plain".into()));
+        batch.set(1, "r", vec![0, 255]).set(1, "e", "");
+        batch.set(1, "i", i32::MIN).set(1, "l", i64::MIN);
+        batch.set(1, "u", u32::MAX).set(1, "v", u64::MAX);
+        batch.make_index("t", Kind::Text).remove_index("t");
+        batch.set_nodes(&[7]);
+        batch
+    }
+
+    fn refused(bytes: &[u8]) -> (usize, &'static str) {
+        match Batch::from_bytes(bytes) {
+            Err(Error::BadBatch { offset, why }) => (offset, why),
+            other => panic!("{other:?}"),
+        }
+    }
+
+    #[test]
+    fn bytes_are_as_the_format_says() {
+        let mut batch = Batch::new();
+        batch.set(258, "ab", -2_i32).make_index("c", Kind::Text);
+        let bytes = b"BEB\x01\x02\x02\x02\x01\0\0\0\0\0\0\x02abGNOL\xfe\xff\xff\xff\xff\xff\xff\xff\x04\x01cRTSC";
+        assert_eq!(batch.to_bytes().unwrap(), bytes);
+        assert_eq!(Batch::from_bytes(bytes).unwrap(), batch);
+    }
+
+    #[test]
+    fn every_operation_comes_back() {
+        let batch = example();
+        assert_eq!(Batch::from_bytes(&batch.to_bytes().unwrap()).unwrap(), batch);
+    }
+
+    #[test]
+    fn a_part_that_is_cut_off_is_refused_at_the_length() {
+        let bytes = example().to_bytes().unwrap();
+        for length in 0..bytes.len() {
+            let said = (length, "the batch is cut off");
+            assert_eq!(refused(&bytes[..length]), said);
+        }
+        let longer = [&bytes[..], &[0]].concat();
+        assert_eq!(refused(&longer).0, bytes.len());
+    }
+
+    #[test]
+    fn faults_are_named_with_their_byte() {
+        assert_eq!(refused(b"BEC\x01").0, 2);
+        assert_eq!(refused(b"BEB\x02\x01").0, 3);
+        assert_eq!(refused(b"BEB\x01\0").0, 4);
+        assert_eq!(refused(b"BEB\x01\x41").0, 4);
+        assert_eq!(refused(b"BEB\x01\x01\x06").0, 5);
+        assert_eq!(refused(b"BEB\x01\x01\x05\x02a\xff").0, 8);
+        assert_eq!(refused(b"BEB\x01\x01\x04\x01aXXXX").0, 8);
+        let too_large = b"BEB\x01\x01\x02\0\0\0\0\0\0\0\0\x01aGNOL\0\0\0\0\x01\0\0\0";
+        assert_eq!(refused(too_large), (20, "the number doesn't fit its kind"));
+    }
+
+    #[test]
+    fn any_changed_byte_is_read_or_refused() {
+        let bytes = example().to_bytes().unwrap();
+        for at in 0..bytes.len() {
+            for value in [0, 1, 5, 64, 127, 255] {
+                let mut changed = bytes.clone();
+                changed[at] = value;
+                if let Ok(batch) = Batch::from_bytes(&changed) {
+                    assert_eq!(batch.to_bytes().ok().unwrap_or_else(|| changed.clone()), changed);
+                }
+            }
+        }
+    }
+
+    #[test]
+    fn a_batch_that_no_store_accepts_has_no_bytes() {
+        assert!(matches!(Batch::new().to_bytes(), Err(Error::BadCount { count: 0 })));
+        let mut long = Batch::new();
+        long.new_node().unset(1, &"x".repeat(64));
+        let operation = Some(1);
+        assert!(matches!(long.to_bytes(), Err(Error::NameLength { operation: o }) if o == operation));
+        let mut large = Batch::new();
+        large.set(1, "r", vec![0; 256]);
+        assert!(matches!(large.to_bytes(), Err(Error::DataLength { .. })));
+    }
+}

@@ -1,0 +1,536 @@
+//! Why a call did nothing.
+
+use crate::class::Meaning;
+use crate::{sys, text, Class, CursorFault, Kind};
+use std::fmt;
+
+/// The result of a call of this crate.
+pub type Result<T> = std::result::Result<T, Error>;
+
+/// Why a call did nothing, with what is known of it.
+#[non_exhaustive]
+#[derive(Debug)]
+pub enum Error {
+    /// Another pass was writing at every try.
+    Busy {
+        /// The number of that pass.
+        pass: u64,
+    },
+    /// The node doesn't exist.
+    NoNode,
+    /// The node has no attribute of this name.
+    NoAttribute,
+    /// The node has 64 attributes already.
+    TooManyAttributes,
+    /// There is an index of this name.
+    IndexExists,
+    /// There is no index of this name.
+    NoIndex,
+    /// There is no index of the name by which an order is.
+    NoOrder {
+        /// The name.
+        name: String,
+        /// The names that have an index.
+        indices: Vec<String>,
+    },
+    /// No page can go on from the cursor.
+    BadCursor(CursorFault),
+    /// A page has at least one node.
+    NoRoom,
+    /// There are 32 indices already.
+    TooManyIndices,
+    /// No index may have this kind.
+    NotIndexable,
+    /// The journal has as many entries as the store was opened for.
+    CommitsSpent,
+    /// Out of memory.
+    OutOfMemory,
+    /// No page is free.
+    Full {
+        /// The oldest snapshot that a pass may still read, and for which pages are kept.
+        oldest: u64,
+    },
+    /// The query is refused.
+    Query(QueryError),
+    /// A name is empty or has more than 63 bytes.
+    NameLength {
+        /// Which operation of the batch, from 0.
+        operation: Option<u64>,
+    },
+    /// A value has more than 255 bytes.
+    DataLength {
+        /// Which operation of the batch, from 0.
+        operation: Option<u64>,
+    },
+    /// A name or a text has a zero byte.
+    HasNul {
+        /// Which operation of the batch, from 0.
+        operation: Option<u64>,
+    },
+    /// A limit of the store is out of its range.
+    BadLimits,
+    /// Each pass of the store is in use.
+    NoPass,
+    /// Another pass of the store is open, or another clone of it.
+    InUse,
+    /// The witness is of a pass of another store.
+    OtherStore,
+    /// A batch is empty or has more than 64 operations.
+    BadCount {
+        /// How many it has.
+        count: usize,
+    },
+    /// The journal is longer than the write expects.
+    Conflict {
+        /// The length that was expected.
+        expected: u64,
+        /// The length that was found.
+        found: u64,
+    },
+    /// The value is of another kind than the index of this name, which wouldn't take it.
+    KindMismatch {
+        /// The name of the attribute and of the index.
+        name: String,
+        /// The kind of the index.
+        index: Kind,
+        /// The kind of the value.
+        value: Kind,
+    },
+    /// The shelf has no such volume.
+    NoVolume {
+        /// The volume.
+        volume: u32,
+        /// How many there are.
+        volumes: u32,
+    },
+    /// An operation names a node of another volume than the one that is written.
+    OtherVolume {
+        /// The volume that is written.
+        volume: u32,
+        /// Which operation of the batch, from 0. In a change it is the one that was to be added.
+        operation: Option<u64>,
+    },
+    /// An index is made or removed in all volumes of a shelf, by calls of its own, and not in the volume of a batch.
+    PartialIndex {
+        /// Which operation of the batch, from 0.
+        operation: u64,
+    },
+    /// The next node of the store is too great for a volume of a shelf.
+    NodesSpent,
+    /// The error of one volume of a shelf.
+    InVolume {
+        /// The volume.
+        volume: u32,
+        /// What is wrong there.
+        error: Box<Error>,
+    },
+    /// Bytes that are no batch.
+    BadBatch {
+        /// The offset of the first byte that is wrong, or the length of the bytes if they end too soon.
+        offset: usize,
+        /// What is wrong there.
+        why: &'static str,
+    },
+    /// The handle was opened before this process was forked, and belongs to the parent.
+    Forked,
+    /// The write was made in memory, and could not be saved. The store accepts no further write.
+    #[cfg(feature = "saved")]
+    NotSaved(std::sync::Arc<crate::saved::Error>),
+    /// Nothing was written, because saving has failed before, or because the file is closed.
+    #[cfg(feature = "saved")]
+    Stopped(std::sync::Arc<crate::saved::Error>),
+    /// An error of the program's own, made by [`Error::other`] in the closure of a change.
+    Other(Box<dyn std::error::Error + Send + Sync>),
+    /// An error of the library that this crate doesn't know.
+    Unexpected {
+        /// The error, as `bestore.h` lists it.
+        code: u32,
+        /// The number that goes with it.
+        carried: u64,
+    },
+}
+
+impl Error {
+    /// An error of the program's own, by which the closure of a change stops it.
+    pub fn other(error: impl Into<Box<dyn std::error::Error + Send + Sync>>) -> Self {
+        Error::Other(error.into())
+    }
+
+    /// The same error, of this volume of a shelf, if it depends on the volume and not on the call alone.
+    #[must_use]
+    pub fn in_volume(self, volume: u32) -> Self {
+        match self {
+            Error::Query(QueryError { fault, .. }) if fault != QueryFault::NotCovered => self,
+            Error::NoNode | Error::NoAttribute | Error::NotIndexable | Error::Forked | Error::BadCount { .. } => self,
+            Error::NameLength { .. } | Error::DataLength { .. } | Error::HasNul { .. } => self,
+            Error::BadCursor(_) | Error::NoRoom | Error::InVolume { .. } => self,
+            error => Error::InVolume {
+                volume,
+                error: Box::new(error),
+            },
+        }
+    }
+
+    /// The volume of a shelf whose error this is, if it is one of a volume.
+    #[must_use]
+    pub fn volume(&self) -> Option<u32> {
+        match self {
+            Error::InVolume { volume, .. } => Some(*volume),
+            _ => None,
+        }
+    }
+
+    /// The error without the volume that it is of.
+    #[must_use]
+    pub fn without_volume(self) -> Self {
+        match self {
+            Error::InVolume { error, .. } => *error,
+            error => error,
+        }
+    }
+
+    /// The number of this error in `bestore.h`, if it has one.
+    #[must_use]
+    pub fn code(&self) -> Option<u32> {
+        Some(match self {
+            Error::Busy { .. } => sys::BES_BUSY,
+            Error::NoNode => sys::BES_NO_NODE,
+            Error::NoAttribute => sys::BES_NO_ATTRIBUTE,
+            Error::TooManyAttributes => sys::BES_TOO_MANY_ATTRS,
+            Error::IndexExists => sys::BES_INDEX_EXISTS,
+            Error::NoIndex | Error::NoOrder { .. } => sys::BES_NO_INDEX,
+            Error::BadCursor(_) => sys::BES_BAD_CURSOR,
+            Error::NoRoom => sys::BES_NO_ROOM,
+            Error::TooManyIndices => sys::BES_TOO_MANY_INDICES,
+            Error::NotIndexable => sys::BES_NOT_INDEXABLE,
+            Error::CommitsSpent => sys::BES_COMMITS_SPENT,
+            Error::OutOfMemory => sys::BES_NO_MEMORY,
+            Error::Full { .. } => sys::BES_FULL,
+            Error::Query(error) => error.fault.code(),
+            Error::NameLength { .. } => sys::BES_NAME_LENGTH,
+            Error::DataLength { .. } => sys::BES_DATA_LENGTH,
+            Error::HasNul { .. } => sys::BES_HAS_NUL,
+            Error::BadLimits => sys::BES_BAD_LIMITS,
+            Error::NoPass => sys::BES_NO_PASS,
+            Error::InUse => sys::BES_IN_USE,
+            Error::BadCount { .. } => sys::BES_BAD_COUNT,
+            Error::Conflict { .. } => sys::BES_CONFLICT,
+            Error::Unexpected { code, .. } => *code,
+            Error::InVolume { error, .. } => return error.code(),
+            Error::NoVolume { .. } | Error::OtherVolume { .. } => return None,
+            Error::PartialIndex { .. } | Error::NodesSpent | Error::OtherStore => return None,
+            Error::KindMismatch { .. } => sys::BES_WRONG_KIND,
+            Error::BadBatch { .. } => return None,
+            Error::Forked | Error::Other(_) => return None,
+            #[cfg(feature = "saved")]
+            Error::NotSaved(_) | Error::Stopped(_) => return None,
+        })
+    }
+
+    /// What a program can do about the error.
+    #[must_use]
+    pub fn class(&self) -> Class {
+        match self {
+            Error::InVolume { error, .. } => error.class(),
+            Error::NodesSpent => Class::Full,
+            Error::Forked => Class::Gone,
+            #[cfg(feature = "saved")]
+            Error::NotSaved(_) | Error::Stopped(_) => Class::Gone,
+            other => other.code().map_or(Class::Mine, |code| Meaning::of(code).class),
+        }
+    }
+}
+
+/// An operation of a batch, between what was wrong with it and what would be right.
+fn at_operation(f: &mut fmt::Formatter<'_>, operation: &Option<u64>) -> fmt::Result {
+    match operation {
+        Some(index) => write!(f, " (operation {index}, counted from 0)"),
+        None => Ok(()),
+    }
+}
+
+/// What was wrong, what is known of the place, and what would be right.
+impl fmt::Display for Error {
+    fn fmt(&self, f: &mut fmt::Formatter<'_>) -> fmt::Result {
+        match self {
+            Error::Query(error) => error.fmt(f),
+            Error::InVolume { volume, error } => write!(f, "volume {volume}: {error}"),
+            #[cfg(feature = "saved")]
+            Error::NotSaved(error) => write!(f, "the write is in memory, and couldn't be saved: {error}"),
+            #[cfg(feature = "saved")]
+            Error::Stopped(error) => write!(f, "the store takes no more writes: {error}"),
+            Error::Other(error) => error.fmt(f),
+            Error::BadLimits => f.write_str(BAD_LIMITS),
+            Error::KindMismatch { .. } => self.show_own(f),
+            Error::NoOrder { name, indices } => write!(f, "there is no index {name:?}; {}", listed(indices)),
+            Error::BadCursor(fault) => fault.fmt(f),
+            _ => match self.code() {
+                Some(code) => self.show_coded(f, code),
+                None => self.show_own(f),
+            },
+        }
+    }
+}
+
+/// The library has a pass more.
+const BAD_LIMITS: &str =
+    "a limit of the store is out of its range; it has 8 to 16,384 pages, 1 to 63 passes and 1 to 4,294,967,295 commits";
+
+impl Error {
+    /// Shows an error of the library.
+    fn show_coded(&self, f: &mut fmt::Formatter<'_>, code: u32) -> fmt::Result {
+        let meaning = Meaning::of(code);
+        f.write_str(meaning.what)?;
+        match self {
+            Error::Busy { pass } => write!(f, " (pass {pass})")?,
+            Error::Full { oldest } => write!(f, " (the oldest snapshot that may be read is {oldest})")?,
+            Error::NameLength { operation } | Error::DataLength { operation } | Error::HasNul { operation } => {
+                at_operation(f, operation)?;
+            }
+            Error::BadCount { count } => write!(f, ", and this one has {count}")?,
+            Error::Conflict { expected, found } => write!(f, " ({found}, not {expected})")?,
+            Error::Unexpected { code, carried } => write!(f, " (number {code}, with {carried})")?,
+            _ => {}
+        }
+        meaning.show_advice(f)
+    }
+
+    /// Shows an error that this crate itself detects.
+    fn show_own(&self, f: &mut fmt::Formatter<'_>) -> fmt::Result {
+        match self {
+            Error::KindMismatch { name, index, value } => write!(
+                f,
+                "the index {name:?} takes values of kind {index}, and this one is {value}; set it as {index}, or no \
+                 query finds it"
+            ),
+            Error::BadBatch { offset, why } => write!(f, "{why} (byte {offset}, counted from 0)"),
+            Error::NoVolume { volume, volumes } => {
+                write!(f, "there is no volume {volume}; there are {volumes}, counted from 0")
+            }
+            Error::OtherVolume { volume, operation } => {
+                write!(f, "a node is in another volume than {volume}, which is written")?;
+                at_operation(f, operation)?;
+                f.write_str("; a batch has nodes of one volume")
+            }
+            Error::PartialIndex { operation } => {
+                f.write_str("an index is made in all volumes")?;
+                at_operation(f, &Some(*operation))?;
+                f.write_str("; it needs a batch without other operations")
+            }
+            Error::OtherStore => f.write_str("the witness is of another store; join one of this store"),
+            Error::NodesSpent => f.write_str("the volume has used up its node numbers; write in another one"),
+            _ => f.write_str("the handle belongs to the process that this one was forked from; open a store here"),
+        }
+    }
+}
+
+/// The names of the existing indices.
+fn listed(indices: &[String]) -> String {
+    match indices {
+        [] => "there are no indices".into(),
+        names => {
+            let names: Vec<_> = names.iter().map(|name| format!("{name:?}")).collect();
+            format!("indices: {}", names.join(", "))
+        }
+    }
+}
+
+impl std::error::Error for Error {
+    fn source(&self) -> Option<&(dyn std::error::Error + 'static)> {
+        match self {
+            Error::Query(error) => Some(error),
+            #[cfg(feature = "saved")]
+            Error::NotSaved(error) | Error::Stopped(error) => Some(error.as_ref()),
+            Error::Other(error) => error.source(),
+            Error::InVolume { error, .. } => error.source(),
+            _ => None,
+        }
+    }
+}
+
+/// Why a query is refused.
+#[non_exhaustive]
+#[derive(Clone, Copy, Debug, PartialEq, Eq, Hash)]
+pub enum QueryFault {
+    /// The text isn't a query.
+    Syntax,
+    /// A pattern isn't valid.
+    BadPattern,
+    /// The text has more than 4,096 bytes.
+    TooLong,
+    /// The query is nested too deep.
+    TooDeep,
+    /// The query has more than 256 comparisons.
+    TooMany,
+    /// No index of the snapshot serves the query.
+    NotCovered,
+}
+
+impl QueryFault {
+    const ALL: [QueryFault; 6] = [
+        QueryFault::Syntax,
+        QueryFault::BadPattern,
+        QueryFault::TooLong,
+        QueryFault::TooDeep,
+        QueryFault::TooMany,
+        QueryFault::NotCovered,
+    ];
+
+    /// The number of the error in `bestore.h`.
+    #[must_use]
+    pub const fn code(self) -> u32 {
+        match self {
+            QueryFault::Syntax => sys::BES_SYNTAX,
+            QueryFault::BadPattern => sys::BES_BAD_PATTERN,
+            QueryFault::TooLong => sys::BES_TOO_LONG,
+            QueryFault::TooDeep => sys::BES_TOO_DEEP,
+            QueryFault::TooMany => sys::BES_TOO_MANY,
+            QueryFault::NotCovered => sys::BES_NOT_COVERED,
+        }
+    }
+
+    /// The fault with this number.
+    #[must_use]
+    pub fn from_code(code: u32) -> Option<Self> {
+        Self::ALL.into_iter().find(|fault| fault.code() == code)
+    }
+
+    /// Whether the library says at which byte of the text it is.
+    #[must_use]
+    pub const fn has_offset(self) -> bool {
+        matches!(self, QueryFault::Syntax | QueryFault::BadPattern)
+    }
+}
+
+/// What was wrong, and what would be right.
+impl fmt::Display for QueryFault {
+    fn fmt(&self, f: &mut fmt::Formatter<'_>) -> fmt::Result {
+        let meaning = Meaning::of(self.code());
+        f.write_str(meaning.what)?;
+        meaning.show_advice(f)
+    }
+}
+
+/// A query that is refused: its text, what is wrong, and where.
+#[derive(Clone, Debug, PartialEq, Eq)]
+pub struct QueryError {
+    text: String,
+    fault: QueryFault,
+    offset: Option<usize>,
+    missing: Option<String>,
+}
+
+impl QueryError {
+    /// What is wrong with this text, and at which byte if that is known.
+    #[must_use]
+    pub fn new(text: impl Into<String>, fault: QueryFault, offset: Option<usize>) -> Self {
+        Self {
+            text: text.into(),
+            fault,
+            offset,
+            missing: None,
+        }
+    }
+
+    /// The same, because this name, which begins at this byte, has no index.
+    #[must_use]
+    pub fn with_missing(self, name: String, offset: usize) -> Self {
+        Self {
+            offset: Some(offset),
+            missing: Some(name),
+            ..self
+        }
+    }
+
+    /// The text of the query. Of a prepared one it is the canonical text, and of a predicate the pattern that is malformed.
+    #[must_use]
+    pub fn text(&self) -> &str {
+        &self.text
+    }
+
+    /// What is wrong.
+    #[must_use]
+    pub fn fault(&self) -> QueryFault {
+        self.fault
+    }
+
+    /// Of [`QueryFault::NotCovered`]: the first name in the text that has no index.
+    #[must_use]
+    pub fn missing(&self) -> Option<&str> {
+        self.missing.as_deref()
+    }
+
+    /// The byte of the text at which it is wrong, from 0, if that is known. If an index is missing, its name begins there.
+    #[must_use]
+    pub fn offset(&self) -> Option<usize> {
+        self.offset
+    }
+
+    /// The character of the text at which it is wrong, from 0, if that is known.
+    #[must_use]
+    pub fn column(&self) -> Option<usize> {
+        self.offset.map(|offset| text::column_at(&self.text, offset))
+    }
+}
+
+/// What is wrong, the text, and a caret under the place. Of a long text the part round the place is shown.
+impl fmt::Display for QueryError {
+    fn fmt(&self, f: &mut fmt::Formatter<'_>) -> fmt::Result {
+        let meaning = Meaning::of(self.fault.code());
+        f.write_str(meaning.what)?;
+        if let Some(name) = &self.missing {
+            write!(f, ": {name:?} has none")?;
+        }
+        meaning.show_advice(f)?;
+        write!(f, "\n{}", text::with_caret(&self.text, self.column()))
+    }
+}
+
+impl std::error::Error for QueryError {}
+
+#[cfg(test)]
+mod tests {
+    use super::*;
+    use crate::text::SHOWN;
+
+    #[test]
+    fn a_caret_stands_under_the_character() {
+        let error = QueryError::new("size<5 || größe==[", QueryFault::BadPattern, Some(19));
+        let said = concat!(
+            "this pattern isn't valid here; a set such as [a-d] ends with ], isn't empty, and its ranges rise\n",
+            "  size<5 || größe==[\n                   ^"
+        );
+        assert_eq!(error.to_string(), said);
+    }
+
+    #[test]
+    fn the_part_round_the_place_is_shown_of_a_long_text() {
+        let text = format!("{}[", "\n".repeat(1000));
+        let error = QueryError::new(text, QueryFault::Syntax, Some(1000));
+        let said = format!(
+            "this query isn't valid here; it needs comparisons such as size>=5, joined by && or ||\n  {}[\n  {}^",
+            " ".repeat(SHOWN),
+            " ".repeat(SHOWN)
+        );
+        assert_eq!(error.to_string(), said);
+    }
+
+    #[test]
+    fn a_name_without_an_index_is_named() {
+        let error = QueryError::new("a==1", QueryFault::NotCovered, None).with_missing("a".into(), 0);
+        assert_eq!(
+            (error.missing(), error.offset(), error.column()),
+            (Some("a"), Some(0), Some(0))
+        );
+        assert!(error.to_string().contains(": \"a\" has none"));
+    }
+
+    #[test]
+    fn an_error_of_this_crate_has_a_class() {
+        let volume = |error| Error::in_volume(error, 1);
+        assert_eq!(volume(Error::Busy { pass: 0 }).class(), Class::Retry);
+        assert_eq!(Error::NodesSpent.class(), Class::Full);
+        assert_eq!(Error::Forked.class(), Class::Gone);
+        assert_eq!(Error::other("mine").class(), Class::Mine);
+    }
+}

@@ -1,0 +1,31 @@
+//! Comparisons that are never true.
+
+use crate::Kind;
+use std::fmt;
+
+/// A comparison that is never true: its name has an index of integers, and its value is no integer or out of their range. So is
+/// `size>1.5`.
+#[derive(Clone, Debug, PartialEq, Eq)]
+pub struct Hint {
+    /// The name of the attribute.
+    pub name: String,
+    /// What is compared with.
+    pub value: String,
+    /// The kind of the index.
+    pub kind: Kind,
+    /// The byte of the query at which the comparison begins.
+    pub offset: usize,
+    /// Whether the value is a whole number, but out of the kind's range.
+    pub is_number: bool,
+}
+
+impl fmt::Display for Hint {
+    fn fmt(&self, f: &mut fmt::Formatter<'_>) -> fmt::Result {
+        let Self { name, value, kind, .. } = self;
+        write!(f, "never true: {name:?} is {kind}, and {value:?} ")?;
+        f.write_str(match self.is_number {
+            true => "is out of its range",
+            false => "isn't a whole number",
+        })
+    }
+}

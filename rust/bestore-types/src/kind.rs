@@ -1,0 +1,112 @@
+//! The kinds of values.
+
+use crate::sys;
+use std::fmt;
+
+macro_rules! kinds {
+    ($($(#[$about:meta])* $kind:ident = $code:ident, $name:literal, $shown:literal, $indexable:literal, $number:literal;)*) => {
+        /// The kind of a value. An index takes values of one kind alone.
+        #[derive(Clone, Copy, Debug, PartialEq, Eq, Hash, PartialOrd, Ord)]
+        pub enum Kind {
+            $($(#[$about])* $kind),*
+        }
+
+        impl Kind {
+            /// Every kind.
+            pub const ALL: [Kind; [$($name),*].len()] = [$(Kind::$kind),*];
+
+            /// The type code of BeOS.
+            #[must_use]
+            pub const fn code(self) -> u32 {
+                match self {
+                    $(Kind::$kind => sys::$code),*
+                }
+            }
+
+            /// The four letters of the type code, as scripts and the journal's text have them.
+            #[must_use]
+            pub const fn name(self) -> &'static str {
+                match self {
+                    $(Kind::$kind => $name),*
+                }
+            }
+
+            /// Whether an index may have this kind.
+            #[must_use]
+            pub const fn is_indexable(self) -> bool {
+                match self {
+                    $(Kind::$kind => $indexable),*
+                }
+            }
+
+            /// Whether its values are integers.
+            #[must_use]
+            pub const fn is_number(self) -> bool {
+                match self {
+                    $(Kind::$kind => $number),*
+                }
+            }
+        }
+
+        /// The kind as its type in Rust, or `text`, `MIME type` and `raw bytes`.
+        impl fmt::Display for Kind {
+            fn fmt(&self, f: &mut fmt::Formatter<'_>) -> fmt::Result {
+                f.write_str(match self {
+                    $(Kind::$kind => $shown),*
+                })
+            }
+        }
+    };
+}
+
+kinds! {
+    // surface.toml: kinds
+    /// A text of up to 255 bytes, `B_STRING_TYPE` of BeOS.
+    Text = BES_STRING_TYPE, "CSTR", "text", true, false;
+    /// `B_INT32_TYPE`.
+    Int32 = BES_INT32_TYPE, "LONG", "i32", true, true;
+    /// `B_INT64_TYPE`.
+    Int64 = BES_INT64_TYPE, "LLNG", "i64", true, true;
+    /// A MIME type: a text that no index holds.
+    Mime = BES_MIME_STRING_TYPE, "MIMS", "MIME type", false, false;
+    /// Up to 255 bytes that no index holds.
+    Raw = BES_RAW_TYPE, "RAWT", "raw bytes", false, false;
+    /// `B_UINT32_TYPE`.
+    Uint32 = BES_UINT32_TYPE, "ULNG", "u32", true, true;
+    /// `B_UINT64_TYPE`.
+    Uint64 = BES_UINT64_TYPE, "ULLG", "u64", true, true;
+    // surface.toml: end
+}
+
+impl Kind {
+    /// The least value of an index of integers of this kind. `None`: an index of it has no integers.
+    #[must_use]
+    pub fn least(self) -> Option<i64> {
+        match self {
+            Kind::Int32 => Some(i32::MIN.into()),
+            Kind::Int64 => Some(i64::MIN),
+            Kind::Uint32 | Kind::Uint64 => Some(0),
+            Kind::Text | Kind::Mime | Kind::Raw => None,
+        }
+    }
+
+    /// The kind with this type code.
+    #[must_use]
+    pub fn from_code(code: u32) -> Option<Kind> {
+        Kind::ALL.into_iter().find(|kind| kind.code() == code)
+    }
+}
+
+#[cfg(test)]
+mod tests {
+    use super::*;
+
+    #[test]
+    fn codes_lead_back_to_kinds() {
+        for kind in Kind::ALL {
+            assert_eq!(Kind::from_code(kind.code()), Some(kind));
+            assert_eq!(kind.code().to_be_bytes(), kind.name().as_bytes());
+        }
+        assert_eq!(Kind::from_code(0), None);
+    }
+}

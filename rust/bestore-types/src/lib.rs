@@ -1,0 +1,48 @@
+//! What stores and clients of bestore share: values and their kinds, batches, nodes, orders and cursors, and errors with their texts.
+//!
+//! Nothing here opens a store or loads libbestore. The crate `bestore` has the store, and `bestore-client` the client of a server; both
+//! hand on what they use of this one.
+//!
+//! ```
+//! use bestore_types::{Batch, Kind, Node};
+//!
+//! let mut batch = Batch::new();
+//! batch.make_index("MAIL:from", Kind::Text).new_node().set(Node { volume: 0, number: 1 }.into(), "MAIL:from", "Ada");
+//! assert_eq!(Batch::from_bytes(&batch.to_bytes()?)?, batch);
+//! # Ok::<(), bestore_types::Error>(())
+//! ```
+//!
+//! # Features
+//!
+//! - `saved`: the module `saved`, which reads and writes the file that keeps a store.
+#![warn(missing_docs, missing_debug_implementations, rust_2018_idioms)]
+#![deny(unsafe_code)]
+
+mod batch;
+mod bytes;
+mod class;
+mod cursor;
+mod error;
+mod hint;
+mod kind;
+mod limits;
+mod node;
+mod page;
+pub mod raw;
+#[cfg(feature = "saved")]
+pub mod saved;
+pub mod sys;
+mod text;
+mod value;
+
+pub use batch::{Batch, Operation, Operations, Written};
+pub use class::Class;
+pub use cursor::{Cursor, CursorFault, Order};
+pub use error::{Error, QueryError, QueryFault, Result};
+pub use hint::Hint;
+pub use kind::Kind;
+pub use limits::{Limits, MOST_PASSES, MOST_VOLUMES};
+pub use node::Node;
+pub use page::{Page, Paging};
+pub use text::{all_in, caret, escape};
+pub use value::Value;

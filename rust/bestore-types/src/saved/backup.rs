@@ -1,0 +1,168 @@
+//! Backups: a file, or a folder with one for each volume, that gets a state and appears once it is whole.
+
+use super::file::File;
+use super::{path_of, About, Error, Result};
+use crate::Batch;
+use std::fs::{self, DirBuilder};
+use std::io::{self, ErrorKind};
+use std::os::unix::fs::DirBuilderExt;
+use std::path::{Path, PathBuf};
+use std::sync::atomic::{AtomicU32, Ordering};
+
+/// A backup that is being made. It is written beside its path, with mode 0600, and removed if it is dropped before
+/// [`finish`](Self::finish).
+///
+/// ```
+/// use bestore_types::saved::{self, About, Backup};
+/// use bestore_types::Batch;
+/// # let folder = std::env::temp_dir().join(format!("bestore-backup-{}", std::process::id()));
+/// # std::fs::create_dir_all(&folder)?;
+/// # let path = folder.join("letters.backup");
+/// let mut backup = Backup::create(&path, 1)?;
+/// backup.add(0, Batch::new().new_node())?;
+/// let about = About { entries: 1, next: 2 };
+/// backup.finish(&[about])?;
+/// assert_eq!(saved::read(&path)?[0].about, about);
+/// # std::fs::remove_dir_all(&folder)?;
+/// # Ok::<(), Box<dyn std::error::Error>>(())
+/// ```
+#[derive(Debug)]
+pub struct Backup {
+    path: PathBuf,
+    beside: Beside,
+    files: Vec<Part>,
+}
+
+/// The file of a volume, and how many batches it has.
+#[derive(Debug)]
+struct Part {
+    file: File,
+    batches: u64,
+}
+
+/// What is written beside the path. It is removed when it is dropped.
+#[derive(Debug)]
+struct Beside {
+    path: PathBuf,
+    is_folder: bool,
+}
+
+impl Drop for Beside {
+    fn drop(&mut self) {
+        // Nothing is left of a backup that is finished.
+        let _ = match self.is_folder {
+            true => fs::remove_dir_all(&self.path),
+            false => fs::remove_file(&self.path),
+        };
+    }
+}
+
+impl Beside {
+    fn new(path: &Path, is_folder: bool) -> Self {
+        static LAST: AtomicU32 = AtomicU32::new(0);
+        let number = LAST.fetch_add(1, Ordering::Relaxed);
+        let name = path.file_name().unwrap_or_default().to_string_lossy();
+        let name = format!(".{name}.{}-{number}.part", std::process::id());
+        Self {
+            path: path.with_file_name(name),
+            is_folder,
+        }
+    }
+
+    /// The file of a volume.
+    fn file(&self, volume: u32) -> PathBuf {
+        match self.is_folder {
+            true => path_of(&self.path, volume),
+            false => self.path.clone(),
+        }
+    }
+
+    /// Gives the whole backup its name, if nothing else has it.
+    fn publish(&self, path: &Path) -> io::Result<()> {
+        if self.is_folder {
+            // Only an empty folder could be in its place by now.
+            return fs::rename(&self.path, path);
+        }
+        match fs::hard_link(&self.path, path) {
+            // Not every file system has links.
+            Err(error) if error.kind() != ErrorKind::AlreadyExists && !exists(path) => fs::rename(&self.path, path),
+            linked => linked,
+        }
+    }
+}
+
+fn exists(path: &Path) -> bool {
+    path.symlink_metadata().is_ok()
+}
+
+/// Waits until what the file or folder has is on the disk.
+fn synchronise(path: &Path) -> Result<()> {
+    let synchronised = fs::File::open(path).and_then(|file| file.sync_all());
+    synchronised.map_err(|error| Error::folder(path, error))
+}
+
+/// The folder of a path.
+fn parent(path: &Path) -> &Path {
+    match path.parent() {
+        Some(parent) if !parent.as_os_str().is_empty() => parent,
+        _ => Path::new("."),
+    }
+}
+
+impl Backup {
+    /// Begins a backup of so many volumes: a file for one, otherwise a folder. Nothing may be at the path.
+    ///
+    /// # Errors
+    /// [`Error::Exists`]; [`Error::Folder`]: it can't be made there; [`Error::DiskFull`], [`Error::Sqlite`].
+    pub fn create(path: impl AsRef<Path>, volumes: u32) -> Result<Self> {
+        let path = path.as_ref().to_owned();
+        if exists(&path) {
+            return Err(Error::Exists { path });
+        }
+        let beside = Beside::new(&path, volumes > 1);
+        if beside.is_folder {
+            let made = DirBuilder::new().mode(0o700).create(&beside.path);
+            made.map_err(|error| Error::folder(&beside.path, error))?;
+        }
+        let part = |volume| {
+            let file = File::begin_state(&beside.file(volume), &path)?;
+            Ok(Part { file, batches: 0 })
+        };
+        let files = (0..volumes.max(1)).map(part).collect::<Result<_>>()?;
+        Ok(Self { path, beside, files })
+    }
+
+    /// Adds the next of the batches that make a volume's snapshot again, with the node numbers of that volume alone.
+    ///
+    /// # Errors
+    /// [`Error::DiskFull`], [`Error::Sqlite`]; [`Error::Store`]: there is no such volume, or the batch is bad.
+    pub fn add(&mut self, volume: u32, batch: &Batch) -> Result<()> {
+        let volumes = self.files.len() as u32;
+        let part = self.files.get_mut(volume as usize);
+        let part = part.ok_or(crate::Error::NoVolume { volume, volumes })?;
+        part.file.add_state(part.batches, &batch.to_bytes()?)?;
+        part.batches += 1;
+        Ok(())
+    }
+
+    /// Ends the backup, whose volumes have these numbers, and gives it its name once the disk has it.
+    ///
+    /// # Errors
+    /// [`Error::Exists`]: something has come to the path meanwhile. [`Error::Folder`], [`Error::DiskFull`], [`Error::Sqlite`].
+    pub fn finish(self, about: &[About]) -> Result<()> {
+        let Self { path, beside, files } = self;
+        for ((volume, part), about) in (0..).zip(files).zip(about) {
+            part.file.end_state(*about)?;
+            synchronise(&beside.file(volume))?;
+        }
+        if beside.is_folder {
+            synchronise(&beside.path)?;
+        }
+        match beside.publish(&path) {
+            Err(_) if exists(&path) => return Err(Error::Exists { path }),
+            published => published.map_err(|error| Error::folder(&path, error))?,
+        }
+        drop(beside);
+        synchronise(parent(&path))
+    }
+}

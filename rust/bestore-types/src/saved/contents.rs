@@ -1,0 +1,79 @@
+//! What a file has, read without a store.
+
+use super::file::File;
+use super::{count, files_of, About, Error, Place, Result};
+use crate::Batch;
+use std::collections::BTreeMap;
+use std::path::{Path, PathBuf};
+
+/// What the file of a volume has: the batches that make its store again on an empty one, one after another.
+#[derive(Clone, Debug, PartialEq, Eq)]
+pub struct Contents {
+    /// The numbers of the state.
+    pub about: About,
+    /// The batches of the state. New nodes get the next numbers.
+    pub state: Vec<Batch>,
+    /// The entries since. Each new node has the number that it got.
+    pub entries: Vec<Batch>,
+}
+
+impl Contents {
+    fn read(path: &Path, until: Option<u64>) -> Result<Self> {
+        let file = File::open_to_read(path)?;
+        let about = file.state()?;
+        let (mut state, mut entries, mut last) = (Vec::new(), Vec::new(), about.entries);
+        file.each_state(|index, bytes| {
+            state.push(batch(Place::State(index), bytes)?);
+            Ok(())
+        })?;
+        file.each_entry(last, until.unwrap_or(u64::MAX), |number, bytes| {
+            last = number;
+            entries.push(batch(Place::Entry(number), bytes)?);
+            Ok(())
+        })?;
+        file.check_end(until, last)?;
+        Ok(Self { about, state, entries })
+    }
+
+    /// The batches in their order, with the places that they have in the file.
+    pub fn batches(&self) -> impl Iterator<Item = (Place, &Batch)> {
+        let state = (0..).map(Place::State).zip(&self.state);
+        state.chain((self.about.entries + 1..).map(Place::Entry).zip(&self.entries))
+    }
+}
+
+fn batch(place: Place, bytes: &[u8]) -> Result<Batch> {
+    Batch::from_bytes(bytes).map_err(|error| Error::differs(place, error))
+}
+
+/// Reads a file, or those of the volumes of a folder, and leaves them as they are. It takes memory for all batches.
+///
+/// # Errors
+/// [`Error::Foreign`], [`Error::Newer`], [`Error::Held`], [`Error::Damaged`], [`Error::CutOff`], [`Error::Differs`],
+/// [`Error::Sqlite`]: of a folder in [`Error::OfVolume`]. [`Error::Folder`], [`Error::NoFile`].
+pub fn read(path: impl AsRef<Path>) -> Result<Vec<Contents>> {
+    read_until(path, &BTreeMap::new())
+}
+
+/// The same, of each of these volumes up to an entry of its file, so that the part before a damaged one is read. The volume of a
+/// file is 0.
+///
+/// # Errors
+/// Those of [`read`]. [`Error::NotWithin`]: the file hasn't the entry.
+pub fn read_until(path: impl AsRef<Path>, until: &BTreeMap<u32, u64>) -> Result<Vec<Contents>> {
+    let path = path.as_ref();
+    let is_folder = path.is_dir();
+    let volumes = if is_folder { count(path)? } else { 1 };
+    let read = |(volume, file): (u32, PathBuf)| {
+        let read = Contents::read(&file, until.get(&volume).copied());
+        read.map_err(|error| if is_folder { error.of_volume(volume) } else { error })
+    };
+    let contents = (0..)
+        .zip(files_of(path, volumes))
+        .map(read)
+        .collect::<Result<Vec<_>>>()?;
+    match contents.is_empty() {
+        false => Ok(contents),
+        true => Err(Error::Foreign { path: path.to_owned() }),
+    }
+}

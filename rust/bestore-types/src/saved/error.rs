@@ -1,0 +1,346 @@
+//! Why a file can't be opened, or a write not be saved.
+
+use rusqlite::ErrorCode;
+use std::fmt;
+use std::path::{Path, PathBuf};
+use std::sync::Arc;
+
+/// Where in a file something is.
+#[derive(Clone, Copy, Debug, PartialEq, Eq)]
+pub enum Place {
+    /// The batch of the state with this index, from 0.
+    State(u64),
+    /// The entry with this number, from 1.
+    Entry(u64),
+    /// The token of the entry with this number.
+    Token(u64),
+    /// What the file says of its state.
+    About,
+    /// The pages of SQLite.
+    Structure,
+}
+
+impl Place {
+    /// The number of the entry before this one.
+    pub(super) fn before(self) -> Option<u64> {
+        match self {
+            Place::Entry(number) => Some(number.saturating_sub(1)),
+            _ => None,
+        }
+    }
+}
+
+impl fmt::Display for Place {
+    fn fmt(&self, f: &mut fmt::Formatter<'_>) -> fmt::Result {
+        match self {
+            Place::State(index) => write!(f, "batch {index} of the state"),
+            Place::Entry(number) => write!(f, "entry {number}"),
+            Place::Token(number) => write!(f, "the token of entry {number}"),
+            Place::About => f.write_str("what the file says of its state"),
+            Place::Structure => f.write_str("the structure of SQLite's pages"),
+        }
+    }
+}
+
+/// Why a file can't be opened, or a write not be saved.
+#[non_exhaustive]
+#[derive(Debug)]
+pub enum Error {
+    /// The file is of another program.
+    Foreign {
+        /// The file.
+        path: PathBuf,
+    },
+    /// The file is of a newer format.
+    Newer {
+        /// The file.
+        path: PathBuf,
+        /// The version of its format.
+        version: i64,
+        /// The latest version that can be read.
+        known: i64,
+    },
+    /// Another process has the file, or another store of this one.
+    Held {
+        /// The file.
+        path: PathBuf,
+    },
+    /// A backup would replace what is at its path.
+    Exists {
+        /// The path.
+        path: PathBuf,
+    },
+    /// The disk is full.
+    DiskFull {
+        /// The file.
+        path: PathBuf,
+    },
+    /// A part of the file isn't as it was written.
+    Damaged {
+        /// The file.
+        path: PathBuf,
+        /// The first part that is found to be damaged.
+        place: Place,
+        /// What comes before can be read by [`read_until`](super::read_until) with this number, if anything can.
+        until: Option<u64>,
+        /// How it was found.
+        why: Box<dyn std::error::Error + Send + Sync>,
+    },
+    /// The file ends earlier than it did: a frame of its WAL is damaged, or the WAL is missing.
+    CutOff {
+        /// The file.
+        path: PathBuf,
+        /// The last entry that it has.
+        last: u64,
+        /// The last entry that it has had.
+        had: u64,
+    },
+    /// There is no such entry to read up to.
+    NotWithin {
+        /// The file.
+        path: PathBuf,
+        /// The last entry that was asked for.
+        until: u64,
+        /// The last entry that the state contains.
+        first: u64,
+        /// The last entry of the file.
+        last: u64,
+    },
+    /// What the file has isn't what a store did.
+    Differs {
+        /// Where it differs.
+        place: Place,
+        /// What is wrong there.
+        why: Box<dyn std::error::Error + Send + Sync>,
+    },
+    /// What the file has doesn't fit the limits of the store.
+    TooLarge {
+        /// What was applied when the store refused.
+        place: Place,
+        /// The store's error.
+        error: crate::Error,
+    },
+    /// An error of SQLite.
+    Sqlite {
+        /// The file.
+        path: PathBuf,
+        /// The error.
+        error: rusqlite::Error,
+    },
+    /// The thread that saves could not be started.
+    Thread(std::io::Error),
+    /// The folder of a shelf can't be read or made, or a file or folder of a backup not be made.
+    Folder {
+        /// The folder, or the file.
+        path: PathBuf,
+        /// The error.
+        error: std::io::Error,
+    },
+    /// The folder of a shelf has the file of a later volume, and not this one.
+    NoFile {
+        /// The file.
+        path: PathBuf,
+    },
+    /// A shelf can't be opened with fewer volumes than its folder has, nor with none.
+    Fewer {
+        /// The folder.
+        folder: PathBuf,
+        /// How many it has.
+        found: u32,
+        /// How many were asked for, or `found` if no number was.
+        wanted: u32,
+    },
+    /// The error of one volume of a shelf.
+    OfVolume {
+        /// The volume.
+        volume: u32,
+        /// What is wrong there.
+        error: Box<Error>,
+    },
+    /// An error of the store.
+    Store(crate::Error),
+    /// Saving has failed before.
+    Stopped(Arc<Error>),
+    /// The file was closed.
+    Closed,
+}
+
+impl Error {
+    /// What is at this place isn't what a store did.
+    pub fn differs(place: Place, why: impl Into<Box<dyn std::error::Error + Send + Sync>>) -> Self {
+        Error::Differs { place, why: why.into() }
+    }
+
+    /// The error of a store that refuses what the file has at this place.
+    #[must_use]
+    pub fn refused(place: Place, error: crate::Error) -> Self {
+        match error {
+            crate::Error::Full { .. } | crate::Error::CommitsSpent | crate::Error::OutOfMemory => {
+                Error::TooLarge { place, error }
+            }
+            error => Error::differs(place, error),
+        }
+    }
+
+    /// The error of a file that lacks what should be at this place.
+    pub(super) fn missing(place: Place) -> Self {
+        let why = match place {
+            Place::State(_) => "the batch is missing",
+            _ => "the entry is missing",
+        };
+        Error::differs(place, why)
+    }
+
+    /// The error of a part of the file whose checksum doesn't fit.
+    pub(super) fn wrong_sum(path: &Path, place: Place, until: Option<u64>) -> Self {
+        Error::Damaged {
+            path: path.to_owned(),
+            place,
+            until,
+            why: "its checksum doesn't fit".into(),
+        }
+    }
+
+    /// The error of a part of the file that SQLite can't read.
+    pub(super) fn of_reading(path: &Path, place: Place, until: Option<u64>, error: rusqlite::Error) -> Self {
+        use ErrorCode::{
+            CannotOpen, DatabaseBusy, DatabaseLocked, DiskFull, NotADatabase, OutOfMemory, ReadOnly, SystemIoFailure,
+        };
+        match error.sqlite_error_code() {
+            Some(
+                CannotOpen | DatabaseBusy | DatabaseLocked | DiskFull | NotADatabase | OutOfMemory | ReadOnly
+                | SystemIoFailure,
+            ) => Error::of_sqlite(path, error),
+            _ => Error::Damaged {
+                path: path.to_owned(),
+                place,
+                until,
+                why: error.into(),
+            },
+        }
+    }
+
+    /// The error of the system about a folder, or a file of a backup.
+    #[must_use]
+    pub fn folder(path: &Path, error: std::io::Error) -> Self {
+        let path = path.to_owned();
+        Error::Folder { path, error }
+    }
+
+    /// The same error, of this volume.
+    #[must_use]
+    pub fn of_volume(self, volume: u32) -> Self {
+        let error = Box::new(self);
+        Error::OfVolume { volume, error }
+    }
+
+    /// The error of SQLite about this file.
+    #[must_use]
+    pub fn of_sqlite(path: &Path, error: rusqlite::Error) -> Self {
+        let path = path.to_owned();
+        match error.sqlite_error_code() {
+            Some(ErrorCode::NotADatabase) => Error::Foreign { path },
+            Some(ErrorCode::DatabaseBusy | ErrorCode::DatabaseLocked) => Error::Held { path },
+            Some(ErrorCode::DiskFull) => Error::DiskFull { path },
+            Some(ErrorCode::DatabaseCorrupt) => Error::Damaged {
+                path,
+                place: Place::Structure,
+                until: None,
+                why: error.into(),
+            },
+            _ => Error::Sqlite { path, error },
+        }
+    }
+}
+
+impl From<crate::Error> for Error {
+    fn from(error: crate::Error) -> Self {
+        Error::Store(error)
+    }
+}
+
+impl fmt::Display for Error {
+    fn fmt(&self, f: &mut fmt::Formatter<'_>) -> fmt::Result {
+        match self {
+            Error::Foreign { path } => {
+                write!(f, "{}: the file belongs to another program; name another one", path.display())
+            }
+            Error::Newer { path, version, known } => write!(
+                f,
+                "{}: the file has format {version}, and format {known} is the latest known here; use a newer version of bestore",
+                path.display()
+            ),
+            Error::Held { path } => write!(f, "{}: the file is open in another process or store; close it there first", path.display()),
+            Error::Exists { path } => write!(
+                f,
+                "{}: this file or folder exists, and isn't overwritten; remove it, or name another",
+                path.display()
+            ),
+            Error::DiskFull { path } => write!(f, "{}: the disk is full", path.display()),
+            Error::Damaged { path, place, until, why } => {
+                write!(f, "{}: {place} is damaged: {why}; ", path.display())?;
+                match until {
+                    Some(until) => write!(f, "what comes before it is restored by be restore --until {until}"),
+                    None => f.write_str("restore a backup"),
+                }
+            }
+            Error::CutOff { path, last, had } => write!(
+                f,
+                "{0}: the file ends with entry {last}, and it has had entry {had}: {0}-wal is damaged or missing; put it back, or \
+                 restore what is left by be restore --until {last}. If the file is an older copy, remove {0}-last",
+                path.display()
+            ),
+            Error::NotWithin {
+                path,
+                until,
+                first,
+                last,
+            } => write!(
+                f,
+                "{}: entry {until} can't be the last one; the file can be read up to any entry from {first} to {last}",
+                path.display()
+            ),
+            Error::Differs { place, why } => {
+                write!(f, "{place}: the file has something that no store wrote: {why}")
+            }
+            Error::TooLarge { place, error } => {
+                write!(f, "{place}: the file doesn't fit the limits of the store: {error}")
+            }
+            Error::Sqlite { path, error } => write!(f, "{}: {error}", path.display()),
+            Error::Thread(error) => write!(f, "the thread that saves can't be started: {error}"),
+            Error::Folder { path, error } => write!(f, "{}: {error}", path.display()),
+            Error::NoFile { path } => write!(f, "{}: the file of this volume is missing, and a later volume has one; put it back", path.display()),
+            Error::Fewer { folder, found: 0, .. } => {
+                write!(
+                    f,
+                    "{}: the folder has no volumes, and it isn't said how many to make",
+                    folder.display()
+                )
+            }
+            Error::Fewer { folder, found, wanted } => write!(
+                f,
+                "{}: the folder has {found} volumes, and can't be opened with {wanted}",
+                folder.display()
+            ),
+            Error::OfVolume { volume, error } => write!(f, "volume {volume}: {error}"),
+            Error::Store(error) => error.fmt(f),
+            Error::Stopped(error) => write!(f, "saving has failed: {error}"),
+            Error::Closed => f.write_str("the file is closed"),
+        }
+    }
+}
+
+impl std::error::Error for Error {
+    fn source(&self) -> Option<&(dyn std::error::Error + 'static)> {
+        match self {
+            Error::TooLarge { error, .. } | Error::Store(error) => Some(error),
+            Error::Differs { why, .. } | Error::Damaged { why, .. } => Some(why.as_ref()),
+            Error::Sqlite { error, .. } => Some(error),
+            Error::Thread(error) => Some(error),
+            Error::Stopped(error) => Some(error.as_ref()),
+            Error::Folder { error, .. } => Some(error),
+            Error::OfVolume { error, .. } => error.source(),
+            _ => None,
+        }
+    }
+}

@@ -1,0 +1,579 @@
+//! The file: a database of SQLite with the last state and the entries since. docs/KEPT.md describes the format.
+
+use super::last::LastEntry;
+use super::tables::{self, APPLICATION, FORMAT, WITHOUT_CHECKSUMS};
+use super::{Error, Place, Result};
+use crate::{Batch, Limits};
+use rusqlite::config::DbConfig;
+use rusqlite::{Connection, OpenFlags, Transaction};
+use std::collections::VecDeque;
+use std::fs::OpenOptions;
+use std::ops::RangeInclusive;
+use std::os::unix::fs::OpenOptionsExt;
+use std::path::{Path, PathBuf};
+use std::time::Duration;
+
+/// The WAL is written from its start again after 1,000 pages, 4.1 MB, so the limit cuts off only what a large commit has left.
+/// The last two statements take the lock.
+const SETTINGS: &str = "
+    PRAGMA journal_mode = WAL;
+    PRAGMA synchronous = FULL;
+    PRAGMA journal_size_limit = 8388608;
+    BEGIN IMMEDIATE;
+    COMMIT;
+";
+
+/// The greatest number that an entry can have, as SQLite's integers end there.
+const LAST_NUMBER: u64 = i64::MAX as u64;
+
+/// What a file says of its state.
+#[derive(Clone, Copy, Debug, PartialEq, Eq)]
+pub struct About {
+    /// The number of the last entry that the state contains.
+    pub entries: u64,
+    /// The number of the next node after it.
+    pub next: u64,
+}
+
+/// How many tokens a file has at least before the oldest ones go, and how many go at once.
+const MOST_TOKENS: usize = super::TOKENS;
+const TOKENS_AT_ONCE: usize = 1_024;
+
+/// The state isn't written anew before the entries take so many bytes.
+const LEAST_DUE: u64 = 1 << 20;
+
+/// About as many bytes does a row of the file have beside its batch.
+const ROW_BYTES: u64 = 20;
+
+/// Of a file that nobody sees before it is whole. Its journal is that of SQLite by default, so the one file has all.
+const STATE_SETTINGS: &str = "
+    PRAGMA auto_vacuum = FULL;
+    PRAGMA journal_mode = MEMORY;
+    PRAGMA synchronous = OFF;
+";
+
+/// An accepted transaction on its way into the file.
+#[derive(Debug)]
+pub struct Row {
+    pub number: u64,
+    pub pass: u64,
+    pub batch: Vec<u8>,
+    pub token: Option<Token>,
+}
+
+/// The token of an entry, and the nodes that it made.
+#[derive(Clone, Debug, PartialEq, Eq)]
+pub struct Token {
+    pub text: Box<str>,
+    pub nodes: Vec<u64>,
+}
+
+impl Token {
+    fn node_bytes(&self) -> Vec<u8> {
+        self.nodes.iter().flat_map(|node| node.to_le_bytes()).collect()
+    }
+
+    fn read(text: &str, bytes: &[u8]) -> Self {
+        let number = |bytes: &[u8]| {
+            bytes
+                .iter()
+                .rev()
+                .fold(0, |number, byte| number << 8 | u64::from(*byte))
+        };
+        Self {
+            text: text.into(),
+            nodes: bytes.chunks(8).map(number).collect(),
+        }
+    }
+}
+
+/// Makes the file if it isn't there, so that the user alone may read it. SQLite gives the file with `-wal` the same mode.
+fn make_private(path: &Path) {
+    let made = OpenOptions::new().write(true).create_new(true).mode(0o600).open(path);
+    // If it can't be made, opening it says why.
+    drop(made);
+}
+
+#[derive(Debug)]
+pub struct File {
+    connection: Connection,
+    path: PathBuf,
+    /// Whether its rows have checksums. Those of the earlier format have none.
+    has_checksums: bool,
+    /// The entries whose tokens the file has, by rising numbers.
+    with_token: VecDeque<u64>,
+    /// How many bytes the entries take, and from how many on the state is written anew.
+    entry_bytes: u64,
+    due_bytes: u64,
+    /// It is dropped after the connection.
+    last: Option<LastEntry>,
+}
+
+impl File {
+    /// Opens the file for this process alone, or makes it.
+    pub fn open(path: &Path) -> Result<Self> {
+        let flags = OpenFlags::SQLITE_OPEN_READ_WRITE | OpenFlags::SQLITE_OPEN_CREATE | OpenFlags::SQLITE_OPEN_NO_MUTEX;
+        // SQLite takes ":memory:" and an empty name for no file, and neither has a folder before it.
+        let within = Path::new(".").join(path);
+        make_private(&within);
+        let mut file = Self::connect(&within, path, flags)?;
+        file.take()?;
+        Ok(file)
+    }
+
+    /// Connects to the file at `place`, which errors name `path`.
+    fn connect(place: &Path, path: &Path, flags: OpenFlags) -> Result<Self> {
+        let opened = Connection::open_with_flags(place, flags);
+        Ok(Self {
+            connection: opened.map_err(|error| Error::of_sqlite(path, error))?,
+            path: path.to_owned(),
+            has_checksums: true,
+            with_token: VecDeque::new(),
+            entry_bytes: 0,
+            due_bytes: LEAST_DUE,
+            last: None,
+        })
+    }
+
+    /// Opens a file of a store to read it, and leaves it as it is.
+    pub fn open_to_read(path: &Path) -> Result<Self> {
+        let flags = OpenFlags::SQLITE_OPEN_READ_ONLY | OpenFlags::SQLITE_OPEN_NO_MUTEX;
+        let mut file = Self::connect(&Path::new(".").join(path), path, flags)?;
+        file.sqlite(file.connection.busy_timeout(Duration::ZERO))?;
+        match file.check_format()? {
+            false => Ok(file),
+            true => Err(Error::Foreign { path: path.to_owned() }),
+        }
+    }
+
+    /// Makes a file at `place` that gets a state. It is whole after [`end_state`](Self::end_state), and errors name it `path`.
+    pub fn begin_state(place: &Path, path: &Path) -> Result<Self> {
+        let made = OpenOptions::new().write(true).create_new(true).mode(0o600).open(place);
+        made.map_err(|error| Error::folder(place, error))?;
+        let flags = OpenFlags::SQLITE_OPEN_READ_WRITE | OpenFlags::SQLITE_OPEN_NO_MUTEX;
+        let file = Self::connect(&Path::new(".").join(place), path, flags)?;
+        file.run(STATE_SETTINGS)?;
+        file.sqlite(tables::make(&file.connection))?;
+        file.run("BEGIN")?;
+        Ok(file)
+    }
+
+    /// Adds a batch of the state.
+    pub fn add_state(&self, place: u64, batch: &[u8]) -> Result<()> {
+        let insert = self.connection.prepare_cached("INSERT INTO state VALUES (?, ?, ?)");
+        let sum = tables::of_state(place, batch);
+        let added = insert.and_then(|mut insert| insert.execute((place as i64, batch, sum)));
+        self.sqlite(added.map(drop))
+    }
+
+    /// Ends the state, and closes the file.
+    pub fn end_state(self, about: About) -> Result<()> {
+        self.sqlite(tables::set_about(&self.connection, about))?;
+        self.run("COMMIT")?;
+        let Self { connection, path, .. } = self;
+        connection.close().map_err(|(_, error)| Error::of_sqlite(&path, error))
+    }
+
+    fn run(&self, sql: &str) -> Result<()> {
+        self.sqlite(self.connection.execute_batch(sql))
+    }
+
+    fn sqlite<T>(&self, answer: rusqlite::Result<T>) -> Result<T> {
+        answer.map_err(|error| Error::of_sqlite(&self.path, error))
+    }
+
+    fn pragma(&self, name: &str) -> Result<i64> {
+        self.sqlite(self.connection.pragma_query_value(None, name, |row| row.get(0)))
+    }
+
+    /// Locks the file, looks whose it is, and makes the tables in an empty one, before it has a WAL that could lose them.
+    fn take(&mut self) -> Result<()> {
+        self.sqlite(self.connection.busy_timeout(Duration::ZERO))?;
+        self.sqlite(self.connection.pragma_update(None, "locking_mode", "EXCLUSIVE"))?;
+        if self.check_format()? {
+            self.run("PRAGMA auto_vacuum = FULL; PRAGMA synchronous = FULL")?;
+            self.sqlite(tables::make(&self.connection))?;
+        }
+        self.run(SETTINGS)?;
+        self.sqlite(tables::make_tokens(&self.connection, self.has_checksums))
+    }
+
+    /// Whether the file is new. One of another program, or of a newer format, is refused.
+    fn check_format(&mut self) -> Result<bool> {
+        let tables = self
+            .connection
+            .query_row("SELECT count(*) FROM sqlite_master", [], |row| row.get::<_, i64>(0));
+        let has_tables = self.sqlite(tables)? > 0;
+        let path = self.path.clone();
+        match (self.pragma("application_id")?, self.pragma("user_version")?) {
+            (0, 0) if !has_tables => Ok(true),
+            (APPLICATION, version @ (WITHOUT_CHECKSUMS | FORMAT)) => {
+                self.has_checksums = version == FORMAT;
+                Ok(false)
+            }
+            (APPLICATION, version) if version > FORMAT => Err(Error::Newer {
+                path,
+                version,
+                known: FORMAT,
+            }),
+            _ => Err(Error::Foreign { path }),
+        }
+    }
+
+    /// Whether the file is of the earlier format, which has no checksums.
+    pub fn lacks_checksums(&self) -> bool {
+        !self.has_checksums
+    }
+
+    /// The column of the checksums in a statement that reads rows.
+    fn checksum(&self) -> &'static str {
+        match self.has_checksums {
+            true => "checksum",
+            false => "NULL",
+        }
+    }
+
+    /// The error of a part of the file that can't be read. What comes before it ends with this entry, if that is known.
+    fn unreadable(&self, place: Place, until: Option<u64>, error: rusqlite::Error) -> Error {
+        Error::of_reading(&self.path, place, until, error)
+    }
+
+    fn number(&self, what: &str) -> Result<u64> {
+        let sql = format!("SELECT number, {} FROM about WHERE what = ?", self.checksum());
+        let found = self.connection.query_row(&sql, [what], |row| {
+            let number: i64 = row.get(0)?;
+            Ok((number, tables::fits(row, 1, tables::of_about(what, number as u64))?))
+        });
+        let unreadable = |error| self.unreadable(Place::About, None, error);
+        match found.map_err(unreadable)? {
+            (_, false) if self.has_checksums => Err(Error::wrong_sum(&self.path, Place::About, None)),
+            (number, _) => u64::try_from(number).map_err(|error| Error::differs(Place::State(0), error)),
+        }
+    }
+
+    pub fn state(&self) -> Result<About> {
+        Ok(About {
+            entries: self.number("entries")?,
+            next: self.number("next")?,
+        })
+    }
+
+    /// Refuses a file whose entries were read up to `last`, if that isn't the one that was asked for. If none was, the file may have had
+    /// no later entries, and its pages have to be whole.
+    pub fn check_end(&self, until: Option<u64>, last: u64) -> Result<()> {
+        match until {
+            Some(until) if until != last => Err(Error::NotWithin {
+                path: self.path.clone(),
+                until,
+                first: self.state()?.entries,
+                last,
+            }),
+            Some(_) => Ok(()),
+            None => {
+                self.check_last(last)?;
+                self.check_structure(last)
+            }
+        }
+    }
+
+    /// Refuses a file that ends with this entry and has had later ones.
+    fn check_last(&self, last: u64) -> Result<()> {
+        if !self.has_checksums {
+            return Ok(());
+        }
+        match LastEntry::read(&self.path, self.number("file")?) {
+            Some(had) if had > last => Err(Error::CutOff {
+                path: self.path.clone(),
+                last,
+                had,
+            }),
+            _ => Ok(()),
+        }
+    }
+
+    /// Refuses a file whose pages SQLite finds damaged, though all entries up to this one could be read.
+    fn check_structure(&self, last: u64) -> Result<()> {
+        let found = self
+            .connection
+            .query_row("PRAGMA quick_check(1)", [], |row| row.get::<_, String>(0));
+        match found.map_err(|error| self.unreadable(Place::Structure, Some(last), error))? {
+            found if found == "ok" => Ok(()),
+            found => Err(Error::Damaged {
+                path: self.path.clone(),
+                place: Place::Structure,
+                until: Some(last),
+                why: found.replace('\n', " ").into(),
+            }),
+        }
+    }
+
+    /// Whether the entries take more than the state, and not a little.
+    pub fn is_due(&self) -> bool {
+        self.entry_bytes > self.due_bytes
+    }
+
+    /// Finds out how many bytes the state and the entries take.
+    pub fn measure(&mut self) -> Result<()> {
+        let sum = |table: &str| {
+            let sql = format!("SELECT coalesce(sum(length(batch) + {ROW_BYTES}), 0) FROM {table}");
+            let found = self.connection.query_row(&sql, [], |row| row.get::<_, i64>(0));
+            found.map(|bytes| bytes as u64)
+        };
+        let state = self.sqlite(sum("state"))?;
+        self.entry_bytes = self.sqlite(sum("entry"))?;
+        self.due_bytes = state.max(LEAST_DUE);
+        Ok(())
+    }
+
+    /// From now on the number of the last entry, which is this one, is also kept beside the file.
+    pub fn keep_last(&mut self, last: u64) -> Result<()> {
+        if self.has_checksums {
+            self.last = LastEntry::begin(&self.path, self.number("file")?, last);
+        }
+        Ok(())
+    }
+
+    /// The file is refused: when it is closed, the WAL stays beside it.
+    pub fn leave(&self) {
+        // Otherwise SQLite moves the part of the WAL that isn't damaged, and removes the rest.
+        let _ = self
+            .connection
+            .set_db_config(DbConfig::SQLITE_DBCONFIG_NO_CKPT_ON_CLOSE, true);
+    }
+
+    /// The limits for a store of this file: it may not accept more transactions than there are numbers left for entries.
+    ///
+    /// # Errors
+    /// [`Error::TooLarge`] if no number is left and the state is empty.
+    pub fn limits_within(&self, limits: Limits) -> Result<Limits> {
+        let entries = self.state()?.entries;
+        let left = LAST_NUMBER - entries;
+        if left >= limits.commits {
+            return Ok(limits);
+        }
+        let batches = self
+            .connection
+            .query_row("SELECT count(*) FROM state", [], |row| row.get::<_, u64>(0));
+        match self.sqlite(batches)? + left {
+            0 => Err(Error::refused(Place::Entry(entries), crate::Error::CommitsSpent)),
+            most => Ok(Limits {
+                commits: limits.commits.min(most),
+                ..limits
+            }),
+        }
+    }
+
+    /// Hands each batch of the state to the closure, in their order, with its index.
+    pub fn each_state(&self, take: impl FnMut(u64, &[u8]) -> Result<()>) -> Result<()> {
+        let sql = format!(
+            "SELECT place, NULL, batch, {} FROM state ORDER BY place",
+            self.checksum()
+        );
+        self.each(&sql, 0..=u64::MAX, Place::State, take)
+    }
+
+    /// Hands each entry after `after` and up to `until` to the closure, by rising numbers.
+    pub fn each_entry(&self, after: u64, until: u64, take: impl FnMut(u64, &[u8]) -> Result<()>) -> Result<()> {
+        let sql = format!(
+            "SELECT number, pass, batch, {} FROM entry ORDER BY number",
+            self.checksum()
+        );
+        self.each(&sql, after.wrapping_add(1)..=until, Place::Entry, take)
+    }
+
+    /// Hands the batch of each row to the closure, of which there has to be one for each of the numbers up to the last row. The rows
+    /// after the numbers aren't looked at.
+    fn each(
+        &self,
+        sql: &str,
+        numbers: RangeInclusive<u64>,
+        place: fn(u64) -> Place,
+        mut take: impl FnMut(u64, &[u8]) -> Result<()>,
+    ) -> Result<()> {
+        let (mut due, until) = numbers.into_inner();
+        if due > until {
+            return Ok(());
+        }
+        let unreadable = |due, error| self.unreadable(place(due), place(due).before(), error);
+        let mut statement = self.connection.prepare(sql).map_err(|error| unreadable(due, error))?;
+        let mut rows = statement.query([]).map_err(|error| unreadable(due, error))?;
+        while due <= until {
+            let row = match rows.next().map_err(|error| unreadable(due, error))? {
+                Some(row) => row,
+                None => break,
+            };
+            let (number, fits) = self.check_row(row).map_err(|error| unreadable(due, error))?;
+            if !fits {
+                return Err(Error::wrong_sum(&self.path, place(due), place(due).before()));
+            }
+            if number != due {
+                return Err(Error::missing(place(due)));
+            }
+            let batch = row.get_ref(2).map_err(|error| unreadable(due, error))?;
+            take(number, batch.as_blob().unwrap_or_default())?;
+            due = number.wrapping_add(1);
+        }
+        Ok(())
+    }
+
+    /// The number of a row that has a batch, and whether its checksum fits.
+    fn check_row(&self, row: &rusqlite::Row<'_>) -> rusqlite::Result<(u64, bool)> {
+        let number = row.get::<_, i64>(0)? as u64;
+        if !self.has_checksums {
+            return Ok((number, true));
+        }
+        let batch = row.get_ref(2)?.as_blob()?;
+        let sum = match row.get::<_, Option<i64>>(1)? {
+            Some(pass) => tables::of_entry(number, pass as u64, batch),
+            None => tables::of_state(number, batch),
+        };
+        Ok((number, tables::fits(row, 3, sum)?))
+    }
+
+    /// Adds the rows, all in one commit. One row alone is a transaction of its own, without statements that begin and end it.
+    pub fn append(&mut self, rows: &[Row]) -> Result<()> {
+        let added = match rows {
+            [row] if row.token.is_none() => self.insert(row),
+            rows => self.insert_all(rows),
+        };
+        self.sqlite(added)?;
+        self.entry_bytes += rows.iter().map(|row| row.batch.len() as u64 + ROW_BYTES).sum::<u64>();
+        if let (Some(last), Some(row)) = (&self.last, rows.last()) {
+            last.set(row.number);
+        }
+        Ok(())
+    }
+
+    /// The tokens that the file has, with the numbers of their entries, which rise. `last` is its last entry.
+    pub fn tokens(&mut self, last: u64) -> Result<Vec<(u64, Token)>> {
+        let mut due = 0;
+        let tokens = self.read_tokens(&mut due);
+        let unreadable = |error| self.unreadable(Place::Token(due), Some(last), error);
+        let tokens = match tokens.map_err(unreadable)? {
+            Some(tokens) => tokens,
+            None => return Err(Error::wrong_sum(&self.path, Place::Token(due), Some(last))),
+        };
+        self.with_token = tokens.iter().map(|(number, _)| *number).collect();
+        Ok(tokens)
+    }
+
+    /// Reads the tokens. `None`: a checksum doesn't fit. `due` is the number of the last one that was read.
+    fn read_tokens(&self, due: &mut u64) -> rusqlite::Result<Option<Vec<(u64, Token)>>> {
+        let sql = format!(
+            "SELECT number, token, nodes, {} FROM token ORDER BY number",
+            self.checksum()
+        );
+        let mut statement = self.connection.prepare(&sql)?;
+        let mut rows = statement.query([])?;
+        let mut tokens = Vec::new();
+        while let Some(row) = rows.next()? {
+            *due = row.get::<_, i64>(0)? as u64;
+            let (text, nodes) = (row.get_ref(1)?.as_str()?, row.get_ref(2)?.as_blob()?);
+            if self.has_checksums && !tables::fits(row, 3, tables::of_token(*due, text, nodes))? {
+                return Ok(None);
+            }
+            tokens.push((*due, Token::read(text, nodes)));
+        }
+        Ok(Some(tokens))
+    }
+
+    fn insert(&mut self, row: &Row) -> rusqlite::Result<()> {
+        let (number, pass) = (row.number as i64, row.pass as i64);
+        if self.has_checksums {
+            let mut insert = self
+                .connection
+                .prepare_cached("INSERT INTO entry VALUES (?, ?, ?, ?)")?;
+            let sum = tables::of_entry(row.number, row.pass, &row.batch);
+            insert.execute((number, pass, &row.batch, sum))?;
+        } else {
+            let mut insert = self.connection.prepare_cached("INSERT INTO entry VALUES (?, ?, ?)")?;
+            insert.execute((number, pass, &row.batch))?;
+        }
+        match &row.token {
+            None => Ok(()),
+            Some(token) => self.insert_token(row.number, token),
+        }
+    }
+
+    /// Adds the token of an entry. Once there are too many, the oldest ones go.
+    fn insert_token(&mut self, number: u64, token: &Token) -> rusqlite::Result<()> {
+        let nodes = token.node_bytes();
+        if self.has_checksums {
+            let mut insert = self
+                .connection
+                .prepare_cached("INSERT INTO token VALUES (?, ?, ?, ?)")?;
+            let sum = tables::of_token(number, &token.text, &nodes);
+            insert.execute((number as i64, &*token.text, nodes, sum))?;
+        } else {
+            let mut insert = self.connection.prepare_cached("INSERT INTO token VALUES (?, ?, ?)")?;
+            insert.execute((number as i64, &*token.text, nodes))?;
+        }
+        self.with_token.push_back(number);
+        if self.with_token.len() < MOST_TOKENS + TOKENS_AT_ONCE {
+            return Ok(());
+        }
+        let last = self.with_token.drain(..TOKENS_AT_ONCE).next_back().unwrap_or(0);
+        let mut delete = self.connection.prepare_cached("DELETE FROM token WHERE number <= ?")?;
+        delete.execute([last as i64]).map(drop)
+    }
+
+    fn insert_all(&mut self, rows: &[Row]) -> rusqlite::Result<()> {
+        let run = |connection: &Connection, sql: &str| connection.prepare_cached(sql)?.execute([]).map(drop);
+        run(&self.connection, "BEGIN IMMEDIATE")?;
+        let inserted = rows.iter().try_for_each(|row| self.insert(row));
+        let added = inserted.and_then(|()| run(&self.connection, "COMMIT"));
+        if added.is_err() && !self.connection.is_autocommit() {
+            // What it returns is less than the error of the rows.
+            let _ = run(&self.connection, "ROLLBACK");
+        }
+        added
+    }
+
+    /// Puts this state, which contains the entries up to `number`, in the place of the old one and of these entries. A file of the
+    /// earlier format gets checksums.
+    pub fn write_state(
+        &mut self,
+        number: u64,
+        next: u64,
+        batches: impl Iterator<Item = crate::Result<Batch>>,
+    ) -> Result<()> {
+        // Until it succeeds, it isn't due again at once.
+        self.due_bytes = self.due_bytes.max(self.entry_bytes) + LEAST_DUE;
+        let mut failed = None;
+        let batches = batches.map(|batch| batch.and_then(|batch| batch.to_bytes()));
+        let batches = batches.map_while(|bytes| bytes.map_err(|error| failed = Some(error)).ok());
+        let about = About { entries: number, next };
+        let written = replace_state(&mut self.connection, self.has_checksums, about, batches);
+        let transaction = written.map_err(|error| Error::of_sqlite(&self.path, error))?;
+        if let Some(error) = failed {
+            return Err(error.into());
+        }
+        let committed = transaction.commit();
+        committed.map_err(|error| Error::of_sqlite(&self.path, error))?;
+        self.has_checksums = true;
+        self.measure()
+    }
+}
+
+/// Within a transaction that is returned: replaces the state, and the entries that this one contains.
+fn replace_state(
+    connection: &mut Connection,
+    has_checksums: bool,
+    about: About,
+    batches: impl Iterator<Item = Vec<u8>>,
+) -> rusqlite::Result<Transaction<'_>> {
+    let transaction = connection.transaction()?;
+    transaction.execute("DELETE FROM state", [])?;
+    transaction.execute("DELETE FROM entry WHERE number <= ?", [about.entries as i64])?;
+    if !has_checksums {
+        tables::add_checksums(&transaction)?;
+    }
+    let mut insert = transaction.prepare("INSERT INTO state VALUES (?, ?, ?)")?;
+    for (place, bytes) in (0_u64..).zip(batches) {
+        let sum = tables::of_state(place, &bytes);
+        insert.execute((place as i64, bytes, sum))?;
+    }
+    drop(insert);
+    tables::set_about(&transaction, about)?;
+    Ok(transaction)
+}

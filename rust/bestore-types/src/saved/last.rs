@@ -1,0 +1,72 @@
+//! The file with `-last`: the number of the last entry that a file has had.
+//!
+//! SQLite leaves out all that comes after a damaged frame of the WAL, and reports nothing. So the number is also kept beside the file while
+//! that is open, and after a crash. It is written after each commit and isn't waited for: after a power failure it may be too small.
+
+use super::checksum::{checksum, Column};
+use std::fs::{self, OpenOptions};
+use std::os::unix::fs::{FileExt, OpenOptionsExt};
+use std::path::{Path, PathBuf};
+
+/// Keeps the number. Dropped after the file was closed, it is removed, unless a WAL is left.
+#[derive(Debug)]
+pub(super) struct LastEntry {
+    file: fs::File,
+    path: PathBuf,
+    wal: PathBuf,
+    /// The store's file.
+    id: u64,
+}
+
+impl Drop for LastEntry {
+    fn drop(&mut self) {
+        if !self.wal.exists() {
+            // One that stays says less than the file has.
+            let _ = fs::remove_file(&self.path);
+        }
+    }
+}
+
+/// The path of a file beside a store's, as SQLite names its own: a link is followed.
+fn beside(path: &Path, ending: &str) -> PathBuf {
+    let mut path = fs::canonicalize(path)
+        .unwrap_or_else(|_| path.to_owned())
+        .into_os_string();
+    path.push(ending);
+    path.into()
+}
+
+fn line(id: u64, number: u64) -> String {
+    let sum = checksum(&[Column::Number(id), Column::Number(number)]);
+    format!("{id:016x} {number:020} {sum:08x}\n")
+}
+
+impl LastEntry {
+    /// The last entry that the file with this id has had, if that is known.
+    pub(super) fn read(path: &Path, id: u64) -> Option<u64> {
+        let text = fs::read_to_string(beside(path, "-last")).ok()?;
+        let number = text.split(' ').nth(1)?.parse().ok()?;
+        (text == line(id, number)).then_some(number)
+    }
+
+    /// Begins with this entry. `None`: the number can't be kept, as on a full disk.
+    pub(super) fn begin(path: &Path, id: u64, number: u64) -> Option<Self> {
+        let (path, wal) = (beside(path, "-last"), beside(path, "-wal"));
+        let file = OpenOptions::new()
+            .write(true)
+            .create(true)
+            .truncate(false)
+            .mode(0o600)
+            .open(&path)
+            .ok()?;
+        let last = Self { file, path, wal, id };
+        last.set(number);
+        Some(last)
+    }
+
+    /// The file has this entry now.
+    pub(super) fn set(&self, number: u64) {
+        // If it isn't written, less is known.
+        let _ = self.file.write_all_at(line(self.id, number).as_bytes(), 0);
+    }
+}

@@ -1,0 +1,26 @@
+//! The file that keeps a store, without the store: its format, its errors, backups, and what a file has.
+//!
+//! `docs/KEPT.md` of the repository describes the format. The crate `bestore` opens such a file and keeps writes in it.
+
+mod backup;
+mod checksum;
+mod contents;
+mod error;
+#[allow(missing_docs)]
+#[doc(hidden)]
+pub mod file;
+mod last;
+mod tables;
+mod volumes;
+
+pub use backup::Backup;
+pub use contents::{read, read_until, Contents};
+pub use error::{Error, Place};
+pub use file::About;
+pub use volumes::{count, files_of, path_of};
+
+/// The result of a call of this module.
+pub type Result<T> = std::result::Result<T, Error>;
+
+/// A file has the tokens of at least this many of the last writes that had one.
+pub const TOKENS: usize = 65_536;

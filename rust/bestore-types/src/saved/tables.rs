@@ -1,0 +1,115 @@
+//! The tables of a file, and the checksums of their rows.
+
+use super::checksum::{checksum, Column};
+use super::About;
+use rusqlite::{Connection, Row};
+
+/// "best" in ASCII: the mark in SQLite's header by which the file is recognised.
+pub(super) const APPLICATION: i64 = 0x6265_7374;
+
+/// The version of the format, and the one before it, whose rows have no checksums.
+pub(super) const FORMAT: i64 = 2;
+pub(super) const WITHOUT_CHECKSUMS: i64 = 1;
+
+const TABLES: &str = "
+    CREATE TABLE about (what TEXT PRIMARY KEY, number INTEGER NOT NULL, checksum INTEGER) WITHOUT ROWID;
+    CREATE TABLE state (place INTEGER PRIMARY KEY, batch BLOB NOT NULL, checksum INTEGER);
+    CREATE TABLE entry (number INTEGER PRIMARY KEY, pass INTEGER NOT NULL, batch BLOB NOT NULL, checksum INTEGER);
+";
+
+const COLUMNS: &str = "
+    ALTER TABLE about ADD COLUMN checksum INTEGER;
+    ALTER TABLE state ADD COLUMN checksum INTEGER;
+    ALTER TABLE entry ADD COLUMN checksum INTEGER;
+    ALTER TABLE token ADD COLUMN checksum INTEGER;
+";
+
+/// Some files were made without this table.
+const TOKENS: &str =
+    "CREATE TABLE IF NOT EXISTS token (number INTEGER PRIMARY KEY, token TEXT NOT NULL, nodes BLOB NOT NULL";
+
+/// Marks an empty file as one of a store, and makes its tables.
+pub(super) fn make(connection: &Connection) -> rusqlite::Result<()> {
+    connection.execute_batch(&format!(
+        "BEGIN IMMEDIATE; PRAGMA application_id = {APPLICATION}; PRAGMA user_version = {FORMAT}; {TABLES}"
+    ))?;
+    make_tokens(connection, true)?;
+    set_id(connection)?;
+    set_about(connection, About { entries: 0, next: 1 })?;
+    connection.execute_batch("COMMIT")
+}
+
+/// Makes the table of the tokens, if it isn't there.
+pub(super) fn make_tokens(connection: &Connection, has_checksums: bool) -> rusqlite::Result<()> {
+    let column = if has_checksums { ", checksum INTEGER" } else { "" };
+    connection.execute_batch(&format!("{TOKENS}{column})"))
+}
+
+/// Within a transaction: gives the rows of an earlier format checksums. Those of `about` are set by [`set_about`], and the state is
+/// empty.
+pub(super) fn add_checksums(connection: &Connection) -> rusqlite::Result<()> {
+    connection.execute_batch(&format!("{COLUMNS} PRAGMA user_version = {FORMAT}"))?;
+    set_id(connection)?;
+    let mut entries = connection.prepare("SELECT number, pass, batch FROM entry")?;
+    let mut set = connection.prepare("UPDATE entry SET checksum = ? WHERE number = ?")?;
+    let mut rows = entries.query([])?;
+    let mut sums = Vec::new();
+    while let Some(row) = rows.next()? {
+        let (number, pass): (i64, i64) = (row.get(0)?, row.get(1)?);
+        sums.push((of_entry(number as u64, pass as u64, row.get_ref(2)?.as_blob()?), number));
+    }
+    drop(rows);
+    sums.drain(..).try_for_each(|sum| set.execute(sum).map(drop))?;
+    let mut tokens = connection.prepare("SELECT number, token, nodes FROM token")?;
+    let mut set = connection.prepare("UPDATE token SET checksum = ? WHERE number = ?")?;
+    let mut rows = tokens.query([])?;
+    while let Some(row) = rows.next()? {
+        let number: i64 = row.get(0)?;
+        let token = row.get_ref(1)?.as_str()?;
+        sums.push((of_token(number as u64, token, row.get_ref(2)?.as_blob()?), number));
+    }
+    drop(rows);
+    sums.into_iter().try_for_each(|sum| set.execute(sum).map(drop))
+}
+
+/// Tells this file from all others.
+fn set_id(connection: &Connection) -> rusqlite::Result<()> {
+    let id: i64 = connection.query_row("SELECT random() & 0x7fffffffffffffff", [], |row| row.get(0))?;
+    set_number(connection, "file", id as u64)
+}
+
+fn set_number(connection: &Connection, what: &str, number: u64) -> rusqlite::Result<()> {
+    let sql = "INSERT OR REPLACE INTO about (what, number, checksum) VALUES (?, ?, ?)";
+    let mut set = connection.prepare_cached(sql)?;
+    set.execute((what, number as i64, of_about(what, number))).map(drop)
+}
+
+pub(super) fn set_about(connection: &Connection, about: About) -> rusqlite::Result<()> {
+    set_number(connection, "entries", about.entries)?;
+    set_number(connection, "next", about.next)
+}
+
+pub(super) fn of_about(what: &str, number: u64) -> u32 {
+    checksum(&[Column::Bytes(what.as_bytes()), Column::Number(number)])
+}
+
+pub(super) fn of_state(place: u64, batch: &[u8]) -> u32 {
+    checksum(&[Column::Number(place), Column::Bytes(batch)])
+}
+
+pub(super) fn of_entry(number: u64, pass: u64, batch: &[u8]) -> u32 {
+    checksum(&[Column::Number(number), Column::Number(pass), Column::Bytes(batch)])
+}
+
+pub(super) fn of_token(number: u64, token: &str, nodes: &[u8]) -> u32 {
+    checksum(&[
+        Column::Number(number),
+        Column::Bytes(token.as_bytes()),
+        Column::Bytes(nodes),
+    ])
+}
+
+/// Whether the last column of the row is this checksum.
+pub(super) fn fits(row: &Row<'_>, column: usize, sum: u32) -> rusqlite::Result<bool> {
+    Ok(row.get::<_, Option<i64>>(column)? == Some(sum.into()))
+}

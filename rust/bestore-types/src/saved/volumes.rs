@@ -1,0 +1,46 @@
+//! The files of several volumes: each in one of its own, in one folder.
+
+use super::{Error, Result};
+use std::fs;
+use std::path::{Path, PathBuf};
+
+/// The file of a volume.
+#[must_use]
+pub fn path_of(folder: &Path, volume: u32) -> PathBuf {
+    folder.join(format!("{volume}.bestore"))
+}
+
+/// The files of so many volumes at a path: the path itself, or those within the folder.
+#[must_use]
+pub fn files_of(place: &Path, volumes: u32) -> Vec<PathBuf> {
+    match place.is_dir() {
+        true => (0..volumes).map(|volume| path_of(place, volume)).collect(),
+        false => vec![place.to_owned()],
+    }
+}
+
+/// The volume whose file has this name.
+fn volume_of(name: &std::ffi::OsStr) -> Option<u32> {
+    let digits = name.to_str()?.strip_suffix(".bestore")?;
+    let volume = digits.parse().ok()?;
+    (format!("{volume}") == digits).then_some(volume)
+}
+
+/// How many volumes the folder has.
+///
+/// # Errors
+/// [`Error::Folder`], [`Error::NoFile`].
+pub fn count(folder: &Path) -> Result<u32> {
+    let wrong = |error| Error::folder(folder, error);
+    let mut found = Vec::new();
+    for entry in fs::read_dir(folder).map_err(wrong)? {
+        found.extend(volume_of(&entry.map_err(wrong)?.file_name()));
+    }
+    found.sort_unstable();
+    match (0..).zip(&found).find(|(expected, volume)| expected != *volume) {
+        Some((missing, _)) => Err(Error::NoFile {
+            path: path_of(folder, missing),
+        }),
+        None => Ok(found.len() as u32),
+    }
+}

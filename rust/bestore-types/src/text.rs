@@ -1,0 +1,87 @@
+//! Texts of queries: what is put into one, and how one is shown.
+
+use crate::Kind;
+
+/// The text with a backslash before each character that a query or a pattern may take for more than itself.
+///
+/// It is the text itself both as a word of a query and between quotes. An empty text needs the quotes.
+///
+/// ```
+/// assert_eq!(bestore_types::escape("[draft].txt"), r"\[draft\]\.txt");
+/// ```
+#[must_use]
+pub fn escape(text: &str) -> String {
+    let mut escaped = String::with_capacity(text.len() + 8);
+    for character in text.chars() {
+        if character.is_ascii() && !character.is_ascii_alphanumeric() {
+            escaped.push('\\');
+        }
+        escaped.push(character);
+    }
+    escaped
+}
+
+/// The query for all that is in the index of this name, which has this kind.
+///
+/// ```
+/// use bestore_types::{all_in, Kind};
+/// assert_eq!(all_in("MAIL:when", Kind::Int64), r#""MAIL\:when">="-9223372036854775808""#);
+/// ```
+#[must_use]
+pub fn all_in(name: &str, kind: Kind) -> String {
+    let name = escape(name);
+    match kind.least() {
+        Some(least) => format!("\"{name}\">=\"{least}\""),
+        None => format!("\"{name}\"==\"*\""),
+    }
+}
+
+/// The text on a line, and on the next one a caret under the character at this byte. Of a long text the part round that is shown.
+///
+/// ```
+/// assert_eq!(bestore_types::caret("size<5 || [", 10), "  size<5 || [\n            ^");
+/// ```
+#[must_use]
+pub fn caret(text: &str, offset: usize) -> String {
+    with_caret(text, Some(column_at(text, offset)))
+}
+
+/// How many characters come before this byte.
+pub(crate) fn column_at(text: &str, offset: usize) -> usize {
+    text.char_indices().take_while(|(at, _)| *at < offset).count()
+}
+
+/// How many characters of a text are shown before and after the one that is wrong.
+pub(crate) const SHOWN: usize = 60;
+
+/// The text on a line, and a caret under its character with this index if there is one. Of a long text the part round that is shown.
+pub(crate) fn with_caret(text: &str, column: Option<usize>) -> String {
+    let first = column.unwrap_or(0).saturating_sub(SHOWN);
+    let shown: String = text
+        .chars()
+        .skip(first)
+        .take(2 * SHOWN)
+        .map(|character| if character.is_control() { ' ' } else { character })
+        .collect();
+    match column {
+        Some(column) => format!("  {shown}\n  {:1$}^", "", column - first),
+        None => format!("  {shown}"),
+    }
+}
+
+#[cfg(test)]
+mod tests {
+    use super::*;
+
+    #[test]
+    fn letters_and_digits_stay() {
+        assert_eq!((escape(""), escape("aß1")), (String::new(), "aß1".into()));
+    }
+
+    #[test]
+    fn the_query_for_an_index_has_its_least_value() {
+        assert_eq!(all_in("a\"b", Kind::Text), r#""a\"b"=="*""#);
+        assert_eq!(all_in("n", Kind::Uint64), r#""n">="0""#);
+        assert_eq!(all_in("n", Kind::Int32), r#""n">="-2147483648""#);
+    }
+}

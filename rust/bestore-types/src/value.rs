@@ -1,0 +1,169 @@
+//! Values.
+
+use crate::Kind;
+use std::fmt;
+
+/// A value of an attribute. Texts, integers of 32 and 64 bits, and bytes become one by `into`.
+///
+/// ```
+/// use bestore_types::{Kind, Value};
+/// assert_eq!(Value::from(5_i64).kind(), Kind::Int64);
+/// assert_eq!(Value::from("Ada").as_str(), Some("Ada"));
+/// ```
+#[derive(Clone, Debug, PartialEq, Eq, Hash)]
+pub enum Value {
+    /// A text.
+    Text(String),
+    /// An integer of 32 bits.
+    Int32(i32),
+    /// An integer of 64 bits.
+    Int64(i64),
+    /// A MIME type.
+    Mime(String),
+    /// Raw bytes.
+    Raw(Vec<u8>),
+    /// An integer of 32 bits without a sign.
+    Uint32(u32),
+    /// An integer of 64 bits without a sign.
+    Uint64(u64),
+}
+
+impl Value {
+    /// The kind of the value.
+    #[must_use]
+    pub const fn kind(&self) -> Kind {
+        match self {
+            Value::Text(_) => Kind::Text,
+            Value::Int32(_) => Kind::Int32,
+            Value::Int64(_) => Kind::Int64,
+            Value::Mime(_) => Kind::Mime,
+            Value::Raw(_) => Kind::Raw,
+            Value::Uint32(_) => Kind::Uint32,
+            Value::Uint64(_) => Kind::Uint64,
+        }
+    }
+
+    /// A text or a MIME type.
+    #[must_use]
+    pub fn as_str(&self) -> Option<&str> {
+        match self {
+            Value::Text(text) | Value::Mime(text) => Some(text),
+            _ => None,
+        }
+    }
+
+    /// The bytes of a text, a MIME type or a raw value.
+    #[must_use]
+    pub fn as_bytes(&self) -> Option<&[u8]> {
+        match self {
+            Value::Text(text) | Value::Mime(text) => Some(text.as_bytes()),
+            Value::Raw(bytes) => Some(bytes),
+            _ => None,
+        }
+    }
+
+    /// An integer of any kind, if it fits.
+    #[must_use]
+    pub fn as_i64(&self) -> Option<i64> {
+        match *self {
+            Value::Int32(number) => Some(number.into()),
+            Value::Int64(number) => Some(number),
+            Value::Uint32(number) => Some(number.into()),
+            Value::Uint64(number) => i64::try_from(number).ok(),
+            _ => None,
+        }
+    }
+
+    /// An integer of any kind, if it fits.
+    #[must_use]
+    pub fn as_u64(&self) -> Option<u64> {
+        match *self {
+            Value::Uint64(number) => Some(number),
+            _ => self.as_i64().and_then(|number| u64::try_from(number).ok()),
+        }
+    }
+
+    /// An integer as the library for C has it, otherwise 0.
+    #[must_use]
+    pub fn number(&self) -> u64 {
+        match *self {
+            Value::Int32(number) => i64::from(number) as u64,
+            Value::Int64(number) => number as u64,
+            Value::Uint32(number) => number.into(),
+            Value::Uint64(number) => number,
+            Value::Text(_) | Value::Mime(_) | Value::Raw(_) => 0,
+        }
+    }
+
+    /// The value of parts that the library has written. These are valid: a text is UTF-8, and a number fits its kind.
+    #[must_use]
+    pub fn of_parts(kind: Kind, number: u64, bytes: &[u8]) -> Value {
+        let text = || String::from_utf8_lossy(bytes).into_owned();
+        match kind {
+            Kind::Text => Value::Text(text()),
+            Kind::Int32 => Value::Int32(number as i32),
+            Kind::Int64 => Value::Int64(number as i64),
+            Kind::Mime => Value::Mime(text()),
+            Kind::Raw => Value::Raw(bytes.to_vec()),
+            Kind::Uint32 => Value::Uint32(number as u32),
+            Kind::Uint64 => Value::Uint64(number),
+        }
+    }
+}
+
+/// A text in quotes, a number, or bytes in hexadecimal digits.
+impl fmt::Display for Value {
+    fn fmt(&self, f: &mut fmt::Formatter<'_>) -> fmt::Result {
+        match self {
+            Value::Text(text) | Value::Mime(text) => write!(f, "{text:?}"),
+            Value::Int32(number) => number.fmt(f),
+            Value::Int64(number) => number.fmt(f),
+            Value::Uint32(number) => number.fmt(f),
+            Value::Uint64(number) => number.fmt(f),
+            Value::Raw(bytes) => bytes.iter().try_for_each(|byte| write!(f, "{byte:02x}")),
+        }
+    }
+}
+
+macro_rules! from {
+    ($($type:ty => $variant:ident by $convert:expr;)*) => {$(
+        impl From<$type> for Value {
+            fn from(value: $type) -> Self {
+                Value::$variant($convert(value))
+            }
+        }
+    )*};
+}
+
+from! {
+    &str => Text by String::from;
+    String => Text by std::convert::identity;
+    &String => Text by String::clone;
+    i32 => Int32 by std::convert::identity;
+    i64 => Int64 by std::convert::identity;
+    u32 => Uint32 by std::convert::identity;
+    u64 => Uint64 by std::convert::identity;
+    &[u8] => Raw by Vec::from;
+    Vec<u8> => Raw by std::convert::identity;
+}
+
+#[cfg(test)]
+mod tests {
+    use super::*;
+
+    #[test]
+    fn numbers_are_converted_if_they_fit() {
+        assert_eq!(Value::from(-1_i32).as_i64(), Some(-1));
+        assert_eq!(Value::from(-1_i32).as_u64(), None);
+        assert_eq!(Value::from(u64::MAX).as_i64(), None);
+        assert_eq!(Value::from(u64::MAX).as_u64(), Some(u64::MAX));
+        assert_eq!(Value::from("5").as_i64(), None);
+        assert_eq!(Value::from(-1_i32).number(), u64::MAX);
+    }
+
+    #[test]
+    fn a_value_is_shown_as_it_is_written() {
+        assert_eq!(Value::from("a\"b").to_string(), "\"a\\\"b\"");
+        assert_eq!(Value::from(vec![0, 255]).to_string(), "00ff");
+    }
+}

@@ -1,0 +1,154 @@
+//! Turns the library's refusals into errors, with their details.
+
+use crate::raw::{Refused, FORKED};
+use crate::text::comparisons;
+use crate::{CursorFault, Error, Kind, QueryError, QueryFault};
+use bestore_sys as sys;
+
+/// The error of an order by a name without an index, where there are these.
+pub(crate) fn no_order(name: &str, indices: Vec<(String, Kind)>) -> Error {
+    Error::NoOrder {
+        name: name.into(),
+        indices: indices.into_iter().map(|(name, _)| name).collect(),
+    }
+}
+
+/// The error of a query of this text.
+pub(crate) fn of_query(refused: Refused, text: impl FnOnce() -> String) -> Error {
+    match QueryFault::from_code(refused.code) {
+        Some(fault) => {
+            let offset = fault.has_offset().then_some(refused.carried);
+            let offset = offset.and_then(|offset| usize::try_from(offset).ok());
+            Error::Query(QueryError::new(text(), fault, offset))
+        }
+        None => refused.into(),
+    }
+}
+
+/// The same error, if the number that goes with it is no byte of the text.
+pub(crate) fn without_offset(error: Error) -> Error {
+    match error {
+        Error::Query(error) => Error::Query(QueryError::new(error.text(), error.fault(), None)),
+        other => other,
+    }
+}
+
+/// The same error, which names the first index that a query lacks, if that is what is wrong.
+pub(crate) fn with_missing(error: Error, has_index: impl Fn(&str) -> bool) -> Error {
+    match error {
+        Error::Query(error) if error.fault() == QueryFault::NotCovered => {
+            let mut compared = comparisons(error.text()).into_iter();
+            let missing = compared.find(|comparison| !has_index(&comparison.name));
+            let missing = missing.map(|missing| (missing.name, missing.offset));
+            Error::Query(match missing {
+                Some((name, offset)) => error.with_missing(name, offset),
+                None => error,
+            })
+        }
+        other => other,
+    }
+}
+
+/// The error of a write of `count` operations, on a journal of the expected length if one was given.
+pub(crate) fn of_write(refused: Refused, count: usize, expected: Option<u64>) -> Error {
+    let operation = Some(refused.carried);
+    match (refused.code, expected) {
+        (sys::BES_NAME_LENGTH, _) => Error::NameLength { operation },
+        (sys::BES_DATA_LENGTH, _) => Error::DataLength { operation },
+        (sys::BES_HAS_NUL, _) => Error::HasNul { operation },
+        (sys::BES_BAD_COUNT, _) => Error::BadCount { count },
+        (sys::BES_CONFLICT, Some(expected)) => Error::Conflict {
+            expected,
+            found: refused.carried,
+        },
+        _ => refused.into(),
+    }
+}
+
+impl From<Refused> for Error {
+    fn from(refused: Refused) -> Self {
+        let operation = None;
+        match refused.code {
+            sys::BES_BUSY => Error::Busy { pass: refused.carried },
+            sys::BES_NO_NODE => Error::NoNode,
+            sys::BES_NO_ATTRIBUTE => Error::NoAttribute,
+            sys::BES_TOO_MANY_ATTRS => Error::TooManyAttributes,
+            sys::BES_INDEX_EXISTS => Error::IndexExists,
+            sys::BES_NO_INDEX => Error::NoIndex,
+            sys::BES_TOO_MANY_INDICES => Error::TooManyIndices,
+            sys::BES_NOT_INDEXABLE => Error::NotIndexable,
+            sys::BES_COMMITS_SPENT => Error::CommitsSpent,
+            sys::BES_NO_MEMORY => Error::OutOfMemory,
+            sys::BES_FULL => Error::Full {
+                oldest: refused.carried,
+            },
+            sys::BES_NAME_LENGTH => Error::NameLength { operation },
+            sys::BES_DATA_LENGTH => Error::DataLength { operation },
+            sys::BES_HAS_NUL => Error::HasNul { operation },
+            sys::BES_BAD_LIMITS => Error::BadLimits,
+            sys::BES_NO_PASS => Error::NoPass,
+            sys::BES_IN_USE => Error::InUse,
+            sys::BES_BAD_CURSOR => Error::BadCursor(CursorFault::Text),
+            sys::BES_NO_ROOM => Error::NoRoom,
+            FORKED => Error::Forked,
+            code => Error::Unexpected {
+                code,
+                carried: refused.carried,
+            },
+        }
+    }
+}
+
+#[cfg(test)]
+mod tests {
+    use super::*;
+    use crate::Class;
+    use bestore_types::raw::{Meaning, MEANINGS};
+
+    fn refused(code: u32, carried: u64) -> Refused {
+        Refused { code, carried }
+    }
+
+    #[test]
+    fn each_code_leads_to_its_error_and_back() {
+        for Meaning { code, class, what, .. } in MEANINGS {
+            let error = match of_query(refused(*code, 7), String::new) {
+                Error::Query(error) => Error::Query(error),
+                _ => of_write(refused(*code, 7), 65, Some(6)),
+            };
+            assert_eq!((error.code(), error.class()), (Some(*code), *class), "{what}");
+            // That of a cursor says why it doesn't fit.
+            assert!(
+                *code == sys::BES_BAD_CURSOR || error.to_string().starts_with(what),
+                "{error}"
+            );
+        }
+    }
+
+    #[test]
+    fn numbers_are_those_of_the_header() {
+        for constant in bestore_types::sys::CONSTANTS {
+            assert!(sys::CONSTANTS.contains(constant), "{constant:?}");
+        }
+    }
+
+    #[test]
+    fn an_error_that_is_not_known_keeps_its_number() {
+        let unexpected = Error::from(refused(99, 0));
+        assert_eq!((unexpected.class(), unexpected.code()), (Class::Mine, Some(99)));
+    }
+
+    #[test]
+    fn what_is_known_is_shown() {
+        let conflict = of_write(refused(sys::BES_CONFLICT, 9), 1, Some(8));
+        assert_eq!(
+            conflict.to_string(),
+            "the journal's length isn't what the write expects (9, not 8); read again, and base the write on that"
+        );
+        let name = of_write(refused(sys::BES_NAME_LENGTH, 3), 4, None);
+        assert_eq!(
+            name.to_string(),
+            "a name is empty or has more than 63 bytes (operation 3, counted from 0)"
+        );
+    }
+}

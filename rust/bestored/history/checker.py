@@ -1,0 +1,139 @@
+"""Looks whether a history is strictly serializable, in the order of the batches' numbers.
+
+Four things make it so. The trail has each acknowledged batch once, where its reply says, and none that was refused. The numbers of a run
+differ from its commit numbers by the same amount everywhere. Each snapshot is what the trail, replayed up to its number, gives, and each
+batch in the trail comes directly after the snapshot that it was written on. And the order respects real time: what has ended before
+something else begins isn't after it.
+"""
+from __future__ import annotations
+
+from dataclasses import replace
+from typing import Dict, Iterator, List, Tuple, Union
+
+from record import NO_VALUES, History, Outcome, Read, Snapshot, Values, Write
+
+Event = Tuple[float, int, int]
+BEGIN, END = 1, 0
+"""Of two events at one time the end is first: they may have been in this order."""
+
+
+def violations(history: History) -> Iterator[str]:
+    """Each thing that no correct store does."""
+    yield from _wrong_trail(history)
+    yield from _wrong_outcomes(history)
+    yield from _wrong_commits(history)
+    yield from _wrong_states(history)
+    yield from _wrong_times(history)
+
+
+def _wrong_trail(history: History) -> Iterator[str]:
+    """Batches in the trail that nobody sent, and those that are there twice."""
+    sent = {write.value for write in history.writes}
+    places: Dict[int, int] = {}
+    for number, value in enumerate(history.trail, 1):
+        if value not in sent:
+            yield f"batch {number} has the value {value}, which nobody sent"
+        if value in places:
+            yield f"value {value} was written twice, as batch {places[value]} and as batch {number}"
+        places[value] = number
+
+
+def _wrong_outcomes(history: History) -> Iterator[str]:
+    """Batches that are lost or at another place than acknowledged, and those that are there although they were refused."""
+    places = _places(history)
+    for write in history.writes:
+        place = places.get(write.value)
+        if write.outcome is Outcome.ACKNOWLEDGED and place is None:
+            yield f"value {write.value} was acknowledged as batch {write.number}, and is lost"
+        elif write.outcome is Outcome.ACKNOWLEDGED and place != write.number:
+            yield f"value {write.value} was acknowledged as batch {write.number}, and is batch {place}"
+        elif write.outcome is Outcome.REFUSED and place is not None:
+            yield f"value {write.value} was refused, and is batch {place}: {', '.join(write.errors)}"
+        if place is not None and place != write.on.number + 1:
+            yield f"batch {place} was to be written only on batch {write.on.number}"
+
+
+def _places(history: History) -> Dict[int, int]:
+    """The number of each value in the trail."""
+    return {value: number for number, value in enumerate(history.trail, 1)}
+
+
+def _wrong_commits(history: History) -> Iterator[str]:
+    """Numbers that differ from the commit numbers of their run, or the log's entries, by another amount than the first of them."""
+    shifts: Dict[str, int] = {}
+
+    def wrong(what: str, run: str, commit: int, number: int) -> Iterator[str]:
+        shift = shifts.setdefault(run, commit - number)
+        if commit - number != shift:
+            yield f"{what} {number} has commit number {commit} in run {run}, and {number + shift} would be right"
+
+    for read in history.reads:
+        yield from wrong("snapshot", read.snapshot.run, read.snapshot.commit, read.snapshot.number)
+    for write in history.writes:
+        if write.outcome is Outcome.ACKNOWLEDGED:
+            yield from wrong("the snapshot below a batch,", write.on.run, write.on.commit, write.on.number)
+            if write.entry is not None:
+                yield from wrong("batch", "of the log's entries", write.entry, write.number)
+            if not write.is_repeated:
+                yield from wrong("batch", write.run, write.commit, write.number)
+
+
+def _wrong_states(history: History) -> Iterator[str]:
+    """Snapshots that aren't what the trail gives."""
+    written = {write.value: write for write in history.writes}
+    waiting: Dict[int, List[Tuple[str, Snapshot]]] = {}
+    for read in history.reads:
+        waiting.setdefault(read.snapshot.number, []).append(("a read", read.snapshot))
+    for value in history.trail:
+        if value in written:
+            on = written[value].on
+            waiting.setdefault(on.number, []).append((f"the batch of value {value}", on))
+    for number, values in enumerate(_states(history, written)):
+        for who, snapshot in waiting.pop(number, []):
+            if snapshot.values != values:
+                yield f"{who} saw {snapshot.values} after batch {number}, and {values} would be right"
+    for number in waiting:
+        yield f"a snapshot shows batch {number}, and there are {len(history.trail)} batches"
+
+
+def _states(history: History, written: Dict[int, Write]) -> Iterator[Values]:
+    """The registers before the first batch, and after each."""
+    values = list(NO_VALUES)
+    yield tuple(values)
+    for value in history.trail:
+        for register in written[value].registers if value in written else ():
+            values[register - 1] = value
+        yield tuple(values)
+
+
+def _wrong_times(history: History) -> Iterator[str]:
+    """Batches, and reads of the latest snapshot, that come before something that had ended before they began."""
+    timed: List[Union[Read, Write]] = [*_timed_writes(history), *history.reads]
+    events: List[Event] = []
+    for place, it in enumerate(timed):
+        events.append((it.begin, BEGIN, place))
+        if it.end is not None:
+            events.append((it.end, END, place))
+    floor, number_at_floor = 0, "nothing"
+    for _, which, place in sorted(events):
+        it, number = timed[place], _number(timed[place])
+        if which == END and number > floor:
+            floor, number_at_floor = number, f"batch {number} was acknowledged or read before"
+        elif which == BEGIN and isinstance(it, Write) and number <= floor:
+            yield f"batch {number}, value {it.value}, was sent when {number_at_floor}"
+        elif which == BEGIN and isinstance(it, Read) and it.is_latest and number < floor:
+            yield f"a read that saw batch {number} as the last one began when {number_at_floor}"
+
+
+def _timed_writes(history: History) -> Iterator[Write]:
+    """The batches of the trail. One that wasn't acknowledged may have been written at any time after it was sent."""
+    places = _places(history)
+    for write in history.writes:
+        place = places.get(write.value)
+        if place is not None:
+            is_known = write.outcome is Outcome.ACKNOWLEDGED
+            yield replace(write, end=write.end if is_known else None, number=write.number if is_known else place)
+
+
+def _number(it: Union[Read, Write]) -> int:
+    return it.number if isinstance(it, Write) else it.snapshot.number

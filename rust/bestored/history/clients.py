@@ -1,0 +1,195 @@
+"""Clients that write and read until the round is over, and record what they did."""
+from __future__ import annotations
+
+import random
+import threading
+import time
+from collections import Counter
+from dataclasses import dataclass, field
+from typing import Counter as Counts
+from typing import List, Optional, Sequence, Tuple
+
+from lines import Connection, Gone, Late, Refused, Reply
+from record import REGISTERS, Outcome, Read, Snapshot, Write
+
+PART_READS = 0.3
+"""How many of the snapshots are only read."""
+REST = 0.02
+"""How many seconds a client waits before it tries to connect again."""
+REPEATING = 60.0
+"""For how many seconds a client that repeats its batches does so."""
+LATE_MOST = 4
+"""How many connections a client keeps on which a reply is late."""
+NOT_WRITTEN = {"Conflict", "NotLeader", "Stopped", "Busy", "Full"}
+"""Errors after which a batch that is sent for the first time isn't written."""
+NOT_WRITTEN_BEFORE = {"Conflict"}
+"""Errors after which no earlier sending of a batch has written it either."""
+
+
+@dataclass
+class Setting:
+    """What the clients of a round share. `base` is the node before the first one of the trail. With `is_latest` each read that is confirmed by
+    `flush` has to show all that was acknowledged before."""
+
+    places: Sequence[str]
+    base: int
+    seed: str
+    is_latest: bool
+    pause: float
+    over: threading.Event = field(default_factory=threading.Event)
+
+
+def snapshot_of(connection: Connection) -> Snapshot:
+    """Pins, reads the registers, and unpins."""
+    columns = {"nodes": list(range(1, REGISTERS + 1)), "names": ["value", "number"]}
+    pinned, read, _ = connection.ask_all([("pin", {}), ("columns", columns), ("unpin", {})])
+    values = tuple(int(row[0]) for row in read["rows"])
+    return Snapshot(connection.run, pinned["commit"], int(read["rows"][0][1]), values)
+
+
+class Client(threading.Thread):
+    """A client that connects again after each error. Each one has its own places, in the order in which it tries them."""
+
+    def __init__(self, setting: Setting, number: int, places: Sequence[str], patience: float) -> None:
+        super().__init__()
+        self.setting, self.number, self.patience = setting, number, patience
+        self.random = random.Random(f"{setting.seed} {number}")
+        self.reads: List[Read] = []
+        self.errors: Counts[str] = Counter()
+        self._places = list(places)
+        self._connection: Optional[Connection] = None
+
+    def run(self) -> None:
+        while not self.setting.over.is_set():
+            try:
+                self.turn(self.connect())
+                time.sleep(self.random.uniform(0, self.setting.pause))
+            except Refused as refused:
+                self.errors[refused.name] += 1
+                self.leave()
+            except (Gone, Late):
+                self.leave()
+        self.leave()
+
+    def turn(self, connection: Connection) -> None:
+        """Does one thing."""
+        self.read(connection)
+
+    def read(self, connection: Connection) -> Snapshot:
+        """Reads a snapshot, and records it once all of it is certainly kept."""
+        begin = time.monotonic()
+        snapshot = snapshot_of(connection)
+        connection.ask("flush", {})
+        self.reads.append(Read(snapshot, begin, time.monotonic(), self.setting.is_latest))
+        return snapshot
+
+    def connect(self) -> Connection:
+        """The connection, or a new one to the first place that takes it."""
+        while self._connection is None and not self.setting.over.is_set():
+            try:
+                self._connection = Connection(self._places[0], self.patience)
+            except (Gone, Late, Refused):
+                self.turn_places()
+                self.setting.over.wait(REST)
+        if self._connection is None:
+            raise Gone("the round is over")
+        return self._connection
+
+    def turn_places(self) -> None:
+        """The next place is tried first."""
+        self._places.append(self._places.pop(0))
+
+    def leave(self) -> None:
+        """Ends the connection, and tries the next place."""
+        if self._connection is not None:
+            self._connection.close()
+            self._connection = None
+            self.turn_places()
+
+
+class Writer(Client):
+    """A client that writes batches on what it has read. Every other one repeats a batch by its token until it knows what came of it."""
+
+    def __init__(self, setting: Setting, number: int, places: Sequence[str], patience: float) -> None:
+        super().__init__(setting, number, places, patience)
+        self.writes: List[Write] = []
+        self.acknowledged = 0
+        self._repeats = number % 2 == 0
+        self._late: List[Tuple[Connection, Write]] = []
+
+    def turn(self, connection: Connection) -> None:
+        if self.random.random() < PART_READS:
+            self.read(connection)
+            return
+        write = self._next(snapshot_of(connection))
+        self.writes.append(write)
+        self._send(connection, write, NOT_WRITTEN)
+        until = time.monotonic() + REPEATING
+        while self._repeats and write.outcome is Outcome.UNKNOWN and time.monotonic() < until:
+            try:
+                self._send(self.connect(), write, NOT_WRITTEN_BEFORE)
+            except Gone:
+                return
+            self.setting.over.wait(REST)
+
+    def _next(self, on: Snapshot) -> Write:
+        value = self.number * 10**9 + len(self.writes) + 1
+        registers = tuple(self.random.sample(range(1, REGISTERS + 1), self.random.randint(1, 3)))
+        return Write(value, registers, on, time.monotonic())
+
+    def _send(self, connection: Connection, write: Write, not_written: "set[str]") -> None:
+        """Sends a batch, and records what is known of it then."""
+        on, node = write.on, self.setting.base + write.on.number + 1
+        operations = [["new"], ["set", node, "value", write.value], ["set", 1, "number", on.number + 1]]
+        operations += [["set", register, "value", write.value] for register in write.registers]
+        batch = {"operations": operations, "expected": on.commit, "run": on.run}
+        if self._repeats:
+            batch["token"] = f"{self.setting.base} {write.value}"
+        try:
+            self._acknowledge(write, connection.ask("batch", batch), connection.run)
+        except Refused as refused:
+            self.errors[refused.name] += 1
+            write.errors.append(refused.name)
+            if refused.name in not_written:
+                write.outcome, write.end = Outcome.REFUSED, time.monotonic()
+            if refused.name != "Conflict":
+                self.leave()
+        except Late:
+            write.errors.append("no reply in time")
+            self._keep_late(connection, write)
+        except Gone:
+            write.errors.append("the connection ended")
+            self.leave()
+
+    def _acknowledge(self, write: Write, reply: Reply, run: str) -> None:
+        self.acknowledged += 1
+        write.outcome, write.end, write.run = Outcome.ACKNOWLEDGED, time.monotonic(), run
+        write.commit, write.entry = reply["commit"], reply.get("entry")
+        write.number = reply["nodes"][0] - self.setting.base
+        write.is_repeated = reply.get("repeated", False)
+
+    def _keep_late(self, connection: Connection, write: Write) -> None:
+        """Keeps a connection whose server may still acknowledge the batch."""
+        self._late.append((connection, write))
+        self._connection = None
+        self.turn_places()
+        if len(self._late) > LATE_MOST:
+            self._take_late(0.0)
+
+    def _take_late(self, seconds: float) -> None:
+        """Takes the reply that has been late for longest, if it comes in so many seconds."""
+        connection, write = self._late.pop(0)
+        connection.wait(max(seconds, 0.001))
+        try:
+            reply = connection.receive()
+            if "ok" in reply and write.outcome is not Outcome.ACKNOWLEDGED:
+                self._acknowledge(write, reply["ok"], connection.run)
+        except (Gone, Late):
+            pass
+        connection.close()
+
+    def take_all_late(self, seconds: float) -> None:
+        """Takes the late replies, after the client has ended."""
+        until = time.monotonic() + seconds
+        while self._late:
+            self._take_late(until - time.monotonic())

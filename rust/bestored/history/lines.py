@@ -1,0 +1,89 @@
+"""A client of the server's lines. It shares no code with the server and its packages, so that it can't repeat a fault of theirs."""
+from __future__ import annotations
+
+import json
+import socket
+from typing import Any, Dict, List, Tuple
+
+Command = Tuple[str, Dict[str, Any]]
+Reply = Dict[str, Any]
+
+
+class Gone(Exception):
+    """The connection has ended, or the server takes none."""
+
+
+class Late(Exception):
+    """No reply has come in time. It may still come."""
+
+
+class Refused(Exception):
+    """The reply is an error. `name` is the error's."""
+
+    def __init__(self, error: Reply) -> None:
+        super().__init__(f"{error['name']}: {error['message']}")
+        self.name: str = error["name"]
+
+
+class Connection:
+    """A connection, whose replies are waited for so many seconds. `run` is the run of the server."""
+
+    def __init__(self, place: str, patience: float) -> None:
+        self._socket = socket.socket(socket.AF_UNIX)
+        self._socket.settimeout(patience)
+        self._bytes = b""
+        self._last = 0
+        try:
+            self._socket.connect(place)
+            self.run: str = self.ask("hello", {})["run"]
+        except OSError as error:
+            self.close()
+            raise Gone(f"{place}: {error}") from error
+        except (Gone, Late, Refused):
+            self.close()
+            raise
+
+    def ask(self, name: str, parameters: Dict[str, Any]) -> Reply:
+        """Sends one command, and returns its `ok`."""
+        return self.ask_all([(name, parameters)])[0]
+
+    def ask_all(self, commands: List[Command]) -> List[Reply]:
+        """Sends the commands together, and returns the `ok` of each."""
+        lines = []
+        for name, parameters in commands:
+            self._last += 1
+            lines.append(json.dumps({"id": self._last, name: parameters}) + "\n")
+        try:
+            self._socket.sendall("".join(lines).encode())
+        except socket.timeout as error:
+            raise Late from error
+        except OSError as error:
+            raise Gone(str(error)) from error
+        replies = [self.receive() for _ in commands]
+        for reply in replies:
+            if "error" in reply:
+                raise Refused(reply["error"])
+        return [reply["ok"] for reply in replies]
+
+    def wait(self, seconds: float) -> None:
+        """From now on replies are waited for so long."""
+        self._socket.settimeout(seconds)
+
+    def receive(self) -> Reply:
+        """The next reply."""
+        while b"\n" not in self._bytes:
+            try:
+                part = self._socket.recv(1 << 16)
+            except (socket.timeout, BlockingIOError) as error:
+                raise Late from error
+            except OSError as error:
+                raise Gone(str(error)) from error
+            if not part:
+                raise Gone("the server has closed the connection")
+            self._bytes += part
+        line, _, self._bytes = self._bytes.partition(b"\n")
+        reply: Reply = json.loads(line)
+        return reply
+
+    def close(self) -> None:
+        self._socket.close()

@@ -1,0 +1,73 @@
+"""What is recorded of a history: what each client asked and got, and when, by one clock.
+
+A store has registers, which are the nodes 1 to REGISTERS, and a batch sets some of them to the batch's own value, which no other has. It
+also makes a node with this value, so that the store lists its batches in their order: this list is the trail. A batch's number is its
+place there, from 1 on, and a snapshot's number is that of the last batch in it.
+"""
+from __future__ import annotations
+
+import enum
+from dataclasses import dataclass, field
+from typing import List, Optional, Tuple
+
+REGISTERS = 6
+Values = Tuple[int, ...]
+"""The value of each register, in their order."""
+NO_VALUES: Values = (0,) * REGISTERS
+
+
+@dataclass(frozen=True)
+class Snapshot:
+    """What a pin has shown, in a run of a server."""
+
+    run: str
+    commit: int
+    number: int
+    values: Values
+
+
+@dataclass
+class Read:
+    """A snapshot that a client read from `begin` to `end`, in seconds. If it is the latest, it has to show what was acknowledged before."""
+
+    snapshot: Snapshot
+    begin: float
+    end: float
+    is_latest: bool
+
+
+class Outcome(enum.Enum):
+    """What a client knows of a batch."""
+
+    ACKNOWLEDGED = "acknowledged"
+    REFUSED = "refused"
+    UNKNOWN = "unknown"
+
+
+@dataclass
+class Write:
+    """A batch that was to be written on a snapshot and on nothing else. `commit` and `number` are those of the reply, if there is one. The
+    commit number of a repeated reply is only known to be no earlier than the batch."""
+
+    value: int
+    registers: Tuple[int, ...]
+    on: Snapshot
+    begin: float
+    end: Optional[float] = None
+    outcome: Outcome = Outcome.UNKNOWN
+    run: str = ""
+    commit: int = 0
+    number: int = 0
+    entry: Optional[int] = None
+    is_repeated: bool = False
+    errors: List[str] = field(default_factory=list)
+    """What each sending of it came to but for an acknowledgement, in this order."""
+
+
+@dataclass
+class History:
+    """What all clients did, and the trail that was there in the end."""
+
+    writes: List[Write] = field(default_factory=list)
+    reads: List[Read] = field(default_factory=list)
+    trail: List[int] = field(default_factory=list)

@@ -1,0 +1,221 @@
+//! How to reach the database of a log: its URL, and the password, which may be in a file as that of PostgreSQL's own programs.
+
+use super::database::Database;
+use super::error::{Error, Result};
+use crate::options::{InLog, Options};
+use std::fs;
+use std::os::unix::fs::PermissionsExt;
+use std::path::{Path, PathBuf};
+use std::time::Duration;
+use tokio_postgres::config::Host;
+use tokio_postgres::Config;
+
+/// The port of PostgreSQL if the URL has none.
+const PORT: u16 = 5432;
+
+/// What `sslmode` says if no TLS is needed.
+const PLAIN: [&str; 3] = ["disable", "allow", "prefer"];
+
+/// How to reach the log, and who this server is.
+#[derive(Clone, Debug)]
+pub struct Access {
+    pub config: Config,
+    /// Names this server for people: its machine and its socket.
+    pub name: String,
+    /// Another text for each run.
+    pub run: String,
+}
+
+impl Access {
+    pub fn new(in_log: &InLog, options: &Options, run: &str) -> Result<Self> {
+        Ok(Self {
+            config: config(in_log)?,
+            name: name(options),
+            run: run.into(),
+        })
+    }
+
+    pub async fn connect(&self) -> Result<Database> {
+        let database = Database::connect(&self.config).await?;
+        database.check_format().await?;
+        Ok(database)
+    }
+}
+
+/// The machine and the path of the socket.
+fn name(options: &Options) -> String {
+    let machine = fs::read_to_string("/proc/sys/kernel/hostname").unwrap_or_default();
+    format!("{}:{}", machine.trim(), options.socket().path().display())
+}
+
+fn config(in_log: &InLog) -> Result<Config> {
+    let environment = std::env::var("PGSSLMODE").ok();
+    check_plain(ssl_mode(&in_log.url).or(environment.as_deref()))?;
+    let mut config: Config = in_log.url.parse().map_err(Error::Url)?;
+    match (config.get_password(), std::env::var("PGPASSWORD")) {
+        (Some(_), _) => eprintln!(
+            "bestored: the password in the URL is in the list of processes; leave it out, and write it into a file for --passfile"
+        ),
+        (None, Ok(password)) => drop(config.password(password)),
+        (None, Err(_)) => add_password(&mut config, in_log.passfile.as_deref())?,
+    }
+    if config.get_application_name().is_none() {
+        config.application_name("bestored");
+    }
+    config.keepalives_idle(Duration::from_secs(5));
+    Ok(config)
+}
+
+/// The value of `sslmode` in a URL, or in words such as `host=db sslmode=require`.
+fn ssl_mode(url: &str) -> Option<&str> {
+    let mut parameters = url.split(|character: char| "?& ".contains(character));
+    parameters.find_map(|parameter| parameter.strip_prefix("sslmode="))
+}
+
+fn check_plain(mode: Option<&str>) -> Result<()> {
+    match mode {
+        Some(mode) if !PLAIN.contains(&mode) => Err(Error::NoTls { mode: mode.into() }),
+        _ => Ok(()),
+    }
+}
+
+/// Takes the password from the file, or from the one that PostgreSQL's programs would read.
+fn add_password(config: &mut Config, passfile: Option<&Path>) -> Result<()> {
+    let found = match passfile {
+        Some(path) => {
+            let wrong = |why: String| Error::Passfile {
+                path: path.to_owned(),
+                why,
+            };
+            let text = private_text(path).map_err(wrong)?;
+            let found = password(&text, config);
+            Some(found.ok_or_else(|| wrong(format!("no line is for {}", wanted(config).join(" or "))))?)
+        }
+        None => default_passfile()
+            .and_then(|path| private_text(&path).ok())
+            .and_then(|text| password(&text, config)),
+    };
+    if let Some(found) = found {
+        config.password(found);
+    }
+    Ok(())
+}
+
+fn default_passfile() -> Option<PathBuf> {
+    let named = std::env::var_os("PGPASSFILE").filter(|path| !path.is_empty());
+    let home = || std::env::var_os("HOME").map(|home| Path::new(&home).join(".pgpass"));
+    named.map(PathBuf::from).or_else(home)
+}
+
+/// The text of a file that nobody else may read.
+fn private_text(path: &Path) -> std::result::Result<String, String> {
+    let about = fs::metadata(path).map_err(|error| error.to_string())?;
+    let mode = about.permissions().mode() & 0o777;
+    if !about.is_file() || mode & 0o077 != 0 {
+        return Err(format!(
+            "others may use this file, as its mode is {mode:04o}; give it the mode 0600"
+        ));
+    }
+    fs::read_to_string(path).map_err(|error| error.to_string())
+}
+
+/// The beginnings of the lines that have a password for this database: a machine, a port, a database and a user, for each machine.
+fn wanted(config: &Config) -> Vec<String> {
+    let user = config.get_user().unwrap_or_default();
+    let database = config.get_dbname().unwrap_or(user);
+    let ports = config.get_ports();
+    let machine = |(index, host): (usize, &Host)| {
+        let host = match host {
+            Host::Tcp(name) => name.as_str(),
+            Host::Unix(_) => "localhost",
+        };
+        let port = ports.get(index).or(ports.last()).unwrap_or(&PORT);
+        format!("{host}:{port}:{database}:{user}")
+    };
+    config.get_hosts().iter().enumerate().map(machine).collect()
+}
+
+/// The password of the first line that is for the database.
+fn password(text: &str, config: &Config) -> Option<String> {
+    let wanted = wanted(config);
+    let lines = text.lines().filter(|line| !line.starts_with('#'));
+    let mut fields = lines.map(fields);
+    fields.find_map(|mut fields| match fields.len() {
+        5 => {
+            let password = fields.pop()?;
+            wanted.iter().any(|wanted| is_for(&fields, wanted)).then_some(password)
+        }
+        _ => None,
+    })
+}
+
+fn is_for(fields: &[String], wanted: &str) -> bool {
+    let mut both = fields.iter().zip(wanted.split(':'));
+    both.all(|(field, wanted)| field == "*" || field == wanted)
+}
+
+/// The fields of a line, between `:`. A `\` makes the character after it a part of the field.
+fn fields(line: &str) -> Vec<String> {
+    let mut fields = vec![String::new()];
+    let mut characters = line.chars();
+    while let Some(character) = characters.next() {
+        let last = fields.len() - 1;
+        match character {
+            ':' if last < 4 => fields.push(String::new()),
+            '\\' => fields[last].extend(characters.next()),
+            character => fields[last].push(character),
+        }
+    }
+    fields
+}
+
+#[cfg(test)]
+mod tests {
+    use super::*;
+
+    fn of(text: &str, url: &str) -> Option<String> {
+        password(text, &url.parse().unwrap())
+    }
+
+    #[test]
+    fn the_first_line_that_fits_has_the_password() {
+        let text =
+            "# db:5432:letters:ann:no\n\nshort:line\ndb:5433:*:ann:port\n*:*:letters:ann:a\\:b\\\\c:d\n*:*:*:*:any";
+        for (url, expected) in [
+            ("postgresql://ann@db/letters", "a:b\\c:d"),
+            ("postgresql://ann@db:5433/other", "port"),
+            ("postgresql://ann@other:5433/letters", "a:b\\c:d"),
+            ("postgresql://bob@db/letters", "any"),
+            ("postgresql://ann@one:1,db:5433/x", "port"),
+        ] {
+            assert_eq!(of(text, url).as_deref(), Some(expected), "{url}");
+        }
+        assert_eq!(of("db:5432:letters:ann:a", "postgresql://ann@db2/letters"), None);
+        assert_eq!(of("db:5432:ann:ann:a", "postgresql://ann@db").as_deref(), Some("a"));
+        let socket = "postgresql:///letters?user=ann&host=/run/postgresql";
+        assert_eq!(of("localhost:5432:letters:ann:a", socket).as_deref(), Some("a"));
+    }
+
+    #[test]
+    fn tls_is_refused() {
+        for (url, mode) in [
+            ("postgresql://db/a?sslmode=require", "require"),
+            ("postgresql://db/a?user=b&sslmode=verify-full", "verify-full"),
+            ("host=db sslmode=verify-ca", "verify-ca"),
+            ("postgresql://db/a?sslmode=", ""),
+        ] {
+            let refused = check_plain(ssl_mode(url)).unwrap_err();
+            assert!(
+                matches!(refused, Error::NoTls { mode: found } if found == mode),
+                "{url}"
+            );
+        }
+        for url in [
+            "postgresql://db/a",
+            "postgresql://db/a?sslmode=prefer",
+            "host=db sslmode=disable",
+        ] {
+            check_plain(ssl_mode(url)).unwrap();
+        }
+    }
+}

@@ -1,0 +1,30 @@
+//! The answer to `text`: what a query's text compares. It reads no store.
+
+use crate::failure::Failure;
+use bestore::{compared, Compared, Form};
+use bestore_client::wire::{self, Comparison, Comparisons};
+
+/// The comparisons of a query.
+pub fn comparisons(query: &str) -> Result<Comparisons, Failure> {
+    let found = compared(query)?;
+    Ok(Comparisons {
+        comparisons: found.into_iter().map(shown).collect(),
+    })
+}
+
+fn shown(one: Compared) -> Comparison {
+    Comparison {
+        operator: one.operator.into(),
+        form: match one.form {
+            Form::Number => wire::Form::Number,
+            Form::Text => wire::Form::Text,
+            Form::Pattern => wire::Form::Pattern,
+        },
+        offset: one.offset as u64,
+        length: one.length as u64,
+        negated: one.is_negated,
+        never: Comparison::names_of(&one.never),
+        name: one.name,
+        value: one.value,
+    }
+}

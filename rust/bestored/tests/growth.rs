@@ -1,0 +1,70 @@
+//! The file of a server that writes for long: the state is written anew by itself.
+
+use crate::common::{wait_until, Folder, Server};
+use bestore::Batch;
+use bestore_client::wire::{Command, Nothing};
+use bestore_client::Client;
+use std::fs;
+
+/// How many nodes the store has.
+const NODES: u64 = 64;
+
+/// How many times each of them is set: 32 MB in all.
+const ROUNDS: u64 = 2_000;
+
+/// How long the file may be: a state of some KiB, and the entries that it waits for, up to 1 MiB, beside what comes meanwhile.
+const MOST_BYTES: u64 = 6 << 20;
+
+fn start(folder: &Folder) -> Server {
+    let keep = folder.join("file");
+    let options = [
+        "--pages",
+        "256",
+        "--passes",
+        "4",
+        "--every",
+        "50",
+        "--keep",
+        keep.to_str().unwrap(),
+    ];
+    Server::start(folder, &options)
+}
+
+fn bytes(client: &mut Client) -> u64 {
+    client.info().unwrap().files.unwrap().bytes
+}
+
+#[test]
+fn the_file_stays_small_and_has_everything() {
+    let folder = Folder::in_memory();
+    let server = start(&folder);
+    let mut client = server.client();
+    let mut batch = Batch::new();
+    for _ in 0..NODES {
+        batch.new_node();
+    }
+    client.apply(&batch).unwrap();
+    for round in 1..=ROUNDS {
+        let mut batch = Batch::new();
+        for node in 1..=NODES {
+            batch.set(node, "round", format!("{round:0>200}"));
+        }
+        client.apply(&batch).unwrap();
+    }
+    client.call::<Nothing>(Command::Flush(Nothing {})).unwrap();
+    wait_until("the state was written anew", || bytes(&mut client) < MOST_BYTES);
+    server.kill();
+
+    assert!(fs::metadata(folder.join("file")).unwrap().len() < MOST_BYTES);
+    let server = start(&folder);
+    let mut client = server.client();
+    // The batches of the state, and fewer entries than were written.
+    assert!(client.status().unwrap().entries < ROUNDS / 4);
+    for node in [1, NODES] {
+        let round = client.get(node, "round").unwrap();
+        assert_eq!(round, Some(format!("{ROUNDS:0>200}").into()));
+    }
+    drop(client);
+    assert!(server.end_by("TERM").success());
+    assert!(!folder.join("file-wal").exists() && !folder.join("file-last").exists());
+}
