@@ -187,10 +187,9 @@ fn paces_for(cost: Cost, all: u64, most: usize) -> Paces {
         .hits
         .saturating_mul(QUESTIONS_A_KEY)
         .saturating_mul(KEYS_A_QUESTION);
-    let asked = if passed.saturating_mul(cost.asking) <= list {
-        passed.saturating_mul(2)
-    } else {
-        0
+    let asked = match list.saturating_mul(2).checked_div(cost.asking) {
+        Some(most) if passed <= most / 2 => most,
+        _ => 0,
     };
     let looked_up = if passed <= sorted { sorted } else { 0 };
     Paces {

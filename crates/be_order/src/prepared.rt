@@ -300,11 +300,12 @@ fn meet_by(prepared: &mut PreparedQuery, by: &Name, kind: Kind)
 /// walk over as many keys as the page has nodes, and one more; then it takes no memory but for the
 /// list.
 ///
-/// Otherwise a walk over the keys that the query leaves in that index asks each node for the rest of
-/// the query, or looks the node up in a list of all nodes of which the rest is true; or the whole
-/// answer is found and sorted, as `ordered_into` does. Two descents for each comparison estimate
-/// which is the cheapest. A walk that passes twice as many keys as that, or more than sorting would
-/// cost, ends, and the next of these ways answers.
+/// Otherwise there are three ways. A walk over the keys that the query leaves in that index asks each
+/// node for the rest of the query; or it looks the node up in a list of all nodes of which the rest
+/// is true; or the whole answer is found and sorted, as `ordered_into` does. Two descents for each
+/// comparison estimate which is the cheapest. A walk that asks ends once it has cost twice what the
+/// list was thought to cost, and one that looks up once it has cost what sorting would. Then the
+/// next of these ways answers.
 pub fn ordered_prepared_into<S: OrderedSource>(
     alloc: Global,
     prepared: &mut PreparedQuery,
