@@ -128,7 +128,8 @@ fn collect<S: Source>(
     collect_side(alloc, source, range, rest, found)
 }
 
-/// Puts the nodes of which a part of a query is true into a list, as `answer_into` does of the whole.
+/// Puts the nodes of which a part of a query is true into a list, as `answer_into` does of the
+/// whole.
 pub fn true_nodes_into<S: Source>(
     alloc: Global,
     tree: &Tree,
