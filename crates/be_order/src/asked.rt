@@ -1,8 +1,8 @@
 //! Pages by a walk over the index, of whose nodes what is left of the query is asked.
 //!
 //! The walk goes in parts. It ends when the page is full or the range has no more. Once it has
-//! passed as many keys as its limit says, it gives up, and another way is taken. What is left of the
-//! query is asked of the source, or looked up in a list of all nodes of which it is true.
+//! passed as many keys as its limit says, it gives up, and another way is taken. What is left of
+//! the query is asked of the source, or looked up in a list of all nodes of which it is true.
 ghost use Rattle.std.specs.Prelude.{◌≡◌, ◌++◌, ◌∷◌, [], None, Ok, OnErr, OnOk, IfErr, IfOk, IfSome};
 ghost use Rattle.std.specs.Prelude.{Some, filter, true};
 ghost use Rattle.std.specs.Option.{option_copied};

@@ -18,8 +18,8 @@ const KEYS_A_QUESTION: u64 = 8;
 /// The key of a node, which a sort needs, takes so many questions.
 const QUESTIONS_A_KEY: u64 = 2;
 
-/// How many keys a walk takes at a time at most that asks each node for a short page, and that looks
-/// each node up at least.
+/// How many keys a walk takes at a time at most that asks each node for a short page, and that
+/// looks each node up at least.
 const SHORT_PART: usize = 64;
 
 /// How many keys a walk takes at a time at most that looks each node up.
@@ -65,8 +65,8 @@ pub(crate) struct Pace {
     pub(crate) limit: u64,
 }
 
-/// The pace of a walk that asks each node, and of one that looks each node up in a list. A walk with
-/// the limit 0 isn't begun.
+/// The pace of a walk that asks each node, and of one that looks each node up in a list. A walk
+/// with the limit 0 isn't begun.
 #[derive(Clone, Copy)]
 pub(crate) struct Paces {
     pub(crate) asking: Pace,

@@ -1,5 +1,6 @@
 //! Pages of a prepared query.
-ghost use Rattle.std.specs.Prelude.{◌≡◌, ◌≤◌, ◌∷◌, ◌++◌, [], ℕ, List, None, OnErr, IfErr, IfOk, IfSome};
+ghost use Rattle.std.specs.Prelude.{◌≡◌, ◌≤◌, ◌∷◌, ◌++◌, [], ℕ, List, None};
+ghost use Rattle.std.specs.Prelude.{OnErr, IfErr, IfOk, IfSome};
 ghost use Rattle.std.specs.Prelude.{Ok, Some, length, take, true};
 ghost use Rattle.std.specs.Option.{option_copied, option_map};
 ghost use Rattle.be_value.specs.Key.{key as key_bytes};
@@ -96,8 +97,8 @@ fn walk_page<S: OrderedSource>(
     Ok(Some(more))
 }
 
-/// A list of all nodes of which a part of a query is true; none if it rests on no index, or there is
-/// no memory for it.
+/// A list of all nodes of which a part of a query is true; none if it rests on no index, or there
+/// is no memory for it.
 fn list_true<S: Source>(alloc: Global, tree: &Tree, source: &mut S) -> Option<Vec<u64>>
     ghost volume: { State }
     requires answers { S.answers_for source.old volume }
@@ -300,12 +301,12 @@ fn meet_by(prepared: &mut PreparedQuery, by: &Name, kind: Kind)
 /// walk over as many keys as the page has nodes, and one more; then it takes no memory but for the
 /// list.
 ///
-/// Otherwise there are three ways. A walk over the keys that the query leaves in that index asks each
-/// node for the rest of the query; or it looks the node up in a list of all nodes of which the rest
-/// is true; or the whole answer is found and sorted, as `ordered_into` does. Two descents for each
-/// comparison estimate which is the cheapest. A walk that asks ends once it has cost twice what the
-/// list was thought to cost, and one that looks up once it has cost what sorting would. Then the
-/// next of these ways answers.
+/// Otherwise there are three ways. A walk over the keys that the query leaves in that index asks
+/// each node for the rest of the query; or it looks the node up in a list of all nodes of which the
+/// rest is true; or the whole answer is found and sorted, as `ordered_into` does. Two descents for
+/// each comparison estimate which is the cheapest. A walk that asks ends once it has cost twice
+/// what the list was thought to cost, and one that looks up once it has cost what sorting would.
+/// Then the next of these ways answers.
 pub fn ordered_prepared_into<S: OrderedSource>(
     alloc: Global,
     prepared: &mut PreparedQuery,
