@@ -1,5 +1,5 @@
 -- The calls of a thread that writes and then asks a query, as steps of be_store's small machine.
-use Rattle.std.specs.Prelude.{◌≡◌, ℕ, List, [], ◌∷◌, ◌++◌, map, Ok}
+use Rattle.std.specs.Prelude.{◌≡◌, ℕ, List, [], ◌∷◌, ◌++◌, map, Ok, Some}
 use Rattle.be_journal.specs.declared.entries.Entry.{Entry}
 use Rattle.be_query.specs.Grammar.{Formula}
 use Rattle.be_table.specs.Rule.{newcomer}
@@ -22,7 +22,8 @@ writes k ops n dones = Apply (record { by = k; ops = ops; dones = dones }) n ∷
 
 -- A pass pins and gets this number, asks the query and gets these nodes, and unpins.
 abbrev pub asks : Formula → ℕ → List ℕ → List (Step volume)
-asks query pin nodes = Pin pin ∷ Read (λ s. Nodes (scan s query)) (Nodes (Ok nodes)) ∷ Unpin ∷ []
+asks query pin nodes = Pin pin ∷ Read (λ s. Nodes (scan s query)) (Some (Nodes (Ok nodes))) ∷ Unpin
+    ∷ []
 
 -- a write, and then a query
 abbrev pub visits : ℕ → List Op → ℕ → List Done → Formula → ℕ → List ℕ → List (Step volume)

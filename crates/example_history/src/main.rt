@@ -134,6 +134,7 @@ fn open_two(alloc: Global) -> Result<(Store, Pass, Pass), Refusal>
 }
 
 /// Closes a store of two passes.
+#[tactic(auto, using(crate::proofs::Runs::two_apart))]
 fn close_two(alloc: Global, store: Store, first: Pass, second: Pass) -> Result<Journal, Refusal>
     requires first { IsPassOf store first × (first.knows.number ≡ 0) }
     requires second { IsPassOf store second × (second.knows.number ≡ 1) }
@@ -197,7 +198,8 @@ fn sign_at_once<R: Threads + Sync>(
 
 /// Begins with a write, and then lets two threads make a write each and ask the same query. The
 /// journal is one history of all these calls: it has each write once, at the number that the write
-/// returned, and each query found what the volume after the prefix has that its pin names.
+/// returned, and each query found what the volume after the prefix has that its pin names. If a
+/// call is refused, the store isn't closed, and nothing is said of what the other calls returned.
 fn sign_both<R: AllocGlobal + Threads + Sync>(
     rt: &R,
     begin: &[Op],
@@ -252,8 +254,9 @@ fn found_by_later(outcome: &Outcome) -> usize {
     }
 }
 
-/// Prints how many entries the journal has, and how many letters the later of both writers found:
-/// it finds both, whatever the threads do.
+/// Prints how many entries the journal has, and how many letters the later of both writers found.
+/// No contract says these numbers; that there are three and two is what the program is tested to
+/// print.
 fn main(rt: HostRuntime) -> io::Result<ExitCode> {
     match letters(&rt) {
         Ok(outcome) => {
