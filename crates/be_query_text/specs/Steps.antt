@@ -1,4 +1,4 @@
--- One step from a text's front to its end. It serves the proofs alone.
+-- One step from a text's front to its end. Only the proofs use it.
 use Rattle.std.specs.Prelude.{◌≡◌, ◌≤◌, ◌<◌, ℕ, ◌+◌, ◌-◌, true, false, Option, Some, None}
 use Rattle.std.specs.Prelude.{List, ◌∷◌, length, ◌||◌, ◌==◌}
 use Rattle.be_query.specs.Lexing.{Placed, Whole, Odd, Takes, front, is_sign, lexemes, all_whole}

@@ -48,7 +48,7 @@ pub fn comparisons(alloc: Global, text: &str) -> Result<Vec<Compared>, Refusal>
     // They are the comparisons of the tree that the text encodes, each with its place in the text.
     ensures ok { IfOk result (λ v. (fault text.now ≡ None) × (tree : Formula)
         × IsTextOf text.now tree × (map told v.items ≡ described (leaves tree) (places text.now))) }
-    // A text that is no query is refused as `parse` refuses it.
+    // A text that isn't a query is refused as `parse` refuses it.
     ensures err { IfErr result (λ e. IsMemory e (fault text.now ≡ Some e)) }
 {
     let query = parse(alloc, text)?;

@@ -1,5 +1,5 @@
 -- The calls of a pass, line by line.
-use Rattle.std.proofs.Common.{◌≡◌, ℕ, List, [], ◌∷◌, ◌++◌, length, refl, sym, ap, ◌∙◌, subst, append_assoc, append-nil, arith, inl, inr}
+use Rattle.std.proofs.Common.{◌≡◌, ℕ, List, [], ◌∷◌, ◌++◌, length, refl, sym, ap, ◌∙◌, subst, append_assoc, append-nil, arith}
 use Rattle.std.specs.Prelude.{IfErr, IfOk, Ok, Err}
 use Rattle.std.specs.declared.option.Option.{Option}
 use Rattle.std.specs.declared.result.Result.{Result}
@@ -11,7 +11,8 @@ use Rattle.be_store.specs.History.{Accepts, IsLastReason, Learns}
 use Rattle.be_store.specs.Passes.{HasRead}
 use Rattle.be_store.specs.SmallMachine.{Step, Apply, Learn}
 use Rattle.be_store.specs.Views.{volume}
-use Rattle.be_store.proofs.Calls.{calls_both, calls_more}
+use Rattle.be_store.proofs.Calls.{calls_both, calls_more, read_learns}
+use Rattle.be_table.specs.Rule.{entries}
 use Rattle.be_table.specs.Steps.{entry_by}
 use Rattle.be_table.specs.declared.pass.Knowledge.{Knowledge}
 use Rattle.be_script_language.specs.Reply.{none}
@@ -38,13 +39,13 @@ leads_nowhere a = ([], refl)
 
 -- a read is a call, whatever it answers
 pub leads_read : (a b c : Knowledge) → LeadTo a b → HasRead b c → LeadTo a c
-leads_read a b c h k = leads_more a b Learn c h (inr (inr k))
+leads_read a b c h k = leads_more a b (Learn (entries c.seen)) c h (read_learns b c k)
 
 -- a write is one, accepted or refused
 pub writes_call : {X : Type 0} (a c : Knowledge) (tries : ℕ) (dones_of : X → List Done) (ops : List Op) (r : Result (ℕ × X) Refusal) → IfOk r (λ x. Accepts a c ops x.0 (dones_of x.1)) →
     IfErr r (λ e. Learns a c × IsLastReason tries a c ops e) → LeadTo a c
 writes_call a c tries dones_of ops (Ok x) ok err = (Apply (entry_by a ops (dones_of x.1)) x.0 ∷ [], (c, (ops, dones_of x.1, refl, ok), refl))
-writes_call a c tries dones_of ops (Err e) ok err = (Learn ∷ [], (c, inl err.0, refl))
+writes_call a c tries dones_of ops (Err e) ok err = (Learn (entries c.seen) ∷ [], (c, (err.0, refl), refl))
 
 -- ## Lines
 

@@ -216,13 +216,13 @@ module _ (a c : Knowledge) (before : IsPass a) (beyond : IsPass c) (limits : c.l
   refused_as : (tries : ℕ) (ops : List Op) (e : Refusal) → IsBetweenCalls c.limits.passes c.phase → c.number ≡ a.number → IsLastReason tries a c ops e →
       (written (known c) ops ≡ Err e) ⊎ (IsWant (known c) e × IsOk (written (known c) ops)) ⊎ IsBusy (known c) e
   refused_as tries ops e settled number (inl late) = inr (inr (late.0, late.2, (subst (λ l. late.0 < l.passes) (sym limits) late.3, subst (λ k. late.0 ≢ k) (sym number) late.4)))
-  refused_as tries ops e settled number (inr (inl h)) = inl (ap (written_by (known c) ops) h)
-  refused_as tries ops e settled number (inr (inr (inl h))) = unroomed h.1
+  refused_as tries ops e settled number (inr (inl h, locks)) = inl (ap (written_by (known c) ops) h)
+  refused_as tries ops e settled number (inr (inr (inl h), locks)) = unroomed h.1
     where
       unroomed : HasNoRoom e c → (written (known c) ops ≡ Err e) ⊎ (IsWant (known c) e × IsOk (written (known c) ops)) ⊎ IsBusy (known c) e
       unroomed (inl spent) = inl (refused_at_limit (known c) ops (steps (volume_seen c) ops) h.0 (seen_count c.seen ∙ spent.1) ∙ ap Err (sym spent.0))
       unroomed (inr want) = inr (inl (inl want.0, accepted_with_room (known c) ops (steps (volume_seen c) ops) h.0 (omega (arith, seen_count c.seen, want.1))))
-  refused_as tries ops e settled number (inr (inr (inr h))) =
+  refused_as tries ops e settled number (inr (inr (inr h), locks)) =
       inr (inl (inr (h.2.0, h.2.1, least_shown c.limits.passes c.seen c.phase h.2.0 settled beyond.pin h.2.2.spent.2), accepted_with_room (known c) ops (steps (volume_seen c) ops) h.0 (omega (arith, seen_count c.seen, h.1))))
 
   pub writes_meanwhile : {X : Type 0} (tries : ℕ) (dones_of : X → List Done) (ops : List Op) (r : Result (ℕ × X) Refusal) → IsBetweenCalls c.limits.passes c.phase → IfOk r (λ x. Accepts a c ops x.0 (dones_of x.1)) →

@@ -40,8 +40,8 @@ IsNoPageIn kind volume f by descending most cursor e =
     ⊎ (IsCursorOf kind cursor
     × IsUnanswered (page volume f by descending (cursor_key cursor) most) e)
 
--- Why no page was read: the caller wants no node, there is no such index, or no page of that index
--- was read. The first of these that is true is reported.
+-- Why a page couldn't be read: the caller wants no nodes, there is no such index, or no page of
+-- that index could be read. The first of these that is true is reported.
 abbrev pub IsNoPage : State → Formula → List ℕ → Bool → ℕ → Cursor → Fault → Type 0
 IsNoPage volume f by descending most cursor e =
     ((most ≡ 0) × (e ≡ NoRoom))

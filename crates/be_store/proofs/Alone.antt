@@ -1,5 +1,5 @@
 -- The only pass of a store has written all that it has seen.
-use Rattle.std.proofs.Common.{◌≡◌, ℕ, ◌+◌, List, [], ◌∷◌, ◌++◌, length, Ok, Some, append_assoc, refl, sym, ap, ◌∙◌, subst, arith, length-append}
+use Rattle.std.proofs.Common.{◌≡◌, inl, inr, ℕ, ◌+◌, List, [], ◌∷◌, ◌++◌, length, Ok, Some, append_assoc, refl, sym, ap, ◌∙◌, subst, arith, length-append}
 use Rattle.std.proofs.lemmas.List.{append-nil, length-map}
 use Rattle.be_core.specs.declared.event.Phase.{Phase}
 use Rattle.be_core.specs.declared.event.Phase.TheVariants.{Idle, Looked, Announced, Pinned}
@@ -20,7 +20,8 @@ use Rattle.be_volume.specs.Ahead.{state_after, reached}
 use Rattle.be_volume.specs.declared.ops.Done.{Done}
 use Rattle.be_volume.specs.declared.ops.Op.{Op}
 use Rattle.be_store.specs.Alone.{IsAlone, WritesNext}
-use Rattle.be_store.specs.History.{Accepts, Pins}
+use Rattle.be_value.specs.declared.refusals.Refusal.{Refusal}
+use Rattle.be_store.specs.History.{Accepts, IsReason, IsRefusedAt, Pins}
 use Rattle.be_store.specs.Passes.{IsBetweenCalls, volume_seen}
 use Rattle.be_store.proofs.Applied.{entries_append, nothing_more}
 
@@ -49,6 +50,13 @@ pub same_seen : (a c : Knowledge) → IsAlone a → IsAlone c → StartsWith c.s
 same_seen a c alone state_after more mine =
     let same : entries a.seen ++ entries more.0 ≡ entries a.seen = sym (entries_append a.seen more.0) ∙ (ap entries (sym more.1) ∙ (written c state_after ∙ (mine ∙ sym (written a alone)))) in
     more.1 ∙ (ap (λ l. a.seen ++ l) (none_of more.0 (nothing_more (entries a.seen) (entries more.0) same)) ∙ append-nil a.seen)
+
+-- no other pass holds the lock, so a refusal comes of a try that got it
+pub refused_alone : (a c : Knowledge) (ops : List Op) (e : Refusal) → IsAlone a → IsReason a c ops e → IsRefusedAt c ops e
+refused_alone a c ops e alone (inl h) =
+    let below = alone.pass.number_below in
+    absurd (h.0.3 (omega (arith, alone.one, below, h.0.2)))
+refused_alone a c ops e alone (inr h) = h.0
 
 abbrev announced_in : Phase → ℕ
 announced_in Idle = 0

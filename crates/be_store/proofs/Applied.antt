@@ -136,11 +136,17 @@ module _ (a w : Knowledge) (t : TakesLock a w) where
         moves = inr (locks_only v c same.pass work unlocked);
       }
 
+  -- the work of a write that was held back
+  works : (v : Knowledge) (ops : List Op) (e : Refusal) → IsHeldBack w v ops e → (v.published ≡ false → HasWorked v.limits v.number v.history) → WorksOn w.limits w.number w.history v.history
+  works v ops e p worked =
+      subst (λ (x : Limits × ℕ × List Move). WorksOn x.0 x.1 x.2 v.history) (λ i. (p.same.limits i, p.same.pass i, (p.begun ∙ upto_here) i)) (worked p.unpublished)
+
   pub learns : (v c : Knowledge) (ops : List Op) (e : Refusal) → IsHeldBack w v ops e → c ≡ without_lock (with_history v c.history) → IsPass c
       → (v.published ≡ false → HasWorked v.limits v.number v.history) → Moves v (Unlock v.number ∷ []) c → Learns a c
-  learns v c ops e p is pass worked unlocked =
-      learns_same v c p.seen p.same is pass
-      (subst (λ (x : Limits × ℕ × List Move). WorksOn x.0 x.1 x.2 v.history) (λ i. (p.same.limits i, p.same.pass i, (p.begun ∙ upto_here) i)) (worked p.unpublished)) unlocked
+  learns v c ops e p is pass worked unlocked = learns_same v c p.seen p.same is pass (works v ops e p worked) unlocked
+
+  pub held_locks : (v c : Knowledge) (ops : List Op) (e : Refusal) → IsHeldBack w v ops e → (v.published ≡ false → HasWorked v.limits v.number v.history) → Moves v (Unlock v.number ∷ []) c → LocksOnly a c
+  held_locks v c ops e p worked unlocked = locks_only v c p.same.pass (works v ops e p worked) unlocked
 
 -- a refusal stays what it is when the lock is given back
 pub refused_unlocked : (v c : Knowledge) (ops : List Op) (e : Refusal) → c ≡ without_lock (with_history v c.history) → Moves v (Unlock v.number ∷ []) c → IsRefusedAt v ops e → IsRefusedAt c ops e
@@ -152,8 +158,9 @@ refused_unlocked v c ops e is unlocked (inr (inr h)) = inr (inr (
   (h.2.0, h.2.1, short_unlocked v c ops h.2.0 is unlocked h.2.2),
 ))
 
-pub reasons : (a w v c : Knowledge) (ops : List Op) (e : Refusal) → IsHeldBack w v ops e → c ≡ without_lock (with_history v c.history) → Moves v (Unlock v.number ∷ []) c → IsReason a c ops e
-reasons a w v c ops e p is unlocked = inr (refused_unlocked v c ops e is unlocked p.reason)
+pub reasons : (a w : Knowledge) (t : TakesLock a w) (v c : Knowledge) (ops : List Op) (e : Refusal) → IsHeldBack w v ops e → c ≡ without_lock (with_history v c.history)
+    → (v.published ≡ false → HasWorked v.limits v.number v.history) → Moves v (Unlock v.number ∷ []) c → IsReason a c ops e
+reasons a w t v c ops e p is worked unlocked = inr (refused_unlocked v c ops e is unlocked p.reason, held_locks a w t v c ops e p worked unlocked)
 
 pub accepted_if : {T E : Type 0} (r : Result T E) (P R : T → Type 0) (Q : E → Type 0) → MatchResult r P Q → ((x : T) → P x → R x) → IfOk r R
 accepted_if (Ok x) P R Q m f = f x m

@@ -24,8 +24,8 @@ use Rattle.be_table.specs.Trace.{AllRest, HasTrace, Makes}
 use Rattle.be_table.proofs.Scans.{makes_starts}
 use Rattle.be_table.proofs.Worked.{works_start}
 use Rattle.be_store.specs.Calls.{AreInOneTrace, Call, Calls, HasFronts, HasWrites, ReadsFronts}
-use Rattle.be_store.specs.History.{LocksOnly}
-use Rattle.be_store.specs.Passes.{volume_pinned}
+use Rattle.be_store.specs.History.{Learns, LocksOnly}
+use Rattle.be_store.specs.Passes.{HasRead, volume_pinned}
 use Rattle.be_store.specs.SmallMachine.{Step, Apply, Learn, Pin, Unpin, Read}
 use Rattle.be_store.specs.Views.{volume}
 use Rattle.be_store.proofs.Applied.{entries_append}
@@ -42,9 +42,7 @@ same_starts a c same = subst (λ l. StartsWith l a.seen) (sym same) (starts_refl
 
 call_seen : (a : Knowledge) (s : Step volume) (c : Knowledge) → Call a s c → StartsWith c.seen a.seen
 call_seen a (Apply e n) c (ops, dones, is, h) = (h.others ++ h.commit ∷ [], h.seen ∙ append_assoc a.seen h.others (h.commit ∷ []))
-call_seen a Learn c (inl h) = h.more
-call_seen a Learn c (inr (inl (log, more, h))) = subst (λ l. StartsWith l a.seen) (sym (ap (λ (k : Knowledge). k.seen) h)) more
-call_seen a Learn c (inr (inr h)) = same_starts a c (ap (λ (k : Knowledge). k.seen) h)
+call_seen a (Learn log) c h = h.0.more
 call_seen a (Pin n) c h = h.more
 call_seen a Unpin c h = same_starts a c (ap (λ (k : Knowledge). k.seen) h.0)
 call_seen a (Read q r) c (n, pin, is, h) = same_starts a c (ap (λ (k : Knowledge). k.seen) h)
@@ -61,6 +59,13 @@ calls_more a (t ∷ steps) b s c (d, h, more) k = (d, h, calls_more d steps b s 
 pub calls_both : (a : Knowledge) (steps : List (Step volume)) (b : Knowledge) (later : List (Step volume)) (c : Knowledge) → Calls a steps b → Calls b later c → Calls a (steps ++ later) c
 calls_both a [] b later c h k = subst (λ (x : Knowledge). Calls x later c) (sym h) k
 calls_both a (s ∷ steps) b later c (d, h, more) k = (d, h, calls_both d steps b later c more k)
+
+-- a read may be taken for a call that learns nothing, and a witness too
+pub read_learns : (a c : Knowledge) → HasRead a c → Call a (Learn (entries c.seen)) c
+read_learns a c read = (
+  subst (Learns a) (sym read) (record { more = starts_refl a.seen; mine = refl; pass = refl; pin = refl; moves = inl refl }),
+  refl,
+)
 
 entries_start : (log seen : List Commit) → StartsWith log seen → StartsWith (entries log) (entries seen)
 entries_start log seen h = (entries h.0, ap entries h.1 ∙ entries_append seen h.0)
@@ -127,9 +132,7 @@ call_history : (a : Knowledge) (s : Step volume) (c : Knowledge) → Call a s c 
 call_history a (Apply e n) c (ops, dones, is, h) =
     let m = h.moves in
     worked_start a c m.locked m.worked (Publish a.number h.commit.page m.given ∷ Unlock a.number ∷ []) m.lock (works_start a.limits a.number m.locked m.worked m.work) m.publish
-call_history a Learn c (inl h) = locks_start a c h.moves
-call_history a Learn c (inr (inl (log, more, h))) = same_history a c (ap (λ (k : Knowledge). k.history) h)
-call_history a Learn c (inr (inr h)) = same_history a c (ap (λ (k : Knowledge). k.history) h)
+call_history a (Learn log) c h = locks_start a c h.0.moves
 call_history a (Pin n) c h = makes_starts a.number a.history (Look a.number ∷ Announce a.number ∷ LookAgain a.number ∷ []) c.history h.moves.made
 call_history a Unpin c h = makes_starts a.number a.history (move.Unpin a.number ∷ []) c.history h.1
 call_history a (Read q r) c (n, pin, is, h) = same_history a c (ap (λ (k : Knowledge). k.history) h)

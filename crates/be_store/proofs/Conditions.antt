@@ -20,14 +20,14 @@ use Rattle.be_volume.specs.Volume.{empty, steps}
 use Rattle.be_volume.specs.declared.ops.Done.{Done}
 use Rattle.be_volume.specs.declared.ops.Op.{Op}
 use Rattle.be_store.specs.Conditional.{AcceptsAt, IsConflict, IsHeldBackIf, IsLastUnapplied, IsUnapplied, was_held}
-use Rattle.be_store.specs.History.{IsHeldThrough, IsReason, IsRefusedAt, is_busy, tried}
+use Rattle.be_store.specs.History.{IsHeldThrough, IsReason, IsRefusedAt, LocksOnly, is_busy, tried}
 use Rattle.be_store.specs.Passes.{IsPinnedTo, volume_pinned}
 use Rattle.be_store.specs.Writing.{Publishes}
 use Rattle.be_store.specs.declared.conditional.ApplyIfError.{ApplyIfError}
 use Rattle.be_store.specs.declared.conditional.ApplyIfError.TheVariants.{Conflict, Refused}
-use Rattle.be_store.proofs.Applied.{accepts, entries_append, learns, learns_only, refused_unlocked}
+use Rattle.be_store.proofs.Applied.{accepts, entries_append, held_locks, learns, learns_only, refused_unlocked}
 use Rattle.be_store.proofs.Passes.{pinned_phase}
-use Rattle.be_store.proofs.Retries.{accepts_at_last, held_at_last, held_by, learns_at_last}
+use Rattle.be_store.proofs.Retries.{accepts_at_last, held_at_last, held_by, learns_at_last, locks_at_last}
 
 -- a write that has taken the lock, whose journal has so many entries or another number
 module _ (a w : Knowledge) (t : TakesLock a w) (number : ℕ) where
@@ -74,6 +74,7 @@ module _ (a w : Knowledge) (t : TakesLock a w) (number : ℕ) where
     inr (
       refused_unlocked v c ops e is unlocked h.0.reason,
       ap (λ (k : Knowledge). length k.seen) is ∙ (ap length h.0.seen ∙ h.1),
+      held_locks a w t v c ops e h.0 worked unlocked,
     ),
   )
 
@@ -98,27 +99,27 @@ module _ (a : Knowledge) (holders : List ℕ) (m c : Knowledge) (is : m ≡ trie
         unlock = last.unlock;
       }
 
-  plain_reason : (e : Refusal) → (FoundHeld e m c × (c.seen ≡ m.seen)) ⊎ (IsRefusedAt c ops e × (length c.seen ≡ number)) → IsReason m c ops e
+  plain_reason : (e : Refusal) → (FoundHeld e m c × (c.seen ≡ m.seen)) ⊎ (IsRefusedAt c ops e × (length c.seen ≡ number) × LocksOnly m c) → IsReason m c ops e
   plain_reason e (inl h) = inl h
-  plain_reason e (inr h) = inr h.0
+  plain_reason e (inr h) = inr (h.0, h.2)
 
   -- the last try
   last_unapplied : (tries : ℕ) (e : ApplyIfError) → length holders + 1 ≡ tries → IsUnapplied m c number ops e → IsLastUnapplied tries a c number ops e
   last_unapplied tries (Conflict found) count h = conflict_then found h
   last_unapplied tries (Refused e) count h = (learns_at_last a holders m c is h.0, by h.1)
     where
-      by : (FoundHeld e m c × (c.seen ≡ m.seen)) ⊎ (IsRefusedAt c ops e × (length c.seen ≡ number)) → IsHeldThrough tries a c e ⊎ (IsRefusedAt c ops e × (length c.seen ≡ number))
+      by : (FoundHeld e m c × (c.seen ≡ m.seen)) ⊎ (IsRefusedAt c ops e × (length c.seen ≡ number) × LocksOnly m c) → IsHeldThrough tries a c e ⊎ (IsRefusedAt c ops e × (length c.seen ≡ number) × LocksOnly a c)
       by (inl held) = inl (subst (λ n. IsHeldThrough n a c e) count (held_at_last a holders m c is e held.0))
-      by (inr at) = inr at
+      by (inr at) = inr (at.0, at.1, locks_at_last a holders m c is at.2)
 
   -- a try that was not the last
   free_unapplied : (tries : ℕ) (e : ApplyIfError) → was_held {X = ℕ} (Err e) ≡ false → IsUnapplied m c number ops e → IsLastUnapplied tries a c number ops e
   free_unapplied tries (Conflict found) free h = conflict_then found h
   free_unapplied tries (Refused e) free h = (learns_at_last a holders m c is h.0, by h.1)
     where
-      by : (FoundHeld e m c × (c.seen ≡ m.seen)) ⊎ (IsRefusedAt c ops e × (length c.seen ≡ number)) → IsHeldThrough tries a c e ⊎ (IsRefusedAt c ops e × (length c.seen ≡ number))
+      by : (FoundHeld e m c × (c.seen ≡ m.seen)) ⊎ (IsRefusedAt c ops e × (length c.seen ≡ number) × LocksOnly m c) → IsHeldThrough tries a c e ⊎ (IsRefusedAt c ops e × (length c.seen ≡ number) × LocksOnly a c)
       by (inl held) = absurd (false≢true (sym free ∙ ap is_busy held.0.1))
-      by (inr at) = inr at
+      by (inr at) = inr (at.0, at.1, locks_at_last a holders m c is at.2)
 
   -- the try found a holder
   pub held_again_if : {X : Type 0} (r : Result X ApplyIfError) → was_held r ≡ true → IfErr r (IsUnapplied m c number ops) → (b : ℕ) × (c ≡ tried a (b ∷ holders))

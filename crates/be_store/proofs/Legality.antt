@@ -60,7 +60,7 @@ none_yet = omega arith
 module _ (o : Object) where
   pub step_number : (a : PassView o) (s : Step o) (c : PassView o) → Leads o a s c → c.number ≡ a.number
   step_number a (Apply e n) c l = ap (λ (v : PassView o). v.number) l.3
-  step_number a Learn c l = ap (λ (v : PassView o). v.number) l.1
+  step_number a (Learn log) c l = ap (λ (v : PassView o). v.number) l.1
   step_number a (Pin n) c l = ap (λ (v : PassView o). v.number) l.1
   step_number a Unpin c l = ap (λ (v : PassView o). v.number) l
   step_number a (Read q r) c l = ap (λ (v : PassView o). v.number) l.3
@@ -113,7 +113,7 @@ module _ (o : Object) where
       write_sum (length c.mine) (own k c.seen) (length a.mine) (own k a.seen) (own k l.0) (own k (a.seen ++ l.0)) (own k (e ∷ []))
       (ap (λ (v : PassView o). own k v.seen) l.3 ∙ own_append k (a.seen ++ l.0) (e ∷ [])) (own_append k a.seen l.0) (own_one k e (l.1 ∙ number))
       (ap (λ (v : PassView o). length v.mine) l.3 ∙ length-append a.mine (e ∷ []))
-  step_grows k a Learn c number l =
+  step_grows k a (Learn log) c number l =
       learn_sum (length c.mine) (own k c.seen) (length a.mine) (own k a.seen) (own k l.0)
       (ap (λ (v : PassView o). own k v.seen) l.1 ∙ own_append k a.seen l.0) (ap (λ (v : PassView o). length v.mine) l.1)
   step_grows k a (Pin n) c number l =
@@ -142,7 +142,7 @@ module _ (o : Object) where
       (ap (λ (v : PassView o). own k v.seen) l.3 ∙ own_append k (a.seen ++ l.0) (e ∷ [])) (own_append k a.seen l.0) (own_one k e (l.1 ∙ number))
       (ap (λ (v : PassView o). length v.mine) l.3 ∙ length-append a.mine (e ∷ [])) full enough in
       subst (IsOwnLegal k) (sym (ap (λ (v : PassView o). v.seen) l.3)) (push_legal k (a.seen ++ l.0) e (more_legal k a.seen l.0 legal none) l.2)
-  step_legal k a Learn c number l full enough legal =
+  step_legal k a (Learn log) c number l full enough legal =
       learned_legal k a c l.0 (ap (λ (v : PassView o). v.seen) l.1) (ap (λ (v : PassView o). v.mine) l.1) full enough legal
   step_legal k a (Pin n) c number l full enough legal =
       learned_legal k a c l.0 (ap (λ (v : PassView o). v.seen) l.1) (ap (λ (v : PassView o). v.mine) l.1) full enough legal

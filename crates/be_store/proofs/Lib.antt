@@ -18,3 +18,5 @@ pub mod Remade
 pub mod Among
 pub mod Framed
 pub mod Caught
+pub mod Rests
+pub mod Shown

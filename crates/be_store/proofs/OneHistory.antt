@@ -1,11 +1,11 @@
 -- What the journal says in the end of each step of the small machine.
-use Rattle.std.proofs.Common.{◌≡◌, ◌≤◌, ℕ, suc, inl, inr, List, [], ◌∷◌, ◌++◌, length, take, Option, Some, None, sym, ap, ◌∙◌, subst, arith, length-append}
-use Rattle.std.specs.Prelude.{All, map, slice_get}
+use Rattle.std.proofs.Common.{◌≡◌, ◌≤◌, ℕ, suc, inl, inr, List, [], ◌∷◌, ◌++◌, length, take, Option, Some, None, refl, sym, ap, ◌∙◌, subst, arith, length-append}
+use Rattle.std.specs.Prelude.{◌≢◌, All, AllPairs, IfSome, map}
 use Rattle.std.proofs.lemmas.List.{append_assoc, append-nil, take-append-le, take_all}
 use Rattle.std.proofs.lemmas.List.Elements.{All-cons, All-nil, All-head, All-tail, All-weaker}
 use Rattle.be_table.specs.History.{StartsWith}
 use Rattle.be_store.specs.SmallMachine.{Object, PassView, Step, Apply, Learn, Pin, Unpin, Read, Leads, AreSteps, Closes, HasNumber, first_view, state_of, entries_by}
-use Rattle.be_store.specs.OneHistory.{PassRun, IsKept, AreKept, HasRun, IsOneHistory, written, written_by}
+use Rattle.be_store.specs.OneHistory.{PassRun, IsKept, AreKept, ReadsPrefix, HasRun, IsOneHistory, written, written_by}
 use Rattle.be_store.proofs.Legality.{journal_legal, run_number}
 use Rattle.be_store.proofs.Calls.{starts_refl, starts_trans, stands_at_seam}
 
@@ -23,7 +23,7 @@ module _ (o : Object) where
 
   step_seen : (a : PassView o) (s : Step o) (c : PassView o) → Leads o a s c → StartsWith c.seen a.seen
   step_seen a (Apply e n) c l = (l.0 ++ e ∷ [], ap (λ (v : PassView o). v.seen) l.3 ∙ append_assoc a.seen l.0 (e ∷ []))
-  step_seen a Learn c l = (l.0, ap (λ (v : PassView o). v.seen) l.1)
+  step_seen a (Learn log) c l = (l.0, ap (λ (v : PassView o). v.seen) l.1)
   step_seen a (Pin n) c l = (l.0, ap (λ (v : PassView o). v.seen) l.1)
   step_seen a Unpin c l = subst (λ (k : List o.Entry). StartsWith k a.seen) (sym (ap (λ (v : PassView o). v.seen) l)) (starts_refl a.seen)
   step_seen a (Read q r) c l = subst (λ (k : List o.Entry). StartsWith k a.seen) (sym (ap (λ (v : PassView o). v.seen) l.3)) (starts_refl a.seen)
@@ -45,10 +45,13 @@ module _ (o : Object) where
 
   step_in_time : (a : PassView o) (s : Step o) (c : PassView o) → Leads o a s c → IsInTime a → IsInTime c
   step_in_time a (Apply e n) c l h = same_pin a c (step_seen a (Apply e n) c l) (ap (λ (v : PassView o). v.pin) l.3) h
-  step_in_time a Learn c l h = same_pin a c (step_seen a Learn c l) (ap (λ (v : PassView o). v.pin) l.1) h
+  step_in_time a (Learn log) c l h = same_pin a c (step_seen a (Learn log) c l) (ap (λ (v : PassView o). v.pin) l.1) h
   step_in_time a (Pin n) c l h = pinned_in_time c n (ap (λ (v : PassView o). v.pin) l.1) l.2
   step_in_time a Unpin c l h = unpinned_in_time c (ap (λ (v : PassView o). v.pin) l)
   step_in_time a (Read q r) c l h = subst IsInTime (sym l.3) h
+
+  reads_prefix : (journal : List o.Entry) (a : PassView o) → StartsWith journal a.seen → IsInTime a → ReadsPrefix o journal a
+  reads_prefix journal a more h n pin = sym (take-append-le n a.seen more.0 (h n pin)) ∙ ap (take n) (sym more.1)
 
   step_kept : (journal : List o.Entry) (a : PassView o) (s : Step o) (c : PassView o) → Leads o a s c → StartsWith journal c.seen → IsInTime a → IsKept o journal a s
   step_kept journal a (Apply e n) c l more h =
@@ -58,7 +61,8 @@ module _ (o : Object) where
       let parts = length-append front (e ∷ []) in
       let at : n ≡ suc (length front) = omega (arith, l.4, long, parts) in
       (length front, at, stands_at_seam journal front e more.0 is)
-  step_kept journal a Learn c l more h = tt
+  step_kept journal a (Learn log) c l more h =
+      (subst (StartsWith journal) (sym l.2) more, subst (λ (k : List o.Entry). StartsWith k a.seen) (sym l.2) (step_seen a (Learn log) c l))
   step_kept journal a (Pin n) c l more h =
       let long = ap length more.1 in let parts = length-append c.seen more.0 in
       let whole : take n journal ≡ c.seen =
@@ -66,18 +70,19 @@ module _ (o : Object) where
       (omega (arith, l.2, long, parts), subst (λ (k : List o.Entry). StartsWith k a.seen) (sym whole) (step_seen a (Pin n) c l))
   step_kept journal a Unpin c l more h = tt
   step_kept journal a (Read q r) c l more h =
-      let here : journal ≡ a.seen ++ more.0 = more.1 ∙ ap (λ (v : PassView o). v.seen ++ more.0) l.3 in
-      (l.0, l.1, l.2 ∙ ap (λ k. o.answer q (state_of o k)) (sym (take-append-le l.0 a.seen more.0 (h l.0 l.1)) ∙ ap (take l.0) (sym here)))
+      let here : StartsWith journal a.seen = subst (λ (v : PassView o). StartsWith journal v.seen) l.3 more in
+      (l.0, l.1, subst (λ k. IfSome r (λ x. x ≡ o.answer q (state_of o k))) (reads_prefix journal a here h l.0 l.1) l.2)
 
   run_kept : (journal : List o.Entry) (a : PassView o) (steps : List (Step o × PassView o)) (z : PassView o) → AreSteps o a steps z → StartsWith journal z.seen → IsInTime a → AreKept o journal a steps
   run_kept journal a [] z h more t = tt
   run_kept journal a (x ∷ rest) z h more t =
       let begun = starts_trans x.1.seen z.seen journal more (run_seen x.1 rest z h.1) in
-      (step_kept journal a x.0 x.1 h.0 begun t, run_kept journal x.1 rest z h.1 more (step_in_time a x.0 x.1 h.0 t))
+      let then = step_in_time a x.0 x.1 h.0 t in
+      (step_kept journal a x.0 x.1 h.0 begun t, reads_prefix journal x.1 begun then, run_kept journal x.1 rest z h.1 more then)
 
   step_mine : (a : PassView o) (s : Step o) (c : PassView o) → Leads o a s c → c.mine ≡ a.mine ++ written_by o s
   step_mine a (Apply e n) c l = ap (λ (v : PassView o). v.mine) l.3
-  step_mine a Learn c l = ap (λ (v : PassView o). v.mine) l.1 ∙ sym (append-nil a.mine)
+  step_mine a (Learn log) c l = ap (λ (v : PassView o). v.mine) l.1 ∙ sym (append-nil a.mine)
   step_mine a (Pin n) c l = ap (λ (v : PassView o). v.mine) l.1 ∙ sym (append-nil a.mine)
   step_mine a Unpin c l = ap (λ (v : PassView o). v.mine) l ∙ sym (append-nil a.mine)
   step_mine a (Read q r) c l = ap (λ (v : PassView o). v.mine) l.3 ∙ sym (append-nil a.mine)
@@ -87,6 +92,11 @@ module _ (o : Object) where
   run_mine a (x ∷ rest) z h =
       run_mine x.1 rest z h.1
       ∙ (ap (λ k. k ++ written o rest) (step_mine a x.0 x.1 h.0) ∙ append_assoc a.mine (written_by o x.0) (written o rest))
+
+  -- the runs are of different passes, since their last views are
+  run_numbers : (runs : List (PassRun o)) → map (λ (z : PassView o). z.number) (map (λ (r : PassRun o). r.last) runs) ≡ map (λ (r : PassRun o). r.number) runs
+  run_numbers [] = refl
+  run_numbers (r ∷ runs) = λ j. run_number o (first_view o r.number) r.steps r.last r.run j ∷ run_numbers runs j
 
   abbrev HasWritten : List o.Entry → PassRun o → Type 0
   HasWritten journal r = entries_by o r.number journal ≡ written o r.steps
@@ -129,6 +139,7 @@ module _ (o : Object) where
   one_history journal runs h =
       let authors = all_authors runs journal h.authors in record {
         legal = journal_legal o journal runs h.seen h.mine authors;
+        apart = subst (AllPairs ◌≢◌) (run_numbers runs) h.apart;
         authors = authors;
         writes = all_written journal runs h.mine;
         kept = all_kept journal runs h.seen;

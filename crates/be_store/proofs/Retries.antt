@@ -26,13 +26,13 @@ busy_with e h = absurd (false≢true h)
 -- Busy comes of the lock alone
 busy_by_lock : (a c : Knowledge) (ops : List Op) (b : ℕ) → IsReason a c ops (Busy b) → FoundHeld (Busy b) a c
 busy_by_lock a c ops b (inl h) = h.0
-busy_by_lock a c ops b (inr (inl h)) = absurd (let few = (steps_refuse (volume_seen c) ops (Busy b) h).0 in omega (arith, few))
-busy_by_lock a c ops b (inr (inr (inl h))) = absurd (unroomed h.1)
+busy_by_lock a c ops b (inr (inl h, locks)) = absurd (let few = (steps_refuse (volume_seen c) ops (Busy b) h).0 in omega (arith, few))
+busy_by_lock a c ops b (inr (inr (inl h), locks)) = absurd (unroomed h.1)
   where
     unroomed : HasNoRoom (Busy b) c → ⊥
     unroomed (inl none) = absurd (let e = none.0 in cc)
     unroomed (inr none) = absurd (let e = none.0 in cc)
-busy_by_lock a c ops b (inr (inr (inr h))) = absurd (let e = h.2.1 in cc)
+busy_by_lock a c ops b (inr (inr (inr h), locks)) = absurd (let e = h.2.1 in cc)
 
 -- before the first try
 pub untried : (a : Knowledge) → a ≡ tried a []
@@ -64,6 +64,12 @@ module _ (a : Knowledge) (holders : List ℕ) (m c : Knowledge) (is : m ≡ trie
         moves = record { locked = h.moves.locked; lock = h.moves.lock; worked = h.moves.worked; work = h.moves.work; given = h.moves.given; publish = h.moves.publish; at = h.moves.at };
       }
 
+  pub locks_at_last : LocksOnly m c → LocksOnly a c
+  locks_at_last h = by (subst (λ (k : Knowledge). LocksOnly k c) is h)
+    where
+      by : LocksOnly (tried a holders) c → LocksOnly a c
+      by l = record { locked = l.locked; lock = l.lock; worked = l.worked; work = l.work; unlock = l.unlock }
+
   pub learns_at_last : Learns m c → Learns a c
   learns_at_last h = by (subst (λ (k : Knowledge). Learns k c) is h)
     where
@@ -82,12 +88,12 @@ module _ (a : Knowledge) (holders : List ℕ) (m c : Knowledge) (is : m ≡ trie
   -- the reason of the last try
   reason_at_last : (ops : List Op) (e : Refusal) → IsReason m c ops e → IsLastReason (length holders + 1) a c ops e
   reason_at_last ops e (inl h) = inl (held_at_last e h.0)
-  reason_at_last ops e (inr h) = inr h
+  reason_at_last ops e (inr h) = inr (h.0, locks_at_last h.1)
 
   -- the reason of a try that was not the last
   reason_else : (tries : ℕ) (ops : List Op) (e : Refusal) → is_busy e ≡ false → IsReason m c ops e → IsLastReason tries a c ops e
   reason_else tries ops e free (inl h) = absurd (false≢true (sym free ∙ ap is_busy h.0.1))
-  reason_else tries ops e free (inr h) = inr h
+  reason_else tries ops e free (inr h) = inr (h.0, locks_at_last h.1)
 
   -- a try that is refused by Busy found a holder
   pub held_by : (ops : List Op) (e : Refusal) → is_busy e ≡ true → IsReason m c ops e → (b : ℕ) × (c ≡ tried a (b ∷ holders))

@@ -1,11 +1,12 @@
--- The main promise over whole runs: a pass through all its calls, and the journal at the end.
-use Rattle.std.specs.Prelude.{◌≡◌, ◌⊎◌, ℕ, ◌-◌, All, List, [], ◌∷◌, Some, slice_get, take}
+-- Which step a call of a pass is; a pass through its calls, and the journal at the end.
+use Rattle.std.specs.Prelude.{◌≡◌, ℕ, ◌-◌, All, List, [], ◌∷◌, map, Some, IfSome, slice_get}
+use Rattle.std.specs.Prelude.{take}
 use Rattle.be_journal.specs.declared.entries.Entry.{Entry}
 use Rattle.be_journal.specs.Journal.{replay}
-use Rattle.be_table.specs.declared.pass.Commit.{Commit}
 use Rattle.be_table.specs.declared.pass.Knowledge.{Knowledge}
 use Rattle.be_table.specs.History.{StartsWith}
-use Rattle.be_table.specs.Steps.{IsPass, entry_by, met}
+use Rattle.be_table.specs.Rule.{entries}
+use Rattle.be_table.specs.Steps.{IsPass, entry_by}
 use Rattle.be_table.specs.Trace.{HasTrace}
 use Rattle.be_table.specs.declared.limits.Limits.{Limits}
 use Rattle.be_table.specs.declared.pass.Move.{Move}
@@ -13,36 +14,47 @@ use Rattle.be_volume.specs.declared.ops.Done.{Done}
 use Rattle.be_volume.specs.declared.ops.Op.{Op}
 use Rattle.be_store.specs.History.{Accepts, Learns, Pins, Unpins}
 use Rattle.be_store.specs.Passes.{HasRead, IsPinnedTo, volume_pinned}
-use Rattle.be_store.specs.SmallMachine.{Step, Apply, Learn, Pin, Unpin, Read, first_view}
+use Rattle.be_store.specs.SmallMachine.{PassView, Step, Apply, Learn, Pin, Unpin, Read}
+use Rattle.be_store.specs.SmallMachine.{first_view}
 use Rattle.be_store.specs.Views.{view_of, volume}
 
--- The call of a pass that knew a before and knows c after, by the step that it is. Learn is a
--- refused write, or the journal's text or entries; a meeting with another pass or with a witness;
--- or a witness that is made, or a read that ran out of memory.
+-- The call of a pass that knew a before and knows c after, by the step that it is. Each call of a
+-- store has one of these forms, but for a refresh by what changed, which has two. Learn is a
+-- refused write, a look at the journal or at how full the store is, a meeting with another pass or
+-- with a witness, and a witness that is made.
 abbrev pub Call : Knowledge → Step volume → Knowledge → Type 0
 Call a (Apply e n) c = (ops : List Op) × (dones : List Done) × (e ≡ entry_by a ops dones)
     × Accepts a c ops n dones
-Call a Learn c = Learns a c
-    ⊎ ((log : List Commit) × StartsWith log a.seen × (c ≡ met a log))
-    ⊎ HasRead a c
+Call a (Learn log) c = Learns a c × (log ≡ entries c.seen)
 Call a (Pin n) c = Pins a c n
 Call a Unpin c = Unpins a c
-Call a (Read q r) c = (n : ℕ) × IsPinnedTo a n × (r ≡ volume.answer q (volume_pinned a))
-    × HasRead a c
+Call a (Read q r) c = (n : ℕ) × IsPinnedTo a n
+    × IfSome r (λ x. x ≡ volume.answer q (volume_pinned a)) × HasRead a c
 
 -- Calls of a pass, one after the other, that are these steps: it knew a at first and knows z at
--- last.
+-- last. The law `steps_are_shown` says that they have each accepted write, pin and unpin. A read
+-- may be missing among them, since a pass knows the same before and after it.
 abbrev pub Calls : Knowledge → List (Step volume) → Knowledge → Type 0
 Calls a [] z = a ≡ z
 Calls a (s ∷ steps) z = (c : Knowledge) × Call a s c × Calls c steps z
 
--- all calls of a pass that had seen nothing at first, by their steps
+-- what the pass knew after each of these calls
+abbrev pub known_after : (a : Knowledge) (steps : List (Step volume)) (z : Knowledge)
+    → Calls a steps z → List Knowledge
+known_after a [] z calls = []
+known_after a (s ∷ steps) z calls = calls.0 ∷ known_after calls.0 steps z calls.2
+
+-- calls of a pass that had seen nothing at first, by their steps, to the last that it made
 pub record PassCalls : Type 0 where
   pub first : Knowledge
   pub steps : List (Step volume)
   pub last : Knowledge
   pub new : view_of first ≡ first_view volume first.number
   pub made : Calls first steps last
+
+-- the views after them
+abbrev pub views_known : PassCalls → List (PassView volume)
+views_known p = map view_of (known_after p.first p.steps p.last p.made)
 
 -- Each write of the pass that was accepted with the number n is the n-th entry of the journal: by
 -- this pass, with these operations and outcomes, whatever was called after it.

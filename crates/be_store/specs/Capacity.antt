@@ -1,10 +1,14 @@
 -- A write that finds no page: what fills the pool then, and which pool is large enough.
 use Rattle.std.specs.FinMap as map
-use Rattle.std.specs.Prelude.{◌≡◌, ℕ, suc, ◌+◌, ◌*◌, ◌^◌, ◌<◌, ◌≤◌, List, length}
-use Rattle.be_core.specs.Machine.{has}
+use Rattle.std.specs.Prelude.{◌≡◌, ◌≢◌, ℕ, suc, ◌+◌, ◌*◌, ◌^◌, ◌<◌, ◌≤◌, List, [], ◌∷◌, length}
+use Rattle.be_core.specs.Machine.{World, has}
+use Rattle.be_core.specs.declared.event.Phase.TheVariants.{Idle}
 use Rattle.be_table.specs.Counts.{count_below}
+use Rattle.be_table.specs.History.{StartsWith}
 use Rattle.be_table.specs.Rule.{reach_at}
+use Rattle.be_table.specs.Trace.{HasTrace, RunsTo}
 use Rattle.be_table.specs.Works.{HadAnnounced, IsSpent}
+use Rattle.be_table.specs.declared.limits.Limits.{Limits}
 use Rattle.be_table.specs.declared.pass.Knowledge.{Knowledge}
 use Rattle.be_volume.specs.Items.{StaysWithin, items}
 use Rattle.be_volume.specs.Volume.{State}
@@ -59,3 +63,24 @@ pub record HasLargePool (c : Knowledge) (ops : List Op) : Type 0 where
   pub within : StaysWithin most indices (volume_seen c) ops
   pub height : most + 1 < 2 * 6 ^ suc high
   pub pages : 2 * most + 8 * indices + 10 * high + 24 < 5 * c.limits.pages
+
+-- The machine has the pass unpinned, and not about to pin, where the pass made its last move.
+abbrev pub IsOut : Limits → Knowledge → Type 0
+IsOut limits b = (words : ℕ → ℕ → ℕ) (world : World) → RunsTo limits words b.history world
+    → world.phases b.number ≡ Idle
+
+-- Through a write, of whose pass w is what it knew before and c what it knows after, the pass that
+-- knows b did nothing and was unpinned: a meeting of the two before the write and one after it have
+-- it at rest.
+pub record RestsThrough (limits : Limits) (w c b : Knowledge) : Type 0 where
+  pub out : IsOut limits b
+  pub met : Knowledge
+  pub same : met.number ≡ w.number
+  pub early : StartsWith w.history met.history
+  pub before : HasTrace limits (met ∷ b ∷ [])
+  pub after : HasTrace limits (c ∷ b ∷ [])
+
+-- each other pass of the store did
+abbrev pub OthersRest : Limits → Knowledge → Knowledge → Type 0
+OthersRest limits w c = (j : ℕ) → j < limits.passes → j ≢ w.number
+    → (b : Knowledge) × (b.number ≡ j) × RestsThrough limits w c b

@@ -12,7 +12,8 @@ use Rattle.be_table.specs.declared.pass.Move.{Move}
 use Rattle.be_table.specs.declared.pass.Move.TheVariants.{Lock, Unlock}
 use Rattle.be_volume.specs.declared.ops.Done.{Done}
 use Rattle.be_volume.specs.declared.ops.Op.{Op}
-use Rattle.be_store.specs.History.{Accepts, IsHeldThrough, IsRefusedAt, Learns, is_busy}
+use Rattle.be_store.specs.History.{Accepts, IsHeldThrough, IsRefusedAt, Learns, LocksOnly}
+use Rattle.be_store.specs.History.{is_busy}
 use Rattle.be_store.specs.Passes.{IsPinnedTo, volume_pinned}
 use Rattle.be_store.specs.Writing.{IsHeldBack, Publishes}
 use Rattle.be_store.specs.declared.conditional.ApplyIfError.{ApplyIfError}
@@ -42,7 +43,8 @@ pub record IsConflict (a c : Knowledge) (number found : ℕ) : Type 0 where
 abbrev pub IsUnapplied : (a c : Knowledge) → ℕ → List Op → ApplyIfError → Type 0
 IsUnapplied a c number ops (Conflict found) = IsConflict a c number found
 IsUnapplied a c number ops (Refused e) = Learns a c
-    × ((FoundHeld e a c × (c.seen ≡ a.seen)) ⊎ (IsRefusedAt c ops e × (length c.seen ≡ number)))
+    × ((FoundHeld e a c × (c.seen ≡ a.seen))
+    ⊎ (IsRefusedAt c ops e × (length c.seen ≡ number) × LocksOnly a c))
 
 -- the write found that another pass holds the lock
 abbrev pub was_held : {X : Type 0} → Result X ApplyIfError → Bool
@@ -56,7 +58,8 @@ was_held (Err (Refused e)) = is_busy e
 abbrev pub IsLastUnapplied : ℕ → (a c : Knowledge) → ℕ → List Op → ApplyIfError → Type 0
 IsLastUnapplied tries a c number ops (Conflict found) = IsConflict a c number found
 IsLastUnapplied tries a c number ops (Refused e) = Learns a c
-    × (IsHeldThrough tries a c e ⊎ (IsRefusedAt c ops e × (length c.seen ≡ number)))
+    × (IsHeldThrough tries a c e
+    ⊎ (IsRefusedAt c ops e × (length c.seen ≡ number) × LocksOnly a c))
 
 -- why a conditional write that has the lock isn't made: the journal has another length, and nothing
 -- has changed; or the write is refused

@@ -91,9 +91,9 @@ IsRefusedAt c ops e =
     × IsFullOf (IsShort c ops) e)
 
 -- Why a write is refused. Its one try found that another pass holds the lock, and nothing more was
--- seen; or the pass had the lock.
+-- seen; or the pass took the lock, was refused, and gave the lock back.
 abbrev pub IsReason : (a c : Knowledge) (ops : List Op) → Refusal → Type 0
-IsReason a c ops e = (FoundHeld e a c × (c.seen ≡ a.seen)) ⊎ IsRefusedAt c ops e
+IsReason a c ops e = (FoundHeld e a c × (c.seen ≡ a.seen)) ⊎ (IsRefusedAt c ops e × LocksOnly a c)
 
 -- the refusal says that another pass holds the lock
 abbrev pub is_busy : Refusal → Bool
@@ -116,9 +116,9 @@ IsHeldThrough tries a c e = (b : ℕ) × (before : List ℕ) × (e ≡ Busy b) �
     × (b ≢ a.number) × (length before + 1 ≡ tries) × (c ≡ tried a (b ∷ before))
 
 -- Why a write that is tried up to `tries` times is refused. Each try found that another pass holds
--- the lock; or a try got the lock.
+-- the lock; or a try took the lock, was refused, and gave the lock back.
 abbrev pub IsLastReason : ℕ → (a c : Knowledge) (ops : List Op) → Refusal → Type 0
-IsLastReason tries a c ops e = IsHeldThrough tries a c e ⊎ IsRefusedAt c ops e
+IsLastReason tries a c ops e = IsHeldThrough tries a c e ⊎ (IsRefusedAt c ops e × LocksOnly a c)
 
 -- The pass is pinned to all that it has then seen, by three steps, which are the moves Look,
 -- Announce and LookAgain of the reclamation machine.

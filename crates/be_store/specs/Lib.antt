@@ -13,5 +13,6 @@ pub mod OneHistory
 pub mod Views
 pub mod Told
 pub mod Statuses
+pub mod Shown
 pub use Rattle.be_table.specs.Seats
 pub use Rattle.be_table.specs.Works

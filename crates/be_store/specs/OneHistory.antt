@@ -1,11 +1,11 @@
--- The promise of the whole: one journal explains all that the calls of a store returned.
-use Rattle.std.specs.Prelude.{◌≡◌, ◌≤◌, ◌⊎◌, ℕ, suc, List, [], ◌∷◌, ◌++◌, All, length, take, Some}
-use Rattle.std.specs.Prelude.{map, slice_get}
+-- The statement: one journal explains the steps of several passes, and whatever else they read.
+use Rattle.std.specs.Prelude.{◌≡◌, ◌≢◌, ◌≤◌, ◌⊎◌, ℕ, suc, List, [], ◌∷◌, ◌++◌, All, AllPairs}
+use Rattle.std.specs.Prelude.{length, take, map, slice_get, Some, IfSome}
 use Rattle.be_table.specs.History.{StartsWith}
 use Rattle.be_store.specs.SmallMachine.{Object, PassView, Step, Apply, Learn, Pin, Unpin, Read}
 use Rattle.be_store.specs.SmallMachine.{AreSteps, IsLegalFor, entries_by, first_view, state_of}
 
--- all that one pass did, from the view that it had at first
+-- steps of one pass, from the view that it had at first, each with the view after it
 pub record PassRun (o : Object) : Type 0 where
   pub number : ℕ
   pub steps : List (Step o × PassView o)
@@ -16,26 +16,37 @@ pub record PassRun (o : Object) : Type 0 where
 abbrev pub steps_of : (o : Object) → PassRun o → List (Step o)
 steps_of o r = map (λ (x : Step o × PassView o). x.0) r.steps
 
+-- the views after its steps
+abbrev pub views_of : (o : Object) → PassRun o → List (PassView o)
+views_of o r = map (λ (x : Step o × PassView o). x.1) r.steps
+
 -- What the journal says of a step that was made from the view a. A write that returned the number n
--- is the n-th entry, counted from 1. A pin names a prefix that begins with all that its pass had
--- seen. The answer of a read is that of the state after the prefix that the pin names.
+-- is the n-th entry, counted from 1. What a call learned is a prefix, which begins with all that
+-- its pass had seen; so is what a pin names. The answer of a read is that of the state after the
+-- prefix that the pin names.
 abbrev pub IsKept : (o : Object) → List o.Entry → PassView o → Step o → Type 0
 IsKept o journal a (Apply e n) = (i : ℕ) × (n ≡ suc i) × (slice_get journal i ≡ Some e)
-IsKept o journal a Learn = Unit {0}
+IsKept o journal a (Learn log) = StartsWith journal log × StartsWith log a.seen
 IsKept o journal a (Pin n) = (n ≤ length journal) × StartsWith (take n journal) a.seen
 IsKept o journal a Unpin = Unit {0}
 IsKept o journal a (Read q r) = (n : ℕ) × (a.pin ≡ Some n)
-    × (r ≡ o.answer q (state_of o (take n journal)))
+    × IfSome r (λ x. x ≡ o.answer q (state_of o (take n journal)))
 
--- the same of each step of a run from the view a on
+-- A pass with this view that is pinned to n reads after the first n entries of the journal,
+-- whatever it asks, and whether or not that read is among its steps.
+abbrev pub ReadsPrefix : (o : Object) → List o.Entry → PassView o → Type 0
+ReadsPrefix o journal a = (n : ℕ) → a.pin ≡ Some n → take n a.seen ≡ take n journal
+
+-- both, of each step of a run from the view a on and of the view after it
 abbrev pub AreKept : (o : Object) → List o.Entry → PassView o → List (Step o × PassView o) → Type 0
 AreKept o journal a [] = Unit {0}
-AreKept o journal a (x ∷ rest) = IsKept o journal a x.0 × AreKept o journal x.1 rest
+AreKept o journal a (x ∷ rest) = IsKept o journal a x.0 × ReadsPrefix o journal x.1
+    × AreKept o journal x.1 rest
 
 -- the entries that a run has written, in its order
 abbrev pub written_by : (o : Object) → Step o → List o.Entry
 written_by o (Apply e n) = e ∷ []
-written_by o Learn = []
+written_by o (Learn log) = []
 written_by o (Pin n) = []
 written_by o Unpin = []
 written_by o (Read q r) = []
@@ -49,11 +60,13 @@ abbrev pub HasRun : (o : Object) → List (PassRun o) → ℕ → Type 0
 HasRun o [] k = ⊥
 HasRun o (r ∷ runs) k = (r.number ≡ k) ⊎ HasRun o runs k
 
--- The journal is a legal history of the object. It has the writes of each pass once, in the order
--- of its calls, and nothing else. It says of each step what that step returned.
+-- The journal is a legal history of the object. These are runs of different passes. The journal has
+-- the writes of each of them once, in the order of its steps, and no others. It says what each step
+-- returned, and what the pass read between its steps.
 pub record IsOneHistory (o : Object) (journal : List o.Entry) (runs : List (PassRun o)) : Type 0
   where
     pub legal : IsLegalFor o journal
+    pub apart : AllPairs ◌≢◌ (map (λ (r : PassRun o). r.number) runs)
     pub authors : All (λ (e : o.Entry). HasRun o runs (o.by e)) journal
     pub writes : All (λ (r : PassRun o). entries_by o r.number journal ≡ written o r.steps) runs
     pub kept : All (λ (r : PassRun o). AreKept o journal (first_view o r.number) r.steps) runs

@@ -1,7 +1,7 @@
 -- A small machine: passes write to one journal of a sequential object, and read prefixes of it.
--- Each call of a store is one of its steps, and a meeting of two passes is a step of each.
-use Rattle.std.specs.Prelude.{◌≡◌, ◌<◌, ◌⊎◌, ℕ, List, [], ◌∷◌, ◌++◌, All, length, take, get_or}
-use Rattle.std.specs.Prelude.{fold, filter, nat_eq, Option, Some, None}
+-- `Calls.antt` says which step a call of a store is.
+use Rattle.std.specs.Prelude.{◌≡◌, ◌≢◌, ◌<◌, ◌⊎◌, ℕ, List, [], ◌∷◌, ◌++◌, All, AllPairs, length}
+use Rattle.std.specs.Prelude.{map, take, get_or, fold, filter, nat_eq, Option, Some, None, IfSome}
 use Rattle.be_table.specs.History.{StartsWith}
 
 -- A sequential object, and the entries of its journal. An entry is a write with its outcomes, by
@@ -47,13 +47,15 @@ first_view o k = record { number = k; seen = []; mine = []; pin = None }
 pub data Step (o : Object) : Type 0 where
   -- an accepted write: its entry, and the number that it returned
   Apply : o.Entry → ℕ → Step o
-  -- a call that neither writes nor answers: a refused write, a meeting, a look at the journal
-  Learn : Step o
+  -- A call that asks nothing of the object: a refused write, a meeting, a look at the journal. Its
+  -- pass has then seen these entries, and it returns how many there are, or some of them, or why
+  -- the write is refused after them.
+  Learn : List o.Entry → Step o
   -- a pin, which returned this number
   Pin : ℕ → Step o
   Unpin : Step o
-  -- a read at the pin: the question, and the answer that it returned
-  Read : o.Question → o.Answer → Step o
+  -- a read at the pin: the question, and the answer that it returned, if memory didn't run out
+  Read : o.Question → Option o.Answer → Step o
 
 -- The step of a pass from the view a to the view c. Between its steps others write, and it learns
 -- of that only by its next step. That none of the others' entries is by this pass isn't said here:
@@ -63,12 +65,13 @@ Leads o a (Apply e n) c =
     (others : List o.Entry) × (o.by e ≡ a.number) × o.Accepts (state_of o (a.seen ++ others)) e
     × (c ≡ record a { seen = (a.seen ++ others) ++ e ∷ []; mine = a.mine ++ e ∷ [] })
     × (n ≡ length c.seen)
-Leads o a Learn c = (others : List o.Entry) × (c ≡ record a { seen = a.seen ++ others })
+Leads o a (Learn log) c = (others : List o.Entry) × (c ≡ record a { seen = a.seen ++ others })
+    × (log ≡ c.seen)
 Leads o a (Pin n) c = (others : List o.Entry)
     × (c ≡ record a { seen = a.seen ++ others; pin = Some n }) × (n ≡ length c.seen)
 Leads o a Unpin c = c ≡ record a { pin = None }
 Leads o a (Read q r) c = (n : ℕ) × (a.pin ≡ Some n)
-    × (r ≡ o.answer q (state_of o (take n a.seen))) × (c ≡ a)
+    × IfSome r (λ x. x ≡ o.answer q (state_of o (take n a.seen))) × (c ≡ a)
 
 -- The steps of one pass from the view a on, each with the view after it, lead to the view z.
 abbrev pub AreSteps : (o : Object) → PassView o → List (Step o × PassView o) → PassView o → Type 0
@@ -80,10 +83,12 @@ abbrev pub HasNumber : (o : Object) → List (PassView o) → ℕ → Type 0
 HasNumber o [] k = ⊥
 HasNumber o (z ∷ views) k = (z.number ≡ k) ⊎ HasNumber o views k
 
--- The last step: all passes close the store, with these views, and get this journal. Each entry is
--- by one of these passes; it begins with what each has seen, and has just its own entries of each.
--- Only from here on is anything said of two passes at once.
+-- The last step: all passes close the store, with these views, and get this journal. No two views
+-- are of one pass. Each entry is by one of these passes; the journal begins with what each has
+-- seen, and has just its own entries of each. Only from here on is anything said of two passes at
+-- once.
 pub record Closes (o : Object) (journal : List o.Entry) (views : List (PassView o)) : Type 0 where
+  pub apart : AllPairs ◌≢◌ (map (λ (z : PassView o). z.number) views)
   pub authors : All (λ (e : o.Entry). HasNumber o views (o.by e)) journal
   pub seen : All (λ (z : PassView o). StartsWith journal z.seen) views
   pub mine : All (λ (z : PassView o). entries_by o z.number journal ≡ z.mine) views

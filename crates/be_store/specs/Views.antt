@@ -1,5 +1,5 @@
 -- The volume as the object of the small machine, and what a pass knows as one of its views.
-use Rattle.std.specs.Prelude.{ℕ, ◌<◌, List}
+use Rattle.std.specs.Prelude.{◌≢◌, ℕ, ◌<◌, AllPairs, List, map}
 use Rattle.std.specs.declared.option.Option.{Option}
 use Rattle.std.specs.declared.result.Result.{Result}
 use Rattle.be_journal.specs.declared.entries.Entry.{Entry}
@@ -53,9 +53,11 @@ view_of a = record {
 abbrev pub IsStep : Knowledge → Step volume → Knowledge → Type 0
 IsStep a s c = Leads volume (view_of a) s (view_of c)
 
--- What is so where a store of so many passes was closed. `close` requires that each pass is among
--- those that it takes, and ensures the rest of these passes and of the journal.
+-- What is so where a store of so many passes was closed with these passes, whose numbers differ.
+-- `open` numbers them, and each keeps its number. `close` requires that each pass is among those
+-- that it takes, and ensures the rest of these passes and of the journal.
 pub record IsClosed (count : ℕ) (log : List Entry) (passes : List Knowledge) : Type 0 where
+  pub apart : AllPairs ◌≢◌ (map (λ (a : Knowledge). a.number) passes)
   pub all : (k : ℕ) → k < count → Has passes k
   pub by : AreOfPasses count log
   pub keeps : KeepsSeen log passes

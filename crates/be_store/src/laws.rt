@@ -1,10 +1,10 @@
-//! What a pass of a store knows, what holds for the only pass of a store, and which pool is large
-//! enough.
+//! What a pass of a store knows, that its steps are all its writes and pins, what holds for the
+//! only pass of a store, and which pool is large enough.
 //!
 //! Each law does nothing; its contract is the law, for the crates above. The laws of the only pass
 //! speak of what a pass knows before and after a call: `alone` says that a given pass is the only
 //! one.
-ghost use Rattle.std.specs.Prelude.{◌≡◌, ◌≤◌, ◌<◌, ℕ, List, IsOk, length};
+ghost use Rattle.std.specs.Prelude.{◌≡◌, ◌≤◌, ◌<◌, ◌++◌, ℕ, List, IsOk, length};
 ghost use Rattle.be_value.specs.declared.refusals.Refusal.{Refusal};
 ghost use Rattle.be_value.specs.declared.refusals.Refusal.TheVariants.{Full};
 ghost use Rattle.be_volume.specs.Ahead.{state_after};
@@ -14,16 +14,23 @@ ghost use Rattle.be_volume.specs.declared.ops.Op.{Op};
 ghost use Rattle.be_journal.specs.Journal.{IsLegal, by_pass};
 ghost use Rattle.be_volume_state.specs.Rebuilding.{state_ops};
 ghost use Rattle.be_table.specs.History.{AreOfPasses, StartsWith};
-ghost use Rattle.be_table.specs.Rule.{entries};
+ghost use Rattle.be_table.specs.Rule.{entries, newcomer};
 ghost use Rattle.be_table.specs.Steps.{IsPass};
 ghost use Rattle.be_table.specs.Versions.{CanSpellEach};
+ghost use Rattle.be_table.specs.declared.limits.Limits.{Limits};
 ghost use Rattle.be_table.specs.declared.pass.Commit.{Commit};
 ghost use Rattle.be_table.specs.declared.pass.Knowledge.{Knowledge};
 ghost use Rattle.be_store.specs.Alone.{IsAlone, WritesNext};
-ghost use Rattle.be_store.specs.Capacity.{HasLargePool, IsAtCurrent, NoneIsEarlier};
+ghost use Rattle.be_store.specs.Calls.{Calls};
+ghost use Rattle.be_store.specs.Capacity.{HasLargePool, IsAtCurrent, IsOut, NoneIsEarlier};
+ghost use Rattle.be_store.specs.Capacity.{OthersRest};
 ghost use Rattle.be_store.specs.History.{Accepts, Learns, IsReason, IsRefusedAt, Pins as IsPin};
+ghost use Rattle.be_store.specs.History.{IsLastReason, Unpins};
 ghost use Rattle.be_store.specs.Passes.{IsPassOf, IsPinnedTo, volume_pinned, volume_seen};
+ghost use Rattle.be_store.specs.Shown.{shown_by, shown_in};
+ghost use Rattle.be_store.specs.SmallMachine.{Step};
 ghost use Rattle.be_store.specs.Told.{ComesAfter, EndedBefore};
+ghost use Rattle.be_store.specs.Views.{volume};
 
 use crate::{Pass, Store};
 use be_journal::replay_push;
@@ -124,4 +131,34 @@ pub fn large_enough()
 pub fn alone_large_enough()
     ensures { (c : Knowledge) (ops : List Op) (least : ℕ) → IsAlone c → IsAtCurrent c
         → HasLargePool c ops → ¬ (IsRefusedAt c ops (Full least)) }
+{}
+
+/// The steps of a pass have each accepted write, pin and unpin that its moves show, in their order.
+/// So a list of steps can leave out only reads and what made no such move.
+pub fn steps_are_shown()
+    ensures { (a : Knowledge) (steps : List (Step volume)) (z : Knowledge) → Calls a steps z
+        → shown_by a.number z.history ≡ shown_by a.number a.history ++ shown_in steps }
+{}
+
+/// A pass is out, which is to say unpinned where it made its last move, when it is new and when it
+/// has unpinned. It stays so through its writes and through all else but a pin.
+pub fn unpinned_is_out()
+    ensures new { (limits its : Limits) (steps k : ℕ) → IsOut limits (newcomer its steps k) }
+    ensures unpin { (limits : Limits) (a c : Knowledge) → Unpins a c → IsOut limits c }
+    ensures write { (limits : Limits) (a c : Knowledge) (ops : List Op) (n : ℕ)
+        (dones : List Done) → IsOut limits a → Accepts a c ops n dones → IsOut limits c }
+    ensures other { (limits : Limits) (a c : Knowledge) → IsOut limits a → Learns a c
+        → IsOut limits c }
+{}
+
+/// In a store of several passes a large pool refuses no write by Full if all passes are unpinned
+/// while it is made, and have met the writer before and after it. The premises are what public
+/// calls ensure: `meet` the lists of moves, and a write that is refused its reason.
+pub fn large_enough_unpinned()
+    ensures once { (limits : Limits) (a c : Knowledge) (ops : List Op) (least : ℕ)
+        → c.limits ≡ limits → c.number ≡ a.number → IsOut limits a → OthersRest limits a c
+        → HasLargePool c ops → ¬ (IsReason a c ops (Full least)) }
+    ensures retried { (limits : Limits) (a c : Knowledge) (ops : List Op) (tries least : ℕ)
+        → c.limits ≡ limits → c.number ≡ a.number → IsOut limits a → OthersRest limits a c
+        → HasLargePool c ops → ¬ (IsLastReason tries a c ops (Full least)) }
 {}

@@ -3,13 +3,13 @@
 //! Each law does nothing; its contract is the law. The contract of a public call says what its pass
 //! knew before and after: the law makes that one step of the machine (`specs/SmallMachine.antt`),
 //! over what the pass has seen, has written and is pinned to (`specs/Views.antt`). Calls one after
-//! the other make a run, whose steps are theirs (`specs/Calls.antt`). The last law is the promise
-//! of the whole (`specs/OneHistory.antt`); a program that ensures it is example_history.
-ghost use Rattle.std.specs.Prelude.{◌≡◌, ◌+◌, ℕ, List, map};
+//! the other make a run, whose steps are theirs (`specs/Calls.antt`). The last law is the statement
+//! (`specs/OneHistory.antt`); a program that ensures it is example_history.
+ghost use Rattle.std.specs.Prelude.{◌≡◌, ◌+◌, ℕ, List, None, Some, length, map, take};
 ghost use Rattle.be_journal.specs.declared.entries.Entry.{Entry};
 ghost use Rattle.be_journal.specs.Journal.{Agrees};
 ghost use Rattle.be_table.specs.History.{StartsWith};
-ghost use Rattle.be_table.specs.Rule.{newcomer, one_step_on};
+ghost use Rattle.be_table.specs.Rule.{entries, newcomer, one_step_on};
 ghost use Rattle.be_table.specs.Steps.{entry_by, met};
 ghost use Rattle.be_table.specs.declared.limits.Limits.{Limits};
 ghost use Rattle.be_table.specs.declared.pass.Commit.{Commit};
@@ -17,14 +17,16 @@ ghost use Rattle.be_table.specs.declared.pass.Knowledge.{Knowledge};
 ghost use Rattle.be_volume.specs.Volume.{State};
 ghost use Rattle.be_volume.specs.declared.ops.Done.{Done};
 ghost use Rattle.be_volume.specs.declared.ops.Op.{Op};
-ghost use Rattle.be_store.specs.Calls.{Call, Calls, PassCalls};
+ghost use Rattle.be_store.specs.Calls.{Call, Calls, PassCalls, known_after, views_known};
 ghost use Rattle.be_store.specs.Conditional.{AcceptsAt, IsUnapplied};
 ghost use Rattle.be_store.specs.History.{Accepts, Learns, Pins, Unpins};
-ghost use Rattle.be_store.specs.SmallMachine.{AreSteps, Closes, PassView, first_view};
+ghost use Rattle.be_store.specs.SmallMachine.{AreSteps, Closes, PassView, first_view, state_of};
 ghost use Rattle.be_store.specs.SmallMachine.{Step, Apply, Learn, Pin, Unpin, Read};
-ghost use Rattle.be_store.specs.OneHistory.{IsOneHistory, PassRun, steps_of};
+ghost use Rattle.be_store.specs.OneHistory.{IsOneHistory, PassRun, ReadsPrefix, steps_of};
+ghost use Rattle.be_store.specs.OneHistory.{views_of};
 ghost use Rattle.be_store.specs.Passes.{HasRead, IsPinnedTo, volume_pinned};
 ghost use Rattle.be_store.specs.declared.conditional.ApplyIfError.{ApplyIfError};
+ghost use Rattle.be_store.specs.declared.conditional.ApplyIfError.TheVariants.{Conflict};
 ghost use Rattle.be_store.specs.Views.{Answer, IsClosed, IsStep, view_of, volume};
 
 /// A pass that `open` returns has the first view.
@@ -48,11 +50,14 @@ pub fn conditional_write_is_step()
         × (IsPinnedTo a number → Agrees (volume_pinned a) (entry_by a ops dones)) }
 {}
 
-/// A refused write is the step Learn, which writes nothing; so is a call that reads the journal.
+/// A refused write is the step Learn, which writes nothing; so is a call that reads the journal. A
+/// Conflict returns how many entries the pass has then seen.
 pub fn refusal_is_step()
-    ensures plain { (a c : Knowledge) → Learns a c → IsStep a Learn c }
+    ensures plain { (a c : Knowledge) → Learns a c → IsStep a (Learn (entries c.seen)) c }
     ensures conditional { (a c : Knowledge) (number : ℕ) (ops : List Op) (e : ApplyIfError)
-        → IsUnapplied a c number ops e → IsStep a Learn c }
+        → IsUnapplied a c number ops e → IsStep a (Learn (entries c.seen)) c }
+    ensures conflict { (a c : Knowledge) (number found : ℕ) (ops : List Op)
+        → IsUnapplied a c number ops (Conflict found) → found ≡ length (entries c.seen) }
 {}
 
 /// A pin is the step Pin at the number that it returned.
@@ -66,35 +71,47 @@ pub fn unpin_is_step()
 {}
 
 /// A read of a pinned pass is the step Read, whatever it asked of the volume of which its contract
-/// speaks: its answer is what that volume answers.
+/// speaks: its answer is what that volume answers. A read that ran out of memory has none. Whether
+/// or not a read is among the steps of a run, one history says which volume it was.
 pub fn read_is_step()
-    ensures { (a c : Knowledge) (n : ℕ) (ask : State → Answer) → IsPinnedTo a n → HasRead a c
-        → IsStep a (Read ask (ask (volume_pinned a))) c }
+    ensures answered { (a c : Knowledge) (n : ℕ) (ask : State → Answer) → IsPinnedTo a n
+        → HasRead a c → IsStep a (Read ask (Some (ask (volume_pinned a)))) c }
+    ensures unanswered { (a c : Knowledge) (n : ℕ) (ask : State → Answer) → IsPinnedTo a n
+        → HasRead a c → IsStep a (Read ask None) c }
+    ensures any { (log : List Entry) (a : Knowledge) (n : ℕ)
+        → ReadsPrefix volume log (view_of a) → IsPinnedTo a n
+        → volume_pinned a ≡ state_of volume (take n log) }
 {}
 
 /// A live query that is refreshed by what changed makes two steps: its pass learns, and then reads
 /// at the pin, which has stayed.
 pub fn changed_refresh_is_steps()
     ensures { (a c : Knowledge) (n : ℕ) (ask : State → Answer) → Learns a c → IsPinnedTo a n
-        → volume_pinned c ≡ volume_pinned a → IsStep a Learn c
-        × IsStep c (Read ask (ask (volume_pinned a))) c }
+        → volume_pinned c ≡ volume_pinned a → IsStep a (Learn (entries c.seen)) c
+        × IsStep c (Read ask (Some (ask (volume_pinned a)))) c }
 {}
 
-/// A join is the step Learn, and a meeting is that step of both passes. So is a witness, which
-/// changes nothing.
+/// A join is the step Learn, and a meeting is that step of both passes; it returns how many entries
+/// they have then seen. So is a witness, which changes nothing.
 pub fn meeting_is_step()
     ensures meets { (a c : Knowledge) (log : List Commit) → StartsWith log a.seen → c ≡ met a log
-        → IsStep a Learn c }
-    ensures witness { (a c : Knowledge) → c ≡ one_step_on a → IsStep a Learn c }
+        → Call a (Learn (entries log)) c }
+    ensures number { (log : List Commit) → length (entries log) ≡ length log }
+    ensures witness { (a c : Knowledge) → c ≡ one_step_on a → Call a (Learn (entries a.seen)) c }
 {}
 
-/// The calls of one pass are a run of the machine, with the same steps.
+/// The calls of one pass are a run of the machine, with the same steps, and with the views that the
+/// pass had after them. It keeps its number.
 pub fn calls_are_run()
     ensures one { (a : Knowledge) (s : Step volume) (c : Knowledge) → Call a s c → IsStep a s c }
-    ensures all { (a : Knowledge) (steps : List (Step volume)) (z : Knowledge) → Calls a steps z
-        → (run : List (Step volume × PassView volume))
+    ensures all { (a : Knowledge) (steps : List (Step volume)) (z : Knowledge)
+        (calls : Calls a steps z) → (run : List (Step volume × PassView volume))
         × AreSteps volume (view_of a) run (view_of z)
-        × (map (λ (x : Step volume × PassView volume). x.0) run ≡ steps) }
+        × (map (λ (x : Step volume × PassView volume). x.0) run ≡ steps)
+        × (map (λ (x : Step volume × PassView volume). x.1) run
+        ≡ map view_of (known_after a steps z calls)) }
+    ensures number { (a : Knowledge) (steps : List (Step volume)) (z : Knowledge)
+        → Calls a steps z → z.number ≡ a.number }
 {}
 
 /// A store that was closed is the last step: what holds of its passes and its journal then.
@@ -104,8 +121,9 @@ pub fn close_is_step()
 {}
 
 /// The journal that `close` returns explains all runs of its passes: `given`, of whatever runs end
-/// in what these passes know; `made`, of the calls that each of them made as a new pass, by their
-/// steps.
+/// in what these passes know; `made`, of the calls that each of them made as a new pass. These runs
+/// have the numbers of the passes, the steps of their calls, and the views that they had after them
+/// and at last.
 pub fn one_history()
     ensures given { (count : ℕ) (log : List Entry) (passes : List Knowledge)
         (runs : List (PassRun volume)) → IsClosed count log passes
@@ -117,5 +135,8 @@ pub fn one_history()
         × (map (λ (r : PassRun volume). r.number) runs
         ≡ map (λ (p : PassCalls). p.first.number) passes)
         × (map (steps_of volume) runs ≡ map (λ (p : PassCalls). p.steps) passes)
+        × (map (views_of volume) runs ≡ map views_known passes)
+        × (map (λ (r : PassRun volume). r.last) runs
+        ≡ map view_of (map (λ (p : PassCalls). p.last) passes))
         × IsOneHistory volume log runs }
 {}

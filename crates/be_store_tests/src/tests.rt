@@ -295,7 +295,9 @@ fn fill(alloc: Global, room: &mut Room, lines: &str) -> Result<i32, Fail> {
 }
 
 /// The first value that found no page in the room while pass 1 stays pinned. After its unpin a
-/// write is accepted.
+/// write is accepted. If the passes also met before and after it, that would follow from
+/// `be_store::laws::large_enough_unpinned`: the volume has 3 items and 1 index, for which a pool of
+/// 8 pages is large enough.
 fn fill_pinned(alloc: Global, room: &mut Room) -> Result<i32, Fail> {
     check_lines(alloc, room, ZERO)?;
     let first = fill(alloc, room, "1 query k==0 => pin 3 / nodes 1")?;

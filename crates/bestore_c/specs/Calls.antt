@@ -189,8 +189,8 @@ Shown (Some n) None told places filled code = code ≡ 3
 Shown (Some n) (Some value) told places filled code = (code ≡ 0)
     × ShowsValue value told places filled
 
--- A read of an attribute. If the bytes are no name, nothing happens. Otherwise they are one, and
--- the call returns the attribute.
+-- A read of an attribute. If the bytes aren't a valid name, nothing happens. Otherwise the call
+-- returns the attribute.
 abbrev pub Reads : Sitting → Sitting → ℕ → List ℕ → Attribute → List ℕ → List ℕ → ℕ → Type 0
 Reads s t node name told places filled code =
     ((e : Fault) × (code ≡ fault_code e) × IsNoName name e × (t ≡ s))
@@ -204,7 +204,7 @@ ReadsHeld s t node name told places filled code =
     HasRead s.knows t.knows × Shown (pinned_number s.knows.phase)
     (attribute (volume_pinned s.knows) node name) told places filled code
 
--- A name is checked and kept. If the bytes are no name, the handle keeps what it had.
+-- A name is checked and kept. If the bytes aren't a valid name, the handle keeps the one it had.
 abbrev pub HoldsName : List ℕ → HeldName → HeldName → ℕ → Type 0
 HoldsName bytes was held code =
     ((code ≡ 0) × (name_in held ≡ bytes) × (name_from bytes ≡ Ok bytes) × IsUtf8 bytes)

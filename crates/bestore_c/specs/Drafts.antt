@@ -60,7 +60,7 @@ ShowsChanged c a node name told places filled code =
     × (Reads c (volume_pinned a)
     → After c (volume_pinned a) (λ s. found ≡ attribute s node name)))
 
--- A read in a change. If its handle is closed, or the bytes are no name, nothing happens.
+-- A read in a change. If its handle is closed, or the bytes aren't a valid name, nothing happens.
 abbrev pub ReadsDraft : Sitting → Sitting → Option Changing → ℕ → List ℕ → Attribute → List ℕ
     → List ℕ → ℕ → Type 0
 ReadsDraft s t None node name told places filled code = (code ≡ 64) × (t ≡ s)

@@ -14,7 +14,7 @@ use be_store::{Name, Value};
 use std::alloc::Global;
 use std::mem;
 
-/// Writes a value, as far as there is room for its bytes, or returns that there is no attribute.
+/// Writes a value, with as many of its bytes as fit, or returns that there is no attribute.
 fn show(found: Option<Value>, told: &mut Attribute, bytes: &mut [u8]) -> u32
     ensures shown { (n : ℕ) → Shown (Some n) found told.new bytes.old bytes.new result }
     ensures kept { (result ≡ 0) ⊎ ((told.new ≡ told.old) × (bytes.new ≡ bytes.old)) }

@@ -1,10 +1,12 @@
 -- The calls of two passes, as runs of be_store's small machine.
-use Rattle.std.proofs.Common.{◌≡◌, ℕ, List, [], ◌∷◌, refl, sym, ap, ◌∙◌, ◌++◌, subst}
-use Rattle.std.specs.Prelude.{map}
+use Rattle.std.proofs.Common.{◌≡◌, ℕ, List, [], ◌∷◌, refl, sym, ap, ◌∙◌, ◌++◌, subst, arith}
+use Rattle.std.specs.Prelude.{◌≢◌, All, AllPairs, map}
+use Rattle.std.proofs.lemmas.List.Elements.{All-cons, All-nil}
+use Rattle.std.proofs.lemmas.List.Kept.{AllPairs-cons}
 use Rattle.be_journal.specs.declared.entries.Entry.{Entry}
 use Rattle.be_table.specs.declared.pass.Knowledge.{Knowledge}
-use Rattle.be_store.specs.Calls.{Calls, PassCalls}
-use Rattle.be_store.specs.OneHistory.{IsOneHistory, PassRun, steps_of}
+use Rattle.be_store.specs.Calls.{Calls, PassCalls, views_known}
+use Rattle.be_store.specs.OneHistory.{IsOneHistory, PassRun, steps_of, views_of}
 use Rattle.be_store.specs.SmallMachine.{Step, first_view}
 use Rattle.be_store.specs.Views.{IsClosed, view_of, volume}
 use Rattle.be_store.proofs.Views.{calls_number}
@@ -15,6 +17,7 @@ use Rattle.example_history.specs.Visits.{IsHistoryOf, IsNew}
 abbrev pub Law : Type 0
 Law = (count : ℕ) (log : List Entry) (passes : List PassCalls) → IsClosed count log (map (λ (p : PassCalls). p.last) passes) → (runs : List (PassRun volume))
     × (map (λ (r : PassRun volume). r.number) runs ≡ map (λ (p : PassCalls). p.first.number) passes) × (map (steps_of volume) runs ≡ map (λ (p : PassCalls). p.steps) passes)
+    × (map (views_of volume) runs ≡ map views_known passes) × (map (λ (r : PassRun volume). r.last) runs ≡ map view_of (map (λ (p : PassCalls). p.last) passes))
     × IsOneHistory volume log runs
 
 number_of : (a : Knowledge) (k : ℕ) → IsNew a k → a.number ≡ k
@@ -33,7 +36,14 @@ history law journal a b z y first second new_a new_b made_a made_b closed =
     let one : PassCalls = record { first = a; steps = first; last = z; new = view_of_new a 0 new_a; made = made_a } in
     let other : PassCalls = record { first = b; steps = second; last = y; new = view_of_new b 1 new_b; made = made_b } in
     let r = law 2 journal (one ∷ other ∷ []) closed in
-    (r.0, r.1 ∙ (λ j. number_of a 0 new_a j ∷ number_of b 1 new_b j ∷ []), r.2, r.3)
+    (r.0, r.1 ∙ (λ j. number_of a 0 new_a j ∷ number_of b 1 new_b j ∷ []), r.2, r.5)
+
+-- the two passes are two
+pub two_apart : (first second : Knowledge) → first.number ≡ 0 → second.number ≡ 1 → AllPairs ◌≢◌ (map (λ (a : Knowledge). a.number) (first ∷ second ∷ []))
+two_apart first second none one =
+    AllPairs-cons ◌≢◌ first.number (second.number ∷ [])
+    (All-cons (λ k. first.number ≢ k) second.number [] (λ same. omega (arith, none, one, same)) (All-nil (λ k. first.number ≢ k)))
+    (AllPairs-cons ◌≢◌ second.number [] (All-nil (λ k. second.number ≢ k)) (λ i j d lt end. absurd (omega (arith, end))))
 
 -- a first write, and what each pass then called, in numbers that are known
 pub history_of_two : Law → (journal : List Entry) (a b w z y : Knowledge) (begin more other : ℕ → List (Step volume)) → IsNew a 0 → IsNew b 1 → Calls a (begin a.number) w → Calls w (more w.number) z → Calls b (other b.number) y → IsClosed 2 journal (z ∷ y ∷ [])

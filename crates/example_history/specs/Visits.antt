@@ -1,6 +1,7 @@
 -- The calls of a thread that writes and then asks a query, as steps of be_store's small machine.
-use Rattle.std.specs.Prelude.{◌≡◌, ℕ, List, [], ◌∷◌, ◌++◌, map, Ok}
+use Rattle.std.specs.Prelude.{◌≡◌, ◌≢◌, ◌<◌, ℕ, List, [], ◌∷◌, ◌++◌, length, map, Ok, Some}
 use Rattle.be_journal.specs.declared.entries.Entry.{Entry}
+use Rattle.be_journal.specs.Journal.{replay}
 use Rattle.be_query.specs.Grammar.{Formula}
 use Rattle.be_table.specs.Rule.{newcomer}
 use Rattle.be_table.specs.declared.limits.Limits.{Limits}
@@ -22,7 +23,8 @@ writes k ops n dones = Apply (record { by = k; ops = ops; dones = dones }) n ∷
 
 -- A pass pins and gets this number, asks the query and gets these nodes, and unpins.
 abbrev pub asks : Formula → ℕ → List ℕ → List (Step volume)
-asks query pin nodes = Pin pin ∷ Read (λ s. Nodes (scan s query)) (Nodes (Ok nodes)) ∷ Unpin ∷ []
+asks query pin nodes = Pin pin ∷ Read (λ s. Nodes (scan s query)) (Some (Nodes (Ok nodes))) ∷ Unpin
+    ∷ []
 
 -- a write, and then a query
 abbrev pub visits : ℕ → List Op → ℕ → List Done → Formula → ℕ → List ℕ → List (Step volume)
@@ -33,3 +35,10 @@ abbrev pub IsHistoryOf : List Entry → List (Step volume) → List (Step volume
 IsHistoryOf journal first second = (runs : List (PassRun volume))
     × (map (λ (r : PassRun volume). r.number) runs ≡ 0 ∷ 1 ∷ [])
     × (map (steps_of volume) runs ≡ first ∷ second ∷ []) × IsOneHistory volume journal runs
+
+-- The journal has three entries. The writes a and b have different numbers, and the query that came
+-- after the later one found what the volume has in the end.
+abbrev pub FindsAll : List Entry → Formula → (a b : ℕ) → (found_a found_b : List ℕ) → Type 0
+FindsAll journal query a b found_a found_b = (length journal ≡ 3) × (a ≢ b)
+    × (b < a → scan (replay journal) query ≡ Ok found_a)
+    × (a < b → scan (replay journal) query ≡ Ok found_b)

@@ -4,11 +4,12 @@
 #![tactic(auto)]
 
 ghost use Rattle.std.specs.Prelude.{◌≡◌, ◌≤◌, ℕ, [], ◌∷◌, ◌++◌, IfOk, None, length};
+ghost use Rattle.be_query.specs.Grammar.{Formula};
 ghost use Rattle.be_store.specs.Calls.{Calls};
 ghost use Rattle.be_store.specs.Passes.{IsPassOf};
 ghost use Rattle.be_store.specs.Seats.{pinned_number};
 ghost use Rattle.be_store.specs.Views.{IsClosed};
-ghost use Rattle.example_history.specs.Visits.{IsHistoryOf, IsNew, asks, visits, writes};
+ghost use Rattle.example_history.specs.Visits.{FindsAll, IsHistoryOf, IsNew, asks, visits, writes};
 
 use be_store::machine_laws::one_history;
 use be_store::{
@@ -134,6 +135,7 @@ fn open_two(alloc: Global) -> Result<(Store, Pass, Pass), Refusal>
 }
 
 /// Closes a store of two passes.
+#[tactic(auto, using(crate::proofs::Runs::two_apart))]
 fn close_two(alloc: Global, store: Store, first: Pass, second: Pass) -> Result<Journal, Refusal>
     requires first { IsPassOf store first × (first.knows.number ≡ 0) }
     requires second { IsPassOf store second × (second.knows.number ≡ 1) }
@@ -197,7 +199,9 @@ fn sign_at_once<R: Threads + Sync>(
 
 /// Begins with a write, and then lets two threads make a write each and ask the same query. The
 /// journal is one history of all these calls: it has each write once, at the number that the write
-/// returned, and each query found what the volume after the prefix has that its pin names.
+/// returned, and each query found what the volume after the prefix has that its pin names. So the
+/// later of the two found what the volume has in the end. If a call is refused, the store isn't
+/// closed, and nothing is said of what the other calls returned.
 fn sign_both<R: AllocGlobal + Threads + Sync>(
     rt: &R,
     begin: &[Op],
@@ -208,12 +212,14 @@ fn sign_both<R: AllocGlobal + Threads + Sync>(
     requires begin { (1 ≤ length begin.now) × (length begin.now ≤ 64) }
     requires ann { (1 ≤ length ann.now) × (length ann.now ≤ 64) }
     requires bob { (1 ≤ length bob.now) × (length bob.now ≤ 64) }
-    ensures { IfOk result (λ o. IsHistoryOf o.journal.entries
+    ensures history { IfOk result (λ o. IsHistoryOf o.journal.entries
         (writes 0 begin.now o.begun.number o.begun.outcomes.items
         ++ visits 0 ann.now o.ann.signed.number o.ann.signed.outcomes.items query.now
         o.ann.found.pin o.ann.found.nodes.items)
         (visits 1 bob.now o.bob.signed.number o.bob.signed.outcomes.items query.now
         o.bob.found.pin o.bob.found.nodes.items)) }
+    ensures later { IfOk result (λ o. FindsAll o.journal.entries query.now o.ann.signed.number
+        o.bob.signed.number o.ann.found.nodes.items o.bob.found.nodes.items) }
 {
     let alloc = rt.alloc();
     let (store, mut first, second) = open_two(alloc)?;
@@ -232,8 +238,14 @@ fn sign_both<R: AllocGlobal + Threads + Sync>(
     })
 }
 
-/// Makes an index and two letters, and lets Ann and Bob sign one each.
-fn letters<R: AllocGlobal + Threads + Sync>(rt: &R) -> Result<Outcome, Refusal> {
+/// Makes an index and two letters, and lets Ann and Bob sign one each. The journal then has these
+/// three entries, and the later of the two found what the volume has in the end. If a call is
+/// refused, nothing is said.
+fn letters<R: AllocGlobal + Threads + Sync>(rt: &R) -> Result<Outcome, Refusal>
+    ensures three { IfOk result (λ o. length o.journal.entries ≡ 3) }
+    ensures later { IfOk result (λ o. (query : Formula) × FindsAll o.journal.entries query
+        o.ann.signed.number o.bob.signed.number o.ann.found.nodes.items o.bob.found.nodes.items) }
+{
     let from = Name::new("MAIL:from")?;
     let begin = [Op::MkIndex(from.copy(), Kind::Cstr), Op::New, Op::New];
     let ann = [Op::Set(1, from.copy(), Value::text("Ann")?)];
@@ -252,8 +264,9 @@ fn found_by_later(outcome: &Outcome) -> usize {
     }
 }
 
-/// Prints how many entries the journal has, and how many letters the later of both writers found:
-/// it finds both, whatever the threads do.
+/// Prints how many entries the journal has, and how many letters the later of both writers found.
+/// The contract of `letters` says that this is what the volume has in the end, whatever the threads
+/// do; that these are two letters is what the program is tested to print.
 fn main(rt: HostRuntime) -> io::Result<ExitCode> {
     match letters(&rt) {
         Ok(outcome) => {

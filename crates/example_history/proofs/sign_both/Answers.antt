@@ -2,11 +2,12 @@ use Rattle.std.proofs.Common.{subst}
 use Rattle.std.specs.Prelude.{IfOk}
 use Rattle.be_store.specs.Calls.{Calls}
 use Rattle.example_history.specs.Visits.{visits, writes}
+use Rattle.example_history.proofs.Later.{finds_all}
 use Rattle.example_history.proofs.Runs.{history_of_two}
 use Rattle.example_history.proofs.sign_both.Goals as goal
 
-pub returns : goal.returns
-returns g c =
+pub returns-clause-history : goal.returns-clause-history
+returns-clause-history g c =
     let a = c.in_ok-store.first.knows in
     let b = c.in_ok-store.second.knows in
     let w = c.write.new.pass.knows in
@@ -24,3 +25,11 @@ returns g c =
     (subst (λ r. IfOk r (λ v. Calls w (visits w.number c.args.ann.now v.signed.number v.signed.outcomes.items query v.found.pin v.found.nodes.items) z)) c.in_ok-ann.was c.sign_at_once-anns.ensures.ann)
     (subst (λ r. IfOk r (λ v. Calls b (visits b.number c.args.bob.now v.signed.number v.signed.outcomes.items query v.found.pin v.found.nodes.items) y)) c.in_ok-bob.was c.sign_at_once-anns.ensures.bob)
     c.in_ok-journal.ensures
+
+pub returns-clause-later : goal.returns-clause-later
+returns-clause-later g c =
+    let begun = c.in_ok-begun.begun in
+    let ann = c.in_ok-ann.ann in
+    let bob = c.in_ok-bob.bob in
+    finds_all c.in_ok-journal.journal.entries c.args.query.now c.args.begin.now c.args.ann.now c.args.bob.now begun.number ann.signed.number bob.signed.number ann.found.pin bob.found.pin
+    begun.outcomes.items ann.signed.outcomes.items bob.signed.outcomes.items ann.found.nodes.items bob.found.nodes.items (returns-clause-history g c)

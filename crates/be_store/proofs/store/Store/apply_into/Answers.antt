@@ -8,5 +8,5 @@ returns-in-Ok-clause-accepted c =
 pub returns-in-Err-clause-refused : goal.returns-in-Err-clause-refused
 returns-in-Err-clause-refused c = (
   learns c.args.pass.now.knows c.in_ok-writing.writing.knows c.in_ok-writing.ensures.held.2 c.write-answer.new.writing.knows c.unlock.result.knows c.args.ops.now c.in-Err.refusal c.in-Err.ensures.answer c.unlock.ensures.pass c.is_pass.ensures c.unlock.ensures.worked c.unlock.ensures.moves,
-  reasons c.args.pass.now.knows c.in_ok-writing.writing.knows c.write-answer.new.writing.knows c.unlock.result.knows c.args.ops.now c.in-Err.refusal c.in-Err.ensures.answer c.unlock.ensures.pass c.unlock.ensures.moves,
+  reasons c.args.pass.now.knows c.in_ok-writing.writing.knows c.in_ok-writing.ensures.held.2 c.write-answer.new.writing.knows c.unlock.result.knows c.args.ops.now c.in-Err.refusal c.in-Err.ensures.answer c.unlock.ensures.pass c.unlock.ensures.worked c.unlock.ensures.moves,
 )
