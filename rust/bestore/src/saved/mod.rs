@@ -37,8 +37,8 @@ pub use bestore_types::saved::{files_of, About, Backup, Error, Place, Result, TO
 pub use shelf::SavedShelf;
 
 use crate::{Batch, Limits, Pass, Shelf, Snapshot, Store};
-use bestore_types::saved::count;
 use bestore_types::saved::file::{self, File};
+use bestore_types::saved::{check_volumes, count};
 use queue::Queue;
 use std::collections::BTreeMap;
 use std::path::{Path, PathBuf};
@@ -145,12 +145,15 @@ impl Options {
     /// kept nowhere. The limits are those of each volume.
     ///
     /// # Errors
-    /// Those of [`open`](Self::open) and [`open_shelf`](Self::open_shelf), but for a full disk. [`Error::NotWithin`]: the file hasn't the
-    /// entry that [`until`](Self::until) names.
+    /// Those of [`open`](Self::open) and [`open_shelf`](Self::open_shelf), but for a full disk. [`Error::NotWithin`],
+    /// [`Error::NoVolume`]: the file hasn't the entry that [`until`](Self::until) names, or there is no such volume.
     pub fn load(&self, path: impl AsRef<Path>) -> Result<Shelf> {
         let path = path.as_ref();
         let is_folder = path.is_dir();
         let count = if is_folder { count(path)? } else { 1 };
+        if count > 0 {
+            check_volumes(path, &self.until, count)?;
+        }
         let load = |(volume, file): (u32, PathBuf)| {
             let loaded = self.load_file(&file, self.until.get(&volume).copied());
             loaded.map_err(|error| if is_folder { error.of_volume(volume) } else { error })
