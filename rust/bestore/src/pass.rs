@@ -422,7 +422,8 @@ impl Pass {
     /// # Ok::<(), bestore::Error>(())
     /// ```
     ///
-    /// While a snapshot is [held](Self::hold), the closure reads that one and runs once.
+    /// While a snapshot is [held](Self::hold), the closure reads that one. A conflict is an error then; if another pass is writing, or no
+    /// page is free, the closure runs again on the same snapshot.
     ///
     /// A closure that collects no operation writes nothing. One that returns an error stops the change, and nothing is written;
     /// [`Error::other`] makes one of any error.
