@@ -6,6 +6,7 @@
 
 mod answer;
 mod background;
+mod carrying;
 mod clients;
 mod connection;
 mod copy;
@@ -105,6 +106,7 @@ fn share(kept: Kept, tokens: Arc<Tokens>, run: String, options: Options) -> best
         clients: Default::default(),
         meter: Meter::new(),
         copies: Default::default(),
+        carrying: Default::default(),
         is_full: Mutex::default(),
         visits: Mutex::new(visits),
         run,

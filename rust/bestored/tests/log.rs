@@ -56,14 +56,25 @@ impl Member {
         Self::start_in(Folder::in_memory(), database, how)
     }
 
+    /// Starts a server with so many pages.
+    pub fn start_with_pages(database: &Database, how: &str, pages: &str) -> Self {
+        Self::run(
+            Folder::in_memory(),
+            &[how, &database.url(), "--pages", pages, "--passes", "16"],
+        )
+    }
+
     fn start_in(folder: Folder, database: &Database, how: &str) -> Self {
         Self::start_at(folder, &database.url(), how)
     }
 
     fn start_at(folder: Folder, url: &str, how: &str) -> Self {
+        Self::run(folder, &[how, url, "--pages", "512", "--passes", "16"])
+    }
+
+    fn run(folder: Folder, options: &[&str]) -> Self {
         let socket = folder.join("socket");
-        let options = [how, url, "--pages", "512", "--passes", "16"];
-        let mut command = command(&socket, &options);
+        let mut command = command(&socket, options);
         command.stderr(
             File::options()
                 .append(true)

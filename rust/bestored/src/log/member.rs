@@ -174,6 +174,7 @@ impl Member {
         self.database.listen().await?;
         let mut looked = None;
         while !self.line.is_closing() {
+            self.pass.follow()?;
             self.tried = Instant::now();
             if self.apply_some(Some(shared)).await? == ENTRIES {
                 continue;
@@ -250,6 +251,7 @@ impl Member {
         }
         if let (Some(shared), false) = (shared, entries.is_empty()) {
             shared.watcher.written();
+            shared.carrying.written(&shared.kept);
         }
         Ok(entries.len())
     }
@@ -305,6 +307,7 @@ impl Member {
         shared.watcher.written();
         loop {
             self.write_state_if_due(shared);
+            self.pass.follow()?;
             if self.line.is_at_end() {
                 return Ok(Turn::End);
             }
