@@ -20,8 +20,9 @@ const LOOK: Duration = Duration::from_millis(100);
 /// How often a leader that has nothing to write looks whether it still leads.
 const LEADING: Duration = Duration::from_secs(1);
 
-/// After so many seconds without a word of the leader a follower takes over. A call of the database takes less.
-const LEASE: f64 = 10.0;
+/// After so many seconds without a word of the leader a follower takes over, so that one leads 10 seconds after a leader was paused. A call
+/// of the database that begins a second after the last word takes less.
+const LEASE: f64 = 9.0;
 
 /// How long a follower lets the leader come back after the connection to the database has broken.
 const GRACE: Duration = Duration::from_secs(3);
