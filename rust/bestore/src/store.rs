@@ -173,11 +173,16 @@ impl Store {
         succession::carry_on(self)
     }
 
-    /// Whether the journal's entries since [`carry_on`](Self::carry_on), or of all since the store was opened, take more memory than its
-    /// pages, so that it is time to carry it on. After a `carry_on` that failed it needs as much again.
+    /// Whether the entries since [`carry_on`](Self::carry_on), or since the store was opened, take more than half the memory of its pages and
+    /// 1 MiB, so that it is time to carry it on. After a `carry_on` that failed it takes as many again.
     #[must_use]
     pub fn is_due(&self) -> bool {
         self.0.succession.is_due()
+    }
+
+    /// Makes it [due](Self::is_due) once the entries from now on take about so many bytes.
+    pub fn set_due_after(&self, bytes: u64) {
+        self.0.succession.set_due_after(bytes);
     }
 
     /// Whether a pass still has what was carried on the last time.

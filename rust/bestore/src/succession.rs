@@ -12,8 +12,9 @@ use bestore_sys as sys;
 use std::sync::atomic::{AtomicU64, Ordering};
 use std::sync::{Arc, Mutex, MutexGuard, PoisonError, RwLock, RwLockReadGuard, Weak};
 
-/// The bytes of a page.
-const PAGE: u64 = 4096;
+/// How many bytes the entries may take, unless something else is set: half as many as all pages, and this many in a small store.
+const FOR_PAGE: u64 = 2048;
+const LEAST: u64 = 1 << 20;
 
 /// About how many bytes an entry of the journal takes beside those of its names and texts: by itself, and for each operation.
 const ENTRY: usize = 8;
@@ -126,6 +127,8 @@ pub(crate) struct Succession {
     /// About how many bytes the journal of the newest generation takes, and from how many on it is time for the next one.
     journal_bytes: AtomicU64,
     due_bytes: AtomicU64,
+    /// After how many bytes of entries it is time.
+    due_after: AtomicU64,
     /// The generation before the newest one. Who carries the store on has it.
     before: Mutex<Weak<Generation>>,
     /// How many passes are open.
@@ -148,13 +151,15 @@ fn lock<T>(mutex: &Mutex<T>) -> MutexGuard<'_, T> {
 
 impl Succession {
     pub(crate) fn new(limits: Limits) -> Arc<Self> {
+        let due_after = LEAST.max(limits.pages * FOR_PAGE);
         Arc::new(Self {
             limits,
             birthplace: Birthplace::here(),
             newest: AtomicU64::new(0),
             gate: RwLock::default(),
             journal_bytes: AtomicU64::new(0),
-            due_bytes: AtomicU64::new(limits.pages * PAGE),
+            due_bytes: AtomicU64::new(due_after),
+            due_after: AtomicU64::new(due_after),
             before: Mutex::default(),
             passes: AtomicU64::new(0),
         })
@@ -191,16 +196,22 @@ impl Succession {
         self.journal_bytes.fetch_add(bytes as u64, Ordering::Relaxed);
     }
 
-    /// Whether the entries since the newest generation began, or since one couldn't be made, take more memory than all pages.
+    /// Whether the entries since the newest generation began, or since one couldn't be made, take more bytes than they should.
     pub(crate) fn is_due(&self) -> bool {
         self.journal_bytes.load(Ordering::Relaxed) > self.due_bytes.load(Ordering::Relaxed)
     }
 
-    /// The journal takes so many bytes now, and may take as many more as all pages.
+    /// Makes it time after so many bytes of entries.
+    pub(crate) fn set_due_after(&self, bytes: u64) {
+        self.due_after.store(bytes, Ordering::Relaxed);
+        self.set_journal_bytes(self.journal_bytes.load(Ordering::Relaxed));
+    }
+
+    /// The journal takes so many bytes now.
     fn set_journal_bytes(&self, bytes: u64) {
+        let due = bytes.saturating_add(self.due_after.load(Ordering::Relaxed));
         self.journal_bytes.store(bytes, Ordering::Relaxed);
-        self.due_bytes
-            .store(bytes + self.limits.pages * PAGE, Ordering::Relaxed);
+        self.due_bytes.store(due, Ordering::Relaxed);
     }
 
     /// Whether a pass still has a seat in an earlier generation.

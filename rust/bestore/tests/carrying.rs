@@ -233,7 +233,7 @@ fn a_pass_is_there_while_the_store_is_carried_on() {
 }
 
 #[test]
-fn it_is_due_when_the_journal_is_larger_than_the_pages() {
+fn it_is_due_after_some_entries() {
     let store = sized(64);
     let mut pass = store.pass().unwrap();
     pass.new_node().unwrap();
@@ -243,11 +243,17 @@ fn it_is_due_when_the_journal_is_larger_than_the_pages() {
             writes += 1;
             pass.set(1, "text", format!("{writes:0>200}")).unwrap();
         }
-        assert!((1000..1400).contains(&writes), "{writes} in round {round}");
+        assert!((4_500..5_000).contains(&writes), "{writes} in round {round}");
         store.carry_on().unwrap();
         assert!(!store.is_due());
         pass.follow().unwrap();
     }
+    store.set_due_after(1000);
+    for is_due in [false, false, false, true] {
+        pass.set(1, "text", "a".repeat(250)).unwrap();
+        assert_eq!(store.is_due(), is_due);
+    }
+    store.set_due_after(10_000);
     // One that fails isn't tried again soon.
     let snapshot = pass.pin().unwrap();
     store.carry_on().unwrap();

@@ -89,6 +89,10 @@ fn serve(options: Options, place: Place, starter: Option<Starter>) -> Result<(),
         Some(kept) => kept,
         None => return Ok(()),
     };
+    if let Some(bytes) = options.journal {
+        let stores = kept.shelf().volumes().iter();
+        stores.for_each(|store| store.set_due_after(bytes));
+    }
     let own = kept.pass()?;
     let shared = share(kept, tokens, run, options)?;
     server::run(place, starter, notifier, &signals, shared, own)

@@ -9,16 +9,18 @@ use bestore::{Batch, Kind};
 use bestore_client::wire::{self, Command, Numbers, Write, Written};
 use bestore_client::{Client, Error, ErrorName};
 
-/// A small server, whose store is carried on after 256 KiB of entries.
-const SMALL: [&str; 4] = ["--pages", "64", "--passes", "16"];
+/// A small server, whose store is carried on after 128 KiB of entries.
+const SMALL: [&str; 6] = ["--pages", "64", "--passes", "16", "--journal", "128"];
+
+/// One in which a snapshot can be kept for a while.
+const LARGER: [&str; 6] = ["--pages", "256", "--passes", "4", "--journal", "512"];
 
 /// How often a server is killed.
 const KILLS: u64 = 12;
 
-fn start_kept(folder: &Folder, pages: &str) -> Server {
+fn start_kept(folder: &Folder, size: &[&str]) -> Server {
     let keep = folder.join("file");
-    let options = ["--pages", pages, "--passes", "16", "--keep", keep.to_str().unwrap()];
-    Server::start(folder, &options)
+    Server::start(folder, &[size, &["--keep", keep.to_str().unwrap()]].concat())
 }
 
 /// After how many entries the journal begins.
@@ -91,8 +93,8 @@ fn snapshots_stay_and_numbers_go_on() {
     let folder = Folder::in_memory();
     for keep in [false, true] {
         let server = match keep {
-            false => Server::start(&folder, &["--pages", "256", "--passes", "4"]),
-            true => start_kept(&folder, "256"),
+            false => Server::start(&folder, &LARGER),
+            true => start_kept(&folder, &LARGER),
         };
         let (mut reading, mut writing) = (server.client(), server.client());
         let mut batch = Batch::new();
@@ -136,7 +138,7 @@ fn check_journal(client: &mut Client, last: u64) {
 #[test]
 fn a_snapshot_is_taken_back_when_its_memory_is_needed() {
     let folder = Folder::new();
-    let server = Server::start(&folder, &["--pages", "256", "--passes", "4", "--hold", "86400"]);
+    let server = Server::start(&folder, &[&LARGER[..], &["--hold", "86400"]].concat());
     let (mut reading, mut writing) = (server.client(), server.client());
     writing.apply(Batch::new().new_node()).unwrap();
     pin_and_write_on(&mut reading, &mut writing);
@@ -204,7 +206,7 @@ fn live_queries_go_on() {
 #[test]
 fn tokens_and_runs_stay_right() {
     let folder = Folder::in_memory();
-    let server = start_kept(&folder, "64");
+    let server = start_kept(&folder, &SMALL);
     let mut client = server.client();
     let first = make(&mut client, "a").unwrap();
     let run = client.hello().unwrap().run;
@@ -226,7 +228,7 @@ fn tokens_and_runs_stay_right() {
     assert!(refused.is(ErrorName::Conflict), "{refused}");
     server.kill();
 
-    let server = start_kept(&folder, "64");
+    let server = start_kept(&folder, &SMALL);
     let again = make(&mut server.client(), "a").unwrap();
     assert_eq!((again.nodes, again.repeated), (first.nodes, true));
 }
@@ -236,10 +238,10 @@ fn tokens_and_runs_stay_right() {
 fn servers_that_are_killed_meanwhile_lose_nothing() {
     let folder = Folder::in_memory();
     let writers = Writers::default();
-    writers.begin(&mut start_kept(&folder, "64").client(), 100);
+    writers.begin(&mut start_kept(&folder, &SMALL).client(), 100);
     let (mut random, mut carried) = (Random::new(7), 0);
     for _ in 0..KILLS {
-        let server = start_kept(&folder, "64");
+        let server = start_kept(&folder, &SMALL);
         let mut client = server.patient_client();
         writers.go_on(&mut client);
         writers.write(server.socket(), || {
@@ -251,7 +253,7 @@ fn servers_that_are_killed_meanwhile_lose_nothing() {
         });
     }
     assert_eq!(carried, KILLS);
-    writers.go_on(&mut start_kept(&folder, "64").client());
+    writers.go_on(&mut start_kept(&folder, &SMALL).client());
 }
 
 #[cfg(feature = "log")]
@@ -261,10 +263,11 @@ fn a_follower_of_a_log_does_it_too() {
         Some(database) => database,
         None => return,
     };
-    let leader = Member::start_with_pages(&database, "--log", "64");
-    let follower = Member::start_with_pages(&database, "--follow", "64");
-    let (mut client, mut other) = (leader.client(), follower.client());
+    let leader = Member::start_with(&database, "--log", &SMALL);
+    let mut client = leader.client();
     client.apply(Batch::new().new_node()).unwrap();
+    let follower = Member::start_with(&database, "--follow", &SMALL);
+    let mut other = follower.client();
     let batch = long_entry();
     wait_until("both have let go of the journal", || {
         client.apply(&batch).unwrap();

@@ -56,12 +56,9 @@ impl Member {
         Self::start_in(Folder::in_memory(), database, how)
     }
 
-    /// Starts a server with so many pages.
-    pub fn start_with_pages(database: &Database, how: &str, pages: &str) -> Self {
-        Self::run(
-            Folder::in_memory(),
-            &[how, &database.url(), "--pages", pages, "--passes", "16"],
-        )
+    /// Starts a server of this size.
+    pub fn start_with(database: &Database, how: &str, size: &[&str]) -> Self {
+        Self::run(Folder::in_memory(), &[&[how, &database.url()], size].concat())
     }
 
     fn start_in(folder: Folder, database: &Database, how: &str) -> Self {

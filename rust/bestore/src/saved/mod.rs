@@ -245,6 +245,12 @@ pub struct Saved {
 }
 
 impl Saved {
+    /// The store in memory. What its own passes write isn't saved.
+    #[must_use]
+    pub fn store(&self) -> &Store {
+        &self.store
+    }
+
     /// Takes a pass, whose writes are saved.
     ///
     /// # Errors

@@ -74,7 +74,7 @@ impl SavedShelf {
         &self.volumes
     }
 
-    /// The volumes in memory. Only what passes of this shelf write is saved.
+    /// The volumes in memory. What their own passes write isn't saved.
     #[must_use]
     pub fn shelf(&self) -> &Shelf {
         &self.shelf
