@@ -308,3 +308,31 @@ impl Next {
 fn collect(snapshot: &Snapshot<'_>) -> Result<(u64, Vec<Batch>)> {
     Ok((snapshot.number(), snapshot.state().collect::<Result<_>>()?))
 }
+
+#[cfg(test)]
+mod tests {
+    use super::*;
+    use std::thread;
+
+    #[test]
+    fn a_write_that_has_entered_is_waited_for_and_carried_on() {
+        let store = Store::open(Limits::default()).unwrap();
+        let (mut pass, succession) = (store.pass().unwrap(), store.succession());
+        let entered = succession.enter().unwrap();
+        thread::scope(|scope| {
+            let carrying = scope.spawn(|| store.carry_on().unwrap());
+            // Nobody else can enter once the gate is to be closed.
+            while succession.gate.try_read().is_ok() {
+                assert!(!carrying.is_finished());
+                thread::yield_now();
+            }
+            let written = pass.raw().apply(None, Batch::new().new_node().raw(), &mut [0]);
+            assert_eq!(written.unwrap(), 1);
+            assert!(succession.is_newest(pass.seat()));
+            drop(entered);
+        });
+        assert!(!succession.is_newest(pass.seat()));
+        let snapshot = pass.pin().unwrap();
+        assert_eq!((snapshot.number(), snapshot.next_node().unwrap()), (1, 2));
+    }
+}
