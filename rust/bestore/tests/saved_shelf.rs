@@ -234,9 +234,12 @@ fn writers_go_on_while_the_store_is_compacted_and_carried_on() {
     thread::scope(|scope| {
         let writers = passes.map(|mut pass| {
             scope.spawn(move || {
-                for _ in 0..WRITES {
+                for number in 0..WRITES {
                     pass.new_node().unwrap();
-                    pass.follow().unwrap();
+                    // Most of the writes after a task find out by themselves that the store was carried on.
+                    if number % 8 == 0 {
+                        pass.follow().unwrap();
+                    }
                 }
             })
         });
