@@ -23,18 +23,14 @@ from pathlib import Path
 from typing import Any, Dict, List, NamedTuple, cast
 
 import bestore
-from bestore import Batch
+from filled import NODES, VOLUMES, fill, node
 
-NODES = 60_000
-VOLUMES = 5
 PAGES = 8192
 WRITES = 10_000_000
 FIRST = 10_000
 """After how many writes the server is started again for the first time."""
 AT_ONCE = 500
 """How many writes are sent before their replies are read."""
-STEP = 16
-"""How many nodes a batch makes."""
 LEAST = 20 << 20
 MOST_GROWTH = 2.0
 MOST_SECONDS = 1.0
@@ -52,11 +48,6 @@ class Watched(NamedTuple):
 
     is_over: Synchronized[int]
     longest: Synchronized[float]
-
-
-def node(number: int) -> int:
-    """The node with this number, from 0 on. The volumes take turns."""
-    return number % VOLUMES * 10**14 + number // VOLUMES + 1
 
 
 class Server:
@@ -118,20 +109,6 @@ class Lines:
             if "ok" not in reply:
                 raise SystemExit(f"the server replies {reply}")
         return replies[-1]["ok"]
-
-
-def fill(path: str) -> None:
-    """Makes the nodes."""
-    with bestore.connect(path) as store:
-        store.make_index("name", bestore.Kind.STRING)
-        for number in range(NODES // STEP):
-            volume, first = number % VOLUMES, number // VOLUMES * STEP + 1
-            batch = Batch()
-            for made in range(first, first + STEP):
-                batch.new_node()
-                batch.set(volume * 10**14 + made, "name", f"file {made}")
-                batch.set(volume * 10**14 + made, "text", "some words " * 3)
-            store.apply(batch, volume=volume)
 
 
 def watch(path: str, watched: Watched) -> None:
