@@ -211,6 +211,8 @@ fn several_volumes_are_a_folder() {
     refused(&server.be(&["backup", text(&path)]), "exists, and isn't overwritten");
 
     let restored = server!(Server::start_with(&options));
+    let elsewhere = ["restore", "--until", "3:1", text(&path)];
+    refused(&restored.be(&elsewhere), "there is no volume 3; the volumes are 0 to 2");
     restored.done(&["restore", text(&path)]);
     assert_eq!(dump(&restored).1, dump(&server).1);
     let other = server!(Server::start());
@@ -238,6 +240,11 @@ fn what_comes_before_a_damaged_entry_is_restored() {
     refused(&restored.be(&["restore", "--until", "3", text(&kept)]), "--until 2");
     let said = restored.be(&["restore", "--until", "x", text(&kept)]);
     assert!(said.status == 2 && said.error.contains("such as 17"), "{said:?}");
+    let elsewhere = ["restore", "--until", "0:2", "--until", "1:2", text(&kept)];
+    refused(
+        &restored.be(&elsewhere),
+        "kept: there is no volume 1; the only one is 0",
+    );
     restored.done(&["restore", "--until", "0:2", text(&kept)]);
     assert_eq!(restored.done(&["query", "name==\"*\""]), "1\n");
 }

@@ -33,10 +33,18 @@ impl Iterator for Entries<'_> {
     type Item = Result<Entry>;
 
     fn next(&mut self) -> Option<Result<Entry>> {
-        match self.pass.tried(|| self.pass.raw().entry(self.from)) {
-            Ok((_, list)) if list.operations.is_empty() => None,
-            Ok((pass, mut list)) => {
-                self.from += 1;
+        let from = self.from;
+        let entry = self.pass.tried(|| {
+            self.pass.on_newest(|seat| {
+                let from = from.max(seat.state());
+                let (pass, list) = seat.raw().entry(seat.within(from))?;
+                Ok((from, pass, list))
+            })
+        });
+        match entry {
+            Ok((_, _, list)) if list.operations.is_empty() => None,
+            Ok((from, pass, mut list)) => {
+                self.from = from + 1;
                 list.operations.shrink_to_fit();
                 list.bytes.shrink_to_fit();
                 Some(Ok(Entry {

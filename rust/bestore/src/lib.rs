@@ -77,6 +77,7 @@ pub mod saved;
 pub mod shelf;
 mod snapshot;
 mod store;
+mod succession;
 mod text;
 
 pub use bestore_types::{

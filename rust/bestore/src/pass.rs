@@ -2,9 +2,12 @@
 
 use crate::raw::{Answer, RawDraft, RawPass, RawWitness};
 use crate::refused::of_write;
-use crate::{Batch, Change, Entries, Error, Kind, Result, Snapshot, Value, Written};
+use crate::store::Shared;
+use crate::succession::{Place, Seat, Succession};
+use crate::{Batch, Change, Entries, Error, Kind, Limits, Result, Snapshot, Value, Written};
 use bestore_sys as sys;
 use bestore_types::raw::OPERATIONS;
+use std::cell::RefCell;
 use std::fmt;
 use std::sync::Arc;
 use std::thread;
@@ -127,7 +130,10 @@ impl StandBack {
 /// # Ok::<(), bestore::Error>(())
 /// ```
 #[derive(Debug)]
-pub struct Witness(RawWitness);
+pub struct Witness {
+    raw: RawWitness,
+    succession: Arc<Succession>,
+}
 
 /// How full a store is.
 #[derive(Clone, Copy, Debug, PartialEq, Eq)]
@@ -161,10 +167,18 @@ pub struct Oldest {
 /// run at the same time.
 #[derive(Debug)]
 pub struct Pass {
-    raw: RawPass,
+    /// What is read, and what is written unless another generation has come.
+    seat: Seat,
+    /// The seat in that one while a snapshot of the earlier one is read.
+    ahead: RefCell<Option<Seat>>,
+    succession: Arc<Succession>,
+    /// `None`: this is the store's own pass.
+    store: Option<Arc<Shared>>,
     retry: Retry,
     held: Option<u64>,
     keeper: Option<Arc<dyn Keeper>>,
+    /// It is given up after the seats.
+    _place: Option<Place>,
 }
 
 /// What keeps the writes of a store elsewhere too, such as in a log. [`Pass::kept_by`] makes the writes of a pass go by it.
@@ -186,12 +200,31 @@ pub trait Keeper: Send + Sync + fmt::Debug {
 }
 
 impl Pass {
-    pub(crate) fn new(raw: RawPass) -> Self {
-        Self {
-            raw,
+    /// The own pass of a store, which it opens.
+    pub(crate) fn open(limits: Limits) -> Result<Self> {
+        Ok(Self {
+            seat: Seat::open(limits)?,
+            ahead: RefCell::default(),
+            succession: Succession::new(limits),
+            store: None,
             retry: Retry::default(),
             held: None,
             keeper: None,
+            _place: None,
+        })
+    }
+
+    /// A pass of this store.
+    pub(crate) fn new(seat: Seat, store: Arc<Shared>, place: Place) -> Self {
+        Self {
+            seat,
+            ahead: RefCell::default(),
+            succession: store.succession().clone(),
+            store: Some(store),
+            retry: Retry::default(),
+            held: None,
+            keeper: None,
+            _place: Some(place),
         }
     }
 
@@ -230,8 +263,90 @@ impl Pass {
         self
     }
 
+    /// The pass of the library by which snapshots are read.
     pub(crate) fn raw(&self) -> &RawPass {
-        &self.raw
+        self.seat.raw()
+    }
+
+    pub(crate) fn seat(&self) -> &Seat {
+        &self.seat
+    }
+
+    pub(crate) fn succession(&self) -> &Arc<Succession> {
+        &self.succession
+    }
+
+    /// Changes the seat of the store's own pass. Returns the one before.
+    pub(crate) fn change_seat(&mut self, seat: Seat) -> Seat {
+        std::mem::replace(&mut self.seat, seat)
+    }
+
+    pub(crate) fn into_seat(self) -> Seat {
+        self.seat
+    }
+
+    /// Calls with the seat in the newest generation, if this pass has one.
+    fn with_newest<T>(&self, call: impl FnOnce(&Seat) -> T) -> Option<T> {
+        if self.succession.is_newest(&self.seat) {
+            return Some(call(&self.seat));
+        }
+        let ahead = self.ahead.borrow();
+        ahead.as_ref().filter(|seat| self.succession.is_newest(seat)).map(call)
+    }
+
+    /// Takes a seat in the newest generation.
+    fn go_ahead(&self) -> Answer<()> {
+        if let Some(store) = &self.store {
+            *self.ahead.borrow_mut() = Some(store.seat()?);
+        }
+        Ok(())
+    }
+
+    /// Calls with a seat in the newest generation.
+    pub(crate) fn on_newest<T>(&self, mut call: impl FnMut(&Seat) -> Answer<T>) -> Answer<T> {
+        loop {
+            if let Some(answer) = self.with_newest(&mut call) {
+                return answer;
+            }
+            self.go_ahead()?;
+        }
+    }
+
+    /// Writes with a seat in the newest generation, which stays the newest meanwhile. Returns a commit number.
+    fn write_on_newest(&self, batch: &Batch, mut write: impl FnMut(&Seat) -> Answer<u64>) -> Answer<u64> {
+        loop {
+            let open = self.succession.enter()?;
+            let written = self.with_newest(|seat| match write(seat) {
+                Ok(number) => Ok(seat.outside(number)),
+                Err(refused) => Err(seat.refused(refused)),
+            });
+            if let Some(written) = written {
+                if written.is_ok() {
+                    self.succession.written(batch);
+                }
+                return written;
+            }
+            // A seat is taken outside, since whoever closes the gate has the store's own pass.
+            drop(open);
+            self.go_ahead()?;
+        }
+    }
+
+    /// Lets go of what [`Store::carry_on`](crate::Store::carry_on) has carried on, so that its memory can be freed, unless a snapshot of
+    /// it is held. [`pin`](Self::pin) does the same, so this is for a pass that rests, or only writes. Returns whether there was
+    /// something to let go of. The pass may then have another [`number`](Self::number).
+    ///
+    /// # Errors
+    /// [`Error::OutOfMemory`], [`Error::Forked`].
+    pub fn follow(&mut self) -> Result<bool> {
+        if self.held.is_some() || self.succession.is_newest(&self.seat) {
+            return Ok(false);
+        }
+        self.on_newest(|_| Ok(()))?;
+        if let Some(seat) = self.ahead.get_mut().take() {
+            self.seat = seat;
+        }
+        Ok(true)
     }
 
     pub(crate) fn retry(&self) -> Retry {
@@ -248,7 +363,7 @@ impl Pass {
     /// # Errors
     /// [`Error::Forked`].
     pub fn number(&self) -> Result<u64> {
-        Ok(self.raw.number()?)
+        Ok(self.on_newest(|seat| seat.raw().number())?)
     }
 
     /// Pins the current snapshot, which can be read until it is dropped. Takes constant time.
@@ -289,7 +404,7 @@ impl Pass {
     pub fn release(&mut self) {
         if self.held.take().is_some() {
             // Fails in a forked child alone, where nothing is pinned.
-            let _ = self.raw.unpin();
+            let _ = self.raw().unpin();
         }
     }
 
@@ -356,7 +471,7 @@ impl Pass {
     /// Writes the draft of a change in memory, whose operations are those of the batch, and make these nodes. It is tried once. Returns
     /// the number for `end_write`.
     pub(crate) fn end_change(&self, draft: &RawDraft, expected: u64, batch: &Batch, nodes: Vec<u64>) -> Result<u64> {
-        let mut write = || match self.raw.end_change(draft) {
+        let mut write = || match self.write_draft(draft, expected, batch) {
             Ok(number) => Ok(Written {
                 number,
                 nodes: nodes.clone(),
@@ -369,6 +484,15 @@ impl Pass {
         }
     }
 
+    /// Writes the draft, or if it is of an earlier generation the same operations, if nothing else was written since.
+    fn write_draft(&self, draft: &RawDraft, expected: u64, batch: &Batch) -> Answer<u64> {
+        let (own, mut made) = (self.raw().store(), vec![0; batch.len()]);
+        self.write_on_newest(batch, |seat| match seat.raw().store() == own {
+            true => seat.raw().end_change(draft),
+            false => seat.raw().apply(Some(seat.within(expected)), batch.raw(), &mut made),
+        })
+    }
+
     /// Waits until the write is kept, if the writes of this pass are.
     pub(crate) fn end_write(&self, number: u64) -> Result<()> {
         self.keeper.as_ref().map_or(Ok(()), |keeper| keeper.wait(number))
@@ -376,13 +500,24 @@ impl Pass {
 
     fn write_now(&self, expected: Option<u64>, batch: &Batch) -> Result<Written> {
         let mut made = vec![0; batch.len()];
-        match self.tried(|| self.raw.apply(expected, batch.raw(), &mut made)) {
+        let mut write = |seat: &Seat| {
+            let expected = expected.map(|commit| seat.within(commit));
+            seat.raw().apply(expected, batch.raw(), &mut made)
+        };
+        match self.tried(|| self.write_on_newest(batch, &mut write)) {
             Ok(number) => {
                 made.retain(|node| *node != 0);
                 Ok(Written { number, nodes: made })
             }
             Err(refused) => Err(of_write(refused, batch.len(), expected)),
         }
+    }
+
+    /// Writes a batch that has outcomes. Returns whether it makes the same nodes.
+    pub(crate) fn repeat(&self, batch: &Batch) -> Result<bool> {
+        let written = self.apply(batch)?;
+        let mut repeated = batch.clone();
+        Ok(repeated.set_nodes(&written.nodes) == batch)
     }
 
     fn is_held_by_another(&self) -> Result<bool> {
@@ -422,7 +557,8 @@ impl Pass {
     /// # Ok::<(), bestore::Error>(())
     /// ```
     ///
-    /// While a snapshot is [held](Self::hold), the closure reads that one and runs once.
+    /// While a snapshot is [held](Self::hold), the closure reads that one. A conflict is an error then; if another pass is writing, or no
+    /// page is free, the closure runs again on the same snapshot.
     ///
     /// A closure that collects no operation writes nothing. One that returns an error stops the change, and nothing is written;
     /// [`Error::other`] makes one of any error.
@@ -512,17 +648,27 @@ impl Pass {
         Ok(set)
     }
 
-    /// The entries of the journal after the first `from`, so the commit numbers `from + 1` and on.
+    /// How many entries the journal no longer has, because the store was [carried on](crate::Store::carry_on): 0 if it wasn't.
+    ///
+    /// # Errors
+    /// [`Error::OutOfMemory`], [`Error::Forked`].
+    pub fn journal_begin(&self) -> Result<u64> {
+        Ok(self.on_newest(|seat| Ok(seat.state()))?)
+    }
+
+    /// The entries of the journal after the first `from`, so the commit numbers `from + 1` and on. Those that the journal
+    /// [no longer has](Self::journal_begin) are left out, and the number of the first entry says so.
     pub fn journal_from(&self, from: u64) -> Entries<'_> {
         Entries::new(self, from)
     }
 
-    /// The journal as text, a line for each entry. Other passes can't write while it is made.
+    /// The journal as text, a line for each entry. Other passes can't write while it is made. If the store was [carried
+    /// on](crate::Store::carry_on), it begins with the state.
     ///
     /// # Errors
     /// [`Error::Busy`], [`Error::OutOfMemory`], [`Error::Forked`].
     pub fn journal(&self) -> Result<String> {
-        let bytes = self.tried(|| self.raw.journal())?;
+        let bytes = self.tried(|| self.on_newest(|seat| seat.raw().journal()))?;
         Ok(String::from_utf8_lossy(&bytes).into_owned())
     }
 
@@ -531,18 +677,23 @@ impl Pass {
     /// # Errors
     /// [`Error::Busy`], [`Error::Forked`].
     pub fn status(&self) -> Result<Status> {
-        let usage = self.tried(|| self.raw.status())?;
-        Ok(Status {
-            pages: usage.pages,
-            free: usage.free,
-            retired: usage.retired,
-            entries: usage.entries,
-            commits: usage.commits,
-            oldest: usage.is_held.then_some(Oldest {
-                snapshot: usage.oldest,
-                pass: usage.holder,
-            }),
-        })
+        let status = self.tried(|| {
+            self.on_newest(|seat| {
+                let usage = seat.raw().status()?;
+                Ok(Status {
+                    pages: usage.pages,
+                    free: usage.free,
+                    retired: usage.retired,
+                    entries: seat.outside(usage.entries),
+                    commits: seat.outside(usage.commits),
+                    oldest: usage.is_held.then_some(Oldest {
+                        snapshot: seat.outside(usage.oldest),
+                        pass: usage.holder,
+                    }),
+                })
+            })
+        });
+        Ok(status?)
     }
 
     /// Meets a pass that was dropped: both have then seen what either had. Returns how many entries of the journal that is.
@@ -550,7 +701,7 @@ impl Pass {
     /// # Errors
     /// [`Error::NoPass`]: no pass waits to be met, or another thread is meeting it. [`Error::Forked`].
     pub fn meet(&self) -> Result<u64> {
-        Ok(self.raw.meet()?)
+        Ok(self.on_newest(|seat| seat.raw().meet().map(|seen| seat.outside(seen)))?)
     }
 
     /// A witness of all entries of the journal that the pass has seen so far, its own among them. Send it to another thread, whose
@@ -559,7 +710,10 @@ impl Pass {
     /// # Errors
     /// [`Error::OutOfMemory`], [`Error::Forked`].
     pub fn witness(&self) -> Result<Witness> {
-        Ok(Witness(self.raw.witness()?))
+        Ok(Witness {
+            raw: self.on_newest(|seat| seat.raw().witness())?,
+            succession: self.succession.clone(),
+        })
     }
 
     /// Joins a witness: the pass and the witness have then both seen what either had. So each later snapshot of the pass includes
@@ -569,6 +723,12 @@ impl Pass {
     /// # Errors
     /// [`Error::OtherStore`] if the witness is of a pass of another store; [`Error::Forked`].
     pub fn join(&self, witness: &mut Witness) -> Result<u64> {
-        self.raw.join(&mut witness.0)?.ok_or(Error::OtherStore)
+        let is_of_store = Arc::ptr_eq(&self.succession, &witness.succession);
+        let seen = self.on_newest(|seat| match seat.raw().join(&mut witness.raw)? {
+            Some(seen) => Ok(Some(seat.outside(seen))),
+            // Whatever was seen in an earlier generation is in this one from the beginning.
+            None => Ok(is_of_store.then_some(seat.begin())),
+        });
+        seen?.ok_or(Error::OtherStore)
     }
 }

@@ -21,6 +21,7 @@ impl<'a> Snapshot<'a> {
         if let Some(number) = pass.held() {
             return Ok(Self { pass, number });
         }
+        pass.follow()?;
         let number = match pass.raw().pin() {
             // The last snapshot was forgotten, since nobody else can have the pass.
             Err(refused) if refused.code == sys::BES_PINNED => {
@@ -29,6 +30,7 @@ impl<'a> Snapshot<'a> {
             }
             answer => answer?,
         };
+        let number = pass.seat().outside(number);
         Ok(Self { pass, number })
     }
 

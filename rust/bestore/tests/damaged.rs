@@ -292,6 +292,12 @@ fn only_entries_that_are_there_can_be_the_last_one() {
         ),
         "{refused}"
     );
+    assert!(
+        refused
+            .to_string()
+            .ends_with("entry 10 can't be the last one: the file ends with entry 9"),
+        "{refused}"
+    );
     drop(folder.open().unwrap());
     let refused = read_until(&folder, 8).unwrap_err();
     assert!(
@@ -306,7 +312,20 @@ fn only_entries_that_are_there_can_be_the_last_one() {
         ),
         "{refused}"
     );
+    assert!(
+        refused
+            .to_string()
+            .ends_with("entry 8 can't be the last one: the file has the state after entry 9, so 9 is the least"),
+        "{refused}"
+    );
     assert!(read_until(&folder, 9).is_ok());
+    let refused = options().until(0, 9).until(1, 9).load(folder.file()).unwrap_err();
+    assert!(
+        refused
+            .to_string()
+            .ends_with(": there is no volume 1; the only one is 0"),
+        "{refused}"
+    );
 }
 
 #[test]

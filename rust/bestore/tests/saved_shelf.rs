@@ -5,6 +5,8 @@ use bestore::saved::{Error, Options, SavedShelf};
 use bestore::{Kind, Limits, ShelfPass};
 use std::fs;
 use std::path::{Path, PathBuf};
+use std::thread;
+use std::time::Duration;
 
 /// A folder of a test, which is removed at its end.
 struct Folder(PathBuf);
@@ -212,4 +214,41 @@ fn the_file_of_one_store_becomes_a_volume() {
     let saved = folder.open(Some(2)).unwrap();
     let second = sized(&mut saved.pass().unwrap(), 1, 6);
     assert_eq!(found(&saved, "size>=5"), [node, second]);
+}
+
+/// All passes are taken, so both tasks use the store's own.
+#[test]
+fn writers_go_on_while_the_store_is_compacted_and_carried_on() {
+    const WRITES: u64 = 500;
+    let folder = Folder::new("tasks");
+    let limits = Limits {
+        pages: 1024,
+        passes: 2,
+        ..Limits::default()
+    };
+    let mut options = Options::new();
+    options.limits(limits).every(Duration::from_millis(5));
+    let saved = options.open_shelf(&folder.0, Some(1)).unwrap();
+    let passes = [saved.pass().unwrap(), saved.pass().unwrap()];
+    let (mut carried, store) = (0, &saved.shelf().volumes()[0]);
+    thread::scope(|scope| {
+        let writers = passes.map(|mut pass| {
+            scope.spawn(move || {
+                for number in 0..WRITES {
+                    pass.new_node().unwrap();
+                    // Most of the writes after a task find out by themselves that the store was carried on.
+                    if number % 8 == 0 {
+                        pass.follow().unwrap();
+                    }
+                }
+            })
+        });
+        while carried < 3 || !writers.iter().all(|writer| writer.is_finished()) {
+            carried += u32::from(store.carry_on().is_ok());
+            saved.compact().unwrap();
+        }
+    });
+    saved.close().unwrap();
+    let mut pass = options.open_shelf(&folder.0, None).unwrap().pass().unwrap();
+    assert_eq!(pass.pin().unwrap().next_node(0).unwrap(), 2 * WRITES + 1);
 }

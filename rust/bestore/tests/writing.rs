@@ -4,6 +4,7 @@ mod common;
 
 use bestore::{Batch, Error, Kind, Limits, Pass, Retry, Store, Value};
 use common::{sized, store, ten};
+use std::sync::atomic::{AtomicBool, Ordering};
 use std::sync::mpsc;
 use std::thread;
 use std::time::Duration;
@@ -258,6 +259,45 @@ fn a_full_store_says_what_keeps_its_pages() {
     drop(snapshot);
     writer.set(node, "a", "again").unwrap();
     assert_eq!(writer.status().unwrap().oldest, None);
+}
+
+/// The other thread has the writers' lock nearly all the time, as it reads a long journal, until the change runs for the second time.
+#[test]
+fn a_change_on_a_snapshot_that_is_held_runs_again_while_another_pass_has_the_lock() {
+    let store = store();
+    let mut pass = store.pass().unwrap();
+    let node = pass.new_node().unwrap();
+    for count in 0..3_000_i64 {
+        pass.set(node, "count", count).unwrap();
+    }
+    let is_over = AtomicBool::new(false);
+    thread::scope(|scope| {
+        scope.spawn(|| {
+            let reading = store.pass().unwrap();
+            while !is_over.load(Ordering::Relaxed) {
+                reading.journal().unwrap();
+            }
+        });
+        let mut tries = 0_i64;
+        while tries < 2 {
+            let held = pass.hold().unwrap();
+            tries = 0;
+            let changed = pass.change(|change| {
+                tries += 1;
+                is_over.store(tries > 1, Ordering::Relaxed);
+                assert_eq!(change.snapshot().number(), held);
+                change.set(node, "count", tries).map(drop)
+            });
+            changed.unwrap();
+            pass.release();
+            // What the last attempt has collected was written, once.
+            let snapshot = pass.pin().unwrap();
+            assert_eq!(
+                (snapshot.number(), snapshot.get(node, "count").unwrap()),
+                (held + 1, Some(tries.into()))
+            );
+        }
+    });
 }
 
 #[test]

@@ -22,28 +22,20 @@ from pathlib import Path
 from typing import Any, List, NamedTuple, cast
 
 import bestore
-from bestore import Batch, saved
+from bestore import saved
+from filled import NODES, VOLUMES, fill, node
 
-NODES = 60_000
 WRITERS = 8
 BACKUPS = 50
 ALONE = 10.0
 """How many seconds the writers write before the backups begin."""
 MOST_GROWTH = 3.0
 PAGES = 16_384
-VOLUMES = 5
-STEP = 16
-"""How many nodes a batch makes."""
-
-
-def node_in(volume: int, number: int) -> int:
-    """The node with this number in the volume."""
-    return volume * 10**14 + number
 
 
 def counted_by(writer: int) -> int:
     """The node of a writer, from 0 on. Writers take turns among the volumes."""
-    return node_in(writer % VOLUMES, writer // VOLUMES + 1)
+    return node(writer)
 
 
 def counter() -> Synchronized[int]:
@@ -76,23 +68,6 @@ def write(socket: str, shared: Shared, writer: int) -> None:
 def percentile(times: List[float], part: float) -> float:
     """In milliseconds."""
     return sorted(times)[int(len(times) * part)] * 1000
-
-
-def fill(socket: str) -> List[int]:
-    """Makes the nodes. Returns the commit number of each volume."""
-    with bestore.connect(socket) as store:
-        store.make_index("name", bestore.Kind.STRING)
-        for number in range(NODES // STEP):
-            volume, first = number % VOLUMES, number // VOLUMES * STEP + 1
-            batch = Batch()
-            for node in range(first, first + STEP):
-                batch.new_node()
-                batch.set(node_in(volume, node), "name", f"file {node}")
-                batch.set(node_in(volume, node), "count", 0)
-                batch.set(node_in(volume, node), "text", "some words " * 3)
-            store.apply(batch, volume=volume)
-        with store.pin() as version:
-            return list(version.numbers)
 
 
 class Writing:

@@ -6,8 +6,8 @@ usage: growth.py FOLDER [WRITES]    the folder with bestored, such as rust/targe
 It makes a store of 60,000 nodes in five volumes, in a new folder. One client sends small writes, many at a time, and another one write
 after another, whose longest reply shows what the server does when it writes its states anew. After 10,000 writes and after all of them
 the server is killed and started again. PYTHONPATH names the folder of the package bestore. It exits with 1 if the files were longer than
-twice the state and 20 MB for each volume, which its WAL and the entries take that are waited for; or if the last start takes more than
-twice as long as the first one and a second.
+twice the state, or the memory was more than twice that of the pages, with 20 MB more for each volume, which its WAL and the entries take
+that are waited for; or if the last start takes more than twice as long as the first one and a second.
 """
 from __future__ import annotations
 
@@ -20,24 +20,27 @@ import tempfile
 import time
 from multiprocessing.sharedctypes import Synchronized
 from pathlib import Path
-from typing import Any, Dict, NamedTuple, cast
+from typing import Any, Dict, List, NamedTuple, cast
 
 import bestore
-from bestore import Batch
+from filled import NODES, VOLUMES, fill, node
 
-NODES = 60_000
-VOLUMES = 5
-PAGES = 16_384
+PAGES = 8192
 WRITES = 10_000_000
 FIRST = 10_000
 """After how many writes the server is started again for the first time."""
 AT_ONCE = 500
 """How many writes are sent before their replies are read."""
-STEP = 16
-"""How many nodes a batch makes."""
 LEAST = 20 << 20
 MOST_GROWTH = 2.0
 MOST_SECONDS = 1.0
+
+
+class Size(NamedTuple):
+    """How many bytes the files and the memory have, at one time or at most."""
+
+    files: int
+    memory: int
 
 
 class Watched(NamedTuple):
@@ -45,11 +48,6 @@ class Watched(NamedTuple):
 
     is_over: Synchronized[int]
     longest: Synchronized[float]
-
-
-def node(number: int) -> int:
-    """The node with this number, from 0 on. The volumes take turns."""
-    return number % VOLUMES * 10**14 + number // VOLUMES + 1
 
 
 class Server:
@@ -81,6 +79,12 @@ class Server:
         self._process.kill()
         self._process.wait()
 
+    def end(self) -> int:
+        """Ends the server. Returns how many bytes its files have then."""
+        self._process.terminate()
+        self._process.wait()
+        return sum(path.stat().st_size for path in self.folder.iterdir())
+
     @property
     def memory(self) -> int:
         """The bytes that it has now."""
@@ -107,20 +111,6 @@ class Lines:
         return replies[-1]["ok"]
 
 
-def fill(path: str) -> None:
-    """Makes the nodes."""
-    with bestore.connect(path) as store:
-        store.make_index("name", bestore.Kind.STRING)
-        for number in range(NODES // STEP):
-            volume, first = number % VOLUMES, number // VOLUMES * STEP + 1
-            batch = Batch()
-            for made in range(first, first + STEP):
-                batch.new_node()
-                batch.set(volume * 10**14 + made, "name", f"file {made}")
-                batch.set(volume * 10**14 + made, "text", "some words " * 3)
-            store.apply(batch, volume=volume)
-
-
 def watch(path: str, watched: Watched) -> None:
     """Makes one write after another, and says which took longest."""
     with bestore.connect(path) as store:
@@ -131,32 +121,34 @@ def watch(path: str, watched: Watched) -> None:
             time.sleep(0.002)
 
 
-def write(server: Server, count: int) -> int:
-    """Makes so many small writes. Returns how long the files were at most."""
-    lines, longest = Lines(server.path), 0
+def write(server: Server, count: int) -> Size:
+    """Makes so many small writes. Returns how long the files were and how much memory there was, each at most."""
+    lines = Lines(server.path)
+    sizes: List[Size] = []
     for first in range(0, count, AT_ONCE):
         lines.ask(*(
             {"batch": {"operations": [["set", node(number % NODES), "count", number]]}} for number in range(first, first + AT_ONCE)))
-        if first % 100_000 == 0:
+        if first % 50_000 == 0:
             files = lines.ask({"info": {}})["files"]
-            longest = max(longest, files["bytes"] + files["wal_bytes"])
-    return longest
+            sizes.append(Size(files["bytes"] + files["wal_bytes"], server.memory))
+    return Size(max(size.files for size in sizes), max(size.memory for size in sizes))
 
 
-def write_for_long(server: Server, count: int) -> int:
-    """Makes the writes beside a second client. Prints the figures, and returns how long the files were at most."""
+def write_for_long(server: Server, count: int) -> Size:
+    """Makes the writes beside a second client. Prints the figures, and returns the most of each."""
     number: Any = multiprocessing.Value
     watched = Watched(cast("Synchronized[int]", number("b", 0)), cast("Synchronized[float]", number("d", 0)))
     watching = multiprocessing.Process(target=watch, args=(server.path, watched))
     watching.start()
     before, begin = server.memory, time.perf_counter()
-    longest = write(server, count)
+    most = write(server, count)
     seconds = time.perf_counter() - begin
     watched.is_over.value = 1
     watching.join(60)
     print(f"{count} writes in {seconds:.0f} s; the longest of the other client took {watched.longest.value * 1000:.0f} ms")
-    print(f"memory: {before >> 20} MB before, {server.memory >> 20} MB after, {(server.memory - before) / count:.1f} bytes a write")
-    return longest
+    print(f"memory: {before >> 20} MB before, {most.memory >> 20} MB at most, {server.memory >> 20} MB after; the pages take "
+          f"{VOLUMES * PAGES >> 8} MB")
+    return most
 
 
 def main() -> None:
@@ -168,18 +160,19 @@ def main() -> None:
         folder = Path(name)
         with Server(program, folder) as server:
             fill(server.path)
-            state = Lines(server.path)
-            state.ask({"compact": {}})
-            least: int = state.ask({"info": {}})["files"]["bytes"]
+            Lines(server.path).ask({"compact": {}})
+            least = server.end()
+        with Server(program, folder) as server:
             write(server, FIRST)
         with Server(program, folder) as server:
             first = server.seconds
-            longest = write_for_long(server, count)
+            most = write_for_long(server, count)
         with Server(program, folder) as server:
             last = server.seconds
-    print(f"files: {least >> 20} MB with the state, {longest >> 20} MB at most")
+    print(f"files: {least >> 20} MB with the state, {most.files >> 20} MB at most")
     print(f"a start: {first:.2f} s after {FIRST} writes, {last:.2f} s after {count} more")
-    if longest > MOST_GROWTH * least + LEAST * VOLUMES or last > MOST_GROWTH * first + MOST_SECONDS:
+    bounds = Size(int(MOST_GROWTH * least) + LEAST * VOLUMES, int(MOST_GROWTH * (VOLUMES * PAGES << 12)) + LEAST * VOLUMES)
+    if most.files > bounds.files or most.memory > bounds.memory or last > MOST_GROWTH * first + MOST_SECONDS:
         raise SystemExit(1)
 
 

@@ -16,6 +16,8 @@ from postgres import Postgres
 
 T = TypeVar("T")
 PAGES = 16_384
+JOURNAL = 256
+"""After how many KiB of entries a server lets go of its journal in memory, so that it does so several times a minute."""
 PATIENCE = 120.0
 """How many seconds a server may take to start and to answer."""
 LOOK = 0.02
@@ -141,7 +143,8 @@ class FileServers(Servers):
     def __init__(self, programs: Path, *options: str) -> None:
         super().__init__(programs)
         place = self.folder / "socket"
-        command = [self.program, "--socket", str(place), "--pages", str(PAGES), "--keep", str(self.folder / "kept"), *options]
+        command = [self.program, "--socket", str(place), "--pages", str(PAGES), "--journal", str(JOURNAL), "--keep", str(self.folder / "kept"),
+                   *options]
         self.members.append(Server(command, place, 0.0))
 
     def leader(self) -> Optional[Server]:
@@ -162,7 +165,7 @@ class LogServers(Servers):
         self.members[0].change_command(self._command(self.folder / "socket0", "--follow"))
 
     def _command(self, place: Path, how: str) -> List[str]:
-        return [self.program, "--socket", str(place), "--pages", str(PAGES), how, self.postgres.url]
+        return [self.program, "--socket", str(place), "--pages", str(PAGES), "--journal", str(JOURNAL), how, self.postgres.url]
 
     def leader(self) -> Optional[Server]:
         """That of the last term, as one that was paused doesn't know at once that it no longer leads."""

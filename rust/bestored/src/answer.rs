@@ -42,7 +42,7 @@ pub enum View<'v, 'p> {
         state: Option<Reading<'v>>,
     },
     /// Nothing, as the snapshot was taken back.
-    Expired(&'v ShelfPass),
+    Expired(&'v mut ShelfPass),
 }
 
 impl<'v, 'p> View<'v, 'p> {
@@ -59,6 +59,24 @@ impl<'v, 'p> View<'v, 'p> {
         match self {
             View::Kept { since, .. } => Some(*since),
             View::Current(_) | View::Expired(_) => None,
+        }
+    }
+
+    /// Lets go of the earlier memory of volumes that were carried on, unless a snapshot is kept. Returns the numbers of the passes then
+    /// if they are others than before.
+    pub fn follow(&mut self) -> Result<Option<Vec<u64>>, Error> {
+        let pass = match self {
+            View::Current(pass) | View::Expired(pass) => pass,
+            View::Kept { .. } => return Ok(None),
+        };
+        match pass.follow()? {
+            true => pass
+                .volumes()
+                .iter()
+                .map(Pass::number)
+                .collect::<Result<_, _>>()
+                .map(Some),
+            false => Ok(None),
         }
     }
 

@@ -21,6 +21,9 @@ const VISIT: Duration = Duration::from_secs(2);
 /// How long a visitor may take from a reply to the next request.
 const IDLE: Duration = Duration::from_millis(250);
 
+/// How often a connection that rests looks whether its pass keeps memory that was carried on.
+const RESTS: Duration = Duration::from_secs(1);
+
 /// Why reads see another state from now on.
 #[derive(Clone, Copy, Debug, PartialEq, Eq)]
 enum Turn {
@@ -55,6 +58,7 @@ impl<'a> Connection<'a> {
     pub fn run(&mut self, pass: &mut ShelfPass) -> io::Result<()> {
         let passes = pass.volumes().iter().map(bestore::Pass::number);
         self.client.takes(passes.collect::<Result<_, _>>().unwrap_or_default());
+        self.lines.rest_at_most(RESTS)?;
         let mut is_expired = false;
         loop {
             let turn = match is_expired {
@@ -105,6 +109,10 @@ impl<'a> Connection<'a> {
                 .map_or(false, |since| self.desk.shared.pressure.is_over(since))
             {
                 return Ok(Turn::Expire);
+            }
+            // What fails is tried again, and is the error of the next read.
+            if let Ok(Some(passes)) = view.follow() {
+                self.client.takes(passes);
             }
             let line = match self.lines.take() {
                 Some(line) => line,

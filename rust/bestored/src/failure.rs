@@ -53,6 +53,15 @@ impl Failure {
         Self::named(ErrorName::Expired)
     }
 
+    /// The journal no longer has the entries up to this one.
+    pub fn journal_begins(entry: u64) -> Self {
+        let message = format!(
+            "the journal has no entries before {} any more; read the state, and then the journal from {entry} on",
+            entry + 1
+        );
+        Self::new(ErrorName::Expired, message).with("from", entry)
+    }
+
     /// Whether a batch was for another snapshot.
     pub fn is_conflict(&self) -> bool {
         self.0.name == ErrorName::Conflict

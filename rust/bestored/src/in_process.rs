@@ -33,6 +33,7 @@ fn options(volumes: u32) -> Options {
         pages: 256,
         passes: 1,
         commits: 1000,
+        journal: None,
         hold: Duration::from_secs(86_400),
         slow: None,
     }

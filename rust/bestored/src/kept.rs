@@ -173,6 +173,16 @@ impl Kept {
         Err("this program is built without the feature log".into())
     }
 
+    /// The volumes in memory. Only what passes of [`pass`](Self::pass) write is kept.
+    pub fn shelf(&self) -> &Shelf {
+        match self {
+            Kept::Memory(shelf) => shelf,
+            Kept::File(files) => files.saved.shelf(),
+            #[cfg(feature = "log")]
+            Kept::Log(log) => log.shelf(),
+        }
+    }
+
     pub fn pass(&self) -> bestore::Result<ShelfPass> {
         match self {
             Kept::Memory(shelf) => shelf.pass(),

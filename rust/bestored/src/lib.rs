@@ -6,6 +6,7 @@
 
 mod answer;
 mod background;
+mod carrying;
 mod clients;
 mod connection;
 mod copy;
@@ -88,6 +89,10 @@ fn serve(options: Options, place: Place, starter: Option<Starter>) -> Result<(),
         Some(kept) => kept,
         None => return Ok(()),
     };
+    if let Some(bytes) = options.journal {
+        let stores = kept.shelf().volumes().iter();
+        stores.for_each(|store| store.set_due_after(bytes));
+    }
     let own = kept.pass()?;
     let shared = share(kept, tokens, run, options)?;
     server::run(place, starter, notifier, &signals, shared, own)
@@ -105,6 +110,7 @@ fn share(kept: Kept, tokens: Arc<Tokens>, run: String, options: Options) -> best
         clients: Default::default(),
         meter: Meter::new(),
         copies: Default::default(),
+        carrying: Default::default(),
         is_full: Mutex::default(),
         visits: Mutex::new(visits),
         run,

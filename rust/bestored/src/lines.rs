@@ -58,6 +58,11 @@ impl Lines {
         }
     }
 
+    /// Lets [`read`](Self::read) without a time wait for no longer than this.
+    pub fn rest_at_most(&self, time: Duration) -> io::Result<()> {
+        self.stream.set_read_timeout(Some(time))
+    }
+
     /// Takes the next line, if it has been received: where it is in [`bytes`](Self::bytes).
     pub fn take(&mut self) -> Option<Range<usize>> {
         let length = self.bytes[self.searched..self.filled]
@@ -131,6 +136,7 @@ impl Lines {
                 Ok(Received::Some)
             }
             Err(error) if error.kind() == ErrorKind::Interrupted => Ok(Received::Some),
+            Err(error) if error.kind() == ErrorKind::WouldBlock => Ok(Received::Late),
             Err(error) if error.kind() == ErrorKind::ConnectionReset => Ok(Received::End),
             Err(error) => Err(error),
         }
@@ -213,6 +219,8 @@ mod tests {
     #[test]
     fn the_time_ends() {
         let (_client, mut lines) = pair();
+        lines.rest_at_most(Duration::from_millis(1)).unwrap();
+        assert_eq!(lines.read(None).unwrap(), Received::Late);
         let until = Instant::now() + Duration::from_millis(5);
         while lines.read(Some(until)).unwrap() != Received::Late {}
         assert!(Instant::now() >= until);

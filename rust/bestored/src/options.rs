@@ -45,6 +45,8 @@ pub struct Options {
     pub pages: u64,
     pub passes: u64,
     pub commits: u64,
+    /// After how many bytes of entries a volume's journal in memory is let go of, if that was given.
+    pub journal: Option<u64>,
     pub hold: Duration,
     /// A request that takes longer is reported.
     pub slow: Option<Duration>,
@@ -114,6 +116,13 @@ fn command() -> Command {
         .arg(number("passes", "N", 1..=61, "61").help("Clients at the same time"))
         .arg(number("commits", "N", 1..=u32::MAX.into(), "4294967295").help("Entries of the journal, of each volume"))
         .arg(
+            Arg::new("journal")
+                .long("journal")
+                .value_name("KIB")
+                .value_parser(value_parser!(u64).range(1..=1 << 30))
+                .help("How much the entries of a volume may take in memory; by default half as much as its pages, 1024 at least"),
+        )
+        .arg(
             Arg::new("slow")
                 .long("slow")
                 .value_name("MS")
@@ -146,6 +155,7 @@ impl Options {
             pages: number("pages"),
             passes: number("passes").min(most),
             commits: number("commits"),
+            journal: read.get_one::<u64>("journal").map(|kib| kib << 10),
             hold: Duration::from_secs(number("hold")),
             slow: read.get_one("slow").copied().map(Duration::from_millis),
         }
@@ -184,6 +194,7 @@ mod tests {
             ["--spare", "5"],
             ["--hold", "0"],
             ["--slow", "0"],
+            ["--journal", "0"],
             ["--passfile", "FILE"],
             ["--slow", "3600001"],
             ["--volumes", "0"],

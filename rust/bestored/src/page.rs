@@ -107,6 +107,10 @@ pub fn journal(view: &View<'_, '_>, from: &wire::JournalFrom) -> Result<wire::Jo
             break;
         }
     }
+    let begin = pass.journal_begin()?;
+    if from.from < begin {
+        return Err(Failure::journal_begins(begin));
+    }
     page.length = pass.status()?.entries;
     page.more = (next < page.length).then_some(next);
     Ok(page)

@@ -1,4 +1,4 @@
-//! Snapshots that keep pages while writes need them.
+//! Snapshots that keep memory while writes need it: pages, or a store that was carried on.
 
 use bestore::{Batch, Error, Pass, Result, Retry, Written};
 use std::sync::atomic::{AtomicU64, Ordering};
@@ -8,14 +8,14 @@ use std::time::{Duration, Instant};
 /// How often a connection with a snapshot looks whether it has to give it back.
 pub const LOOK: Duration = Duration::from_millis(50);
 
-/// How long a snapshot is kept although a write waits for its pages.
+/// How long a snapshot is kept although its memory is waited for.
 const AT_LEAST: Duration = Duration::from_secs(1);
 
 /// How long a write waits for pages, and how often it tries.
 const WAIT: Duration = Duration::from_secs(3);
 const TRY: Duration = Duration::from_millis(10);
 
-/// Whether writes wait for pages that snapshots keep.
+/// Whether writes wait for memory that snapshots keep.
 #[derive(Debug)]
 pub struct Pressure {
     /// How long a snapshot is kept if no write waits.
@@ -46,6 +46,11 @@ impl Pressure {
         age >= self.hold || age >= AT_LEAST && self.is_on()
     }
 
+    /// Something waits for memory that a snapshot keeps.
+    pub fn waits(&self) {
+        self.last.store(self.now(), Ordering::Relaxed);
+    }
+
     /// Whether a write waits, or did a moment ago.
     pub fn is_on(&self) -> bool {
         let last = self.last.load(Ordering::Relaxed);
@@ -72,7 +77,7 @@ impl Pressure {
                     // A snapshot may have been given back since the write failed, so it is tried once more in any case.
                     is_kept = is_kept_by_another(pass)?;
                     if is_kept {
-                        self.last.store(self.now(), Ordering::Relaxed);
+                        self.waits();
                         thread::sleep(TRY);
                     }
                 }

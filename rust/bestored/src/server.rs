@@ -1,6 +1,7 @@
 //! The server: a thread and a pass for each client.
 
 use crate::background::Starter;
+use crate::carrying::Carrying;
 use crate::clients::{Client, Clients};
 use crate::connection::Connection;
 use crate::copy::Copies;
@@ -55,6 +56,7 @@ pub struct Shared {
     pub clients: Clients,
     pub meter: Meter,
     pub copies: Copies,
+    pub carrying: Carrying,
     /// When was said last that there is no place.
     pub is_full: Mutex<Option<Instant>>,
     /// The pass of clients that find none: each has it for a moment.
@@ -79,14 +81,21 @@ pub fn run(
         let shared = shared.clone();
         thread::spawn(move || shared.watcher.run(own, &shared.pressure, &shared.kept))
     };
+    let carrying = {
+        let shared = shared.clone();
+        thread::spawn(move || shared.carrying.run(&shared))
+    };
     notifier.ready();
     accept(&socket.listener, &mut notifier, signals, &shared);
     notifier.ends();
     drop(socket);
     shared.clients.end();
     shared.watcher.end();
-    if watching.join().is_err() {
-        eprintln!("bestored: the thread of the live queries has ended by a fault");
+    shared.carrying.end();
+    for (what, thread) in [("the live queries", watching), ("the journals", carrying)] {
+        if thread.join().is_err() {
+            eprintln!("bestored: the thread of {what} has ended by a fault");
+        }
     }
     shared.kept.finish()
 }

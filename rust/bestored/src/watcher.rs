@@ -235,9 +235,14 @@ impl Watcher {
         // Either the count here has the client, or the round that its watch begins sees the write.
         fence(Ordering::SeqCst);
         if self.clients.load(Ordering::Relaxed) > 0 {
-            lock(&self.state).is_due = true;
-            self.wake.notify_one();
+            self.wake();
         }
+    }
+
+    /// Begins a round, also if there are no clients.
+    pub fn wake(&self) {
+        lock(&self.state).is_due = true;
+        self.wake.notify_one();
     }
 
     /// Adds a watch to those of the client, and the client if it is new.
@@ -279,6 +284,8 @@ impl Watcher {
         let mut is_left = false;
         while let Some(clients) = self.wait(is_left) {
             let started = Instant::now();
+            // What fails is tried again in the next round.
+            let _ = pass.follow();
             is_left = round(&clients, &mut pass, pressure, kept);
             thread::sleep(started.elapsed().clamp(REST.0, REST.1));
         }

@@ -79,6 +79,7 @@ fn write_now(
         Ok(_) => {
             measured.finish();
             shared.kept.compact_if_due();
+            shared.carrying.written(&shared.kept);
         }
         Err(_) => shared.kept.end_if_failed(),
     }

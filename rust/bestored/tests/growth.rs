@@ -1,4 +1,4 @@
-//! The file of a server that writes for long: the state is written anew by itself.
+//! The file and the memory of a server that writes for long: the state is written anew by itself, and the journal let go of.
 
 use crate::common::{wait_until, Folder, Server};
 use bestore::Batch;
@@ -14,6 +14,10 @@ const ROUNDS: u64 = 2_000;
 
 /// How long the file may be: a state of some KiB, and the entries that it waits for, up to 1 MiB, beside what comes meanwhile.
 const MOST_BYTES: u64 = 6 << 20;
+
+/// How many KiB of memory the server may take more than at first: two stores of 1 MiB, with as much of entries, and what the writes
+/// that wait for the file take, up to 16 MiB.
+const MOST_MEMORY: u64 = 24 << 10;
 
 fn start(folder: &Folder) -> Server {
     let keep = folder.join("file");
@@ -35,7 +39,7 @@ fn bytes(client: &mut Client) -> u64 {
 }
 
 #[test]
-fn the_file_stays_small_and_has_everything() {
+fn file_and_memory_stay_small_and_have_everything() {
     let folder = Folder::in_memory();
     let server = start(&folder);
     let mut client = server.client();
@@ -44,6 +48,7 @@ fn the_file_stays_small_and_has_everything() {
         batch.new_node();
     }
     client.apply(&batch).unwrap();
+    let memory = server.most_memory();
     for round in 1..=ROUNDS {
         let mut batch = Batch::new();
         for node in 1..=NODES {
@@ -53,6 +58,8 @@ fn the_file_stays_small_and_has_everything() {
     }
     client.call::<Nothing>(Command::Flush(Nothing {})).unwrap();
     wait_until("the state was written anew", || bytes(&mut client) < MOST_BYTES);
+    let grown = server.most_memory() - memory;
+    assert!(grown < MOST_MEMORY, "{grown} KiB more");
     server.kill();
 
     assert!(fs::metadata(folder.join("file")).unwrap().len() < MOST_BYTES);

@@ -56,14 +56,22 @@ impl Member {
         Self::start_in(Folder::in_memory(), database, how)
     }
 
+    /// Starts a server of this size.
+    pub fn start_with(database: &Database, how: &str, size: &[&str]) -> Self {
+        Self::run(Folder::in_memory(), &[&[how, &database.url()], size].concat())
+    }
+
     fn start_in(folder: Folder, database: &Database, how: &str) -> Self {
         Self::start_at(folder, &database.url(), how)
     }
 
     fn start_at(folder: Folder, url: &str, how: &str) -> Self {
+        Self::run(folder, &[how, url, "--pages", "512", "--passes", "16"])
+    }
+
+    fn run(folder: Folder, options: &[&str]) -> Self {
         let socket = folder.join("socket");
-        let options = [how, url, "--pages", "512", "--passes", "16"];
-        let mut command = command(&socket, &options);
+        let mut command = command(&socket, options);
         command.stderr(
             File::options()
                 .append(true)

@@ -3,6 +3,7 @@
 mod activity;
 mod alike;
 mod background;
+mod carrying;
 mod changes;
 mod common;
 mod crowd;

@@ -1,7 +1,7 @@
 //! What a file has, read without a store.
 
 use super::file::File;
-use super::{count, files_of, About, Error, Place, Result};
+use super::{check_volumes, count, files_of, About, Error, Place, Result};
 use crate::Batch;
 use std::collections::BTreeMap;
 use std::path::{Path, PathBuf};
@@ -59,11 +59,14 @@ pub fn read(path: impl AsRef<Path>) -> Result<Vec<Contents>> {
 /// file is 0.
 ///
 /// # Errors
-/// Those of [`read`]. [`Error::NotWithin`]: the file hasn't the entry.
+/// Those of [`read`]. [`Error::NotWithin`]: the file hasn't the entry. [`Error::NoVolume`]: there is no such volume.
 pub fn read_until(path: impl AsRef<Path>, until: &BTreeMap<u32, u64>) -> Result<Vec<Contents>> {
     let path = path.as_ref();
     let is_folder = path.is_dir();
     let volumes = if is_folder { count(path)? } else { 1 };
+    if volumes > 0 {
+        check_volumes(path, until, volumes)?;
+    }
     let read = |(volume, file): (u32, PathBuf)| {
         let read = Contents::read(&file, until.get(&volume).copied());
         read.map_err(|error| if is_folder { error.of_volume(volume) } else { error })

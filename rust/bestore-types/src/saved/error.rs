@@ -103,8 +103,17 @@ pub enum Error {
         until: u64,
         /// The last entry that the state contains.
         first: u64,
-        /// The last entry of the file.
+        /// The last entry that was read.
         last: u64,
+    },
+    /// What is to be read up to an entry has no such volume.
+    NoVolume {
+        /// The file or folder.
+        path: PathBuf,
+        /// The volume that was asked for.
+        volume: u32,
+        /// How many there are, from 0 on.
+        volumes: u32,
     },
     /// What the file has isn't what a store did.
     Differs {
@@ -290,15 +299,26 @@ impl fmt::Display for Error {
                  restore what is left by be restore --until {last}. If the file is an older copy, remove {0}-last",
                 path.display()
             ),
-            Error::NotWithin {
-                path,
-                until,
-                first,
-                last,
-            } => write!(
+            Error::NotWithin { path, until, first, .. } if until < first => write!(
                 f,
-                "{}: entry {until} can't be the last one; the file can be read up to any entry from {first} to {last}",
+                "{}: entry {until} can't be the last one: the file has the state after entry {first}, so {first} is the least",
                 path.display()
+            ),
+            Error::NotWithin { path, until, last, .. } => write!(
+                f,
+                "{}: entry {until} can't be the last one: the file ends with entry {last}",
+                path.display()
+            ),
+            Error::NoVolume { path, volume, volumes: 1 } => write!(
+                f,
+                "{}: there is no volume {volume}; the only one is 0",
+                path.display()
+            ),
+            Error::NoVolume { path, volume, volumes } => write!(
+                f,
+                "{}: there is no volume {volume}; the volumes are 0 to {}",
+                path.display(),
+                volumes.saturating_sub(1)
             ),
             Error::Differs { place, why } => {
                 write!(f, "{place}: the file has something that no store wrote: {why}")

@@ -17,7 +17,7 @@ pub use backup::Backup;
 pub use contents::{read, read_until, Contents};
 pub use error::{Error, Place};
 pub use file::About;
-pub use volumes::{count, files_of, path_of};
+pub use volumes::{check_volumes, count, files_of, path_of};
 
 /// The result of a call of this module.
 pub type Result<T> = std::result::Result<T, Error>;

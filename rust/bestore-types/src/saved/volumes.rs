@@ -1,6 +1,7 @@
 //! The files of several volumes: each in one of its own, in one folder.
 
 use super::{Error, Result};
+use std::collections::BTreeMap;
 use std::fs;
 use std::path::{Path, PathBuf};
 
@@ -16,6 +17,21 @@ pub fn files_of(place: &Path, volumes: u32) -> Vec<PathBuf> {
     match place.is_dir() {
         true => (0..volumes).map(|volume| path_of(place, volume)).collect(),
         false => vec![place.to_owned()],
+    }
+}
+
+/// Refuses entries up to which volumes are to be read, if there aren't so many volumes at the path.
+///
+/// # Errors
+/// [`Error::NoVolume`] with the first that isn't there.
+pub fn check_volumes(path: &Path, until: &BTreeMap<u32, u64>, volumes: u32) -> Result<()> {
+    match until.range(volumes..).next() {
+        Some((&volume, _)) => Err(Error::NoVolume {
+            path: path.to_owned(),
+            volume,
+            volumes,
+        }),
+        None => Ok(()),
     }
 }
 

@@ -37,8 +37,8 @@ pub use bestore_types::saved::{files_of, About, Backup, Error, Place, Result, TO
 pub use shelf::SavedShelf;
 
 use crate::{Batch, Limits, Pass, Shelf, Snapshot, Store};
-use bestore_types::saved::count;
 use bestore_types::saved::file::{self, File};
+use bestore_types::saved::{check_volumes, count};
 use queue::Queue;
 use std::collections::BTreeMap;
 use std::path::{Path, PathBuf};
@@ -145,12 +145,15 @@ impl Options {
     /// kept nowhere. The limits are those of each volume.
     ///
     /// # Errors
-    /// Those of [`open`](Self::open) and [`open_shelf`](Self::open_shelf), but for a full disk. [`Error::NotWithin`]: the file hasn't the
-    /// entry that [`until`](Self::until) names.
+    /// Those of [`open`](Self::open) and [`open_shelf`](Self::open_shelf), but for a full disk. [`Error::NotWithin`],
+    /// [`Error::NoVolume`]: the file hasn't the entry that [`until`](Self::until) names, or there is no such volume.
     pub fn load(&self, path: impl AsRef<Path>) -> Result<Shelf> {
         let path = path.as_ref();
         let is_folder = path.is_dir();
         let count = if is_folder { count(path)? } else { 1 };
+        if count > 0 {
+            check_volumes(path, &self.until, count)?;
+        }
         let load = |(volume, file): (u32, PathBuf)| {
             let loaded = self.load_file(&file, self.until.get(&volume).copied());
             loaded.map_err(|error| if is_folder { error.of_volume(volume) } else { error })
@@ -205,13 +208,10 @@ fn load(file: &File, store: &Store, until: u64) -> Result<u64> {
 /// Applies an entry, and compares its outcome with the one that the file has.
 fn repeat(pass: &Pass, number: u64, batch: &Batch) -> Result<()> {
     let place = Place::Entry(number);
-    let written = pass.apply(batch).map_err(|error| Error::refused(place, error))?;
-    let mut repeated = batch.clone();
-    repeated.set_nodes(&written.nodes);
-    if repeated == *batch {
-        Ok(())
-    } else {
-        Err(Error::differs(place, "it makes other nodes now"))
+    match pass.repeat(batch) {
+        Ok(true) => Ok(()),
+        Ok(false) => Err(Error::differs(place, "it makes other nodes now")),
+        Err(error) => Err(Error::refused(place, error)),
     }
 }
 
@@ -230,6 +230,12 @@ fn renew(file: &mut File, snapshot: &Snapshot<'_>, number: u64) -> Result<()> {
     }
 }
 
+/// The number of the snapshot, its next node, and the batches that make it again.
+fn copy_state(snapshot: &Snapshot<'_>) -> crate::Result<(u64, u64, Vec<Batch>)> {
+    let batches = snapshot.state().collect::<crate::Result<_>>()?;
+    Ok((snapshot.number(), snapshot.next_node()?, batches))
+}
+
 /// A store whose writes are kept in a file. It closes the file when it is dropped.
 #[derive(Debug)]
 pub struct Saved {
@@ -239,6 +245,12 @@ pub struct Saved {
 }
 
 impl Saved {
+    /// The store in memory. What its own passes write isn't saved.
+    #[must_use]
+    pub fn store(&self) -> &Store {
+        &self.store
+    }
+
     /// Takes a pass, whose writes are saved.
     ///
     /// # Errors
@@ -269,18 +281,17 @@ impl Saved {
     }
 
     /// Writes the current snapshot into the file, in the place of the state and of the entries that it contains. Writes go on
-    /// meanwhile, and are saved after it. A new pass waits until it is done.
+    /// meanwhile, and are saved after it. It takes the memory of the state's batches.
     ///
     /// # Errors
     /// Those of [`flush`](Self::flush); [`Error::DiskFull`], [`Error::Sqlite`]: the file is as it was.
     pub fn compact(&self) -> Result<()> {
-        let mut own = self.store.own()?;
-        let snapshot = own.pin()?;
-        let number = self.queue.number_in_file(snapshot.number());
+        // The pass is given up before the queue is locked, since a writer that has locked it may wait for the pass.
+        let (commit, next, batches) = copy_state(&self.store.spare()?.pin()?)?;
+        let number = self.queue.number_in_file(commit);
         self.queue.flush(Some(number))?;
-        let next = snapshot.next_node()?;
         self.queue
-            .with_file(|file| file.write_state(number, next, snapshot.state()))
+            .with_file(|file| file.write_state(number, next, batches.into_iter().map(Ok)))
     }
 
     /// Whether the entries since the state take more bytes of the file than the state and 1 MiB, so that [`compact`](Self::compact)

@@ -74,6 +74,12 @@ impl SavedShelf {
         &self.volumes
     }
 
+    /// The volumes in memory. What their own passes write isn't saved.
+    #[must_use]
+    pub fn shelf(&self) -> &Shelf {
+        &self.shelf
+    }
+
     /// Takes the tokens of each volume, as [`Saved::take_tokens`].
     pub fn take_tokens(&mut self) -> Vec<Vec<super::Token>> {
         self.volumes.iter_mut().map(Saved::take_tokens).collect()

@@ -94,6 +94,40 @@ impl Shelf {
         &self.volumes
     }
 
+    /// Carries those volumes on for which it [is due](Store::is_due), one after another, as [`Store::carry_on`].
+    ///
+    /// # Errors
+    /// As that, of the first volume that can't be carried on. The others are.
+    pub fn carry_on_if_due(&self) -> Result<()> {
+        let mut outcome = Ok(());
+        for (volume, store) in (0..).zip(&self.volumes) {
+            if store.is_due() {
+                outcome = outcome.and(store.carry_on().map_err(|error| self.error(volume, error)));
+            }
+        }
+        outcome
+    }
+
+    /// Whether a volume is to be carried on, as [`Store::is_due`].
+    #[must_use]
+    pub fn is_due(&self) -> bool {
+        self.volumes.iter().any(Store::is_due)
+    }
+
+    /// Whether a pass still has what was carried on, as [`Store::is_read_before`].
+    #[must_use]
+    pub fn is_read_before(&self) -> bool {
+        self.volumes.iter().any(Store::is_read_before)
+    }
+
+    /// An error of one volume, with the volume if there are several.
+    fn error(&self, volume: u32, error: Error) -> Error {
+        match self.volumes.len() {
+            1 => error,
+            _ => error.in_volume(volume),
+        }
+    }
+
     /// Takes a pass of each volume.
     ///
     /// # Errors
@@ -104,13 +138,8 @@ impl Shelf {
 
     /// The pass of the shelf that these passes of its volumes make.
     pub(crate) fn pass_of(&self, passes: impl Iterator<Item = Result<Pass>>) -> Result<ShelfPass> {
-        let several = self.volumes.len() > 1;
-        let passes = (0..).zip(passes).map(|(volume, pass)| {
-            pass.map_err(|error| match several {
-                true => error.in_volume(volume),
-                false => error,
-            })
-        });
+        let passes = (0..).zip(passes);
+        let passes = passes.map(|(volume, pass)| pass.map_err(|error| self.error(volume, error)));
         Ok(ShelfPass::new(passes.collect::<Result<_>>()?, self.indexing.clone()))
     }
 }

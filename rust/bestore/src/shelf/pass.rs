@@ -101,6 +101,18 @@ impl ShelfPass {
         self.volumes.iter_mut().for_each(Pass::release);
     }
 
+    /// Lets go of what was carried on of each volume, as [`Pass::follow`].
+    ///
+    /// # Errors
+    /// As that.
+    pub fn follow(&mut self) -> Result<bool> {
+        let mut has_followed = false;
+        for pass in &mut self.volumes {
+            has_followed |= pass.follow()?;
+        }
+        Ok(has_followed)
+    }
+
     /// Writes all operations of the batch or none, in the volume of the nodes that they name. If they name none, the volume with the
     /// most free pages is taken.
     ///

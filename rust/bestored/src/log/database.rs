@@ -17,7 +17,7 @@ use tokio_postgres::{AsyncMessage, Client, Config, NoTls, Row as SqlRow, Socket,
 const FORMAT: i32 = 1;
 
 /// How long a call may take. PostgreSQL gives a statement up a little sooner.
-const LIMIT: Duration = Duration::from_secs(8);
+const LIMIT: Duration = Duration::from_secs(7);
 
 /// The most entries that are read at once.
 pub const ENTRIES: usize = 500;
@@ -28,7 +28,7 @@ const SPARE: u64 = 10_000;
 /// A leader whose machine is gone is given up by PostgreSQL after some 11 seconds, so that another one can lead. An answered
 /// write is on PostgreSQL's disk, whatever the default of the database is.
 const SETTINGS: &str = "
-    SET statement_timeout = '7s';
+    SET statement_timeout = '6s';
     SET tcp_keepalives_idle = 5;
     SET tcp_keepalives_interval = 2;
     SET tcp_keepalives_count = 3;

@@ -20,8 +20,9 @@ const LOOK: Duration = Duration::from_millis(100);
 /// How often a leader that has nothing to write looks whether it still leads.
 const LEADING: Duration = Duration::from_secs(1);
 
-/// After so many seconds without a word of the leader a follower takes over. A call of the database takes less.
-const LEASE: f64 = 10.0;
+/// After so many seconds without a word of the leader a follower takes over, so that one leads 10 seconds after a leader was paused. A call
+/// of the database that begins a second after the last word takes less.
+const LEASE: f64 = 9.0;
 
 /// How long a follower lets the leader come back after the connection to the database has broken.
 const GRACE: Duration = Duration::from_secs(3);
@@ -174,6 +175,7 @@ impl Member {
         self.database.listen().await?;
         let mut looked = None;
         while !self.line.is_closing() {
+            self.pass.follow()?;
             self.tried = Instant::now();
             if self.apply_some(Some(shared)).await? == ENTRIES {
                 continue;
@@ -250,6 +252,7 @@ impl Member {
         }
         if let (Some(shared), false) = (shared, entries.is_empty()) {
             shared.watcher.written();
+            shared.carrying.written(&shared.kept);
         }
         Ok(entries.len())
     }
@@ -305,6 +308,7 @@ impl Member {
         shared.watcher.written();
         loop {
             self.write_state_if_due(shared);
+            self.pass.follow()?;
             if self.line.is_at_end() {
                 return Ok(Turn::End);
             }

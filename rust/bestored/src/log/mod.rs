@@ -106,6 +106,11 @@ impl Log {
         })
     }
 
+    /// The store as the one volume of the server.
+    pub fn shelf(&self) -> &Shelf {
+        &self.shelf
+    }
+
     /// Takes a pass, whose writes are added to the log.
     pub fn pass(&self) -> bestore::Result<ShelfPass> {
         Ok(self.shelf.pass()?.kept_by(|_| self.line.clone()))

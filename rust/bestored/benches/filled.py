@@ -1,0 +1,39 @@
+"""A store of 60,000 nodes in five volumes, as the programs beside this one measure it."""
+from __future__ import annotations
+
+from typing import List
+
+import bestore
+from bestore import Batch
+
+NODES = 60_000
+VOLUMES = 5
+STEP = 16
+"""How many nodes a batch makes."""
+
+
+def node_in(volume: int, number: int) -> int:
+    """The node with this number in the volume."""
+    return volume * 10**14 + number
+
+
+def node(number: int) -> int:
+    """The node with this number, from 0 on. The volumes take turns."""
+    return node_in(number % VOLUMES, number // VOLUMES + 1)
+
+
+def fill(socket: str) -> List[int]:
+    """Makes the nodes. Returns the commit number of each volume."""
+    with bestore.connect(socket) as store:
+        store.make_index("name", bestore.Kind.STRING)
+        for number in range(NODES // STEP):
+            volume, first = number % VOLUMES, number // VOLUMES * STEP + 1
+            batch = Batch()
+            for made in range(first, first + STEP):
+                batch.new_node()
+                batch.set(node_in(volume, made), "name", f"file {made}")
+                batch.set(node_in(volume, made), "count", 0)
+                batch.set(node_in(volume, made), "text", "some words " * 3)
+            store.apply(batch, volume=volume)
+        with store.pin() as version:
+            return list(version.numbers)

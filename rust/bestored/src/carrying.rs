@@ -1,0 +1,85 @@
+//! Carries the volumes on whose journals have grown, so that their memory is freed. A thread does it, and sees to it that nobody keeps what
+//! was carried on.
+
+use crate::kept::Kept;
+use crate::server::Shared;
+use bestore::Error;
+use std::sync::{Condvar, Mutex, MutexGuard, PoisonError, TryLockError};
+use std::time::Duration;
+
+/// How often the thread looks who still has what was carried on.
+const LOOK: Duration = Duration::from_millis(100);
+
+#[derive(Debug, Default)]
+struct State {
+    is_due: bool,
+    is_ending: bool,
+}
+
+/// What the thread waits for.
+#[derive(Debug, Default)]
+pub struct Carrying {
+    state: Mutex<State>,
+    wake: Condvar,
+}
+
+impl Carrying {
+    fn lock(&self) -> MutexGuard<'_, State> {
+        self.state.lock().unwrap_or_else(PoisonError::into_inner)
+    }
+
+    /// Something was written.
+    pub fn written(&self, kept: &Kept) {
+        if kept.shelf().is_due() {
+            self.lock().is_due = true;
+            self.wake.notify_one();
+        }
+    }
+
+    /// Ends [`run`](Self::run).
+    pub fn end(&self) {
+        self.lock().is_ending = true;
+        self.wake.notify_one();
+    }
+
+    /// Carries volumes on until the end.
+    pub fn run(&self, shared: &Shared) {
+        let shelf = shared.kept.shelf();
+        while self.wait(shelf.is_read_before()) {
+            match shelf.carry_on_if_due().map_err(Error::without_volume) {
+                Ok(()) => {}
+                Err(Error::InUse) => shared.pressure.waits(),
+                Err(error) => eprintln!("bestored: the journal in memory can't be made shorter now: {error}"),
+            }
+            release(shared);
+        }
+    }
+
+    /// Waits until there may be something to do, also for others if they have the earlier memory. Returns `false` at the end.
+    fn wait(&self, is_read_before: bool) -> bool {
+        let mut state = self.lock();
+        if is_read_before && !state.is_ending {
+            let waited = self.wake.wait_timeout_while(state, LOOK, |state| !state.is_ending);
+            state = waited.unwrap_or_else(PoisonError::into_inner).0;
+        } else {
+            let wake = self.wake.wait_while(state, |state| !state.is_due && !state.is_ending);
+            state = wake.unwrap_or_else(PoisonError::into_inner);
+        }
+        state.is_due = false;
+        !state.is_ending
+    }
+}
+
+/// Lets the passes of the server itself go on from the earlier memory. Those of clients do so between requests.
+fn release(shared: &Shared) {
+    shared.watcher.wake();
+    let visits = match shared.visits.try_lock() {
+        Ok(visits) => Some(visits),
+        Err(TryLockError::Poisoned(poisoned)) => Some(poisoned.into_inner()),
+        Err(TryLockError::WouldBlock) => None,
+    };
+    if let Some(mut pass) = visits {
+        // What fails is tried again.
+        let _ = pass.follow();
+    }
+}
