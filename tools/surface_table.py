@@ -126,6 +126,7 @@ class Surface:
     server_faults: list[ServerFault]
     operations: list[Numbered]
     items: list[Numbered]
+    helpers: dict[str, list[str]]
     exports: dict[str, list[str]]
 
     @property
@@ -135,7 +136,13 @@ class Surface:
 
     @property
     def calls(self) -> list[str]:
+        """The calls of the library, which are proved."""
         return [call for calls in self.exports.values() for call in calls]
+
+    @property
+    def all_helpers(self) -> list[str]:
+        """The helpers of the library, which are plain C."""
+        return [call for calls in self.helpers.values() for call in calls]
 
 
 Row = TypeVar("Row", Class, Kind, Fault, ServerFault, Numbered)
@@ -193,7 +200,7 @@ def check(surface: Surface) -> None:
     for part, rows in (("operations", surface.operations), ("items", surface.items)):
         if [it.number for it in rows] != list(range(len(rows))):
             raise Wrong(f"surface.toml: the {part} are numbered from 0, without a gap and in their order")
-    once("exports", "call", surface.calls)
+    once("exports and helpers", "call", [*surface.calls, *surface.all_helpers])
     check_texts(surface)
 
 
@@ -211,6 +218,7 @@ def load(path: Path = TABLE) -> Surface:
         server_faults=rows_of(ServerFault, "server_errors", found["server_errors"]),
         operations=rows_of(Numbered, "operations", named("c", found["operations"])),
         items=rows_of(Numbered, "items", named("c", found["items"])),
+        helpers=found["helpers"],
         exports=found["exports"],
     )
     check(surface)

@@ -77,9 +77,9 @@ def cases(kinds: Iterable[Kind]) -> str:
 
 
 def c_map(surface: Surface) -> str:
-    """The map by which the shared library exports its calls."""
-    parts = [f"        /* {version} */\n" + lines(f"        {call};" for call in calls)
-             for version, calls in surface.exports.items()]
+    """The map by which the shared library exports its calls and helpers."""
+    parts = [f"        /* {version}{what} */\n" + lines(f"        {call};" for call in calls)
+             for what, table in (("", surface.exports), (", helpers", surface.helpers)) for version, calls in table.items()]
     return f"/* {NOTE} */\n{{\n    global:\n{''.join(parts)}    local: *;\n}};\n"
 
 
@@ -315,10 +315,10 @@ REGIONS: dict[tuple[str, str], Callable[[Surface], str]] = {
     ("include/bestore.h", "kinds"): c_kinds,
     ("include/bestore.h", "operations"): c_operations,
     ("include/bestore.h", "items"): c_items,
-    ("include/bestore_helpers.h", "meanings"): c_meanings,
-    ("include/bestore_helpers.h", "kinds"): lambda it: cases(it.kinds),
-    ("include/bestore_helpers.h", "kinds of numbers"): lambda it: cases(kind for kind in it.kinds if kind.is_number),
-    ("include/bestore_helpers.h", "kinds with a sign"): lambda it: cases(kind for kind in it.kinds if kind.sign),
+    ("c/library/errors.c", "meanings"): c_meanings,
+    ("c/library/kinds.h", "kinds"): lambda it: cases(it.kinds),
+    ("c/library/indices.c", "kinds of numbers"): lambda it: cases(kind for kind in it.kinds if kind.is_number),
+    ("c/library/kinds.h", "kinds with a sign"): lambda it: cases(kind for kind in it.kinds if kind.sign),
     ("include/bestore_values.hpp", "kinds"): cpp_kinds,
     ("include/bestore_values.hpp", "names of kinds"): cpp_kind_names,
     ("rust/bestore-sys/src/lib.rs", "constants"): rust_constants,
