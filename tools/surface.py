@@ -92,6 +92,7 @@ def described(surface: Surface) -> dict[str, str]:
     rows += [(it.c, f"0x{it.type_code:08x}") for it in surface.kinds]
     rows += [(f"BES_{it.c}", str(it.number)) for it in surface.operations]
     rows += [(f"BES_ITEM_{it.c}", str(it.number)) for it in surface.items]
+    rows += [(f"BES_FORM_{it.c}", str(it.number)) for it in surface.forms]
     return dict(rows)
 
 
@@ -127,7 +128,8 @@ def wanted_files(surface: Surface) -> dict[str, str]:
     calls = prototypes(wanted[HEADER])
     helpers = helpers_in((ROOT / path).read_text() for path in HELPERS)
     check_calls(HEADER, calls, "exports", surface.calls)
-    check_calls(BINDINGS, re.findall(r"^    pub fn (bes_\w+)\(", wanted[BINDINGS], re.M), "exports", surface.calls)
+    bindings = re.findall(r"^    pub fn (bes_\w+)\(", (ROOT / BINDINGS).read_text(), re.M)
+    check_calls(BINDINGS, bindings, "exports", surface.calls)
     check_calls(" and ".join(HELPERS), helpers, "helpers", surface.all_helpers)
     wanted[ABI] = with_abi(surface, (ROOT / ABI).read_text(), calls, helpers)
     return wanted

@@ -109,7 +109,7 @@ class ServerFault:
 
 @dataclass(frozen=True)
 class Numbered:
-    """An operation or an item."""
+    """An operation, an item or a form."""
 
     number: int
     c: str
@@ -126,6 +126,7 @@ class Surface:
     server_faults: list[ServerFault]
     operations: list[Numbered]
     items: list[Numbered]
+    forms: list[Numbered]
     helpers: dict[str, list[str]]
     exports: dict[str, list[str]]
 
@@ -197,7 +198,7 @@ def check(surface: Surface) -> None:
     once("kinds", "code", (it.code for it in surface.kinds))
     once("errors", "number", (it.number for it in surface.faults))
     once("errors", "name", (it.name for it in surface.all_faults))
-    for part, rows in (("operations", surface.operations), ("items", surface.items)):
+    for part, rows in (("operations", surface.operations), ("items", surface.items), ("forms", surface.forms)):
         if [it.number for it in rows] != list(range(len(rows))):
             raise Wrong(f"surface.toml: the {part} are numbered from 0, without a gap and in their order")
     once("exports and helpers", "call", [*surface.calls, *surface.all_helpers])
@@ -218,6 +219,7 @@ def load(path: Path = TABLE) -> Surface:
         server_faults=rows_of(ServerFault, "server_errors", found["server_errors"]),
         operations=rows_of(Numbered, "operations", named("c", found["operations"])),
         items=rows_of(Numbered, "items", named("c", found["items"])),
+        forms=rows_of(Numbered, "forms", named("c", found["forms"])),
         helpers=found["helpers"],
         exports=found["exports"],
     )

@@ -60,6 +60,10 @@ def c_items(surface: Surface) -> str:
     return enum([(f"BES_ITEM_{it.c}", str(it.number), it.about) for it in surface.items])
 
 
+def c_forms(surface: Surface) -> str:
+    return enum([(f"BES_FORM_{it.c}", str(it.number), it.about) for it in surface.forms])
+
+
 def c_meaning(fault: Fault) -> str:
     """A row of the table of bes_strerror."""
     texts = [f"{fault.what}; ", fault.advice] if fault.advice else [fault.what]
@@ -109,6 +113,7 @@ def rust_constants(surface: Surface) -> str:
         [code(it) for it in surface.kinds],
         numbered("BES_", surface.operations),
         numbered("BES_ITEM_", surface.items),
+        numbered("BES_FORM_", surface.forms),
     ]
     return "\n".join(lines(block) for block in blocks)
 
@@ -315,13 +320,13 @@ REGIONS: dict[tuple[str, str], Callable[[Surface], str]] = {
     ("include/bestore.h", "kinds"): c_kinds,
     ("include/bestore.h", "operations"): c_operations,
     ("include/bestore.h", "items"): c_items,
+    ("include/bestore.h", "forms"): c_forms,
     ("c/library/errors.c", "meanings"): c_meanings,
     ("c/library/kinds.h", "kinds"): lambda it: cases(it.kinds),
     ("c/library/indices.c", "kinds of numbers"): lambda it: cases(kind for kind in it.kinds if kind.is_number),
     ("c/library/kinds.h", "kinds with a sign"): lambda it: cases(kind for kind in it.kinds if kind.sign),
     ("include/bestore_values.hpp", "kinds"): cpp_kinds,
     ("include/bestore_values.hpp", "names of kinds"): cpp_kind_names,
-    ("rust/bestore-sys/src/lib.rs", "constants"): rust_constants,
     ("rust/bestore-types/src/sys.rs", "constants"): rust_constants,
     ("rust/bestore-types/src/class.rs", "classes"): rust_classes,
     ("rust/bestore-types/src/class.rs", "errors"): rust_meanings,

@@ -265,6 +265,9 @@ HELPER(size_t, bes_to_utf8, const char *, size_t, char *, size_t)
 HELPER(int, bes_print_caret, FILE *, const char *, uint64_t)
 HELPER(uint32_t, bes_cursor_at, const bes_attribute *, const void *, uint64_t, bes_cursor *)
 HELPER(uint32_t, bes_cursor_value, const bes_cursor *, bes_attribute *, uint8_t *, size_t, uint64_t *)
+NUMBER(BES_FORM_TEXT, 0)
+NUMBER(BES_FORM_NUMBER, 1)
+NUMBER(BES_FORM_PATTERN, 2)
 
 int main(void)
 {

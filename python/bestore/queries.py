@@ -55,13 +55,19 @@ class Prepared(Owner):
 
     @property
     def comparisons(self) -> List[Comparison]:
-        """The comparisons of the canonical text, from left to right."""
+        """The comparisons of the canonical text, from left to right. `TooLong` if that has more than 4,096 bytes, as it may of a
+        query that is nearly as long."""
         return comparisons(self.text)
 
     @property
     def names(self) -> List[str]:
         """The names that are compared, each once, from left to right."""
-        return list(dict.fromkeys(comparison.name for comparison in self.comparisons))
+        found = (one.name for one in comparisons(self._asked_text())) if self.source is not None else self._item_names()
+        return list(dict.fromkeys(found))
+
+    def _item_names(self) -> List[str]:
+        """The names among the items from which the query was made. `Closed` if it is closed."""
+        raise NotImplementedError
 
 
 def prepare(text: str) -> Prepared:
