@@ -48,15 +48,15 @@ class PreparedQuery(HandleOwner, Prepared):
         self.source = source
         self._named = [str(item) for item in items if isinstance(item, Name)]
         self._refreshing = threading.RLock()
-        self._is_in_library = False
+        self._seen: Set[int] = set()
+        self._is_in_library = True
         self._refreshed_in: Optional[object] = None
-        self._seen: Optional[Set[int]] = None
         self._known_check: Optional[int] = None  # of cursors
 
     def close(self) -> None:
         """Gives the query up, if it is still there."""
         self._give_up(calls.bes_release)
-        self._seen = None
+        self._seen = set()
 
     @property
     def text(self) -> str:

@@ -36,7 +36,7 @@ from ._connected_errors import (
 from ._connected_queries import MOST_NAMES, QueriedVersion
 from ._connection import Connection
 from ._journal import line_of
-from ._refreshes import refreshed
+from ._refreshes import refreshed_by_all
 from ._saved_errors import NotSaved, Stopped
 from ._socket_path import SocketPath
 from ._wire import (
@@ -161,7 +161,7 @@ class ConnectedVersion(QueriedVersion):
     def refresh(self, prepared: Prepared) -> Tuple[List[int], List[int]]:
         """As in a version of a store in this process, up to this version. All nodes of the query come through the socket,
         and the program's memory has them until the query is closed. By `ConnectedPass.watch` only the changes come."""
-        return refreshed(prepared, self)
+        return refreshed_by_all(prepared, self)
 
     def indices(self) -> Dict[str, Kind]:
         return self._ask("indices", {}, _read_indices)

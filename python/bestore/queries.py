@@ -31,9 +31,9 @@ class Prepared(Owner):
     source: Optional[str]
     """The text that it was prepared from, or None if it was prepared from items."""
     _refreshing: threading.RLock  # who has it refreshes the query, and it guards what follows
-    _is_in_library: bool  # whether the library has the nodes of the last refresh
-    _refreshed_in: Optional[object]  # the store of that refresh
-    _seen: Optional[Set[int]]  # these nodes, if the last refresh was in a version of a server
+    _seen: Set[int]  # the nodes of the last refresh
+    _is_in_library: bool  # whether the library has these, so that its next refresh says what changed
+    _refreshed_in: Optional[object]  # the store of the library's last refresh
 
     def _check_process(self) -> None:
         """Raises `Forked` if the query is of the process that this one was forked from."""
