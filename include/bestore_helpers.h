@@ -152,6 +152,7 @@ static inline uint32_t bes_batch_set_raw(bes_batch *batch, uint64_t node, const 
     return bes_batch_add(batch, BES_SET, node, name, BES_RAW_TYPE, 0, value, length);
 }
 
+/* surface.toml: setters of a batch */
 static inline uint32_t bes_batch_set_int32(bes_batch *batch, uint64_t node, const char *name, int32_t value)
 {
     return bes_batch_add(batch, BES_SET, node, name, BES_INT32_TYPE, (uint64_t)(int64_t)value, NULL, 0);
@@ -171,6 +172,7 @@ static inline uint32_t bes_batch_set_uint64(bes_batch *batch, uint64_t node, con
 {
     return bes_batch_add(batch, BES_SET, node, name, BES_UINT64_TYPE, value, NULL, 0);
 }
+/* surface.toml: end */
 
 static inline uint32_t bes_batch_unset(bes_batch *batch, uint64_t node, const char *name)
 {
@@ -470,6 +472,7 @@ static inline uint32_t bes_set_raw(bes_pass *pass, uint64_t node, const char *na
     return bes_apply_one(pass, BES_SET, node, name, BES_RAW_TYPE, 0, value, length, NULL);
 }
 
+/* surface.toml: setters */
 static inline uint32_t bes_set_int32(bes_pass *pass, uint64_t node, const char *name, int32_t value)
 {
     return bes_apply_one(pass, BES_SET, node, name, BES_INT32_TYPE, (uint64_t)(int64_t)value, NULL, 0, NULL);
@@ -489,6 +492,7 @@ static inline uint32_t bes_set_uint64(bes_pass *pass, uint64_t node, const char 
 {
     return bes_apply_one(pass, BES_SET, node, name, BES_UINT64_TYPE, value, NULL, 0, NULL);
 }
+/* surface.toml: end */
 
 static inline uint32_t bes_unset(bes_pass *pass, uint64_t node, const char *name)
 {

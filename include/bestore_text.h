@@ -92,6 +92,7 @@ static inline bool bes_is_never_true(const bes_index_list *list, const bes_compa
 {
     const bes_operation *index = bes_index_of(list, comparisons, comparison);
     switch (index == NULL ? 0 : index->code) {
+    /* surface.toml: never true */
     case BES_INT32_TYPE:
         return comparison->is_never_int32;
     case BES_INT64_TYPE:
@@ -100,6 +101,7 @@ static inline bool bes_is_never_true(const bes_index_list *list, const bes_compa
         return comparison->is_never_uint32;
     case BES_UINT64_TYPE:
         return comparison->is_never_uint64;
+    /* surface.toml: end */
     default:
         return false;
     }

@@ -51,6 +51,8 @@ class Kind:
     printed: str
     about: str = ""
     sign: Optional[bool] = None
+    bits: int = 0
+    python_class: str = ""
 
     @property
     def type_code(self) -> int:
@@ -131,6 +133,11 @@ class Surface:
     exports: dict[str, list[str]]
 
     @property
+    def numbers(self) -> list[Kind]:
+        """The kinds of integers."""
+        return [it for it in self.kinds if it.is_number]
+
+    @property
     def all_faults(self) -> list[Fault | ServerFault]:
         """Those of the library, and then those of a server."""
         return [*self.faults, *self.server_faults]
@@ -194,6 +201,8 @@ def check(surface: Surface) -> None:
     for kind in surface.kinds:
         if not re.fullmatch("[A-Z]{4}", kind.code):
             raise Wrong(f"surface.toml: a type code has four capitals, and that of {kind.name} is {kind.code!r}")
+        if kind.is_number != (kind.bits > 0) or kind.is_number != (kind.python_class != ""):
+            raise Wrong(f"surface.toml: an integer has sign, bits and python_class, and {kind.name} only some of them")
     once("kinds", "number", (it.number for it in surface.kinds))
     once("kinds", "code", (it.code for it in surface.kinds))
     once("errors", "number", (it.number for it in surface.faults))

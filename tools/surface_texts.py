@@ -80,6 +80,24 @@ def cases(kinds: Iterable[Kind]) -> str:
     return lines(f"    case {it.c}:" for it in kinds)
 
 
+def c_bits(surface: Surface) -> str:
+    return lines(f"    case {it.c}:\n        return {it.bits};" for it in surface.numbers)
+
+
+def c_never_true(surface: Surface) -> str:
+    return lines(f"    case {it.c}:\n        return comparison->is_never_{it.tool};" for it in surface.numbers)
+
+
+def c_setters(prefix: str, first: str, call: str, last: str) -> Callable[[Surface], str]:
+    """Functions that set an attribute to an integer: how their names begin, their first parameter, what they call, and its last
+    arguments."""
+    def setter(it: Kind) -> str:
+        number = "value" if not it.sign else "(uint64_t)value" if it.bits == 64 else "(uint64_t)(int64_t)value"
+        return (f"static inline uint32_t {prefix}{it.tool}({first}, uint64_t node, const char *name, {it.tool}_t value)\n{{\n"
+                f"    return {call}, BES_SET, node, name, {it.c}, {number}, NULL, 0{last});\n}}\n")
+    return lambda surface: "\n".join(map(setter, surface.numbers))
+
+
 def c_map(surface: Surface) -> str:
     """The map by which the shared library exports its calls and helpers."""
     parts = [f"        /* {version}{what} */\n" + lines(f"        {call};" for call in calls)
@@ -143,6 +161,20 @@ def rust_kinds(surface: Surface) -> str:
         traits = f"{str(it.indexable).lower()}, {str(it.is_number).lower()}"
         return f'    /// {it.rust_about}\n    {it.rust} = {it.c}, "{it.code}", "{it.shown}", {traits};'
     return lines(map(row, surface.kinds))
+
+
+def rust_least(surface: Surface) -> str:
+    def least(it: Kind) -> str:
+        return "0" if not it.sign else "i64::MIN" if it.bits == 64 else f"i{it.bits}::MIN.into()"
+    others = " | ".join(f"Kind::{it.rust}" for it in surface.kinds if not it.is_number)
+    arms = [f"            Kind::{it.rust} => Some({least(it)})," for it in surface.numbers]
+    return lines([*arms, f"            {others} => None,"])
+
+
+def rust_never_true(surface: Surface) -> str:
+    others = " | ".join(f"Kind::{it.rust}" for it in surface.kinds if not it.is_number)
+    arms = [f"        Kind::{it.rust} => one.is_never_{it.tool}," for it in surface.numbers]
+    return lines([*arms, f"        {others} => false,"])
 
 
 def rust_kind_names(surface: Surface) -> str:
@@ -254,7 +286,8 @@ def python_imports(surface: Surface) -> str:
 
 def python_all(surface: Surface) -> str:
     server = [it.name for it in surface.server_faults if it.python]
-    return wrapped_names([*(it.exception for it in surface.faults), *server], '"')
+    kinds = [*(it.python for it in surface.kinds), *(it.python_class for it in surface.numbers)]
+    return wrapped_names([*(it.exception for it in surface.faults), *server, *kinds], '"')
 
 
 def python_server_imports(surface: Surface) -> str:
@@ -270,6 +303,27 @@ def python_server_exceptions(surface: Surface) -> str:
 
 def python_kinds(surface: Surface) -> str:
     return lines(f"    {it.python} = 0x{it.type_code:08X}" for it in surface.kinds)
+
+
+def python_ranges(surface: Surface) -> str:
+    def numbers(it: Kind) -> str:
+        return f"-(2**{it.bits - 1}), 2**{it.bits - 1}" if it.sign else f"2**{it.bits}"
+    return lines(f"    Kind.{it.python}: range({numbers(it)})," for it in surface.numbers)
+
+
+def python_integers(surface: Surface) -> str:
+    def integer(it: Kind) -> str:
+        about = f"An integer of {it.bits} bits with{'' if it.sign else 'out'} a sign."
+        return f'class {it.python_class}(Integer):\n    """{about}"""\n\n    kind = Kind.{it.python}\n'
+    return "\n\n".join(map(integer, surface.numbers))
+
+
+def python_constants(surface: Surface) -> str:
+    return lines(f"{it.python} = Kind.{it.python}" for it in surface.kinds)
+
+
+def python_integer_imports(surface: Surface) -> str:
+    return wrapped_names(it.python_class for it in surface.numbers)
 
 
 def native_kinds(surface: Surface) -> str:
@@ -323,14 +377,19 @@ REGIONS: dict[tuple[str, str], Callable[[Surface], str]] = {
     ("include/bestore.h", "forms"): c_forms,
     ("c/library/errors.c", "meanings"): c_meanings,
     ("c/library/kinds.h", "kinds"): lambda it: cases(it.kinds),
-    ("c/library/indices.c", "kinds of numbers"): lambda it: cases(kind for kind in it.kinds if kind.is_number),
+    ("c/library/kinds.h", "bits"): c_bits,
     ("c/library/kinds.h", "kinds with a sign"): lambda it: cases(kind for kind in it.kinds if kind.sign),
+    ("include/bestore_helpers.h", "setters of a batch"): c_setters("bes_batch_set_", "bes_batch *batch", "bes_batch_add(batch", ""),
+    ("include/bestore_helpers.h", "setters"): c_setters("bes_set_", "bes_pass *pass", "bes_apply_one(pass", ", NULL"),
+    ("include/bestore_text.h", "never true"): c_never_true,
     ("include/bestore_values.hpp", "kinds"): cpp_kinds,
     ("include/bestore_values.hpp", "names of kinds"): cpp_kind_names,
     ("rust/bestore-types/src/sys.rs", "constants"): rust_constants,
     ("rust/bestore-types/src/class.rs", "classes"): rust_classes,
     ("rust/bestore-types/src/class.rs", "errors"): rust_meanings,
     ("rust/bestore-types/src/kind.rs", "kinds"): rust_kinds,
+    ("rust/bestore-types/src/kind.rs", "least values"): rust_least,
+    ("rust/bestore/src/hints.rs", "never true"): rust_never_true,
     ("rust/bestore-client/src/wire/value.rs", "names of kinds"): rust_kind_names,
     ("rust/bestore-client/src/wire/value.rs", "list of kinds"): rust_kind_list,
     ("rust/bestore-client/src/wire/error_name.rs", "errors"): rust_error_names,
@@ -340,6 +399,10 @@ REGIONS: dict[tuple[str, str], Callable[[Surface], str]] = {
     ("python/bestore/__init__.py", "exceptions of a server"): python_server_imports,
     ("python/bestore/__init__.py", "names"): python_all,
     ("python/bestore/values.py", "kinds"): python_kinds,
+    ("python/bestore/values.py", "ranges"): python_ranges,
+    ("python/bestore/values.py", "classes of integers"): python_integers,
+    ("python/bestore/__init__.py", "kinds"): python_constants,
+    ("python/bestore/__init__.py", "classes of integers"): python_integer_imports,
     ("python/native/values.c", "kinds"): native_kinds,
     ("python/native/native.h", "kinds"): native_count,
     ("docs/ARCHITECTURE.md", "kinds"): table_of_kinds,

@@ -1,19 +1,18 @@
 /* Positions in the order of an index, made of a value and a node and read back. */
-#include "bestore.h"
+#include "kinds.h"
 
 #include <string.h>
 
 /* How many bytes a number of this type code has in a key of an index, or 0 if its values are no numbers. */
 static size_t key_size(uint32_t code)
 {
-    bool is_short = code == BES_INT32_TYPE || code == BES_UINT32_TYPE;
-    return !bes_is_number_code(code) ? 0 : is_short ? 4 : 8;
+    return bits_of(code) / 8;
 }
 
 /* What is added to a number in a key of an index, so that the bytes are in the order of the numbers. */
 static uint64_t key_shift(uint32_t code)
 {
-    return code == BES_INT32_TYPE ? (uint64_t)1 << 31 : code == BES_INT64_TYPE ? (uint64_t)1 << 63 : 0;
+    return is_signed(code) ? (uint64_t)1 << (bits_of(code) - 1) : 0;
 }
 
 /* Writes the low bytes of a number, the high one first. */
@@ -39,7 +38,7 @@ static uint32_t unkeyable(const bes_attribute *value, const void *bytes)
         return value->length > 255 ? BES_DATA_LENGTH : memchr(bytes, 0, value->length) != NULL ? BES_HAS_NUL : BES_OK;
     if (key_size(value->code) == 0)
         return BES_NOT_INDEXABLE;
-    return key_size(value->code) == 4 && shifted > UINT32_MAX ? BES_NO_VALUE : BES_OK;
+    return bits_of(value->code) < 64 && shifted >> bits_of(value->code) != 0 ? BES_NO_VALUE : BES_OK;
 }
 
 uint32_t bes_cursor_at(const bes_attribute *value, const void *bytes, uint64_t node, bes_cursor *cursor)

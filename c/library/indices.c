@@ -5,17 +5,7 @@
 
 bool bes_is_number_code(uint32_t code)
 {
-    switch (code) {
-    /* surface.toml: kinds of numbers */
-    case BES_INT32_TYPE:
-    case BES_INT64_TYPE:
-    case BES_UINT32_TYPE:
-    case BES_UINT64_TYPE:
-    /* surface.toml: end */
-        return true;
-    default:
-        return false;
-    }
+    return bits_of(code) > 0;
 }
 
 uint32_t bes_pairs(bes_pass *pass, const char *name, uint64_t *count)

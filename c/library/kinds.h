@@ -37,4 +37,23 @@ static inline bool is_signed(uint32_t code)
     }
 }
 
+/* How many bits the integers of this type code have, or 0 if its values aren't integers. */
+static inline unsigned bits_of(uint32_t code)
+{
+    switch (code) {
+    /* surface.toml: bits */
+    case BES_INT32_TYPE:
+        return 32;
+    case BES_INT64_TYPE:
+        return 64;
+    case BES_UINT32_TYPE:
+        return 32;
+    case BES_UINT64_TYPE:
+        return 64;
+    /* surface.toml: end */
+    default:
+        return 0;
+    }
+}
+
 #endif

@@ -85,11 +85,13 @@ const fn sign(kind: u32) -> &'static str {
 /// Whether no value of an index of this kind makes the comparison true.
 const fn is_never(one: &bes_compared, kind: Kind) -> bool {
     match kind {
+        // surface.toml: never true
         Kind::Int32 => one.is_never_int32,
         Kind::Int64 => one.is_never_int64,
         Kind::Uint32 => one.is_never_uint32,
         Kind::Uint64 => one.is_never_uint64,
         Kind::Text | Kind::Mime | Kind::Raw => false,
+        // surface.toml: end
     }
 }
 
