@@ -603,8 +603,18 @@ impl RawDraft {
     /// Adds an operation. Returns the node that it makes, or 0. What goes with an error is the type code of the index that doesn't take
     /// the value.
     pub(crate) fn add(&self, parts: &Parts<'_>) -> Answer<u64> {
-        let bytes = [parts.name.as_bytes(), parts.value].concat();
-        let name_length = length_of(parts.name.as_bytes());
+        let (mut short, long);
+        let (name, value) = (parts.name.as_bytes(), parts.value);
+        let bytes: &[u8] = if name.len() <= 63 && value.len() <= 255 {
+            short = [0; 63 + 255];
+            short[..name.len()].copy_from_slice(name);
+            short[name.len()..][..value.len()].copy_from_slice(value);
+            &short[..name.len() + value.len()]
+        } else {
+            long = [name, value].concat();
+            &long
+        };
+        let name_length = length_of(name);
         let operation = bes_operation {
             kind: parts.kind,
             code: parts.code,
@@ -613,7 +623,7 @@ impl RawDraft {
             name_at: 0,
             name_length,
             value_at: name_length,
-            value_length: length_of(parts.value),
+            value_length: length_of(value),
         };
         let mut made = 0;
         // SAFETY: as the module says; the operation and the bytes outlive the call.
