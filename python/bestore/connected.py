@@ -29,6 +29,7 @@ from typing import Any, Callable, Dict, Iterable, Iterator, List, NamedTuple, Op
 from uuid import uuid4
 from weakref import WeakValueDictionary
 
+from ._asked_query import AskedQuery
 from ._connected_change import ConnectedChange
 from ._connected_errors import (
     BrokenConnection, Disconnected, Expired, LineTooLong, NoServer, NotAllowed, NotKept, NoWatch, OtherUser, ProtocolError,
@@ -40,7 +41,7 @@ from ._refreshes import refreshed_by_all
 from ._saved_errors import NotSaved, Stopped
 from ._socket_path import SocketPath
 from ._wire import (
-    JSON, PROTOCOL, operations_of, read_entry, read_kind, read_nodes, read_operation, read_row, read_value)
+    JSON, PROTOCOL, operations_of, read_comparisons, read_entry, read_kind, read_nodes, read_operation, read_row, read_value)
 from .errors import (
     BadCount, Closed, Error, Forked, NameLength, NoAttribute, NoNode, NoPass, NotCovered, NotPinned, NotReached, NoVolume,
     PartialIndex, Pinned, TooLong, encoded, encoded_query)
@@ -570,6 +571,16 @@ class ConnectedPass(LockOwner, ThreadPass):
         """Puts the current snapshot into the server's file, in the place of the state and the entries that it contains. Errors
         are those of `flush`."""
         self._ask("compact", {}, lambda ok: None)
+
+    def prepare(self, text: str) -> Prepared:
+        encoded_query(text)
+        if "text" not in self.server.features:
+            return super().prepare(text)
+        try:
+            compared = self._ask("text", {"query": text}, read_comparisons, query=text)
+        except LineTooLong:
+            raise TooLong(query=text) from None
+        return AskedQuery(text, (one.name for one in compared))
 
     def watch(self, query: Optional[str] = None) -> ConnectedWatch:
         """As in a store of this process. The server pushes the changes. A `QueryError`; `TooManyWatches`."""
