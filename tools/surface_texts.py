@@ -214,6 +214,7 @@ def python_surface(surface: Surface) -> str:
     codes = lines(f'    0x{it.type_code:08X}: "{it.code}",' for it in surface.kinds)
     names = lines(f'    0x{it.type_code:08X}: "{it.name}",' for it in surface.kinds)
     members = wrapped(f'"{it.python}"' for it in surface.kinds)
+    forms = lines(f"    {it.c} = {it.number}" for it in surface.forms)
     return f'''"""Numbers, names and texts that all languages share. {NOTE}"""
 
 from __future__ import annotations
@@ -232,6 +233,11 @@ class ErrorNumber(enum.IntEnum):
 
     OK = 0
 {numbers}
+
+class Form(enum.IntEnum):
+    """What the value of a query's comparison is, by the names of bestore.h without their BES_FORM_."""
+
+{forms}
 
 class Meaning(NamedTuple):
     """What an error means."""
