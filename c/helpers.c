@@ -329,6 +329,35 @@ static void bytes_by_hand(void)
     CHECK(bes_batch_to_bytes(&batch, bytes, 64, &count) == BES_BAD_PART && count == 1);
 }
 
+/* Into arrays: the counts say how much room there has to be, and nothing is written beyond the room that there is. */
+static void bytes_into_arrays(void)
+{
+    uint8_t bytes[200], parts[16], name[64] = {'n'};
+    bes_operation operations[3];
+    bes_counts counts = {7, 7};
+    uint64_t count = 0, place = 7;
+    bes_batch_clear(&batch);
+    CHECK(bes_batch_new_node(&batch) == BES_OK && bes_batch_set_text(&batch, 1, "name", "ann") == BES_OK);
+    CHECK(bes_batch_unset(&batch, 1, "size") == BES_OK);
+    CHECK(bes_batch_to_bytes(&batch, bytes, sizeof bytes, &count) == BES_OK);
+    for (size_t room = 0; room <= 3; room++) {
+        memset(operations, 0x5a, sizeof operations);
+        memset(parts, 0x5a, sizeof parts);
+        CHECK(bes_operations_from_bytes(bytes, count, &counts, operations, room, parts, 4 * room, &place) == BES_OK && place == 0);
+        CHECK(counts.operations == 3 && counts.bytes == 11);
+        CHECK(memcmp(operations, batch.operations, room * sizeof *operations) == 0);
+        CHECK(memcmp(parts, batch.bytes, room < 3 ? 4 * room : 11) == 0 && parts[room < 3 ? 4 * room : 11] == 0x5a);
+        CHECK(room == 3 || operations[room].kind == 0x5a5a5a5au);
+    }
+    CHECK(bes_operations_from_bytes(bytes, count - 1, &counts, operations, 3, parts, 16, &place) == BES_BAD_PART);
+    CHECK(counts.operations == 0 && counts.bytes == 0 && place == count - 5);
+    memcpy(bytes, "BEB\1\1\5\100", 7);
+    memcpy(bytes + 7, name, sizeof name);
+    CHECK(bes_operations_from_bytes(bytes, 71, &counts, operations, 3, parts, 16, &place) == BES_NAME_LENGTH && place == 6);
+    bytes[6] = 63;
+    CHECK(bes_operations_from_bytes(bytes, 70, &counts, operations, 3, parts, 16, &place) == BES_OK && counts.bytes == 63);
+}
+
 static double seconds_since(const struct timespec *begin)
 {
     struct timespec now;
@@ -492,6 +521,7 @@ int main(void)
     changes();
     entries();
     bytes_by_hand();
+    bytes_into_arrays();
     bytes_come_back();
     moves();
     in_child();

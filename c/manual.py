@@ -137,11 +137,12 @@ def types():
 
 
 def helpers(title, header):
-    """The functions that a header has whole: what it says of itself, their prototypes, and each that has a comment. Names that end
-    with _ are left out."""
-    listed = re.findall(r"^static inline ([^{]*\))\n\{", header, re.MULTILINE)
+    """The functions of a header, which it has whole or declares: what it says of itself, their prototypes, and each that has a
+    comment. Names that end with _ are left out."""
+    listed = re.findall(r"^(?:static inline )?((?!typedef)\w[\w ]* \*?\w+\([^{;]*\))(?:;|\n\{)", header, re.MULTILINE)
     lines = "".join(re.sub(r"\n +", "\n    ", it) + ";\n" for it in listed if "_(" not in it)
-    commented = re.findall(COMMENT + r"(?:static inline [^(]*?|typedef (?:struct|uint32_t) )\**(\w+)(?:\(| \{)", header, re.MULTILINE)
+    begin = r"(?:(?:static inline )?[\w ]*\w |typedef (?:struct|uint32_t) )\*?"
+    commented = re.findall(COMMENT + begin + r"(\w+)(?:\(| \{)", header, re.MULTILINE)
     told = "".join(f".It {macro(name)} {name}\n{described(words)}" for words, name in commented if not name.endswith("_"))
     said = described(re.match(COMMENT, header)[1])
     return f".Sh {title}\n{said}{literal(lines)}.Bl -tag -width indent\n{told}.El\n"

@@ -53,6 +53,15 @@ fi
 
 build() { cc -std=c11 "${warn[@]}" -I../include "$@" libbestore.a -lpthread; }
 build_cpp() { c++ -std=c++17 "${warn[@]}" -I../include "$@" libbestore.a -lpthread; }
+# The library's helpers as a sanitizer marks them, which sees nothing else of them: objects in a folder.
+marked_helpers() {
+    local it folder=$work/helpers-$1
+    mkdir -p "$folder"
+    for it in library/*.c; do
+        cc -std=c11 "${warn[@]}" -g -O1 "-fsanitize=$1" -I../include -c "$it" -o "$folder/$(basename "$it" .c).o"
+    done
+    echo "$folder"
+}
 
 # The tests, and those of them in which threads run.
 tests=(test columns cursors ordered changes closing errors threads witness helpers texts query_texts racing promises)
@@ -69,8 +78,9 @@ cc -std=c11 "${warn[@]}" -I../include test.c -L. -lbestore -lpthread -o "$work/s
 run "C, shared object" env LD_LIBRARY_PATH=. "$work/shared"
 
 if sanitizes C cc address,undefined; then
+    helpers=$(marked_helpers address,undefined)
     for test in "${tests[@]}"; do
-        build -g -O1 -fsanitize=address,undefined $test.c -o "$work/sanitized"
+        build -g -O1 -fsanitize=address,undefined $test.c "$helpers"/*.o -o "$work/sanitized"
         run "C, $test, address,undefined" "$work/sanitized" short
     done
 fi
@@ -78,10 +88,11 @@ fi
 # at the test's own memory alone: there it still finds a race.
 listed=(env LD_LIBRARY_PATH=. TSAN_OPTIONS=suppressions="$PWD/tsan.supp")
 if sanitizes C cc thread; then
+    helpers=$(marked_helpers thread)
     for test in "${with_threads[@]}"; do
         cc -std=c11 "${warn[@]}" -g -O1 -fsanitize=thread -I../include $test.c -L. -lbestore -lpthread -o "$work/marked"
         run "C, $test, thread" "${listed[@]}" "$work/marked" short
-        build -g -O1 -fsanitize=thread $test.c -o "$work/marked-static"
+        build -g -O1 -fsanitize=thread $test.c "$helpers"/*.o -o "$work/marked-static"
         run "C, $test, thread, static" "${listed[@]}" "$work/marked-static" short
     done
     mkdir "$work/stripped"
@@ -106,8 +117,9 @@ if [ -n "$has_cpp" ]; then
         run "C++, $test" "$work/$test-cpp"
     done
     if sanitizes C++ c++ address,undefined; then
+        helpers=$(marked_helpers address,undefined)
         for test in "${tests_cpp[@]}"; do
-            build_cpp -g -O1 -fsanitize=address,undefined $test.cpp -o "$work/sanitized-cpp"
+            build_cpp -g -O1 -fsanitize=address,undefined $test.cpp "$helpers"/*.o -o "$work/sanitized-cpp"
             run "C++, $test, address,undefined" "$work/sanitized-cpp" short
         done
     fi
@@ -126,7 +138,8 @@ if cc "${wrap[@]}" "$work/empty.c" -o "$work/empty" 2>/dev/null; then
     build -g -O1 "${wrap[@]}" memory.c -o "$work/memory"
     run "C, memory" "$work/memory"
     if sanitizes "C, memory" cc address,undefined; then
-        build -g -O1 -fsanitize=address,undefined "${wrap[@]}" memory.c -o "$work/memory-sanitized"
+        helpers=$(marked_helpers address,undefined)
+        build -g -O1 -fsanitize=address,undefined "${wrap[@]}" memory.c "$helpers"/*.o -o "$work/memory-sanitized"
         run "C, memory, address,undefined" "$work/memory-sanitized"
     fi
     leaks "C, memory, valgrind" "$work/memory"

@@ -771,9 +771,11 @@ typedef struct bes_compared {
 
 /* What the value of a comparison is. */
 enum bes_form {
+    /* surface.toml: forms */
     BES_FORM_TEXT = 0,
-    BES_FORM_NUMBER = 1, /* a text that is a whole number from -2^63 to 2^64 - 1 */
-    BES_FORM_PATTERN = 2 /* a pattern with a wildcard */
+    BES_FORM_NUMBER = 1,  /* a text that is a whole number from -2^63 to 2^64 - 1 */
+    BES_FORM_PATTERN = 2  /* a pattern with a wildcard */
+    /* surface.toml: end */
 };
 
 /* Lists the comparisons of a query's text, from left to right, up to 256.

@@ -157,7 +157,7 @@ public:
         });
     }
 
-    // The names of its attributes, each once, as they come.
+    // The names of its attributes, each once, as they come. Throws BES_TOO_LONG if the canonical text has more than 4,096 bytes.
     std::vector<std::string> names() const { return names_of(text()); }
 
 protected:
@@ -432,7 +432,8 @@ public:
     }
 
     // The comparisons that no node meets, because of the kind of integers that the index of the name has here: the value spells no number,
-    // as in size>1.5, or none of the kind is in the range. Their offsets are those in the canonical text.
+    // as in size>1.5, or none of the kind is in the range. Their offsets are those in the canonical text. Throws BES_TOO_LONG if that has
+    // more than 4,096 bytes.
     std::vector<Comparison> never_true(const Prepared &prepared)
     {
         const std::string text = prepared.text();

@@ -42,40 +42,10 @@ static inline uint32_t bes_list_comparisons(const char *text, size_t length, bes
                                  sizeof list->bytes, place);
 }
 
-static inline void bes_read_compared_(const bes_compared *it, bes_comparison *read)
-{
-    read->at = (size_t)it->at;
-    read->length = (size_t)(it->end - it->at);
-    read->name_at = (size_t)it->name_at;
-    read->name_length = (size_t)(it->name_end - it->name_at);
-    read->kind = it->kind_in_text;
-    read->value_at = (size_t)it->value_at;
-    read->value_length = (size_t)(it->value_end - it->value_at);
-}
-
-/* The first of the listed comparisons that begins at an offset or after it, or NULL. */
-static inline const bes_compared *bes_compared_from_(const bes_comparison_list *list, size_t at)
-{
-    for (uint64_t i = 0; i < list->counts.operations; i++)
-        if (list->comparisons[i].at >= at)
-            return &list->comparisons[i];
-    return NULL;
-}
-
 /* Reads the next comparison of a query. Each call parses the whole text; bes_list_comparisons reads all at once.
  * [in,out] at    where to read on: 0 at first, then after the comparison that was read
  * Returns whether there is one. A text that isn't a query has none. */
-static inline bool bes_next_comparison(const char *text, size_t length, size_t *at, bes_comparison *found)
-{
-    bes_comparison_list list;
-    const bes_compared *next;
-    uint64_t place = 0;
-    if (bes_list_comparisons(text, length, &list, &place) != BES_OK || (next = bes_compared_from_(&list, *at)) == NULL)
-        return false;
-    bes_read_compared_(next, found);
-    *at = (size_t)next->end;
-    return true;
-}
+bool bes_next_comparison(const char *text, size_t length, size_t *at, bes_comparison *found);
 
 /* The indices of a snapshot, by ascending names. */
 typedef struct bes_index_list {
@@ -114,20 +84,7 @@ static inline const bes_operation *bes_index_of(const bes_index_list *list, cons
  * that needs an index: an || needs one on both sides, an && on one.
  * [out] at       the byte offset of the comparison, or the text's length if each has an index, and after an error
  * The errors and the cost are those of bes_indices and bes_query_comparisons. */
-static inline uint32_t bes_uncovered(bes_pass *pass, const char *text, size_t length, size_t *at)
-{
-    bes_index_list list;
-    bes_comparison_list comparisons;
-    uint64_t place = 0;
-    uint32_t error = bes_list_indices(pass, &list);
-    *at = length;
-    if (error == BES_OK)
-        error = bes_list_comparisons(text, length, &comparisons, &place);
-    for (uint64_t i = 0; error == BES_OK && *at == length && i < comparisons.counts.operations; i++)
-        if (bes_index_of(&list, &comparisons, &comparisons.comparisons[i]) == NULL)
-            *at = (size_t)comparisons.comparisons[i].at;
-    return error;
-}
+uint32_t bes_uncovered(bes_pass *pass, const char *text, size_t length, size_t *at);
 
 /* Whether no node meets a listed comparison, because of the kind of the index that its name has: of integers for size>1.5, or of those
  * without a sign for size<0. */
@@ -135,6 +92,7 @@ static inline bool bes_is_never_true(const bes_index_list *list, const bes_compa
 {
     const bes_operation *index = bes_index_of(list, comparisons, comparison);
     switch (index == NULL ? 0 : index->code) {
+    /* surface.toml: never true */
     case BES_INT32_TYPE:
         return comparison->is_never_int32;
     case BES_INT64_TYPE:
@@ -143,86 +101,18 @@ static inline bool bes_is_never_true(const bes_index_list *list, const bes_compa
         return comparison->is_never_uint32;
     case BES_UINT64_TYPE:
         return comparison->is_never_uint64;
+    /* surface.toml: end */
     default:
         return false;
     }
 }
 
 /* Finds the next comparison that bes_is_never_true. Use it as bes_next_comparison. */
-static inline bool bes_next_never_true(const bes_index_list *list, const char *text, size_t length, size_t *at,
-                                       bes_comparison *found)
-{
-    bes_comparison_list comparisons;
-    uint64_t place = 0;
-    if (bes_list_comparisons(text, length, &comparisons, &place) != BES_OK)
-        return false;
-    for (const bes_compared *it; (it = bes_compared_from_(&comparisons, *at)) != NULL;) {
-        *at = (size_t)it->end;
-        if (bes_is_never_true(list, &comparisons, it)) {
-            bes_read_compared_(it, found);
-            return true;
-        }
-    }
-    return false;
-}
+bool bes_next_never_true(const bes_index_list *list, const char *text, size_t length, size_t *at, bes_comparison *found);
 
 /* Counts the pairs that an index holds in the pinned snapshot: how many nodes have an attribute of its name that it holds.
  * BES_NO_INDEX, and the errors and cost of bes_query_items: a walk over the whole index, and memory for its nodes. */
-static inline uint32_t bes_pairs(bes_pass *pass, const char *name, uint64_t *count)
-{
-    bes_item items[3] = {{BES_ITEM_ATTRIBUTE, 0, 0, 0}, {BES_ITEM_TEXT, 0, 1, 0}, {BES_ITEM_EQ, 0, 0, 0}};
-    uint8_t bytes[1 + 63] = "*";
-    bes_index_list list;
-    const bes_operation *index;
-    uint64_t none = 0;
-    uint32_t error = bes_list_indices(pass, &list);
-    *count = 0;
-    if (error != BES_OK)
-        return error;
-    if ((index = bes_index_named(&list, name, strlen(name))) == NULL)
-        return BES_NO_INDEX;
-    items[0].at = 1;
-    items[0].length = index->name_length;
-    memcpy(bytes + 1, name, index->name_length);
-    if (bes_is_number_code(index->code)) {
-        bool is_signed = bes_is_signed_(index->code);
-        items[1].kind = is_signed ? BES_ITEM_INT64 : BES_ITEM_UINT64;
-        items[1].number = is_signed ? (uint64_t)1 << 63 : 0;
-        items[2].kind = BES_ITEM_GE;
-    }
-    return bes_query_items(pass, items, 3, bytes, 1 + index->name_length, &none, 0, count);
-}
-
-/* What bes_reindex_some_ does: the index, and the nodes from which on. */
-typedef struct bes_reindexing_ {
-    const char *name;
-    uint32_t code;
-    uint64_t from;
-    uint64_t after; /* where to go on, or 0 after the last node */
-    uint64_t count;
-} bes_reindexing_;
-
-/* Sets again the attributes of up to 64 nodes. */
-static inline uint32_t bes_reindex_some_(bes_pass *pass, bes_batch *batch, uint64_t next, void *with)
-{
-    bes_reindexing_ *it = (bes_reindexing_ *)with;
-    uint64_t nodes[64], count = 0;
-    uint32_t error = bes_nodes(pass, it->from, nodes, 64, &count);
-    (void)next;
-    it->after = count == 64 ? nodes[63] + 1 : 0;
-    for (uint64_t i = 0; i < count && error == BES_OK; i++) {
-        bes_attribute value = {0, 0, 0};
-        uint8_t bytes[255];
-        error = bes_read(pass, nodes[i], it->name, &value, bytes, sizeof bytes);
-        if (error == BES_NO_ATTRIBUTE)
-            error = BES_OK;
-        else if (error == BES_OK && value.code == it->code)
-            error = bes_batch_add_bytes(batch, BES_SET, nodes[i], it->name, strlen(it->name), value.code, value.number, bytes,
-                                        (size_t)value.length);
-    }
-    it->count = batch->count;
-    return error;
-}
+uint32_t bes_pairs(bes_pass *pass, const char *name, uint64_t *count);
 
 /* Sets again each attribute of this name that has the kind of its index. The index holds then also those that were set before it was
  * made. Each up to 64 nodes are a bes_change of their own, which loses no newer value.
@@ -230,205 +120,42 @@ static inline uint32_t bes_reindex_some_(bes_pass *pass, bes_batch *batch, uint6
  * [in] attempts  how many attempts each change has
  * [out] count    how many attributes were set again, also before an error
  * BES_NO_INDEX, and the errors of bes_pin, bes_indices and bes_change. */
-static inline uint32_t bes_reindex(bes_pass *pass, const char *name, uint32_t attempts, uint64_t *count)
-{
-    bes_reindexing_ it = {name, 0, 0, 0, 0};
-    bes_index_list list;
-    const bes_operation *index;
-    uint64_t number = 0;
-    uint32_t error = bes_pin(pass, &number);
-    *count = 0;
-    if (error != BES_OK)
-        return error;
-    error = bes_list_indices(pass, &list);
-    bes_unpin(pass);
-    if (error != BES_OK)
-        return error;
-    if ((index = bes_index_named(&list, name, strlen(name))) == NULL)
-        return BES_NO_INDEX;
-    it.code = index->code;
-    do {
-        it.from = it.after;
-        error = bes_change(pass, attempts, bes_reindex_some_, &it, &number);
-        *count += error == BES_OK ? it.count : 0;
-    } while (error == BES_OK && it.after != 0);
-    return error;
-}
-
-/* A call of the library that writes a text made of another one. */
-typedef uint32_t bes_made_text_(const uint8_t *text, size_t length, uint8_t *bytes, size_t room, uint64_t *count);
-
-static inline size_t bes_put_text_(bes_made_text_ *call, const char *text, char *out, size_t room)
-{
-    uint64_t count = 0;
-    uint8_t none = 0;
-    size_t most = room > 0 ? room - 1 : 0;
-    call((const uint8_t *)text, strlen(text), room > 0 ? (uint8_t *)out : &none, most, &count);
-    if (room > 0)
-        out[count < most ? count : most] = 0;
-    return (size_t)count;
-}
+uint32_t bes_reindex(bes_pass *pass, const char *name, uint32_t attempts, uint64_t *count);
 
 /* Writes a text so that it stands for itself in a query: as a name, a value or a part of a pattern, in quotes or not. Quotes
  * are right for every text, also an empty one. So [draft].txt becomes \[draft].txt.
  * [out] out      the text and a zero byte, cut to `room` bytes; twice the text's length and 1 suffice
  * Returns how many bytes it has with enough room, without the zero byte; 0 if the text isn't valid UTF-8. */
-static inline size_t bes_escape(const char *text, char *out, size_t room)
-{
-    return bes_put_text_(bes_escape_bytes, text, out, room);
-}
+size_t bes_escape(const char *text, char *out, size_t room);
 
 /* As bes_escape, and each letter matches in either case, as BQuery builds it: draft becomes [dD][rR][aA][fF][tT]. The result is
  * a pattern, for == and !=.
  * [out] out      12 times the text's length and 1 suffice */
-static inline size_t bes_any_case(const char *text, char *out, size_t room)
-{
-    return bes_put_text_(bes_any_case_bytes, text, out, room);
-}
-
-/* How many bytes the character of UTF-8 at the front of a text has, or 0 if no character begins there. A zero byte is none. */
-static inline size_t bes_character_(const char *text, size_t length)
-{
-    unsigned char first = length > 0 ? (unsigned char)text[0] : 0, second = length > 1 ? (unsigned char)text[1] : 0;
-    unsigned char least = first == 0xe0 ? 0xa0 : first == 0xf0 ? 0x90 : 0x80, most = first == 0xed ? 0x9f : first == 0xf4 ? 0x8f : 0xbf;
-    size_t count = first >= 0xf0 ? 4 : first >= 0xe0 ? 3 : 2;
-    if (first < 0x80)
-        return first != 0;
-    if (first < 0xc2 || first > 0xf4 || count > length || second < least || second > most)
-        return 0;
-    for (size_t i = 2; i < count; i++)
-        if (((unsigned char)text[i] & 0xc0) != 0x80)
-            return 0;
-    return count;
-}
+size_t bes_any_case(const char *text, char *out, size_t room);
 
 /* Makes a text of any bytes, as a file's name or a mail's header, that the library takes: each byte that is no character of UTF-8
  * becomes a ?, and a text that is too long is cut after a whole character.
  * [out] out      the text and a zero byte, `room` bytes at most: 256 for a value, 64 for a name
  * Returns how many bytes it has, without the zero byte. */
-static inline size_t bes_to_utf8(const char *text, size_t length, char *out, size_t room)
-{
-    size_t at = 0, count;
-    for (size_t i = 0; i < length; i += count > 0 ? count : 1) {
-        count = bes_character_(text + i, length - i);
-        if (at + (count > 0 ? count : 1) >= room)
-            break;
-        if (count == 0)
-            out[at++] = '?';
-        for (size_t j = 0; j < count; j++)
-            out[at++] = text[i + j];
-    }
-    if (room > 0)
-        out[at] = 0;
-    return at;
-}
-
-/* How many columns the characters of UTF-8 take before a byte offset, one for each. */
-static inline size_t bes_columns_(const char *text, size_t bytes)
-{
-    size_t columns = 0;
-    for (size_t i = 0; i < bytes; i++)
-        columns += ((unsigned char)text[i] & 0xc0) != 0x80;
-    return columns;
-}
+size_t bes_to_utf8(const char *text, size_t length, char *out, size_t room);
 
 /* Prints a query's text, and on the next line a caret under the character at a byte offset. Of a text with several lines it prints
  * the one with that byte. Control characters are printed as blanks. Returns what ferror does. */
-static inline int bes_print_caret(FILE *file, const char *text, uint64_t byte)
-{
-    size_t length = strlen(text), at = byte < length ? (size_t)byte : length, begin = at, end = at;
-    while (begin > 0 && text[begin - 1] != '\n')
-        begin--;
-    while (end < length && text[end] != '\n')
-        end++;
-    for (size_t i = begin; i < end; i++)
-        fputc((unsigned char)text[i] < ' ' || text[i] == 0x7f ? ' ' : text[i], file);
-    fprintf(file, "\n%*s^\n", (int)bes_columns_(text + begin, at - begin), "");
-    return ferror(file);
-}
-
-/* How many bytes a number of this type code has in a key of an index, or 0 if its values are no numbers. */
-static inline size_t bes_key_size_(uint32_t code)
-{
-    bool is_short = code == BES_INT32_TYPE || code == BES_UINT32_TYPE;
-    return !bes_is_number_code(code) ? 0 : is_short ? 4 : 8;
-}
-
-/* What is added to a number in a key of an index, so that the bytes are in the order of the numbers. */
-static inline uint64_t bes_key_shift_(uint32_t code)
-{
-    return code == BES_INT32_TYPE ? (uint64_t)1 << 31 : code == BES_INT64_TYPE ? (uint64_t)1 << 63 : 0;
-}
-
-/* Writes the low bytes of a number, the high one first. */
-static inline void bes_put_high_first_(uint8_t *bytes, uint64_t number, size_t length)
-{
-    for (size_t at = length; at > 0; number >>= 8)
-        bytes[--at] = (uint8_t)number;
-}
-
-static inline uint64_t bes_take_high_first_(const uint8_t *bytes, size_t length)
-{
-    uint64_t number = 0;
-    for (size_t at = 0; at < length; at++)
-        number = number << 8 | bytes[at];
-    return number;
-}
-
-/* Why no key of an index has this value, or BES_OK. */
-static inline uint32_t bes_unkeyable_(const bes_attribute *value, const void *bytes)
-{
-    uint64_t shifted = value->number + bes_key_shift_(value->code);
-    if (value->code == BES_STRING_TYPE)
-        return value->length > 255 ? BES_DATA_LENGTH : memchr(bytes, 0, value->length) != NULL ? BES_HAS_NUL : BES_OK;
-    if (bes_key_size_(value->code) == 0)
-        return BES_NOT_INDEXABLE;
-    return bes_key_size_(value->code) == 4 && shifted > UINT32_MAX ? BES_NO_VALUE : BES_OK;
-}
+int bes_print_caret(FILE *file, const char *text, uint64_t byte);
 
 /* Makes the position at which a value and a node are in the order of an index, so that bes_ordered goes on after it: with node 0 from
  * all nodes of the value on, or in the reverse order after them.
  * [in] value     the value, as bes_get writes it
  * [in] bytes     the bytes of a text
  * BES_NOT_INDEXABLE, BES_DATA_LENGTH, BES_HAS_NUL, BES_NO_VALUE (the number doesn't fit its type). The cursor stays as it was. */
-static inline uint32_t bes_cursor_at(const bes_attribute *value, const void *bytes, uint64_t node, bes_cursor *cursor)
-{
-    uint32_t error = bes_unkeyable_(value, bytes);
-    size_t size = value->code == BES_STRING_TYPE ? value->length + 1 : bes_key_size_(value->code);
-    if (error != BES_OK)
-        return error;
-    memset(cursor, 0, sizeof *cursor);
-    if (value->code == BES_STRING_TYPE)
-        memcpy(cursor->key, bytes, value->length);
-    else
-        bes_put_high_first_(cursor->key, value->number + bes_key_shift_(value->code), size);
-    bes_put_high_first_(cursor->key + size, node, 8);
-    cursor->kind = value->code;
-    cursor->length = (uint32_t)size + 8;
-    return BES_OK;
-}
+uint32_t bes_cursor_at(const bes_attribute *value, const void *bytes, uint64_t node, bes_cursor *cursor);
 
 /* Reads the value and the node of a position, as bes_ordered leaves it after a page that isn't empty.
  * [out] value    the value, as bes_get writes it
  * [out] bytes    the bytes of a text, if there is room for all
  * [out] node     the node
  * BES_BAD_CURSOR: it is the beginning, or a position in no index. */
-static inline uint32_t bes_cursor_value(const bes_cursor *cursor, bes_attribute *value, uint8_t *bytes, size_t bytes_room,
-                                        uint64_t *node)
-{
-    size_t size = cursor->length < 8 || cursor->length > sizeof cursor->key ? 0 : cursor->length - 8;
-    uint32_t code = cursor->kind;
-    bool is_text = code == BES_STRING_TYPE && size > 0 && memchr(cursor->key, 0, size) == cursor->key + size - 1;
-    if (!is_text && (size == 0 || size != bes_key_size_(code)))
-        return BES_BAD_CURSOR;
-    value->code = code;
-    value->length = is_text ? size - 1 : 0;
-    value->number = is_text ? 0 : bes_take_high_first_(cursor->key, size) - bes_key_shift_(code);
-    if (bytes != NULL && value->length > 0 && value->length <= bytes_room)
-        memcpy(bytes, cursor->key, value->length);
-    *node = bes_take_high_first_(cursor->key + size, 8);
-    return BES_OK;
-}
+uint32_t bes_cursor_value(const bes_cursor *cursor, bes_attribute *value, uint8_t *bytes, size_t bytes_room, uint64_t *node);
 
 #ifdef __cplusplus
 }

@@ -92,9 +92,9 @@ inline std::string caret(std::string_view text, std::uint64_t offset)
     const auto before = at == 0 ? std::string_view::npos : text.rfind('\n', at - 1);
     const auto begin = before == std::string_view::npos ? 0 : before + 1;
     std::string line(text.substr(begin, text.find('\n', at) - begin));
-    const std::string blanks(bes_columns_(line.data(), at - begin), ' ');
+    const auto columns = std::count_if(line.data(), line.data() + (at - begin), [](unsigned char c) { return (c & 0xc0) != 0x80; });
     std::replace_if(line.begin(), line.end(), [](unsigned char c) { return c < ' ' || c == 0x7f; }, ' ');
-    return line + '\n' + blanks + '^';
+    return line + '\n' + std::string(static_cast<std::size_t>(columns), ' ') + '^';
 }
 
 } // namespace bestore

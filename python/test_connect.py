@@ -484,6 +484,34 @@ class Following(WithServer):
                     with self.assertRaises(bestore.Closed):
                         call(live)
 
+    def test_prepare(self):
+        """A query that the server has read is asked of servers' stores, also of another; an older server doesn't read it."""
+        self.sized(self.store, 5, 1)
+        with self.store.prepare("size>=5 && size>=4") as query, _open(64, 1, 100) as local:
+            self.assertEqual((query.source, query.names), ("size>=5 && size>=4", ["size"]))
+            self.assertEqual(query.text, '"size">="5" && "size">="4"')
+            with self.store.pin() as version:
+                self.assertEqual((version.query_prepared(query), version.count(query), version.refresh(query)), ([1], 1, ([1], [])))
+            with local.pin() as version:
+                for call in (version.query_prepared, version.refresh, version.refresh_changed):
+                    with self.assertRaisesRegex(TypeError, "'size>=5 && size>=4' of servers' stores> isn't a prepared query"):
+                        call(query)
+        with self.assertRaises(bestore.Closed):
+            query.names
+        for text, error in (("size>5 &&", bestore.QuerySyntax), ("size==[b-a]", bestore.BadPattern), ("a==1||" * 700, bestore.TooLong)):
+            with self.assertRaises(error) as fault:
+                self.store.prepare(text)
+            self.assertEqual(fault.exception.query, text)
+        self.store.server = self.store.server._replace(features=())
+        with self.store.prepare("size>=5") as query, _open(64, 1, 100) as local:
+            local.make_index("size", bestore.INT64)
+            self.sized(local, 5)
+            for store in (self.store, local):
+                with store.pin() as version:
+                    self.assertEqual(version.query_prepared(query), [1])
+        with _open(64, 1, 100) as local, local.prepare("size>=5") as query:
+            self.assertEqual(query.text, '"size">="5"')
+
     def test_names_of_a_query(self):
         """A query of many names that was refreshed in this process goes on at a server."""
         names = [f"n{number}" for number in range(30)]

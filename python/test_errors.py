@@ -1,6 +1,5 @@
 """Tests of what errors carry and say."""
 
-import glob
 import os
 import pickle
 import re
@@ -11,26 +10,23 @@ from bestore import errors, saved
 
 SYNTAX = "this query isn't valid here; it needs comparisons such as size>=5, joined by && or ||"
 PATTERN = "this pattern isn't valid here; a set such as [a-d] ends with ], isn't empty, and its ranges rise"
-INCLUDE = os.path.join(os.path.dirname(os.path.abspath(__file__)), "..", "include")
+ROOT = os.path.join(os.path.dirname(os.path.abspath(__file__)), "..")
 
 
-def header():
-    """The text of the headers for C."""
-    texts = []
-    for path in sorted(glob.glob(os.path.join(INCLUDE, "*.h"))):
-        with open(path, encoding="utf-8") as file:
-            texts.append(file.read())
-    return "".join(texts)
+def text_of(*path):
+    """A file for C."""
+    with open(os.path.join(ROOT, *path), encoding="utf-8") as file:
+        return file.read()
 
 
 class Numbers(unittest.TestCase):
     def test_each_error_of_the_header(self):
-        text = header()
-        enumerated = text[text.index("BES_OK = 0"):]
+        header = text_of("include", "bestore.h")
+        enumerated = header[header.index("BES_OK = 0"):]
         names = dict(re.findall(r"BES_(\w+) = (\d+)", enumerated[:enumerated.index("}")]))
         self.assertEqual({name: int(number) for name, number in names.items()}, {it.name: it.value for it in bestore.ErrorNumber})
         self.assertEqual(sorted(errors.Refusal._classes), sorted(number for number in bestore.ErrorNumber if number != 0))
-        rows = re.findall(r'\{ BES_(\w+), BES_CLASS_(\w+), "\w+",\s+((?:"[^"]+"\s*)+)\}', text)
+        rows = re.findall(r'\{ BES_(\w+), BES_CLASS_(\w+), "\w+",\s+((?:"[^"]+"\s*)+)\}', text_of("c", "library", "errors.c"))
         self.assertEqual([name for name, _, _ in rows], [it.name for it in bestore.ErrorNumber])
         for name, named_class, quoted in rows[1:]:
             error = errors.refusal(bestore.ErrorNumber[name])
@@ -38,7 +34,7 @@ class Numbers(unittest.TestCase):
             self.assertEqual(("".join(re.findall('"([^"]+)"', quoted)), named_class), (said, error.error_class.name))
 
     def test_version_of_the_header(self):
-        self.assertEqual(re.findall(r'#define BES_VERSION "(.+)"', header()), [bestore.__version__])
+        self.assertEqual(re.findall(r'#define BES_VERSION "(.+)"', text_of("include", "bestore.h")), [bestore.__version__])
 
 
 class Errors(unittest.TestCase):

@@ -102,6 +102,20 @@ class Texts(unittest.TestCase):
         with self.assertRaises(bestore.Closed):
             prepared.names
 
+    def test_long_canonical(self):
+        """The canonical text may be too long to be read as a query; the names are read of the text or the items."""
+        items = [bestore.Name("name0"), "12345678", bestore.Operator.LT]
+        for number in range(1, 200):
+            items += [bestore.Name(f"name{number % 3}"), "12345678", bestore.Operator.LT, bestore.Operator.OR]
+        for prepared in (bestore.prepare("||".join(["abcdefgh<1234"] * 196)), bestore.prepare_items(*items)):
+            with prepared:
+                self.assertGreater(len(prepared.text), 4096)
+                self.assertEqual(prepared.names, ["abcdefgh"] if prepared.source else ["name0", "name1", "name2"])
+                with self.assertRaises(bestore.TooLong):
+                    prepared.comparisons
+            with self.assertRaises(bestore.Closed):
+                prepared.names
+
 
 class Covered(unittest.TestCase):
     def not_covered(self, ask, query):

@@ -49,6 +49,23 @@ CLIENT = """
             assert version[letter]["size"] == 9 and version.columns([letter], ["MAIL:from"]) == [["ann"]]
             assert version.query("size>=0", by="size", limit=1)[:] == [letter] and version.pairs("size") == 1
             assert version.pairs("a \\"b") == 0 and version.explain("size>5")
+            with store.prepare("size>=5 && !(MAIL:from==bob)") as query:
+                assert query.names == ["size", "MAIL:from"] and version.query_prepared(query) == [letter]
+                assert version.query_prepared(query, by="size", limit=1)[:] == [letter]
+                assert version.refresh(query) == ([letter], []) and version.refresh(query) == ([], [])
+            for call in (version.query_prepared, version.refresh):
+                try:
+                    call(query)
+                except bestore.Closed:
+                    pass
+                else:
+                    raise AssertionError("a closed query")
+            try:
+                store.prepare("size>5 ||")
+            except bestore.QuerySyntax as error:
+                assert (error.offset, error.query) == (9, "size>5 ||"), error
+            else:
+                raise AssertionError("no query")
             hint, = version.hints("!(size<=1.5) || MAIL:from>1.5")
             assert (hint.name, hint.value, hint.kind, hint.offset, hint.is_number) == ("size", "1.5", bestore.INT64, 2, False)
             again = bestore.Batch(operation for batch in version.state() for operation in batch)

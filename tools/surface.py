@@ -15,11 +15,13 @@ import sys
 from dataclasses import replace
 from difflib import unified_diff
 from pathlib import Path
+from typing import Iterable
 
 from surface_table import ROOT, Surface, Wrong, load
 from surface_texts import FILES, REGIONS
 
 HEADER = "include/bestore.h"
+HELPERS = ("include/bestore_helpers.h", "include/bestore_text.h")
 BINDINGS = "rust/bestore-sys/src/lib.rs"
 ABI = "c/abi/libbestore.so.0.c"
 MANUAL = "docs/bestore.3"
@@ -38,12 +40,23 @@ def with_region(path: str, text: str, name: str, body: str) -> str:
     return text[:begin] + body + text[end.start():]
 
 
+def types_of(parameters: str) -> str:
+    """The types of a call's parameters."""
+    types = [re.sub(r"(?<=[ *])\w+$", "", it.strip()).strip() for it in parameters.split(",")]
+    return "void" if parameters == "void" else ", ".join(types)
+
+
 def prototypes(header: str) -> dict[str, str]:
     """The calls that the header declares, with the types of their parameters."""
+    return {name: types_of(parameters) for name, parameters in re.findall(r"^uint32_t (bes_\w+)\(([^;]*)\);", header, re.M)}
+
+
+def helpers_in(texts: Iterable[str]) -> dict[str, str]:
+    """The lines that describe the helpers which the headers declare, by their names."""
     found = {}
-    for name, parameters in re.findall(r"^uint32_t (bes_\w+)\(([^;]*)\);", header, re.M):
-        types = [re.sub(r"(?<=[ *])\w+$", "", it.strip()).strip() for it in parameters.split(",")]
-        found[name] = "void" if parameters == "void" else ", ".join(types)
+    for text in texts:
+        for kind, name, parameters in re.findall(r"^((?:const )?\w+ \*?)(bes_\w+)\(([^;{]*)\);", text, re.M):
+            found[name] = f"HELPER({kind.strip()}, {name}, {types_of(parameters)})"
     return found
 
 
@@ -64,11 +77,11 @@ def numbers_of(version: str) -> list[int]:
     return [int(part) for part in version.split(".")]
 
 
-def check_calls(surface: Surface, where: str, called: set[str]) -> None:
-    """Refuses a file that has other calls than the table."""
-    for name in sorted(called - set(surface.calls)):
-        raise Wrong(f"{where} has {name}, and [exports] of surface.toml doesn't: add it to the version that brings it")
-    for name in sorted(set(surface.calls) - called):
+def check_calls(where: str, called: Iterable[str], part: str, listed: Iterable[str]) -> None:
+    """Refuses a file that has other calls than a part of the table."""
+    for name in sorted(set(called) - set(listed)):
+        raise Wrong(f"{where} has {name}, and [{part}] of surface.toml doesn't: add it to the version that brings it")
+    for name in sorted(set(listed) - set(called)):
         raise Wrong(f"surface.toml exports {name}, and {where} doesn't have it: declare it there")
 
 
@@ -79,11 +92,12 @@ def described(surface: Surface) -> dict[str, str]:
     rows += [(it.c, f"0x{it.type_code:08x}") for it in surface.kinds]
     rows += [(f"BES_{it.c}", str(it.number)) for it in surface.operations]
     rows += [(f"BES_ITEM_{it.c}", str(it.number)) for it in surface.items]
+    rows += [(f"BES_FORM_{it.c}", str(it.number)) for it in surface.forms]
     return dict(rows)
 
 
-def with_abi(surface: Surface, text: str, calls: dict[str, str]) -> str:
-    """The description of the ABI, with a line for each number and call that it lacks."""
+def with_abi(surface: Surface, text: str, calls: dict[str, str], helpers: dict[str, str]) -> str:
+    """The description of the ABI, with a line for each number, call and helper that it lacks."""
     numbers = dict(re.findall(r"^NUMBER\((\w+), (\w+)\)", text, re.M))
     wanted = described(surface)
     for name, number in numbers.items():
@@ -91,10 +105,11 @@ def with_abi(surface: Surface, text: str, calls: dict[str, str]) -> str:
             raise Wrong(f"{ABI} has {name}, and surface.toml doesn't: programs have it, so it has to stay")
         if wanted[name] != number:
             raise Wrong(f"{ABI} has {name} = {number}, and surface.toml {wanted[name]}: programs have {number}, so it has to stay")
-    has = set(re.findall(r"^CALL\((\w+)", text, re.M))
+    has = set(re.findall(r"^(?:CALL\(|HELPER\([^,]*, )(bes_\w+)", text, re.M))
     added = [f"NUMBER({name}, {number})" for name, number in wanted.items() if name not in numbers]
     added += [f"CALL({name}, {calls[name]})" for name in surface.calls if name not in has]
-    for name in sorted(has - set(surface.calls)):
+    added += [helpers[name] for name in surface.all_helpers if name not in has]
+    for name in sorted(has - {*surface.calls, *surface.all_helpers}):
         raise Wrong(f"{ABI} has {name}, and surface.toml doesn't export it: programs call it, so it has to stay")
     return text.replace("\nint main(void)", "".join(f"{line}\n" for line in added) + "\nint main(void)")
 
@@ -111,9 +126,12 @@ def wanted_files(surface: Surface) -> dict[str, str]:
         text = wanted.get(path) or (ROOT / path).read_text()
         wanted[path] = with_region(path, text, name, render(surface))
     calls = prototypes(wanted[HEADER])
-    check_calls(surface, HEADER, set(calls))
-    check_calls(surface, BINDINGS, set(re.findall(r"^    pub fn (bes_\w+)\(", wanted[BINDINGS], re.M)))
-    wanted[ABI] = with_abi(surface, (ROOT / ABI).read_text(), calls)
+    helpers = helpers_in((ROOT / path).read_text() for path in HELPERS)
+    check_calls(HEADER, calls, "exports", surface.calls)
+    bindings = re.findall(r"^    pub fn (bes_\w+)\(", (ROOT / BINDINGS).read_text(), re.M)
+    check_calls(BINDINGS, bindings, "exports", surface.calls)
+    check_calls(" and ".join(HELPERS), helpers, "helpers", surface.all_helpers)
+    wanted[ABI] = with_abi(surface, (ROOT / ABI).read_text(), calls, helpers)
     return wanted
 
 

@@ -51,6 +51,8 @@ class Kind:
     printed: str
     about: str = ""
     sign: Optional[bool] = None
+    bits: int = 0
+    python_class: str = ""
 
     @property
     def type_code(self) -> int:
@@ -109,7 +111,7 @@ class ServerFault:
 
 @dataclass(frozen=True)
 class Numbered:
-    """An operation or an item."""
+    """An operation, an item or a form."""
 
     number: int
     c: str
@@ -126,7 +128,14 @@ class Surface:
     server_faults: list[ServerFault]
     operations: list[Numbered]
     items: list[Numbered]
+    forms: list[Numbered]
+    helpers: dict[str, list[str]]
     exports: dict[str, list[str]]
+
+    @property
+    def numbers(self) -> list[Kind]:
+        """The kinds of integers."""
+        return [it for it in self.kinds if it.is_number]
 
     @property
     def all_faults(self) -> list[Fault | ServerFault]:
@@ -135,7 +144,13 @@ class Surface:
 
     @property
     def calls(self) -> list[str]:
+        """The calls of the library, which are proved."""
         return [call for calls in self.exports.values() for call in calls]
+
+    @property
+    def all_helpers(self) -> list[str]:
+        """The helpers of the library, which are plain C."""
+        return [call for calls in self.helpers.values() for call in calls]
 
 
 Row = TypeVar("Row", Class, Kind, Fault, ServerFault, Numbered)
@@ -186,14 +201,16 @@ def check(surface: Surface) -> None:
     for kind in surface.kinds:
         if not re.fullmatch("[A-Z]{4}", kind.code):
             raise Wrong(f"surface.toml: a type code has four capitals, and that of {kind.name} is {kind.code!r}")
+        if kind.is_number != (kind.bits > 0) or kind.is_number != (kind.python_class != ""):
+            raise Wrong(f"surface.toml: an integer has sign, bits and python_class, and {kind.name} only some of them")
     once("kinds", "number", (it.number for it in surface.kinds))
     once("kinds", "code", (it.code for it in surface.kinds))
     once("errors", "number", (it.number for it in surface.faults))
     once("errors", "name", (it.name for it in surface.all_faults))
-    for part, rows in (("operations", surface.operations), ("items", surface.items)):
+    for part, rows in (("operations", surface.operations), ("items", surface.items), ("forms", surface.forms)):
         if [it.number for it in rows] != list(range(len(rows))):
             raise Wrong(f"surface.toml: the {part} are numbered from 0, without a gap and in their order")
-    once("exports", "call", surface.calls)
+    once("exports and helpers", "call", [*surface.calls, *surface.all_helpers])
     check_texts(surface)
 
 
@@ -211,6 +228,8 @@ def load(path: Path = TABLE) -> Surface:
         server_faults=rows_of(ServerFault, "server_errors", found["server_errors"]),
         operations=rows_of(Numbered, "operations", named("c", found["operations"])),
         items=rows_of(Numbered, "items", named("c", found["items"])),
+        forms=rows_of(Numbered, "forms", named("c", found["forms"])),
+        helpers=found["helpers"],
         exports=found["exports"],
     )
     check(surface)

@@ -60,6 +60,10 @@ def c_items(surface: Surface) -> str:
     return enum([(f"BES_ITEM_{it.c}", str(it.number), it.about) for it in surface.items])
 
 
+def c_forms(surface: Surface) -> str:
+    return enum([(f"BES_FORM_{it.c}", str(it.number), it.about) for it in surface.forms])
+
+
 def c_meaning(fault: Fault) -> str:
     """A row of the table of bes_strerror."""
     texts = [f"{fault.what}; ", fault.advice] if fault.advice else [fault.what]
@@ -76,10 +80,28 @@ def cases(kinds: Iterable[Kind]) -> str:
     return lines(f"    case {it.c}:" for it in kinds)
 
 
+def c_bits(surface: Surface) -> str:
+    return lines(f"    case {it.c}:\n        return {it.bits};" for it in surface.numbers)
+
+
+def c_never_true(surface: Surface) -> str:
+    return lines(f"    case {it.c}:\n        return comparison->is_never_{it.tool};" for it in surface.numbers)
+
+
+def c_setters(prefix: str, first: str, call: str, last: str) -> Callable[[Surface], str]:
+    """Functions that set an attribute to an integer: how their names begin, their first parameter, what they call, and its last
+    arguments."""
+    def setter(it: Kind) -> str:
+        number = "value" if not it.sign else "(uint64_t)value" if it.bits == 64 else "(uint64_t)(int64_t)value"
+        return (f"static inline uint32_t {prefix}{it.tool}({first}, uint64_t node, const char *name, {it.tool}_t value)\n{{\n"
+                f"    return {call}, BES_SET, node, name, {it.c}, {number}, NULL, 0{last});\n}}\n")
+    return lambda surface: "\n".join(map(setter, surface.numbers))
+
+
 def c_map(surface: Surface) -> str:
-    """The map by which the shared library exports its calls."""
-    parts = [f"        /* {version} */\n" + lines(f"        {call};" for call in calls)
-             for version, calls in surface.exports.items()]
+    """The map by which the shared library exports its calls and helpers."""
+    parts = [f"        /* {version}{what} */\n" + lines(f"        {call};" for call in calls)
+             for what, table in (("", surface.exports), (", helpers", surface.helpers)) for version, calls in table.items()]
     return f"/* {NOTE} */\n{{\n    global:\n{''.join(parts)}    local: *;\n}};\n"
 
 
@@ -109,6 +131,7 @@ def rust_constants(surface: Surface) -> str:
         [code(it) for it in surface.kinds],
         numbered("BES_", surface.operations),
         numbered("BES_ITEM_", surface.items),
+        numbered("BES_FORM_", surface.forms),
     ]
     return "\n".join(lines(block) for block in blocks)
 
@@ -138,6 +161,20 @@ def rust_kinds(surface: Surface) -> str:
         traits = f"{str(it.indexable).lower()}, {str(it.is_number).lower()}"
         return f'    /// {it.rust_about}\n    {it.rust} = {it.c}, "{it.code}", "{it.shown}", {traits};'
     return lines(map(row, surface.kinds))
+
+
+def rust_least(surface: Surface) -> str:
+    def least(it: Kind) -> str:
+        return "0" if not it.sign else "i64::MIN" if it.bits == 64 else f"i{it.bits}::MIN.into()"
+    others = " | ".join(f"Kind::{it.rust}" for it in surface.kinds if not it.is_number)
+    arms = [f"            Kind::{it.rust} => Some({least(it)})," for it in surface.numbers]
+    return lines([*arms, f"            {others} => None,"])
+
+
+def rust_never_true(surface: Surface) -> str:
+    others = " | ".join(f"Kind::{it.rust}" for it in surface.kinds if not it.is_number)
+    arms = [f"        Kind::{it.rust} => one.is_never_{it.tool}," for it in surface.numbers]
+    return lines([*arms, f"        {others} => false,"])
 
 
 def rust_kind_names(surface: Surface) -> str:
@@ -177,6 +214,7 @@ def python_surface(surface: Surface) -> str:
     codes = lines(f'    0x{it.type_code:08X}: "{it.code}",' for it in surface.kinds)
     names = lines(f'    0x{it.type_code:08X}: "{it.name}",' for it in surface.kinds)
     members = wrapped(f'"{it.python}"' for it in surface.kinds)
+    forms = lines(f"    {it.c} = {it.number}" for it in surface.forms)
     return f'''"""Numbers, names and texts that all languages share. {NOTE}"""
 
 from __future__ import annotations
@@ -195,6 +233,11 @@ class ErrorNumber(enum.IntEnum):
 
     OK = 0
 {numbers}
+
+class Form(enum.IntEnum):
+    """What the value of a query's comparison is, by the names of bestore.h without their BES_FORM_."""
+
+{forms}
 
 class Meaning(NamedTuple):
     """What an error means."""
@@ -249,7 +292,8 @@ def python_imports(surface: Surface) -> str:
 
 def python_all(surface: Surface) -> str:
     server = [it.name for it in surface.server_faults if it.python]
-    return wrapped_names([*(it.exception for it in surface.faults), *server], '"')
+    kinds = [*(it.python for it in surface.kinds), *(it.python_class for it in surface.numbers)]
+    return wrapped_names([*(it.exception for it in surface.faults), *server, *kinds], '"')
 
 
 def python_server_imports(surface: Surface) -> str:
@@ -265,6 +309,27 @@ def python_server_exceptions(surface: Surface) -> str:
 
 def python_kinds(surface: Surface) -> str:
     return lines(f"    {it.python} = 0x{it.type_code:08X}" for it in surface.kinds)
+
+
+def python_ranges(surface: Surface) -> str:
+    def numbers(it: Kind) -> str:
+        return f"-(2**{it.bits - 1}), 2**{it.bits - 1}" if it.sign else f"2**{it.bits}"
+    return lines(f"    Kind.{it.python}: range({numbers(it)})," for it in surface.numbers)
+
+
+def python_integers(surface: Surface) -> str:
+    def integer(it: Kind) -> str:
+        about = f"An integer of {it.bits} bits with{'' if it.sign else 'out'} a sign."
+        return f'class {it.python_class}(Integer):\n    """{about}"""\n\n    kind = Kind.{it.python}\n'
+    return "\n\n".join(map(integer, surface.numbers))
+
+
+def python_constants(surface: Surface) -> str:
+    return lines(f"{it.python} = Kind.{it.python}" for it in surface.kinds)
+
+
+def python_integer_imports(surface: Surface) -> str:
+    return wrapped_names(it.python_class for it in surface.numbers)
 
 
 def native_kinds(surface: Surface) -> str:
@@ -315,17 +380,22 @@ REGIONS: dict[tuple[str, str], Callable[[Surface], str]] = {
     ("include/bestore.h", "kinds"): c_kinds,
     ("include/bestore.h", "operations"): c_operations,
     ("include/bestore.h", "items"): c_items,
-    ("include/bestore_helpers.h", "meanings"): c_meanings,
-    ("include/bestore_helpers.h", "kinds"): lambda it: cases(it.kinds),
-    ("include/bestore_helpers.h", "kinds of numbers"): lambda it: cases(kind for kind in it.kinds if kind.is_number),
-    ("include/bestore_helpers.h", "kinds with a sign"): lambda it: cases(kind for kind in it.kinds if kind.sign),
+    ("include/bestore.h", "forms"): c_forms,
+    ("c/library/errors.c", "meanings"): c_meanings,
+    ("c/library/kinds.h", "kinds"): lambda it: cases(it.kinds),
+    ("c/library/kinds.h", "bits"): c_bits,
+    ("c/library/kinds.h", "kinds with a sign"): lambda it: cases(kind for kind in it.kinds if kind.sign),
+    ("include/bestore_helpers.h", "setters of a batch"): c_setters("bes_batch_set_", "bes_batch *batch", "bes_batch_add(batch", ""),
+    ("include/bestore_helpers.h", "setters"): c_setters("bes_set_", "bes_pass *pass", "bes_apply_one(pass", ", NULL"),
+    ("include/bestore_text.h", "never true"): c_never_true,
     ("include/bestore_values.hpp", "kinds"): cpp_kinds,
     ("include/bestore_values.hpp", "names of kinds"): cpp_kind_names,
-    ("rust/bestore-sys/src/lib.rs", "constants"): rust_constants,
     ("rust/bestore-types/src/sys.rs", "constants"): rust_constants,
     ("rust/bestore-types/src/class.rs", "classes"): rust_classes,
     ("rust/bestore-types/src/class.rs", "errors"): rust_meanings,
     ("rust/bestore-types/src/kind.rs", "kinds"): rust_kinds,
+    ("rust/bestore-types/src/kind.rs", "least values"): rust_least,
+    ("rust/bestore/src/hints.rs", "never true"): rust_never_true,
     ("rust/bestore-client/src/wire/value.rs", "names of kinds"): rust_kind_names,
     ("rust/bestore-client/src/wire/value.rs", "list of kinds"): rust_kind_list,
     ("rust/bestore-client/src/wire/error_name.rs", "errors"): rust_error_names,
@@ -335,6 +405,10 @@ REGIONS: dict[tuple[str, str], Callable[[Surface], str]] = {
     ("python/bestore/__init__.py", "exceptions of a server"): python_server_imports,
     ("python/bestore/__init__.py", "names"): python_all,
     ("python/bestore/values.py", "kinds"): python_kinds,
+    ("python/bestore/values.py", "ranges"): python_ranges,
+    ("python/bestore/values.py", "classes of integers"): python_integers,
+    ("python/bestore/__init__.py", "kinds"): python_constants,
+    ("python/bestore/__init__.py", "classes of integers"): python_integer_imports,
     ("python/native/values.c", "kinds"): native_kinds,
     ("python/native/native.h", "kinds"): native_count,
     ("docs/ARCHITECTURE.md", "kinds"): table_of_kinds,

@@ -6,6 +6,9 @@
 #define CALL(name, ...) \
     uint32_t name(__VA_ARGS__); \
     static uint32_t (*const use_##name)(__VA_ARGS__) __attribute__((used)) = name;
+#define HELPER(type, name, ...) \
+    type name(__VA_ARGS__); \
+    static type (*const use_##name)(__VA_ARGS__) __attribute__((used)) = name;
 #define SIZE(type, bytes) _Static_assert(sizeof(type) == (bytes), "the size of " #type);
 #define FIELD(type, field, place, kind) \
     _Static_assert(offsetof(type, field) == (place), "the place of " #type "." #field); \
@@ -232,6 +235,39 @@ CALL(bes_change_batch, bes_draft *, bes_counts *, bes_operation *, size_t, uint8
 CALL(bes_end_change, bes_pass *, bes_draft *, uint64_t *)
 CALL(bes_abandon_change, bes_pass *, bes_draft *)
 CALL(bes_move_draft, bes_draft *, bes_draft *)
+
+SIZE(bes_comparison, 56)
+FIELD(bes_comparison, at, 0, size_t)
+FIELD(bes_comparison, length, 8, size_t)
+FIELD(bes_comparison, name_at, 16, size_t)
+FIELD(bes_comparison, name_length, 24, size_t)
+FIELD(bes_comparison, kind, 32, uint32_t)
+FIELD(bes_comparison, value_at, 40, size_t)
+FIELD(bes_comparison, value_length, 48, size_t)
+SIZE(bes_index_list, 3312)
+FIELD(bes_index_list, counts, 0, bes_counts)
+FIELD(bes_index_list, operations, 16, bes_operation *)
+FIELD(bes_index_list, bytes, 1296, uint8_t *)
+HELPER(const char *, bes_strerror, uint32_t)
+HELPER(const char *, bes_error_name, uint32_t)
+HELPER(uint32_t, bes_class, uint32_t)
+HELPER(bool, bes_is_number_code, uint32_t)
+HELPER(uint32_t, bes_operations_to_bytes, const bes_operation *, size_t, const uint8_t *, size_t, uint8_t *, size_t, uint64_t *)
+HELPER(uint32_t, bes_operations_from_bytes, const uint8_t *, size_t, bes_counts *, bes_operation *, size_t, uint8_t *, size_t, uint64_t *)
+HELPER(bool, bes_next_comparison, const char *, size_t, size_t *, bes_comparison *)
+HELPER(bool, bes_next_never_true, const bes_index_list *, const char *, size_t, size_t *, bes_comparison *)
+HELPER(uint32_t, bes_uncovered, bes_pass *, const char *, size_t, size_t *)
+HELPER(uint32_t, bes_pairs, bes_pass *, const char *, uint64_t *)
+HELPER(uint32_t, bes_reindex, bes_pass *, const char *, uint32_t, uint64_t *)
+HELPER(size_t, bes_escape, const char *, char *, size_t)
+HELPER(size_t, bes_any_case, const char *, char *, size_t)
+HELPER(size_t, bes_to_utf8, const char *, size_t, char *, size_t)
+HELPER(int, bes_print_caret, FILE *, const char *, uint64_t)
+HELPER(uint32_t, bes_cursor_at, const bes_attribute *, const void *, uint64_t, bes_cursor *)
+HELPER(uint32_t, bes_cursor_value, const bes_cursor *, bes_attribute *, uint8_t *, size_t, uint64_t *)
+NUMBER(BES_FORM_TEXT, 0)
+NUMBER(BES_FORM_NUMBER, 1)
+NUMBER(BES_FORM_PATTERN, 2)
 
 int main(void)
 {

@@ -60,32 +60,45 @@ from .queries import Item, Name, Operator, Prepared, prepare, prepare_items
 from .shelf import Shelf, ShelfVersion
 from .shelf import open as open_shelf
 from .store import Entry, Held, Pass, Status, Witness
-from .values import Int32, Int64, Integer, Kind, Typed, UInt32, UInt64, Value
+from .values import (
+    # surface.toml: classes of integers
+    Int32, Int64, UInt32, UInt64,
+    # surface.toml: end
+    Integer, Kind, Typed, Value)
 from .versions import Attributes, Version
 from .watches import Changes, Watch
 
-STRING, INT32, INT64, MIME, RAW, UINT32, UINT64 = (
-    Kind.STRING, Kind.INT32, Kind.INT64, Kind.MIME, Kind.RAW, Kind.UINT32, Kind.UINT64)
+# surface.toml: kinds
+STRING = Kind.STRING
+INT32 = Kind.INT32
+INT64 = Kind.INT64
+MIME = Kind.MIME
+RAW = Kind.RAW
+UINT32 = Kind.UINT32
+UINT64 = Kind.UINT64
+# surface.toml: end
 
 __all__ = [
     # surface.toml: names
     "BadCount", "BadCursor", "BadItems", "BadLimits", "BadPart", "BadPattern", "BadRequest", "Busy",
-    "Closed", "CommitsSpent", "Conflict", "DataLength", "Expired", "Full", "HasNul", "InUse",
-    "IndexExists", "NameLength", "NoAttribute", "NoClient", "NoIndex", "NoItem", "NoKind", "NoLog",
-    "NoMemory", "NoNode", "NoOperation", "NoPass", "NoRoom", "NoValue", "NoWatch", "NotAllowed",
-    "NotCovered", "NotIndexable", "NotKept", "NotLeader", "NotPinned", "NotUTF8", "Opened",
-    "Pinned", "PushesLost", "QuerySyntax", "TooDeep", "TooLong", "TooMany", "TooManyAttributes",
-    "TooManyCopies", "TooManyIndices", "TooManyWatches", "Unexpected", "WrongKind",
+    "Closed", "CommitsSpent", "Conflict", "DataLength", "Expired", "Full", "HasNul", "INT32",
+    "INT64", "InUse", "IndexExists", "Int32", "Int64", "MIME", "NameLength", "NoAttribute",
+    "NoClient", "NoIndex", "NoItem", "NoKind", "NoLog", "NoMemory", "NoNode", "NoOperation",
+    "NoPass", "NoRoom", "NoValue", "NoWatch", "NotAllowed", "NotCovered", "NotIndexable", "NotKept",
+    "NotLeader", "NotPinned", "NotUTF8", "Opened", "Pinned", "PushesLost", "QuerySyntax", "RAW",
+    "STRING", "TooDeep", "TooLong", "TooMany", "TooManyAttributes", "TooManyCopies",
+    "TooManyIndices", "TooManyWatches", "UINT32", "UINT64", "UInt32", "UInt64", "Unexpected",
+    "WrongKind",
     # surface.toml: end
     "Attributes", "BadBytes", "Batch", "BrokenConnection", "Change", "ChangedAttributes", "Changes",
     "Comparison", "Cursor", "Disconnected", "Entry", "Error", "ErrorClass", "ErrorNumber", "Forked", "Held",
-    "Hint", "INT32", "INT64", "Int32", "Int64", "Integer", "Item", "Kind", "LineTooLong", "MIME",
+    "Hint", "Integer", "Item", "Kind", "LineTooLong",
     "MOST_OPERATIONS", "MakeIndex", "Name", "Nested", "NewNode", "NoServer", "NoVolume",
     "NotReached", "Operation", "Operator", "Order", "OtherStore", "OtherUser", "OtherVolume", "PartialIndex",
-    "Page", "Pass", "Prepared", "ProtocolError", "QueryError", "QueryNotUTF8", "RAW", "Refusal",
-    "RemoveIndex", "RemoveNode", "STRING", "ServerError", "ServerRefusal", "SetAttribute", "Shelf",
-    "ShelfVersion", "Status", "TimedOut", "TooManyAttempts", "Typed", "UINT32", "UINT64", "UInt32",
-    "UInt64", "Unavailable", "UnsetAttribute", "Value", "Version", "Watch", "Witness",
+    "Page", "Pass", "Prepared", "ProtocolError", "QueryError", "QueryNotUTF8", "Refusal",
+    "RemoveIndex", "RemoveNode", "ServerError", "ServerRefusal", "SetAttribute", "Shelf",
+    "ShelfVersion", "Status", "TimedOut", "TooManyAttempts", "Typed", "Unavailable", "UnsetAttribute",
+    "Value", "Version", "Watch", "Witness",
     "any_case", "connect", "escape", "node_in", "number_of", "open", "open_shelf", "prepare",
     "prepare_items", "volume_of",
 ]

@@ -6,7 +6,7 @@ from abc import abstractmethod
 from typing import Callable, List, Optional, Tuple, TypeVar
 
 from ._connected_errors import LineTooLong
-from ._wire import JSON, read_compared, read_nodes, read_row
+from ._wire import JSON, read_comparisons, read_nodes, read_row
 from .errors import NoIndex, NotCovered, TooLong, encoded, encoded_query, no_index
 from .language import Hint
 from .pages import Cursor, Order, Page
@@ -60,7 +60,7 @@ class QueriedVersion(Version):
         """As in a store of this process. The server reads the query's text."""
         if not self._takes("text"):
             return super().hints(query)
-        compared = self._ask_query("text", query, _text_of(query), {}, lambda ok: [read_compared(one) for one in ok["comparisons"]])
+        compared = self._ask_query("text", query, _text_of(query), {}, read_comparisons)
         indices = self.indices() if any(one.never for one in compared) else {}
         return [Hint(one.name, one.value, indices[one.name], one.offset, one.is_number)
                 for one in compared if indices.get(one.name) in one.never]

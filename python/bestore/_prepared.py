@@ -5,7 +5,7 @@ from __future__ import annotations
 import ctypes
 import struct
 import threading
-from typing import Optional, Sequence, Set, Tuple
+from typing import List, Optional, Sequence, Set, Tuple
 
 from ._engine import PREPARED, HandleOwner
 from ._library import calls, check
@@ -43,19 +43,20 @@ def encode_items(items: Sequence[Item]) -> Tuple[bytes, bytes]:
 class PreparedQuery(HandleOwner, Prepared):
     """A prepared query."""
 
-    def __init__(self, source: Optional[str] = None) -> None:
+    def __init__(self, source: Optional[str] = None, items: Sequence[Item] = ()) -> None:
         super().__init__(PREPARED)
         self.source = source
+        self._named = [str(item) for item in items if isinstance(item, Name)]
         self._refreshing = threading.RLock()
-        self._is_in_library = False
+        self._seen: Set[int] = set()
+        self._is_in_library = True
         self._refreshed_in: Optional[object] = None
-        self._seen: Optional[Set[int]] = None
         self._known_check: Optional[int] = None  # of cursors
 
     def close(self) -> None:
         """Gives the query up, if it is still there."""
         self._give_up(calls.bes_release)
-        self._seen = None
+        self._seen = set()
 
     @property
     def text(self) -> str:
@@ -76,10 +77,18 @@ class PreparedQuery(HandleOwner, Prepared):
     def _asked_text(self) -> str:
         if self.source is None:
             return self.text
+        self._check_open()
+        return self.source
+
+    def _item_names(self) -> List[str]:
+        self._check_open()
+        return self._named
+
+    def _check_open(self) -> None:
+        """Raises `Closed`, or `Forked` in a forked child."""
         self._check_process()
         if not self._is_live:
             raise Closed()
-        return self.source
 
 
 def prepare(text: str) -> PreparedQuery:
@@ -93,7 +102,7 @@ def prepare(text: str) -> PreparedQuery:
 
 def prepare_items(*items: Item) -> PreparedQuery:
     """As `queries.prepare_items`."""
-    prepared, place = PreparedQuery(), ctypes.c_uint64()
+    prepared, place = PreparedQuery(items=items), ctypes.c_uint64()
     taken, texts = encode_items(items)
     answer = calls.bes_prepare_items(taken, len(items), texts, len(texts), prepared._pointer, ctypes.byref(place))
     check(answer, place.value, listed="item")

@@ -6,13 +6,13 @@ import ctypes
 from typing import Callable, FrozenSet, List, Mapping, NamedTuple, Optional
 
 from ._library import Compared, Counts, calls, check
+from ._surface import Form
 from .errors import encoded, encoded_query
 from .language import Comparison, Hint
-from .values import Kind
+from .values import RANGES, Kind
 
 _MOST_COMPARISONS = 256
 _OPERATORS = {4: "==", 5: "!=", 6: "<", 7: "<=", 8: ">", 9: ">="}
-_NUMBER = 1  # the form of a value that is a whole number
 
 
 def escape(text: str) -> str:
@@ -58,10 +58,8 @@ def _read_back(it: Compared, text: bytes, plain: bytes) -> Read:
     name = plain[it.plain_name_at:it.plain_value_at].decode()
     value = text[it.value_at:it.value_end].decode()
     comparison = Comparison(name, _OPERATORS[it.kind_in_text], value, it.at)
-    never = ((Kind.INT32, it.is_never_int32), (Kind.INT64, it.is_never_int64),
-             (Kind.UINT32, it.is_never_uint32), (Kind.UINT64, it.is_never_uint64))
-    return Read(comparison, plain[it.plain_value_at:it.plain_end].decode(), it.form == _NUMBER,
-                 frozenset(kind for kind, is_never in never if is_never))
+    never = frozenset(kind for kind in RANGES if getattr(it, f"is_never_{kind.name.lower()}"))
+    return Read(comparison, plain[it.plain_value_at:it.plain_end].decode(), it.form == Form.NUMBER, never)
 
 
 def hints_in(query: str, indices: Mapping[str, Kind]) -> List[Hint]:

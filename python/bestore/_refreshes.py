@@ -1,28 +1,24 @@
-"""Refreshes of a query in a version that the library knows nothing of."""
+"""Refreshes of a query that are found by comparing whole answers, since the library has another one or none."""
 
 from __future__ import annotations
 
-from typing import TYPE_CHECKING, List, Set, Tuple
+from typing import TYPE_CHECKING, Iterable, List, Tuple
 
 if TYPE_CHECKING:
     from .queries import Prepared
     from .versions import Version
 
 
-def refreshed(prepared: Prepared, version: Version) -> Tuple[List[int], List[int]]:
-    """Which nodes came and which went since a query was refreshed last, by all that it finds in this version. Python keeps these
-    nodes, and not the library."""
-    prepared._check_process()
-    with prepared._refreshing:
-        found = set(version._nodes_of(prepared))
-        seen = prepared._seen
-        if seen is None:
-            seen = _in_library(prepared) if prepared._is_in_library else set()
-        prepared._seen, prepared._is_in_library = found, False
+def refreshed(prepared: Prepared, nodes: Iterable[int], is_in_library: bool) -> Tuple[List[int], List[int]]:
+    """Which nodes came and which went since the last refresh of a query that finds these nodes now. The library has them or it
+    hasn't."""
+    found, seen = set(nodes), prepared._seen
+    prepared._seen, prepared._is_in_library = found, is_in_library
     return sorted(found - seen), sorted(seen - found)
 
 
-def _in_library(prepared: Prepared) -> Set[int]:
-    """The nodes that the library has from the last refresh, which then was in a store of this process."""
-    from .local import seen_in_library
-    return seen_in_library(prepared)
+def refreshed_by_all(prepared: Prepared, version: Version) -> Tuple[List[int], List[int]]:
+    """The same in a version that the library knows nothing of."""
+    prepared._check_process()
+    with prepared._refreshing:
+        return refreshed(prepared, version._nodes_of(prepared), is_in_library=False)

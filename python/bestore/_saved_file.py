@@ -8,7 +8,7 @@ import sqlite3
 import weakref
 from contextlib import contextmanager, suppress
 from itertools import chain
-from typing import Any, ClassVar, Iterable, Iterator, List, NamedTuple, Optional, Sequence, Tuple
+from typing import Any, Callable, ClassVar, Dict, Iterable, Iterator, List, NamedTuple, Optional, Sequence, Tuple
 
 from ._saved_checks import LastEntry, of_about, of_entry, of_state, of_token
 from ._saved_errors import CutOff, Damaged, Differs, Foreign, Newer, of_reading, of_sqlite
@@ -213,38 +213,35 @@ class File:
 
     def state(self) -> Iterator[Tuple[int, bytes]]:
         """Each batch of the state, in their order, with its index."""
-        rows = self._rows(f"SELECT place, NULL, batch, {self._checksum} FROM state ORDER BY place")
-        due = 0
-        while True:
-            try:
-                row = next(rows, None)
-                if row is None:
-                    return
-                place, _, batch, found = row
-            except sqlite3.Error as error:
-                raise of_reading(self.path, error, batch=due) from error
-            if self.has_checksums and (not isinstance(batch, bytes) or found != of_state(place, batch)):
-                raise Damaged(self.path, _WRONG_SUM, batch=due)
+        due, sql = 0, f"SELECT place, NULL, batch, {self._checksum} FROM state ORDER BY place"
+        for place, batch in self._checked(sql, lambda place, _, batch: of_state(place, batch), lambda: {"batch": due}):
             if place != due:
                 raise Differs(self.path, "the batch is missing", batch=due)
-            yield place, batch if isinstance(batch, bytes) else b""
+            yield place, batch
             due += 1
 
     def entries(self, after: int) -> Iterator[Tuple[int, bytes]]:
         """The batch of each entry after this one, by rising numbers."""
-        rows = self._rows(f"SELECT number, pass, batch, {self._checksum} FROM entry ORDER BY number")
+        sql = f"SELECT number, pass, batch, {self._checksum} FROM entry ORDER BY number"
+        for number, batch in self._checked(sql, _sum_of, lambda: {"entry": after + 1, "until": after}):
+            yield number, batch
+            after = number
+
+    def _checked(self, sql: str, sum_of: Callable[[int, Any, bytes], Optional[int]],
+                 place: Callable[[], Dict[str, int]]) -> Iterator[Tuple[int, bytes]]:
+        """The number and the batch of each row, if its checksum is that of the row. `place` is where the next one is, for errors."""
+        rows = self._rows(sql)
         while True:
             try:
                 row = next(rows, None)
-                if row is None:
-                    return
-                number, by, batch, found = row
             except sqlite3.Error as error:
-                raise of_reading(self.path, error, entry=after + 1, until=after) from error
-            if self.has_checksums and (not isinstance(batch, bytes) or found != _sum_of(number, by, batch)):
-                raise Damaged(self.path, _WRONG_SUM, entry=after + 1, until=after)
+                raise of_reading(self.path, error, **place()) from error
+            if row is None:
+                return
+            number, by, batch, found = row
+            if self.has_checksums and (not isinstance(batch, bytes) or found != sum_of(number, by, batch)):
+                raise Damaged(self.path, _WRONG_SUM, **place())
             yield number, batch if isinstance(batch, bytes) else b""
-            after = number
 
     def _rows(self, sql: str) -> Iterator[Tuple[Any, ...]]:
         rows = self._run(sql)

@@ -65,6 +65,14 @@ class ErrorNumber(enum.IntEnum):
     WRONG_KIND = 80
 
 
+class Form(enum.IntEnum):
+    """What the value of a query's comparison is, by the names of bestore.h without their BES_FORM_."""
+
+    TEXT = 0
+    NUMBER = 1
+    PATTERN = 2
+
+
 class Meaning(NamedTuple):
     """What an error means."""
 

@@ -121,6 +121,11 @@ def read_compared(one: JSON) -> Compared:
     return Compared(str(one["name"]), str(one["value"]), int(one["offset"]), one["form"] == "number", never)
 
 
+def read_comparisons(ok: JSON) -> List[Compared]:
+    """The comparisons of a query's text."""
+    return [read_compared(one) for one in ok["comparisons"]]
+
+
 def read_row(row: List[object]) -> List[Optional[Value]]:
     """The values of a node without their kinds, and None where there is none."""
     return [value if value is None or isinstance(value, str) else read_value(value).value for value in row]

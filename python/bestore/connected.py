@@ -29,6 +29,7 @@ from typing import Any, Callable, Dict, Iterable, Iterator, List, NamedTuple, Op
 from uuid import uuid4
 from weakref import WeakValueDictionary
 
+from ._asked_query import AskedQuery
 from ._connected_change import ConnectedChange
 from ._connected_errors import (
     BrokenConnection, Disconnected, Expired, LineTooLong, NoServer, NotAllowed, NotKept, NoWatch, OtherUser, ProtocolError,
@@ -36,11 +37,11 @@ from ._connected_errors import (
 from ._connected_queries import MOST_NAMES, QueriedVersion
 from ._connection import Connection
 from ._journal import line_of
-from ._refreshes import refreshed
+from ._refreshes import refreshed_by_all
 from ._saved_errors import NotSaved, Stopped
 from ._socket_path import SocketPath
 from ._wire import (
-    JSON, PROTOCOL, operations_of, read_entry, read_kind, read_nodes, read_operation, read_row, read_value)
+    JSON, PROTOCOL, operations_of, read_comparisons, read_entry, read_kind, read_nodes, read_operation, read_row, read_value)
 from .errors import (
     BadCount, Closed, Error, Forked, NameLength, NoAttribute, NoNode, NoPass, NotCovered, NotPinned, NotReached, NoVolume,
     PartialIndex, Pinned, TooLong, encoded, encoded_query)
@@ -161,7 +162,7 @@ class ConnectedVersion(QueriedVersion):
     def refresh(self, prepared: Prepared) -> Tuple[List[int], List[int]]:
         """As in a version of a store in this process, up to this version. All nodes of the query come through the socket,
         and the program's memory has them until the query is closed. By `ConnectedPass.watch` only the changes come."""
-        return refreshed(prepared, self)
+        return refreshed_by_all(prepared, self)
 
     def indices(self) -> Dict[str, Kind]:
         return self._ask("indices", {}, _read_indices)
@@ -570,6 +571,16 @@ class ConnectedPass(LockOwner, ThreadPass):
         """Puts the current snapshot into the server's file, in the place of the state and the entries that it contains. Errors
         are those of `flush`."""
         self._ask("compact", {}, lambda ok: None)
+
+    def prepare(self, text: str) -> Prepared:
+        encoded_query(text)
+        if "text" not in self.server.features:
+            return super().prepare(text)
+        try:
+            compared = self._ask("text", {"query": text}, read_comparisons, query=text)
+        except LineTooLong:
+            raise TooLong(query=text) from None
+        return AskedQuery(text, (one.name for one in compared))
 
     def watch(self, query: Optional[str] = None) -> ConnectedWatch:
         """As in a store of this process. The server pushes the changes. A `QueryError`; `TooManyWatches`."""

@@ -5,18 +5,19 @@ from __future__ import annotations
 import ctypes
 import operator
 import sys
-from typing import Any, Callable, Dict, Iterator, List, Optional, Set, Tuple, TypeVar
+from typing import Any, Callable, Dict, Iterator, List, Optional, Tuple, TypeVar
 
 from . import _native
 from ._engine import CURSOR, PASS, WITNESS, HandleOwner, NativeBatch, native
 from ._library import Usage, calls, check
 from ._local_change import LocalChange
 from ._prepared import encode_items
+from ._refreshes import refreshed
 from ._surface import ErrorNumber
 from .change import Change
 from .commits import Commits
 from .errors import (
-    BadCursor, BadLimits, Conflict, Full, NoAttribute, NoIndex, NoNode, NotCovered, NoVolume, OtherStore, Refusal, encoded,
+    BadCursor, BadLimits, Conflict, Full, NoAttribute, NoIndex, NoNode, NoVolume, OtherStore, Refusal, encoded,
     encoded_query, no_index, refusal)
 from .nodes import name_missing
 from .operations import Batch
@@ -128,17 +129,13 @@ class LocalVersion(_native.Reader, Version):
         """What changed, by one of the calls that refresh a query in the library."""
         prepared._check_process()
         with prepared._refreshing:
-            changes = refresh(prepared)
-            prepared._is_in_library, prepared._refreshed_in = True, self._user._store
-            if prepared._seen is not None:
-                return self._changes_since(prepared, prepared._seen)
-            return changes
-
-    def _changes_since(self, prepared: Prepared, seen: Set[int]) -> Tuple[List[int], List[int]]:
-        """What came and went since a refresh in a version of a server, which the library knows nothing of."""
-        found = self.query_prepared(prepared)
-        prepared._seen = None
-        return sorted(set(found) - seen), sorted(seen.difference(found))
+            came, went = refresh(prepared)
+            prepared._refreshed_in = self._user._store
+            if not prepared._is_in_library:
+                return refreshed(prepared, self.query_prepared(prepared), is_in_library=True)
+            prepared._seen.difference_update(went)
+            prepared._seen.update(came)
+            return came, went
 
     def explain(self, text: str) -> str:
         taken, count, room = encoded_query(text), ctypes.c_uint64(), 256
@@ -162,21 +159,6 @@ class LocalVersion(_native.Reader, Version):
                 if batch is None:
                     return
                 yield batch
-
-
-def seen_in_library(prepared: Prepared) -> Set[int]:
-    """The nodes that the library has from the last refresh of a query, of which it then has none. In an empty store with the
-    indices that the query needs all of them are removed."""
-    with open(512, 1, 1024) as store:
-        while True:
-            with store.pin() as version:
-                try:
-                    return set(version.refresh(prepared)[1])
-                except NotCovered as error:
-                    if error.missing is None:
-                        raise
-                    missing = error.missing
-            store.make_index(missing, Kind.STRING)
 
 
 class LocalWitness(HandleOwner, Witness):

@@ -24,7 +24,7 @@ _CHECK = struct.Struct(">I")  # a CRC-32
 _NODE = struct.Struct(">Q")
 _LONGEST = (4 + 63 + 4 + 264 + 4) * 4 // 3  # characters of a cursor's text, for the longest name and key
 _NUMBERED = tuple(Kind)  # a kind's number is its place, from 1
-_SIZES = {Kind.INT32: 4, Kind.UINT32: 4, Kind.INT64: 8, Kind.UINT64: 8}
+_SIZES = {kind: (numbers.stop - numbers.start).bit_length() // 8 for kind, numbers in RANGES.items()}  # bytes of a number in a key
 
 
 class Order(NamedTuple):

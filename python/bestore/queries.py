@@ -31,9 +31,9 @@ class Prepared(Owner):
     source: Optional[str]
     """The text that it was prepared from, or None if it was prepared from items."""
     _refreshing: threading.RLock  # who has it refreshes the query, and it guards what follows
-    _is_in_library: bool  # whether the library has the nodes of the last refresh
-    _refreshed_in: Optional[object]  # the store of that refresh
-    _seen: Optional[Set[int]]  # these nodes, if the last refresh was in a version of a server
+    _seen: Set[int]  # the nodes of the last refresh
+    _is_in_library: bool  # whether the library has these, so that its next refresh says what changed
+    _refreshed_in: Optional[object]  # the store of the library's last refresh
 
     def _check_process(self) -> None:
         """Raises `Forked` if the query is of the process that this one was forked from."""
@@ -55,13 +55,19 @@ class Prepared(Owner):
 
     @property
     def comparisons(self) -> List[Comparison]:
-        """The comparisons of the canonical text, from left to right."""
+        """The comparisons of the canonical text, from left to right. `TooLong` if that has more than 4,096 bytes, as it may of a
+        query that is nearly as long."""
         return comparisons(self.text)
 
     @property
     def names(self) -> List[str]:
         """The names that are compared, each once, from left to right."""
-        return list(dict.fromkeys(comparison.name for comparison in self.comparisons))
+        found = (one.name for one in comparisons(self._asked_text())) if self.source is not None else self._item_names()
+        return list(dict.fromkeys(found))
+
+    def _item_names(self) -> List[str]:
+        """The names among the items from which the query was made. `Closed` if it is closed."""
+        raise NotImplementedError
 
 
 def prepare(text: str) -> Prepared:

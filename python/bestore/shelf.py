@@ -29,7 +29,7 @@ from itertools import islice
 from types import TracebackType
 from typing import Callable, Dict, Iterable, Iterator, List, Optional, Sequence, Tuple, Type, TypeVar, Union
 
-from ._refreshes import refreshed
+from ._refreshes import refreshed_by_all
 from ._shelf_change import ShelfChange
 from .change import Change
 from .commits import Commits
@@ -212,7 +212,7 @@ class ShelfVersion(Version):
 
     def refresh(self, prepared: Prepared) -> Tuple[List[int], List[int]]:
         """As in a version of one store. The program's memory has all nodes of the query until that is closed."""
-        return refreshed(prepared, self)
+        return refreshed_by_all(prepared, self)
 
     def explain(self, text: str) -> str:
         """What the query would be answered from in the first volume. The others use the same if they have the same indices."""

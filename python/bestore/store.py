@@ -18,6 +18,7 @@ from .handles import Owner
 from .language import all_in
 from .nodes import name_missing, volume_of
 from .operations import MOST_OPERATIONS, Batch, Operation
+from .queries import Prepared, prepare
 from .values import Kind, Value
 from .versions import Version
 from .watches import LocalWatch, Watch
@@ -238,6 +239,12 @@ class Pass(Owner, ABC):
                 if left <= 0:
                     raise NotReached(wanted, found)
                 waiter.wait(left)
+
+    def prepare(self, text: str) -> Prepared:
+        """The query of this text, to be asked often in versions of this store: that of `bestore.prepare`. A server's store asks the
+        server instead, and needs no library; only versions of servers' stores can be asked such a query. The errors are those of
+        `bestore.prepare`."""
+        return prepare(text)
 
     def watch(self, query: Optional[str] = None) -> Watch:
         """Begins to follow what a query finds, or each commit if there is none: `Watch.wait` waits for changes. In this process it

@@ -33,10 +33,12 @@ class Kind(enum.IntEnum):
 KIND_OF = {int(kind): kind for kind in Kind}
 """The kinds by their codes."""
 RANGES = {
+    # surface.toml: ranges
     Kind.INT32: range(-(2**31), 2**31),
     Kind.INT64: range(-(2**63), 2**63),
     Kind.UINT32: range(2**32),
     Kind.UINT64: range(2**64),
+    # surface.toml: end
 }
 """The kinds of numbers, and what each holds."""
 
@@ -55,6 +57,7 @@ class Integer(int):
         return super().__new__(cls, number)
 
 
+# surface.toml: classes of integers
 class Int32(Integer):
     """An integer of 32 bits with a sign."""
 
@@ -62,7 +65,7 @@ class Int32(Integer):
 
 
 class Int64(Integer):
-    """An integer of 64 bits with a sign, as a plain int is."""
+    """An integer of 64 bits with a sign."""
 
     kind = Kind.INT64
 
@@ -77,6 +80,7 @@ class UInt64(Integer):
     """An integer of 64 bits without a sign."""
 
     kind = Kind.UINT64
+# surface.toml: end
 
 
 class Typed(NamedTuple):
@@ -105,7 +109,7 @@ def encode_value(value: Value, kind: Optional[int] = None) -> Encoded:
     if kind is None and isinstance(value, Integer):
         kind = value.kind
     number = _number(value)
-    code = _fitting(value, kind, "an int is", (Kind.INT64, Kind.INT32, Kind.UINT32, Kind.UINT64))
+    code = _fitting(value, kind, "an int is", _NUMBERS)
     if number not in RANGES[code]:
         raise NoValue()
     return code, number % 2**64, b""
@@ -135,7 +139,8 @@ def _fitting(value: Value, kind: Optional[int], called: str, kinds: Tuple[Kind, 
     raise TypeError(f"{reprlib.repr(value)} can't be of the kind {KIND_OF[kind].name}: {called} {offered}")
 
 
-_TEXTS, _SIGNED = frozenset((Kind.STRING, Kind.MIME)), frozenset((Kind.INT32, Kind.INT64))
+_TEXTS, _SIGNED = frozenset((Kind.STRING, Kind.MIME)), frozenset(kind for kind, numbers in RANGES.items() if numbers[0] < 0)
+_NUMBERS = (Kind.INT64, *(kind for kind in RANGES if kind is not Kind.INT64))  # of a plain int the first
 
 
 def decode_value(code: int, number: int, value: bytes) -> Value:

@@ -55,10 +55,17 @@ fn include_folder() -> PathBuf {
     )
 }
 
+fn constants() -> impl Iterator<Item = (&'static str, u32)> {
+    CONSTANTS
+        .iter()
+        .copied()
+        .chain([("BES_VERSION_NUMBER", BES_VERSION_NUMBER)])
+}
+
 fn program() -> String {
     let mut text =
         String::from("#include \"bestore.h\"\n#include <stdalign.h>\n#include <stdio.h>\nint main(void)\n{\n");
-    for (name, _) in CONSTANTS {
+    for (name, _) in constants() {
         writeln!(text, "printf(\"{name} %u\\n\", (unsigned){name});").unwrap();
     }
     for (name, _, _, fields) in layouts() {
@@ -73,7 +80,7 @@ fn program() -> String {
 
 fn declared() -> String {
     let mut text = String::new();
-    for (name, value) in CONSTANTS {
+    for (name, value) in constants() {
         writeln!(text, "{name} {value}").unwrap();
     }
     for (name, size, alignment, fields) in layouts() {

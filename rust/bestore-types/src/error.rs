@@ -454,7 +454,8 @@ impl QueryError {
         self.fault
     }
 
-    /// Of [`QueryFault::NotCovered`]: the first name in the text that has no index.
+    /// Of [`QueryFault::NotCovered`]: the first name in the text that has no index. It isn't known of a canonical text of more than
+    /// 4,096 bytes, which a prepared query may have.
     #[must_use]
     pub fn missing(&self) -> Option<&str> {
         self.missing.as_deref()

@@ -83,10 +83,13 @@ impl Kind {
     #[must_use]
     pub fn least(self) -> Option<i64> {
         match self {
+            // surface.toml: least values
             Kind::Int32 => Some(i32::MIN.into()),
             Kind::Int64 => Some(i64::MIN),
-            Kind::Uint32 | Kind::Uint64 => Some(0),
+            Kind::Uint32 => Some(0),
+            Kind::Uint64 => Some(0),
             Kind::Text | Kind::Mime | Kind::Raw => None,
+            // surface.toml: end
         }
     }
 

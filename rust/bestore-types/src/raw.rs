@@ -9,7 +9,8 @@ pub use crate::node::{extend, fits};
 /// The most operations of a batch.
 pub const OPERATIONS: usize = 64;
 
-/// An operation, with the layout of `bes_operation` in `bestore.h`.
+/// An operation, as `bes_operation` of `bestore.h`: its name and the bytes of its value are in those that go with all operations of a
+/// batch. The crate `bestore-sys` has it from here.
 #[repr(C)]
 #[derive(Clone, Copy, Debug, Default, PartialEq, Eq)]
 pub struct RawOperation {

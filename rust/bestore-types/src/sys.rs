@@ -1,4 +1,4 @@
-//! The numbers of `bestore.h`, as the crate `bestore-sys` has them too.
+//! The numbers of `bestore.h`, which the crate `bestore-sys` has from here.
 
 macro_rules! constants {
     ($($name:ident = $value:expr;)*) => {
@@ -89,5 +89,9 @@ constants! {
     BES_ITEM_AND = 13;
     BES_ITEM_OR = 14;
     BES_ITEM_NOT = 15;
+
+    BES_FORM_TEXT = 0;
+    BES_FORM_NUMBER = 1;
+    BES_FORM_PATTERN = 2;
     // surface.toml: end
 }

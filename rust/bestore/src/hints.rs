@@ -1,8 +1,9 @@
 //! The comparisons of a query, and which of them are never true.
 
-use crate::text::{comparisons, has_wildcard, without_backslashes, Comparing, Comparison};
-use crate::{Hint, Kind, Prepared, Result};
-use std::ops::RangeInclusive;
+use crate::raw::{comparisons, Comparisons};
+use crate::refused::of_query;
+use crate::{Hint, Kind, Result};
+use bestore_sys::{self as sys, bes_compared};
 
 /// What the value of a comparison is.
 #[derive(Clone, Copy, Debug, PartialEq, Eq)]
@@ -22,7 +23,7 @@ pub struct Compared {
     pub name: String,
     /// `==`, `!=`, `<`, `<=`, `>` or `>=`, as the text has it.
     pub operator: &'static str,
-    /// What is compared with.
+    /// What is compared with: a text without backslashes, or a pattern in its canonical form.
     pub value: String,
     /// What that is.
     pub form: Form,
@@ -49,29 +50,48 @@ pub struct Compared {
 /// # Errors
 /// [`Error::Query`](crate::Error::Query): the text is no query. [`Error::OutOfMemory`](crate::Error::OutOfMemory).
 pub fn compared(query: &str) -> Result<Vec<Compared>> {
-    // The canonical text has the same comparisons in the same order, and no `!`, which would turn their operators.
-    let canonical = Prepared::new(query)?.text()?;
-    let both = comparisons(query).into_iter().zip(comparisons(&canonical));
-    Ok(both.map(|(asked, canonical)| compare(asked, &canonical)).collect())
+    let found = comparisons(query).map_err(|refused| of_query(refused, || query.into()))?;
+    Ok(found.list.iter().map(|one| read(&found, one)).collect())
 }
 
-fn compare(asked: Comparison<'_>, canonical: &Comparison<'_>) -> Compared {
-    let number = number_in(canonical);
-    let is_never =
-        |kind: &Kind| range_of(*kind).map_or(false, |range| is_never_true(canonical.operator, number, &range));
+fn read(found: &Comparisons, one: &bes_compared) -> Compared {
     Compared {
-        operator: asked.operator.sign(),
-        value: without_backslashes(asked.value),
-        form: match number {
-            Some(_) => Form::Number,
-            None if is_pattern(canonical) => Form::Pattern,
-            None => Form::Text,
+        name: found.name(one),
+        operator: sign(one.kind_in_text),
+        value: found.value(one),
+        form: match one.form {
+            sys::BES_FORM_NUMBER => Form::Number,
+            sys::BES_FORM_PATTERN => Form::Pattern,
+            _ => Form::Text,
         },
-        offset: asked.offset,
-        length: asked.end - asked.offset,
-        is_negated: asked.operator != canonical.operator,
-        never: Kind::ALL.into_iter().filter(is_never).collect(),
-        name: asked.name,
+        offset: one.at as usize,
+        length: (one.end - one.at) as usize,
+        is_negated: one.kind != one.kind_in_text,
+        never: Kind::ALL.into_iter().filter(|kind| is_never(one, *kind)).collect(),
+    }
+}
+
+const fn sign(kind: u32) -> &'static str {
+    match kind {
+        sys::BES_ITEM_NE => "!=",
+        sys::BES_ITEM_LT => "<",
+        sys::BES_ITEM_LE => "<=",
+        sys::BES_ITEM_GT => ">",
+        sys::BES_ITEM_GE => ">=",
+        _ => "==",
+    }
+}
+
+/// Whether no value of an index of this kind makes the comparison true.
+const fn is_never(one: &bes_compared, kind: Kind) -> bool {
+    match kind {
+        // surface.toml: never true
+        Kind::Int32 => one.is_never_int32,
+        Kind::Int64 => one.is_never_int64,
+        Kind::Uint32 => one.is_never_uint32,
+        Kind::Uint64 => one.is_never_uint64,
+        Kind::Text | Kind::Mime | Kind::Raw => false,
+        // surface.toml: end
     }
 }
 
@@ -99,51 +119,6 @@ pub fn hints(query: &str, kind_of: impl Fn(&str) -> Option<Kind>) -> Result<Vec<
         })
     };
     Ok(compared(query)?.into_iter().filter_map(hint).collect())
-}
-
-/// Whether the value is a pattern with a wildcard. Other operators take a text as it is.
-fn is_pattern(comparison: &Comparison<'_>) -> bool {
-    matches!(comparison.operator, Comparing::Eq | Comparing::Ne) && has_wildcard(comparison.value)
-}
-
-fn range_of(kind: Kind) -> Option<RangeInclusive<i128>> {
-    match kind {
-        Kind::Int32 => Some(i32::MIN.into()..=i32::MAX.into()),
-        Kind::Int64 => Some(i64::MIN.into()..=i64::MAX.into()),
-        Kind::Uint32 => Some(0..=u32::MAX.into()),
-        Kind::Uint64 => Some(0..=u64::MAX.into()),
-        Kind::Text | Kind::Mime | Kind::Raw => None,
-    }
-}
-
-/// The value as a number from -2^63 to 2^64 - 1. A pattern with a wildcard isn't a number.
-fn number_in(comparison: &Comparison<'_>) -> Option<i128> {
-    if is_pattern(comparison) {
-        return None;
-    }
-    let text = without_backslashes(comparison.value);
-    let digits = text.strip_prefix('-').unwrap_or(&text);
-    if !(1..=20).contains(&digits.len()) || !digits.bytes().all(|byte| byte.is_ascii_digit()) {
-        return None;
-    }
-    let number: i128 = text.parse().ok()?;
-    (i64::MIN.into()..=u64::MAX.into()).contains(&number).then_some(number)
-}
-
-/// Whether no integer of the range makes the comparison with the number true.
-fn is_never_true(operator: Comparing, number: Option<i128>, range: &RangeInclusive<i128>) -> bool {
-    let number = match number {
-        Some(number) => number,
-        None => return true,
-    };
-    match operator {
-        Comparing::Eq => !range.contains(&number),
-        Comparing::Ne => false,
-        Comparing::Lt => number <= *range.start(),
-        Comparing::Le => number < *range.start(),
-        Comparing::Gt => number >= *range.end(),
-        Comparing::Ge => number > *range.end(),
-    }
 }
 
 #[cfg(test)]
@@ -210,6 +185,14 @@ mod tests {
             [&integers[..], &[], &integers]
         );
         assert_eq!(compared("n>4294967295").unwrap()[0].never, [Kind::Int32, Kind::Uint32]);
+        assert_eq!(compared(r"n==\x\*y*").unwrap()[0].value, r"x\*y*");
+    }
+
+    #[test]
+    fn a_query_has_up_to_256_comparisons() {
+        let query = |count: usize| vec!["a=1"; count].join("||");
+        assert_eq!(compared(&query(256)).unwrap().len(), 256);
+        assert!(matches!(compared(&query(257)), Err(crate::Error::Query(_))));
     }
 
     #[test]

@@ -1,27 +1,31 @@
-//! The calls of the library on handles that close themselves. All unsafe code of the crate is here.
+//! The calls of the library on handles that close themselves. All unsafe code of the crate is in this module.
 //!
 //! What each block rests on:
 //! - a pointer to a handle is one of `Handle`, which keeps the handle at one address until it closes it;
 //! - a handle takes one call at a time: `Handle` isn't `Sync`, and no call of the library calls back;
 //! - a slice has a pointer that isn't null, even with a length of 0;
 //! - of a list the library writes as many items as it counts, up to the room that it is given;
-//! - a `RawOperation` has the layout of a `bes_operation`;
 //! - a pass and a witness have the number of their store, and are joined only if it is the same;
 //! - a `Live` has the number of the store of its last refresh, and is refreshed by what changed only in that one.
 #![allow(unsafe_code)]
 #![deny(unsafe_op_in_unsafe_fn)]
 
+mod handle;
+mod texts;
+
+pub(crate) use handle::Birthplace;
+pub(crate) use texts::{any_case, comparisons, Comparisons};
+
 use crate::{Cursor, Kind, Order};
 use bestore_sys as sys;
-use bestore_types::raw::{List, RawOperation, OPERATIONS};
+use bestore_types::raw::{List, OPERATIONS};
+use handle::Handle;
 use std::cell::Cell;
-use std::marker::PhantomData;
-use std::mem::{align_of, size_of};
 use std::ptr::NonNull;
 use std::sync::atomic::{AtomicU64, Ordering};
-use std::sync::Once;
 use sys::{
-    bes_counts, bes_cursor, bes_draft, bes_operation, bes_pass, bes_place, bes_prepared, bes_updates, bes_witness,
+    bes_attribute, bes_counts, bes_cursor, bes_draft, bes_operation, bes_pass, bes_place, bes_prepared, bes_updates,
+    bes_witness,
 };
 
 /// The code of a call in a forked child, which no call of the library returns.
@@ -42,129 +46,11 @@ pub(crate) type Answer<T> = Result<T, Refused>;
 /// The nodes that came and those that went.
 pub(crate) type RawUpdates = Answer<(Vec<u64>, Vec<u64>)>;
 
-/// The layout of an operation is that of C, so a list of one is a list of the other.
-const _: () = assert!(
-    size_of::<RawOperation>() == size_of::<bes_operation>()
-        && align_of::<RawOperation>() == align_of::<bes_operation>()
-);
-
 fn check(code: u32, carried: u64) -> Answer<()> {
     if code == sys::BES_OK {
         Ok(())
     } else {
         Err(Refused { code, carried })
-    }
-}
-
-/// How many forks lie between the first process and this one.
-static FORKS: AtomicU64 = AtomicU64::new(0);
-
-extern "C" fn count_fork() {
-    FORKS.fetch_add(1, Ordering::Relaxed);
-}
-
-/// The process in which something was made.
-#[derive(Clone, Copy, Debug)]
-pub(crate) struct Birthplace(u64);
-
-impl Birthplace {
-    pub(crate) fn here() -> Self {
-        static WATCH: Once = Once::new();
-        WATCH.call_once(|| {
-            // SAFETY: the handler is a function that takes nothing, and does one atomic step.
-            unsafe { libc::pthread_atfork(None, None, Some(count_fork)) };
-        });
-        Self(FORKS.load(Ordering::Relaxed))
-    }
-
-    /// Whether this process is that one, and no forked child of it.
-    pub(crate) fn is_here(self) -> bool {
-        FORKS.load(Ordering::Relaxed) == self.0
-    }
-
-    pub(crate) fn check(self) -> Answer<()> {
-        if self.is_here() {
-            Ok(())
-        } else {
-            Err(Refused {
-                code: FORKED,
-                carried: 0,
-            })
-        }
-    }
-}
-
-/// A handle of C, with how it begins and how it is closed.
-trait CloseHandle: Sized {
-    const CLOSED: Self;
-
-    /// # Safety
-    /// `at` points to a handle that no other call uses.
-    unsafe fn close(at: *mut Self);
-}
-
-macro_rules! close_by {
-    ($($handle:ident by $call:ident),*) => {$(
-        impl CloseHandle for $handle {
-            const CLOSED: Self = Self::INIT;
-
-            unsafe fn close(at: *mut Self) {
-                // SAFETY: as the trait asks.
-                unsafe { sys::$call(at) };
-            }
-        }
-    )*};
-}
-
-close_by!(
-    bes_pass by bes_close, bes_prepared by bes_release, bes_place by bes_leave, bes_witness by bes_dismiss
-);
-
-impl CloseHandle for bes_draft {
-    const CLOSED: Self = Self::INIT;
-
-    unsafe fn close(at: *mut Self) {
-        // With a pass that is closed the call closes just the draft, whatever its own pass does.
-        let mut none = bes_pass::INIT;
-        // SAFETY: as the trait asks; the pass is of this call alone.
-        unsafe { sys::bes_abandon_change(&mut none, at) };
-    }
-}
-
-/// A handle at one address, which is closed at the end. In a forked child it is dead, and is left as it is.
-#[derive(Debug)]
-struct Handle<T: CloseHandle> {
-    at: NonNull<T>,
-    birthplace: Birthplace,
-    owns: PhantomData<T>,
-}
-
-// SAFETY: the header lets a handle go to another thread whose calls come after. It isn't `Sync`.
-unsafe impl<T: CloseHandle> Send for Handle<T> {}
-
-impl<T: CloseHandle> Handle<T> {
-    fn new() -> Self {
-        Self {
-            at: NonNull::from(Box::leak(Box::new(T::CLOSED))),
-            birthplace: Birthplace::here(),
-            owns: PhantomData,
-        }
-    }
-
-    fn get(&self) -> Answer<*mut T> {
-        self.birthplace.check().map(|()| self.at.as_ptr())
-    }
-}
-
-impl<T: CloseHandle> Drop for Handle<T> {
-    fn drop(&mut self) {
-        if self.birthplace.is_here() {
-            // SAFETY: `at` is of a box that was leaked by `new`, and nothing uses it any more.
-            unsafe {
-                T::close(self.at.as_ptr());
-                drop(Box::from_raw(self.at.as_ptr()));
-            }
-        }
     }
 }
 
@@ -211,7 +97,7 @@ fn listed(
             bytes: Vec::with_capacity(bytes_room),
         };
         let mut counts = bes_counts::default();
-        let operations = list.operations.as_mut_ptr().cast();
+        let operations = list.operations.as_mut_ptr();
         let bytes = list.bytes.as_mut_ptr();
         call(&mut counts, operations, operations_room, bytes, bytes_room)?;
         let (operations, bytes) = (counts.operations as usize, counts.bytes as usize);
@@ -232,7 +118,7 @@ fn listed(
 /// # Safety
 /// `pass` points to a handle that no other call uses.
 unsafe fn apply(pass: *mut bes_pass, expected: Option<u64>, list: &List, made: &mut [u64], number: &mut u64) -> u32 {
-    let (operations, count) = (list.operations.as_ptr().cast(), list.operations.len());
+    let (operations, count) = (list.operations.as_ptr(), list.operations.len());
     let (bytes, length) = (list.bytes.as_ptr(), list.bytes.len());
     let (nodes, room) = (made.as_mut_ptr(), made.len());
     // SAFETY: the slices are three, and outlive the call.
@@ -268,6 +154,16 @@ fn some(all: u64, most: usize, call: impl FnOnce(*mut u64, usize, &mut u64) -> u
     // SAFETY: the library has written `count` nodes, and no more than there is room for.
     unsafe { nodes.set_len(room.min(count as usize)) };
     Ok(nodes)
+}
+
+/// An attribute that a call reads, whose bytes it puts into `bytes`.
+fn attribute(
+    bytes: &mut [u8; 255],
+    call: impl FnOnce(&mut bes_attribute, *mut u8, usize) -> u32,
+) -> Answer<bes_attribute> {
+    let mut attribute = bes_attribute::default();
+    let code = call(&mut attribute, bytes.as_mut_ptr(), bytes.len());
+    check(code, 0).map(|()| attribute)
 }
 
 /// How many stores this process has tried to open.
@@ -391,22 +287,12 @@ impl RawPass {
         node: u64,
         name: &str,
         bytes: &mut [u8; 255],
-    ) -> Answer<sys::bes_attribute> {
-        let mut attribute = sys::bes_attribute::default();
-        // SAFETY: as the module says; the draft is one of this pass, since a change has both.
-        let code = unsafe {
-            sys::bes_change_get(
-                self.handle.get()?,
-                draft.0.get()?,
-                node,
-                name.as_ptr(),
-                name.len(),
-                &mut attribute,
-                bytes.as_mut_ptr(),
-                bytes.len(),
-            )
-        };
-        check(code, 0).map(|()| attribute)
+    ) -> Answer<bes_attribute> {
+        let (pass, draft) = (self.handle.get()?, draft.0.get()?);
+        attribute(bytes, |attribute, bytes, room| {
+            // SAFETY: as the module says; the draft is one of this pass, since a change has both.
+            unsafe { sys::bes_change_get(pass, draft, node, name.as_ptr(), name.len(), attribute, bytes, room) }
+        })
     }
 
     pub(crate) fn query(&self, text: &str) -> Answer<Vec<u64>> {
@@ -544,21 +430,12 @@ impl RawPass {
     }
 
     /// An attribute, whose bytes are put into `bytes`.
-    pub(crate) fn get(&self, node: u64, name: &str, bytes: &mut [u8; 255]) -> Answer<sys::bes_attribute> {
-        let mut attribute = sys::bes_attribute::default();
-        // SAFETY: as the module says.
-        let code = unsafe {
-            sys::bes_get(
-                self.handle.get()?,
-                node,
-                name.as_ptr(),
-                name.len(),
-                &mut attribute,
-                bytes.as_mut_ptr(),
-                bytes.len(),
-            )
-        };
-        check(code, 0).map(|()| attribute)
+    pub(crate) fn get(&self, node: u64, name: &str, bytes: &mut [u8; 255]) -> Answer<bes_attribute> {
+        let pass = self.handle.get()?;
+        attribute(bytes, |attribute, bytes, room| {
+            // SAFETY: as the module says.
+            unsafe { sys::bes_get(pass, node, name.as_ptr(), name.len(), attribute, bytes, room) }
+        })
     }
 
     /// The cells of all nodes at all names, node by node, and the bytes that they are parts of.
@@ -726,8 +603,18 @@ impl RawDraft {
     /// Adds an operation. Returns the node that it makes, or 0. What goes with an error is the type code of the index that doesn't take
     /// the value.
     pub(crate) fn add(&self, parts: &Parts<'_>) -> Answer<u64> {
-        let bytes = [parts.name.as_bytes(), parts.value].concat();
-        let name_length = length_of(parts.name.as_bytes());
+        let (mut short, long);
+        let (name, value) = (parts.name.as_bytes(), parts.value);
+        let bytes: &[u8] = if name.len() <= 63 && value.len() <= 255 {
+            short = [0; 63 + 255];
+            short[..name.len()].copy_from_slice(name);
+            short[name.len()..][..value.len()].copy_from_slice(value);
+            &short[..name.len() + value.len()]
+        } else {
+            long = [name, value].concat();
+            &long
+        };
+        let name_length = length_of(name);
         let operation = bes_operation {
             kind: parts.kind,
             code: parts.code,
@@ -736,7 +623,7 @@ impl RawDraft {
             name_at: 0,
             name_length,
             value_at: name_length,
-            value_length: length_of(parts.value),
+            value_length: length_of(value),
         };
         let mut made = 0;
         // SAFETY: as the module says; the operation and the bytes outlive the call.
@@ -784,14 +671,6 @@ pub(crate) fn of_cursor(order: &Order, check: u32, raw: &bes_cursor) -> Cursor {
     Cursor::of_key(order.clone(), check, Kind::from_code(raw.kind), key)
 }
 
-/// A pattern that matches the text in upper and lower case.
-pub(crate) fn any_case(text: &str) -> Answer<Vec<u8>> {
-    whole(12 * text.len(), |bytes, room, count| {
-        // SAFETY: as the module says.
-        unsafe { sys::bes_any_case_bytes(text.as_ptr(), text.len(), bytes, room, count) }
-    })
-}
-
 /// The version of the library that runs, as `BES_VERSION_NUMBER` of its header.
 pub(crate) fn version() -> u32 {
     // SAFETY: the call takes nothing.
@@ -801,31 +680,6 @@ pub(crate) fn version() -> u32 {
 #[cfg(test)]
 mod tests {
     use super::*;
-
-    #[test]
-    fn an_operation_has_the_layout_of_c() {
-        let ours = RawOperation {
-            kind: 1,
-            code: 2,
-            node: 3,
-            number: 4,
-            name_at: 5,
-            name_length: 6,
-            value_at: 7,
-            value_length: 8,
-        };
-        // SAFETY: both are structs of C without padding, and of the same size.
-        let theirs: bes_operation = unsafe { std::mem::transmute(ours) };
-        let fields = [
-            theirs.kind,
-            theirs.code,
-            theirs.name_at,
-            theirs.name_length,
-            theirs.value_at,
-            theirs.value_length,
-        ];
-        assert_eq!((fields, theirs.node, theirs.number), ([1, 2, 5, 6, 7, 8], 3, 4));
-    }
 
     #[test]
     fn a_cursor_goes_to_the_library_and_back() {

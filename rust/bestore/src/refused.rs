@@ -1,7 +1,6 @@
 //! Turns the library's refusals into errors, with their details.
 
-use crate::raw::{Refused, FORKED};
-use crate::text::comparisons;
+use crate::raw::{comparisons, Refused, FORKED};
 use crate::{CursorFault, Error, Kind, QueryError, QueryFault};
 use bestore_sys as sys;
 
@@ -37,9 +36,7 @@ pub(crate) fn without_offset(error: Error) -> Error {
 pub(crate) fn with_missing(error: Error, has_index: impl Fn(&str) -> bool) -> Error {
     match error {
         Error::Query(error) if error.fault() == QueryFault::NotCovered => {
-            let mut compared = comparisons(error.text()).into_iter();
-            let missing = compared.find(|comparison| !has_index(&comparison.name));
-            let missing = missing.map(|missing| (missing.name, missing.offset));
+            let missing = first_missing(error.text(), has_index);
             Error::Query(match missing {
                 Some((name, offset)) => error.with_missing(name, offset),
                 None => error,
@@ -47,6 +44,13 @@ pub(crate) fn with_missing(error: Error, has_index: impl Fn(&str) -> bool) -> Er
         }
         other => other,
     }
+}
+
+/// The first name without an index in a query, and its place.
+fn first_missing(query: &str, has_index: impl Fn(&str) -> bool) -> Option<(String, usize)> {
+    let found = comparisons(query).ok()?;
+    let mut names = found.list.iter().map(|one| (found.name(one), one.at as usize));
+    names.find(|(name, _)| !has_index(name))
 }
 
 /// The error of a write of `count` operations, on a journal of the expected length if one was given.
@@ -122,13 +126,6 @@ mod tests {
                 *code == sys::BES_BAD_CURSOR || error.to_string().starts_with(what),
                 "{error}"
             );
-        }
-    }
-
-    #[test]
-    fn numbers_are_those_of_the_header() {
-        for constant in bestore_types::sys::CONSTANTS {
-            assert!(sys::CONSTANTS.contains(constant), "{constant:?}");
         }
     }
 

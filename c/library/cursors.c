@@ -1,0 +1,75 @@
+/* Positions in the order of an index, made of a value and a node and read back. */
+#include "kinds.h"
+
+#include <string.h>
+
+/* How many bytes a number of this type code has in a key of an index, or 0 if its values are no numbers. */
+static size_t key_size(uint32_t code)
+{
+    return bits_of(code) / 8;
+}
+
+/* What is added to a number in a key of an index, so that the bytes are in the order of the numbers. */
+static uint64_t key_shift(uint32_t code)
+{
+    return is_signed(code) ? (uint64_t)1 << (bits_of(code) - 1) : 0;
+}
+
+/* Writes the low bytes of a number, the high one first. */
+static void put_high_first(uint8_t *bytes, uint64_t number, size_t length)
+{
+    for (size_t at = length; at > 0; number >>= 8)
+        bytes[--at] = (uint8_t)number;
+}
+
+static uint64_t take_high_first(const uint8_t *bytes, size_t length)
+{
+    uint64_t number = 0;
+    for (size_t at = 0; at < length; at++)
+        number = number << 8 | bytes[at];
+    return number;
+}
+
+/* Why no key of an index has this value, or BES_OK. */
+static uint32_t unkeyable(const bes_attribute *value, const void *bytes)
+{
+    uint64_t shifted = value->number + key_shift(value->code);
+    if (value->code == BES_STRING_TYPE)
+        return value->length > 255 ? BES_DATA_LENGTH : memchr(bytes, 0, value->length) != NULL ? BES_HAS_NUL : BES_OK;
+    if (key_size(value->code) == 0)
+        return BES_NOT_INDEXABLE;
+    return bits_of(value->code) < 64 && shifted >> bits_of(value->code) != 0 ? BES_NO_VALUE : BES_OK;
+}
+
+uint32_t bes_cursor_at(const bes_attribute *value, const void *bytes, uint64_t node, bes_cursor *cursor)
+{
+    uint32_t error = unkeyable(value, bytes);
+    size_t size = value->code == BES_STRING_TYPE ? value->length + 1 : key_size(value->code);
+    if (error != BES_OK)
+        return error;
+    memset(cursor, 0, sizeof *cursor);
+    if (value->code == BES_STRING_TYPE)
+        memcpy(cursor->key, bytes, value->length);
+    else
+        put_high_first(cursor->key, value->number + key_shift(value->code), size);
+    put_high_first(cursor->key + size, node, 8);
+    cursor->kind = value->code;
+    cursor->length = (uint32_t)size + 8;
+    return BES_OK;
+}
+
+uint32_t bes_cursor_value(const bes_cursor *cursor, bes_attribute *value, uint8_t *bytes, size_t bytes_room, uint64_t *node)
+{
+    size_t size = cursor->length < 8 || cursor->length > sizeof cursor->key ? 0 : cursor->length - 8;
+    uint32_t code = cursor->kind;
+    bool is_text = code == BES_STRING_TYPE && size > 0 && memchr(cursor->key, 0, size) == cursor->key + size - 1;
+    if (!is_text && (size == 0 || size != key_size(code)))
+        return BES_BAD_CURSOR;
+    value->code = code;
+    value->length = is_text ? size - 1 : 0;
+    value->number = is_text ? 0 : take_high_first(cursor->key, size) - key_shift(code);
+    if (bytes != NULL && value->length > 0 && value->length <= bytes_room)
+        memcpy(bytes, cursor->key, value->length);
+    *node = take_high_first(cursor->key + size, 8);
+    return BES_OK;
+}

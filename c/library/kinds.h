@@ -1,0 +1,59 @@
+/* What is known of a type code. For the helpers of this folder alone. */
+#ifndef BESTORE_LIBRARY_KINDS_H
+#define BESTORE_LIBRARY_KINDS_H
+
+#include "bestore.h"
+
+/* Whether a kind has this type code. */
+static inline bool is_code(uint32_t code)
+{
+    switch (code) {
+    /* surface.toml: kinds */
+    case BES_STRING_TYPE:
+    case BES_INT32_TYPE:
+    case BES_INT64_TYPE:
+    case BES_MIME_STRING_TYPE:
+    case BES_RAW_TYPE:
+    case BES_UINT32_TYPE:
+    case BES_UINT64_TYPE:
+    /* surface.toml: end */
+        return true;
+    default:
+        return false;
+    }
+}
+
+/* Whether values of this type code are integers with a sign. */
+static inline bool is_signed(uint32_t code)
+{
+    switch (code) {
+    /* surface.toml: kinds with a sign */
+    case BES_INT32_TYPE:
+    case BES_INT64_TYPE:
+    /* surface.toml: end */
+        return true;
+    default:
+        return false;
+    }
+}
+
+/* How many bits the integers of this type code have, or 0 if its values aren't integers. */
+static inline unsigned bits_of(uint32_t code)
+{
+    switch (code) {
+    /* surface.toml: bits */
+    case BES_INT32_TYPE:
+        return 32;
+    case BES_INT64_TYPE:
+        return 64;
+    case BES_UINT32_TYPE:
+        return 32;
+    case BES_UINT64_TYPE:
+        return 64;
+    /* surface.toml: end */
+    default:
+        return 0;
+    }
+}
+
+#endif

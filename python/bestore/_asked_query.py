@@ -1,0 +1,57 @@
+"""Queries whose text a server has read. They need no library."""
+
+from __future__ import annotations
+
+import threading
+from typing import Iterable, List, Optional, Set
+
+from .errors import Closed
+from .handles import LockOwner
+from .queries import Prepared, prepare
+
+
+class AskedQuery(LockOwner, Prepared):
+    """A prepared query of servers' stores. It keeps the text, which each server parses again."""
+
+    source: str
+
+    def __init__(self, source: str, names: Iterable[str]) -> None:
+        super().__init__()
+        self.source = source
+        self._named = list(dict.fromkeys(names))
+        self._refreshing = threading.RLock()
+        self._seen: Set[int] = set()
+        self._is_in_library = False
+        self._refreshed_in: Optional[object] = None
+        self._is_open = True
+
+    def __repr__(self) -> str:
+        return f"<query {self.source!r} of servers' stores>"
+
+    def close(self) -> None:
+        """Closes the query. Nothing else is given up."""
+        self._is_open = False
+        self._seen = set()
+
+    def _asked_text(self) -> str:
+        self._check_process()
+        if not self._is_open:
+            raise Closed()
+        return self.source
+
+    @property
+    def text(self) -> str:
+        """The canonical text, for which the library is loaded."""
+        with prepare(self._asked_text()) as prepared:
+            return prepared.text
+
+    @property
+    def _check(self) -> int:
+        with prepare(self._asked_text()) as prepared:
+            return prepared._check
+
+    @property
+    def names(self) -> List[str]:
+        """The names that are compared, each once, from left to right."""
+        self._asked_text()
+        return list(self._named)

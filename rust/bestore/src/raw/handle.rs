@@ -1,0 +1,120 @@
+//! Handles that close themselves, and that are dead in a forked child.
+
+use super::{Answer, Refused, FORKED};
+use bestore_sys::{self as sys, bes_draft, bes_pass, bes_place, bes_prepared, bes_witness};
+use std::marker::PhantomData;
+use std::ptr::NonNull;
+use std::sync::atomic::{AtomicU64, Ordering};
+use std::sync::Once;
+
+/// How many forks lie between the first process and this one.
+static FORKS: AtomicU64 = AtomicU64::new(0);
+
+extern "C" fn count_fork() {
+    FORKS.fetch_add(1, Ordering::Relaxed);
+}
+
+/// The process in which something was made.
+#[derive(Clone, Copy, Debug)]
+pub(crate) struct Birthplace(u64);
+
+impl Birthplace {
+    pub(crate) fn here() -> Self {
+        static WATCH: Once = Once::new();
+        WATCH.call_once(|| {
+            // SAFETY: the handler is a function that takes nothing, and does one atomic step.
+            unsafe { libc::pthread_atfork(None, None, Some(count_fork)) };
+        });
+        Self(FORKS.load(Ordering::Relaxed))
+    }
+
+    /// Whether this process is that one, and no forked child of it.
+    pub(crate) fn is_here(self) -> bool {
+        FORKS.load(Ordering::Relaxed) == self.0
+    }
+
+    pub(crate) fn check(self) -> Answer<()> {
+        if self.is_here() {
+            Ok(())
+        } else {
+            Err(Refused {
+                code: FORKED,
+                carried: 0,
+            })
+        }
+    }
+}
+
+/// A handle of C, with how it begins and how it is closed.
+pub(super) trait CloseHandle: Sized {
+    const CLOSED: Self;
+
+    /// # Safety
+    /// `at` points to a handle that no other call uses.
+    unsafe fn close(at: *mut Self);
+}
+
+macro_rules! close_by {
+    ($($handle:ident by $call:ident),*) => {$(
+        impl CloseHandle for $handle {
+            const CLOSED: Self = Self::INIT;
+
+            unsafe fn close(at: *mut Self) {
+                // SAFETY: as the trait asks.
+                unsafe { sys::$call(at) };
+            }
+        }
+    )*};
+}
+
+close_by!(
+    bes_pass by bes_close, bes_prepared by bes_release, bes_place by bes_leave, bes_witness by bes_dismiss
+);
+
+impl CloseHandle for bes_draft {
+    const CLOSED: Self = Self::INIT;
+
+    unsafe fn close(at: *mut Self) {
+        // With a pass that is closed the call closes just the draft, whatever its own pass does.
+        let mut none = bes_pass::INIT;
+        // SAFETY: as the trait asks; the pass is of this call alone.
+        unsafe { sys::bes_abandon_change(&mut none, at) };
+    }
+}
+
+/// A handle at one address, which is closed at the end. In a forked child it is dead, and is left as it is.
+#[derive(Debug)]
+pub(super) struct Handle<T: CloseHandle> {
+    at: NonNull<T>,
+    birthplace: Birthplace,
+    owns: PhantomData<T>,
+}
+
+// SAFETY: the header lets a handle go to another thread whose calls come after. It isn't `Sync`.
+unsafe impl<T: CloseHandle> Send for Handle<T> {}
+
+impl<T: CloseHandle> Handle<T> {
+    pub(super) fn new() -> Self {
+        Self {
+            at: NonNull::from(Box::leak(Box::new(T::CLOSED))),
+            birthplace: Birthplace::here(),
+            owns: PhantomData,
+        }
+    }
+
+    pub(super) fn get(&self) -> Answer<*mut T> {
+        self.birthplace.check().map(|()| self.at.as_ptr())
+    }
+}
+
+impl<T: CloseHandle> Drop for Handle<T> {
+    fn drop(&mut self) {
+        if self.birthplace.is_here() {
+            // SAFETY: `at` is of a box that was leaked by `new`, and nothing uses it any more.
+            unsafe {
+                T::close(self.at.as_ptr());
+                drop(Box::from_raw(self.at.as_ptr()));
+            }
+        }
+    }
+}
