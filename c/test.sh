@@ -55,7 +55,7 @@ build() { cc -std=c11 "${warn[@]}" -I../include "$@" libbestore.a -lpthread; }
 build_cpp() { c++ -std=c++17 "${warn[@]}" -I../include "$@" libbestore.a -lpthread; }
 
 # The tests, and those of them in which threads run.
-tests=(test columns cursors ordered changes closing errors threads witness helpers texts query_texts racing promises)
+tests=(test columns cursors ordered changes closing refreshes errors threads witness helpers texts query_texts bounds racing promises)
 tests_cpp=(test helpers changes ordered racing)
 with_threads=(changes threads witness helpers racing promises)
 
