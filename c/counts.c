@@ -290,7 +290,7 @@ int main(int argc, char **argv)
     CHECK(atexit(print_seed) == 0);
     for (int i = 0; i < (is_short ? 2 : 4); i++) {
         nodes_count = draw(LEAST_NODES, MOST_NODES);
-        pages = pages_for_all() + draw(100, 400);
+        pages = pages_for_all() + draw(250, 600);
         words_stored(pages);
         entry_alone();
         lists_of_state();
