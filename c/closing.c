@@ -48,7 +48,7 @@ static void with_a_long_journal(uint64_t lists)
     CHECK(bes_open(64, 1, 1 + lists, &mine) == BES_OK && bes_new_node(&mine, &node) == BES_OK);
     bes_batch_clear(&batch);
     for (int i = 0; i < LIST; i++) {
-        char name[3];
+        char name[12];
         snprintf(name, sizeof name, "%02d", i);
         CHECK(bes_batch_set_raw(&batch, 1, name, value, LONGEST) == BES_OK);
     }
