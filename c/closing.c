@@ -1,5 +1,7 @@
-/* Closing handles: one that is pinned to less than it has seen, and the last one when the caller has no room for the journal. */
+/* Closing handles: one that is pinned to less than it has seen, and the last one when the caller has no room for the journal, or when
+ * that is long. */
 #include "tests.h"
+#include <time.h>
 
 /* A pass that has written since it was pinned goes back without a pin: the store frees the pages of the versions since then, the pass is
  * handed out again, and the last handle closes the store. */
@@ -34,9 +36,42 @@ static void without_room(void)
     CHECK(bes_close(&mine) == BES_CLOSED);
 }
 
-int main(void)
+/* A journal of any length is handed over. A list of so many of the longest values makes a line of more than 33 KB. */
+static void with_a_long_journal(uint64_t lists)
 {
+    enum { LIST = 64, LONGEST = 255, LINE = LIST * 2 * LONGEST };
+    static bes_batch batch;
+    const uint8_t value[LONGEST] = {0xff};
+    bes_pass mine = BES_PASS_INIT;
+    uint64_t node = 0, number = 0, count = 0, length = 0;
+    uint8_t *text;
+    CHECK(bes_open(64, 1, 1 + lists, &mine) == BES_OK && bes_new_node(&mine, &node) == BES_OK);
+    bes_batch_clear(&batch);
+    for (int i = 0; i < LIST; i++) {
+        char name[12];
+        snprintf(name, sizeof name, "%02d", i);
+        CHECK(bes_batch_set_raw(&batch, 1, name, value, LONGEST) == BES_OK);
+    }
+    for (uint64_t i = 0; i < lists; i++)
+        CHECK(bes_batch_apply(&mine, &batch, 1, &node, 0, &number) == BES_OK);
+    CHECK(bes_finish(&mine, NULL, 0, &length) == BES_OK && length > lists * LINE);
+    text = malloc(length);
+    CHECK(text != NULL && bes_finish(&mine, text, length, &count) == BES_OK && count == length && text[length - 1] == '\n');
+    free(text);
+    CHECK(bes_close(&mine) == BES_CLOSED);
+}
+
+/* `short` leaves out the journal of more than 64 MiB; BESTORE_SEED draws that of an earlier run again. */
+int main(int argc, char **argv)
+{
+    const char *given = getenv("BESTORE_SEED");
+    const uint64_t seed = given != NULL ? strtoull(given, NULL, 10) : (uint64_t)time(NULL);
+    const bool is_short = argc > 1 && strcmp(argv[1], "short") == 0;
     with_an_old_pin();
     without_room();
+    with_a_long_journal(1 + seed % 50);
+    if (!is_short)
+        with_a_long_journal(1900 + seed % 300);
+    printf("ok, BESTORE_SEED=%d\n", (int)seed);
     return 0;
 }

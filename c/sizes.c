@@ -639,6 +639,16 @@ static void many_pages(void)
     }
 }
 
+/* What an operation has no use for is 0, so two readers of one state get the same bytes. */
+static void has_no_more(const bes_operation *it)
+{
+    const bool is_set = it->kind == BES_SET, has_name = is_set || it->kind == BES_MAKE_INDEX;
+    CHECK(is_set || has_name || it->kind == BES_NEW_NODE || it->kind == BES_REMOVE_NODE);
+    CHECK((it->node == 0) == (it->kind == BES_NEW_NODE || it->kind == BES_MAKE_INDEX));
+    CHECK((it->code == 0) == !has_name && (it->name_length == 0) == !has_name);
+    CHECK(is_set || (it->number == 0 && it->value_length == 0));
+}
+
 /* Attributes of each node of a state, which is read whole. */
 static void many_states(void)
 {
@@ -658,6 +668,8 @@ static void many_states(void)
         OK(bes_pin(&pass, &number));
         do {
             OK(bes_batch_state(&pass, &reading, &batch));
+            for (size_t i = 0; i < batch.count; i++)
+                has_no_more(&batch.operations[i]);
             operations += batch.count;
         } while (batch.count > 0);
         CHECK(operations == 1 + 70 * (1 + size));

@@ -64,7 +64,7 @@ marked_helpers() {
 }
 
 # The tests, and those of them in which threads run.
-tests=(test columns cursors ordered changes closing errors threads witness helpers texts query_texts racing promises)
+tests=(test columns cursors ordered changes closing refreshes errors threads witness helpers texts query_texts bounds racing promises)
 tests_cpp=(test helpers changes ordered racing)
 with_threads=(changes threads witness helpers racing promises)
 
@@ -143,8 +143,18 @@ if cc "${wrap[@]}" "$work/empty.c" -o "$work/empty" 2>/dev/null; then
         run "C, memory, address,undefined" "$work/memory-sanitized"
     fi
     leaks "C, memory, valgrind" "$work/memory"
+    build -O2 -Wl,--wrap=malloc,--wrap=realloc,--wrap=free counts.c -o "$work/counts"
+    run "C, counts" "$work/counts"
 else
-    echo "C, memory: skipped, the linker has no --wrap"
+    echo "C, memory and counts: skipped, the linker has no --wrap"
+fi
+
+# What calls cost in instructions, which valgrind counts.
+if echo '#include <valgrind/callgrind.h>' | cc -E - >"$work/said" 2>&1; then
+    build -O2 costs.c -o "$work/costs"
+    run_if_there "C, costs" python3 ../tests/costs "$work/costs"
+else
+    echo "C, costs: skipped, there is no valgrind/callgrind.h"
 fi
 
 build -O2 ../examples/c/first.c -o "$work/first"

@@ -190,6 +190,32 @@ static void takers(int count)
         CHECK(bes_close(&users[i].pass) == BES_OK);
 }
 
+/* Takes a pass and gives it back, over and over. There are many more passes than threads, so one always waits: where another thread is
+ * at a pass, the next place is looked at. */
+static void *hander(void *arg)
+{
+    user *it = arg;
+    bes_pass taken = BES_PASS_INIT;
+    for (int i = 0; i < (seconds < 1 ? 20000 : 200000); i++)
+        CHECK(bes_another(&it->pass, &taken) == BES_OK && bes_close(&taken) == BES_OK);
+    return NULL;
+}
+
+static void always_one_waits(void)
+{
+    static user users[4];
+    static bes_pass taken[65];
+    pthread_t running[4];
+    CHECK(bes_open(64, 64, 1, &users[0].pass) == BES_OK);
+    for (int i = 1; i < 4; i++)
+        CHECK(bes_another(&users[0].pass, &users[i].pass) == BES_OK);
+    close_passes(taken, take_passes(&users[0].pass, taken));
+    for (int i = 0; i < 4; i++)
+        CHECK(pthread_create(&running[i], NULL, hander, &users[i]) == 0);
+    for (int i = 0; i < 4; i++)
+        CHECK(pthread_join(running[i], NULL) == 0 && bes_close(&users[i].pass) == BES_OK);
+}
+
 /* Sets its node's number, and makes a node, in one write and so on. A pin of another thread may hold all free pages for a while. */
 static void *grower(void *arg)
 {
@@ -338,6 +364,7 @@ int main(int argc, char **argv)
     threads();
     takers(1);
     takers(60);
+    always_one_waits();
     carrying();
     handed_on();
     return 0;

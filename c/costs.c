@@ -1,0 +1,170 @@
+/* What calls cost in instructions and stores. tests/costs runs this under valgrind's callgrind, which counts each step of a case by
+ * itself, and has the rules: `costs CASE SIZE` runs a case in a store of that size. */
+#include "tests.h"
+#include <valgrind/callgrind.h>
+
+#define OK(call) CHECK((call) == BES_OK)
+
+enum { MOST_NODES = 13000, PAGES = 16384, LIST = 64, CALLS = 64, TEXT = 40 };
+
+static bes_pass mine = BES_PASS_INIT;
+static bes_prepared prepared = BES_PREPARED_INIT;
+static bes_batch batch;
+static uint64_t nodes_count, turn, number, found_count, found[MOST_NODES];
+
+/* Counts so many calls, under the name of the step. */
+static void count(const char *step, void (*call)(void), int calls)
+{
+    CALLGRIND_DUMP_STATS_AT("between");
+    CALLGRIND_START_INSTRUMENTATION;
+    for (int i = 0; i < calls; i++)
+        call();
+    CALLGRIND_STOP_INSTRUMENTATION;
+    CALLGRIND_DUMP_STATS_AT(step);
+}
+
+static void apply(void)
+{
+    OK(bes_batch_apply(&mine, &batch, 1, found, LIST, &number));
+    bes_batch_clear(&batch);
+}
+
+/* A text of 48 bytes, in the order of its number. */
+static const char *text_of(uint64_t n)
+{
+    static char text[TEXT + 10];
+    memset(text, 'x', TEXT);
+    snprintf(text + TEXT, sizeof text - TEXT, "%08d", (int)n);
+    return text;
+}
+
+/* Opens a store of nodes with their number as `k` and the text of it as `t`, both indexed, and the number `v`. */
+static void open_filled(void)
+{
+    OK(bes_open(PAGES, 2, 1000000, &mine));
+    OK(bes_make_index(&mine, "k", BES_INT32_TYPE) || bes_make_index(&mine, "t", BES_STRING_TYPE));
+    OK(bes_make_index(&mine, "few", BES_INT32_TYPE));
+    bes_batch_clear(&batch);
+    for (uint64_t node = 1; node <= nodes_count; node++) {
+        OK(bes_batch_new_node(&batch) || bes_batch_set_int32(&batch, node, "k", (int32_t)node));
+        OK(bes_batch_set_int64(&batch, node, "v", 0) || bes_batch_set_text(&batch, node, "t", text_of(node)));
+        if (batch.count + 4 > LIST || node == nodes_count)
+            apply();
+    }
+}
+
+/* Each node comes once before one comes again, out of order. */
+static uint64_t some_node(void)
+{
+    turn += 1;
+    return 1 + turn * 7919 % nodes_count;
+}
+
+static void set(void) { OK(bes_set_int64(&mine, some_node(), "v", (int64_t)turn)); }
+
+/* Single writes, and the same once one was refused. */
+static void sets(void)
+{
+    open_filled();
+    set();
+    turn = 0;
+    count("set", set, CALLS);
+    CHECK(bes_set_int64(&mine, nodes_count + 1, "v", 1) == BES_NO_NODE);
+    turn = 0;
+    count("set after a refusal", set, CALLS);
+}
+
+static void ask(void) { OK(bes_query_prepared(&mine, &prepared, found, MOST_NODES, &found_count)); }
+
+/* Prepares a query that so many nodes meet, and asks it once. */
+static void prepare(const char *query, uint64_t count_met)
+{
+    uint64_t place = 0;
+    bes_release(&prepared);
+    OK(bes_prepare_text(query, &prepared, &place));
+    ask();
+    CHECK(found_count == count_met);
+}
+
+/* A prepared query that a range decides, which half of the nodes meet. */
+static void ranges(void)
+{
+    char query[40];
+    open_filled();
+    OK(bes_pin(&mine, &number));
+    snprintf(query, sizeof query, "k<=%d", (int)nodes_count / 2);
+    prepare(query, nodes_count / 2);
+    count("range", ask, 1);
+}
+
+/* Prepared queries with few nodes in a large store: by a range of texts, and 70 nodes that are asked for another attribute, which all
+ * nodes have. */
+static void queries(void)
+{
+    char query[200], after[TEXT + 10];
+    open_filled();
+    for (uint64_t node = 1; node <= 70; node++)
+        OK(bes_set_int32(&mine, node * 3, "few", 1));
+    OK(bes_pin(&mine, &number));
+    memcpy(after, text_of(nodes_count / 2), sizeof after);
+    snprintf(query, sizeof query, "t>=%s&&t<%s", after, text_of(nodes_count / 2 + 20));
+    prepare(query, 20);
+    count("range of texts", ask, 1);
+    prepare("few==1&&k>0", 70);
+    count("two indices", ask, 1);
+}
+
+static void refresh(void)
+{
+    bes_updates updates = {0, 0};
+    OK(bes_refresh(&mine, &prepared, &updates));
+}
+
+static void refresh_changed(void)
+{
+    bes_updates updates = {0, 0};
+    OK(bes_refresh_changed(&mine, &prepared, &updates));
+}
+
+/* Writes one node so many times, and pins what is then current. */
+static void write_one(uint64_t times)
+{
+    OK(bes_unpin(&mine));
+    for (uint64_t i = 0; i < times; i++)
+        OK(bes_set_int64(&mine, 7, "v", (int64_t)i));
+    OK(bes_pin(&mine, &number));
+}
+
+/* Refreshes of a large answer: all of it, by one node that was written, and by as many writes of one as the answer has nodes. */
+static void live(void)
+{
+    open_filled();
+    OK(bes_pin(&mine, &number));
+    write_one(20);
+    prepare("k>0", nodes_count);
+    refresh();
+    count("refresh", refresh, 1);
+    write_one(1);
+    count("refresh by one node", refresh_changed, 1);
+    write_one(nodes_count);
+    count("refresh by many writes", refresh_changed, 1);
+}
+
+static const struct row {
+    const char *name;
+    void (*run)(void);
+} cases[] = {{"sets", sets}, {"ranges", ranges}, {"queries", queries}, {"live", live}};
+
+int main(int argc, char **argv)
+{
+    for (size_t i = 0; argc == 3 && i < sizeof cases / sizeof *cases; i++)
+        if (strcmp(cases[i].name, argv[1]) == 0) {
+            nodes_count = strtoull(argv[2], NULL, 10);
+            CHECK(nodes_count >= 300 && nodes_count <= MOST_NODES);
+            cases[i].run();
+            OK(bes_close(&mine));
+            return 0;
+        }
+    fprintf(stderr, "usage: %s CASE SIZE\n", argv[0]);
+    return 2;
+}

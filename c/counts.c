@@ -1,0 +1,305 @@
+/* What calls store and ask for, counted: words of pages that a write changes, bytes that a call asks malloc for, and what is free again at
+ * the end. No contract bounds these. The sizes are drawn at random; BESTORE_SEED draws those of an earlier run again. Linked by
+ * -Wl,--wrap=malloc,--wrap=realloc,--wrap=free, so that each request of the library comes by here. */
+#include "tests.h"
+#include <time.h>
+
+#define OK(call) CHECK((call) == BES_OK)
+
+enum { LIST = 64, PAGE_WORDS = 512, LEAST_NODES = 1000, MOST_NODES = 2500, MOST_PAGES = 2048 };
+
+void *__real_malloc(size_t bytes);
+void *__real_realloc(void *old, size_t bytes);
+void __real_free(void *block);
+void *__wrap_malloc(size_t bytes);
+void *__wrap_realloc(void *old, size_t bytes);
+void __wrap_free(void *block);
+
+static uint64_t asked;  /* how many bytes were asked for */
+static int64_t in_use;  /* how many blocks are in use */
+static uint64_t *words; /* the last block that has room for the words of all pages */
+static size_t words_count;
+
+void *__wrap_malloc(size_t bytes)
+{
+    void *block = __real_malloc(bytes);
+    asked += bytes;
+    in_use += block != NULL;
+    if (words_count > 0 && bytes >= 8 * words_count) {
+        words = block;
+        words_count = bytes / 8;
+    }
+    return block;
+}
+
+void *__wrap_realloc(void *old, size_t bytes)
+{
+    void *block = __real_realloc(old, bytes);
+    asked += bytes;
+    in_use += old == NULL && block != NULL;
+    return block;
+}
+
+void __wrap_free(void *block)
+{
+    in_use -= block != NULL;
+    __real_free(block);
+}
+
+static uint64_t seed, drawn;
+
+static void print_seed(void)
+{
+    if (drawn > 0)
+        fprintf(stderr, "BESTORE_SEED=%d draws these sizes again\n", (int)seed);
+}
+
+/* A number between two others, each as likely. */
+static uint64_t draw(uint64_t least, uint64_t most)
+{
+    drawn = drawn * 6364136223846793005u + 1442695040888963407u;
+    return least + (drawn >> 33) % (most - least + 1);
+}
+
+static bes_pass pass = BES_PASS_INIT;
+static bes_batch batch;
+static uint64_t nodes_count, made[LIST], number;
+
+static void apply(void)
+{
+    if (batch.count > 0)
+        OK(bes_batch_apply(&pass, &batch, 1, made, LIST, &number));
+    bes_batch_clear(&batch);
+}
+
+/* Applies the list if it has no room for so many operations more. */
+static void apply_if_full(uint64_t more)
+{
+    if (batch.count + more > LIST)
+        apply();
+}
+
+/* Opens a store of nodes with the numbers `k`, which is indexed, and `v`, and with a text of any length. It has as many indices as a
+ * store may have, under the longest names. */
+static void open_filled(uint64_t pages)
+{
+    enum { INDICES = 32 };
+    char text[256], name[64];
+    words_count = PAGE_WORDS * pages;
+    OK(bes_open(pages, 2, 1000000, &pass) || bes_make_index(&pass, "k", BES_INT32_TYPE));
+    for (int i = 1; i < INDICES; i++) {
+        snprintf(name, sizeof name, "n%062d", i);
+        OK(bes_make_index(&pass, name, BES_INT32_TYPE));
+    }
+    bes_batch_clear(&batch);
+    for (uint64_t node = 1; node <= nodes_count; node++) {
+        memset(text, 'x', sizeof text);
+        text[draw(0, 100)] = 0;
+        apply_if_full(4);
+        OK(bes_batch_new_node(&batch) || bes_batch_set_int32(&batch, node, "k", (int32_t)node));
+        OK(bes_batch_set_int64(&batch, node, "v", 0) || bes_batch_set_text(&batch, node, "t", text));
+    }
+    apply();
+}
+
+static void set_one(void) { OK(bes_set_int64(&pass, 1, "v", (int64_t)draw(1, 1 << 30))); }
+static void set_any(void) { OK(bes_set_int64(&pass, draw(1, nodes_count), "v", (int64_t)draw(1, 1 << 30))); }
+static void set_indexed(void) { OK(bes_set_int32(&pass, draw(1, nodes_count), "k", (int32_t)draw(1, 1 << 30))); }
+static void set_text(void) { OK(bes_set_text(&pass, draw(1, nodes_count), "t", "short")); }
+
+/* Writes of three kinds by turns, which copy other pages each. */
+static void set_in_turn(void)
+{
+    static void (*const kinds[])(void) = {set_any, set_indexed, set_text};
+    static unsigned turn;
+    kinds[turn++ % 3]();
+}
+
+/* How many words of pages such a write changes, on the average. A word is stored only if it changes. */
+static double words_of(void (*write)(void))
+{
+    enum { TIMES = 60 };
+    static uint64_t before[PAGE_WORDS * (MOST_PAGES + 64)];
+    uint64_t changed = 0;
+    CHECK(words_count <= sizeof before / sizeof *before);
+    for (int i = 0; i < TIMES; i++) {
+        memcpy(before, words, 8 * words_count);
+        write();
+        for (size_t at = 0; at < words_count; at++)
+            changed += words[at] != before[at];
+    }
+    return (double)changed / TIMES;
+}
+
+static void is_at_most(const char *what, double found, double most)
+{
+    if (found > most) {
+        fprintf(stderr, "%s stores %.1f words where %.1f is the most, with %d nodes\n", what, found, most, (int)nodes_count);
+        exit(1);
+    }
+}
+
+/* Writes until a reader has kept all free pages, so that each was taken for something else; and so on. */
+static void wear_out(void)
+{
+    bes_pass reader = BES_PASS_INIT;
+    uint32_t answer = BES_OK;
+    OK(bes_another(&pass, &reader));
+    for (int cycle = 0; cycle < 60; cycle++) {
+        OK(bes_pin(&reader, &number));
+        do {
+            bes_batch_clear(&batch);
+            OK(bes_batch_set_int32(&batch, draw(1, nodes_count), "k", (int32_t)draw(1, 1 << 30)));
+            answer = bes_batch_apply(&pass, &batch, 1, made, LIST, &number);
+        } while (answer == BES_OK);
+        CHECK(answer == BES_FULL);
+        OK(bes_unpin(&reader));
+        for (int i = 0; i < 20; i++)
+            set_in_turn();
+    }
+    bes_batch_clear(&batch);
+    OK(bes_close(&reader));
+}
+
+/* A single write goes to pages that have most of its words already: to the copies that its pages were made from. It does so after many
+ * writes too, when each page of the pool was taken for something else. */
+static void words_stored(uint64_t pages)
+{
+    static const struct kind {
+        const char *name;
+        void (*write)(void);
+        double most;
+    } kinds[] = {
+        {"a set of one attribute", set_one, 8}, {"a set", set_any, 75}, {"an indexed set", set_indexed, 225},
+        {"a set of three kinds by turns", set_in_turn, 140}
+    };
+    open_filled(pages);
+    for (int round = 0; round < 2; round++) {
+        for (size_t i = 0; i < sizeof kinds / sizeof *kinds; i++) {
+            kinds[i].write();
+            kinds[i].write();
+            is_at_most(kinds[i].name, words_of(kinds[i].write), kinds[i].most);
+        }
+        if (round == 0)
+            wear_out();
+    }
+}
+
+/* No page but that of the empty version is in use once all is removed, whatever readers kept meanwhile. */
+static void all_pages_are_free(uint64_t pages)
+{
+    bes_pass reader = BES_PASS_INIT;
+    bes_usage usage;
+    OK(bes_another(&pass, &reader));
+    for (uint64_t node = 1; node <= nodes_count; node++) {
+        if (node % 97 == 0)
+            OK((bes_unpin(&reader), bes_pin(&reader, &number)));
+        apply_if_full(1);
+        OK(bes_batch_remove_node(&batch, node));
+    }
+    apply();
+    OK(bes_close(&reader) || bes_remove_index(&pass, "k"));
+    for (int i = 1; i < 32; i++) {
+        char name[64];
+        snprintf(name, sizeof name, "n%062d", i);
+        OK(bes_remove_index(&pass, name));
+    }
+    OK(bes_status(&pass, &usage, &number));
+    CHECK(!usage.is_held && usage.retired == 0 && usage.free == pages - 1);
+}
+
+/* An entry is read with memory for itself, however long the journal is. */
+static void entry_alone(void)
+{
+    uint64_t by = 0, next = 0;
+    bes_counts counts = {0, 0};
+    OK(bes_pin(&pass, &number) || bes_unpin(&pass));
+    for (int i = 0; i < 20; i++) {
+        uint64_t entry = draw(0, number - 1);
+        asked = 0;
+        OK(bes_journal_from(&pass, entry, &by, &counts, NULL, 0, NULL, 0, &next));
+        CHECK(asked < 100000 && counts.operations <= LIST);
+    }
+}
+
+/* The state is read list by list, with memory for a list and a node. */
+static void lists_of_state(void)
+{
+    bes_place place = BES_PLACE_INIT;
+    uint64_t operations = 0, most = 0;
+    OK(bes_pin(&pass, &number));
+    do {
+        asked = 0;
+        OK(bes_batch_state(&pass, &place, &batch));
+        most = asked > most ? asked : most;
+        operations += batch.count;
+    } while (batch.count > 0);
+    CHECK(operations == 32 + 4 * nodes_count && most < 400000);
+    OK(bes_leave(&place) || bes_unpin(&pass));
+    bes_batch_clear(&batch);
+}
+
+/* A write asks for a block of the journal only if the last one is full. */
+static void blocks_of_journal(void)
+{
+    uint64_t first = 0;
+    OK(bes_open(64, 1, 1000, &pass));
+    asked = 0;
+    OK(bes_new_node(&pass, &number));
+    first = asked;
+    for (int i = 0; i < 900; i++) {
+        asked = 0;
+        OK(bes_set_int64(&pass, 1, "v", i));
+        CHECK(asked < first / 4);
+    }
+    OK(bes_close(&pass));
+}
+
+/* How many pages the store takes once it is filled. */
+static uint64_t pages_for_all(void)
+{
+    bes_usage usage;
+    open_filled(MOST_PAGES);
+    OK(bes_status(&pass, &usage, &number) || bes_close(&pass));
+    return usage.pages - usage.free;
+}
+
+/* Closes the store, or also takes its journal's text. All memory is free again. */
+static void end(bool is_told)
+{
+    uint64_t length = 0, count = 0;
+    if (is_told) {
+        uint8_t *text = NULL;
+        OK(bes_finish(&pass, NULL, 0, &length));
+        text = malloc(length);
+        OK(bes_finish(&pass, text, length, &count));
+        free(text);
+    } else {
+        OK(bes_close(&pass));
+    }
+    CHECK(in_use == 0 && count == length);
+}
+
+int main(int argc, char **argv)
+{
+    const bool is_short = argc > 1 && strcmp(argv[1], "short") == 0;
+    const char *given = getenv("BESTORE_SEED");
+    uint64_t pages = 0;
+    seed = given != NULL ? strtoull(given, NULL, 10) : (uint64_t)time(NULL) % 1000000000;
+    drawn = seed;
+    CHECK(atexit(print_seed) == 0);
+    for (int i = 0; i < (is_short ? 2 : 4); i++) {
+        nodes_count = draw(LEAST_NODES, MOST_NODES);
+        pages = pages_for_all() + draw(250, 600);
+        words_stored(pages);
+        entry_alone();
+        lists_of_state();
+        all_pages_are_free(pages);
+        end(i % 2 == 0);
+    }
+    blocks_of_journal();
+    CHECK(in_use == 0);
+    printf("ok, BESTORE_SEED=%d\n", (int)seed);
+    drawn = 0;
+    return 0;
+}
